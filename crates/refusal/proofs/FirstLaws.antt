@@ -1,0 +1,31 @@
+-- The laws of `firstAnswer`: it is the answer of the first test that holds, and a taken step failed every test.
+use mathlib.Core.Path.{_≡_, refl, sym, _∙_}
+use mathlib.Core.Bool.{Bool, true, false, cond}
+use mathlib.Core.List.{List, [], _∷_}
+use Rattle.refusal.specs.declared.Answer.{Answer}
+use Rattle.refusal.specs.declared.Answer.the-variants.{Taken, Outside, Refused}
+use Rattle.refusal.specs.First.{firstAnswer, First, none, hit, miss, AllFail, FirstIsAnswer, AnswerIsFirst, NeverTaken, TakenAllFail}
+
+pub first-is-answer : FirstIsAnswer
+unfolding firstAnswer
+first-is-answer a [] none = refl
+first-is-answer a (t ∷ ts) (hit e) = rw e
+first-is-answer a (t ∷ ts) (miss e f) = rw e (first-is-answer a ts f)
+
+pub answer-is-first : AnswerIsFirst
+unfolding firstAnswer
+answer-is-first [] = none
+answer-is-first ((b, a) ∷ ts) = go b refl (answer-is-first ts)
+  where
+    go : (c : Bool) → b ≡ c → First (firstAnswer ts) ts → First (cond c a (firstAnswer ts)) ((b, a) ∷ ts)
+    go true e f = hit e
+    go false e f = miss e f
+
+pub taken-all-fail : TakenAllFail
+unfolding firstAnswer
+taken-all-fail [] n e = tt
+taken-all-fail ((b, a) ∷ ts) (n, ns) e = go b refl (taken-all-fail ts ns) e
+  where
+    go : (c : Bool) → b ≡ c → (firstAnswer ts ≡ Taken → AllFail ts) → cond c a (firstAnswer ts) ≡ Taken → (b ≡ false) × AllFail ts
+    go true q ih k = absurd (n k)
+    go false q ih k = (q, ih k)

@@ -1,0 +1,22 @@
+-- The sixteen causes of "Why a call is sent back", each with its number.
+use Prim.Native.Nat.{ℕ}
+use Rattle.refusal.specs.declared.Refusal.{Refusal}
+use Rattle.refusal.specs.declared.Refusal.the-variants.{SettingsRange, ClockRange, IdLength, StopsFull, IdTaken, LocationType, ParentUnknown, NameUnusable, FieldRange, TimesReversed, NoRoom, RuleType, PairTaken, Neighbours, AlreadySearched, TimeText}
+
+abbrev pub numberOf : Refusal → ℕ
+numberOf SettingsRange = 1
+numberOf ClockRange = 2
+numberOf IdLength = 3
+numberOf StopsFull = 4
+numberOf IdTaken = 5
+numberOf LocationType = 6
+numberOf ParentUnknown = 7
+numberOf NameUnusable = 8
+numberOf FieldRange = 9
+numberOf TimesReversed = 10
+numberOf NoRoom = 11
+numberOf RuleType = 12
+numberOf PairTaken = 13
+numberOf Neighbours = 14
+numberOf AlreadySearched = 15
+numberOf TimeText = 16

@@ -1,0 +1,69 @@
+// Why a call is sent back: one case for each cause, with the scope's number for it, and the answer of a step.
+ghost use mathlib.Core.Path.{_≡_};
+ghost use Rattle.refusal.specs.Causes.{numberOf};
+
+pub enum Refusal {
+    // 1: an origin or target count above 4, or `max_transfers` above 1
+    SettingsRange,
+    // 2: the start or an epoch beyond ±2^40
+    ClockRange,
+    // 3: a stop id that is empty or over 32 bytes
+    IdLength,
+    // 4: the 129th stop
+    StopsFull,
+    // 5: an id taken before
+    IdTaken,
+    // 6: a location type above 1, or a station with a parent
+    LocationType,
+    // 7: a parent that is no station of the load
+    ParentUnknown,
+    // 8: a name over 64 bytes, or a needed name that can't be used
+    NameUnusable,
+    // 9: a stop unknown, trip 65535, a day above 2, pickup or drop-off above 3
+    FieldRange,
+    // 10: arrival after departure
+    TimesReversed,
+    // 11: the 129th rule, or a horizon that would fall below 3600
+    NoRoom,
+    // 12: a transfer type above 3, or type 2 without seconds
+    RuleType,
+    // 13: a rule for the same pair
+    PairTaken,
+    // 14: neighbours of one trip and day with equal sequence or overlapping times
+    Neighbours,
+    // 15: a stop, call, rule or search after the search
+    AlreadySearched,
+    // 16: a time text that is not digits:2 digits:2 digits, or out of range
+    TimeText,
+}
+
+// What a step answers. Only a call can lie outside the window.
+pub enum Answer {
+    Taken,
+    Outside,
+    Refused(Refusal),
+}
+
+// The scope's number of a cause.
+pub fn number(r: Refusal) -> u8
+    ensures { λ n. ⌜ n ≡ numberOf r ⌝ }
+{
+    match r {
+        Refusal::SettingsRange => 1,
+        Refusal::ClockRange => 2,
+        Refusal::IdLength => 3,
+        Refusal::StopsFull => 4,
+        Refusal::IdTaken => 5,
+        Refusal::LocationType => 6,
+        Refusal::ParentUnknown => 7,
+        Refusal::NameUnusable => 8,
+        Refusal::FieldRange => 9,
+        Refusal::TimesReversed => 10,
+        Refusal::NoRoom => 11,
+        Refusal::RuleType => 12,
+        Refusal::PairTaken => 13,
+        Refusal::Neighbours => 14,
+        Refusal::AlreadySearched => 15,
+        Refusal::TimeText => 16,
+    }
+}
