@@ -1,6 +1,7 @@
 // Why a call is sent back: one case for each cause, with the scope's number for it, and the answer of a step.
 ghost use mathlib.Core.Path.{_≡_};
 ghost use Rattle.refusal.specs.Causes.{numberOf};
+ghost use Rattle.refusal.specs.First.{isRefused};
 
 pub enum Refusal {
     // 1: an origin or target count above 4, or `max_transfers` above 1
@@ -65,5 +66,16 @@ pub fn number(r: Refusal) -> u8
         Refusal::Neighbours => 14,
         Refusal::AlreadySearched => 15,
         Refusal::TimeText => 16,
+    }
+}
+
+// Whether an answer sends the step back.
+pub fn is_refused(a: Answer) -> bool
+    ensures { λ r. ⌜ r ≡ isRefused a ⌝ }
+{
+    match a {
+        Answer::Taken => false,
+        Answer::Outside => false,
+        Answer::Refused(_) => true,
     }
 }

@@ -1,0 +1,9 @@
+pub mod Ints
+pub mod WindowLaws
+pub mod CallLaws
+pub mod FitLaws
+pub mod Fits
+pub mod SoundLaws
+pub mod ShownLaws
+pub mod FallLaws
+pub mod Marks

@@ -1,0 +1,6 @@
+pub mod Windows
+pub mod Tables
+pub mod Calls
+pub mod Sound
+pub mod Shown
+pub mod Marked
