@@ -1,11 +1,11 @@
 -- The sign goes through rounding and through a product.
 use mathlib.Core.Path.{_≡_, refl, sym, ap, _∙_}
 use mathlib.Core.Bool.{Bool, true, false, not, cond}
-use Prim.Native.Nat.{ℕ, zero, suc, _+_, _*_, _/_, _%_, _^_, compare}
+use Prim.Native.Nat.{ℕ, zero, suc, _+_, _*_, _^_}
 use lib.Dec.{ltb, eqb}
-use lib.IntN.{ℤ, pos, negsuc, negℤ}
-use lib.Ieee.{Float, nan, inf, fin, Format, prec, emax, low, up, down, unlike, nearest, odd, units, round, size, neg, mul, ofInt}
-use lib.Ieee.Fits.{core, round-is}
+use lib.IntN.{pos, negsuc}
+use lib.Ieee.{Float, nan, inf, fin, Format, prec, emax, low, up, down, unlike, odd, units, round, neg, mul, ofInt}
+use lib.Ieee.Fits.{round-is}
 
 pub neg-neg : (x : Float) → neg (neg x) ≡ x
 unfolding neg
