@@ -6,3 +6,6 @@ pub mod Sort
 pub mod Ints
 pub mod Signs
 pub mod Within
+pub mod AtMost
+pub mod Cut
+pub mod Tests
