@@ -6,3 +6,4 @@ pub mod Sort
 pub mod Ints
 pub mod Signs
 pub mod Within
+pub mod Halves
