@@ -9,3 +9,4 @@ pub mod Within
 pub mod AtMost
 pub mod Cut
 pub mod Tests
+pub mod Halves
