@@ -1,12 +1,12 @@
 -- `AtMost x b`: x is finite, and at most the whole number b in size. A product of binary64 keeps such a bound below 2 ^ 53, and so does a cut toward zero.
-use mathlib.Core.Path.{_≡_, refl, sym, ap, _∙_, subst}
+use mathlib.Core.Path.{sym, subst}
 use mathlib.Core.Bool.{Bool, true, false, true≢false}
-use Prim.Native.Nat.{ℕ, zero, suc, _+_, _-_, _*_, _/_, _^_, _≤_, _<_, min}
+use Prim.Native.Nat.{ℕ, zero, suc, _-_, _*_, _/_, _^_, _≤_, _<_, min}
 use native.Mathlib.Nat.{le-refl, le-trans, le-of-eq, lt-of-lt-of-le, lt-of-le-of-lt, mul-one, mul-mul-mul-comm, mul-le-mul, mul-lt-mul-of-pos-right, mul-pos, div-lt-iff-lt-mul}
 use native.Mathlib.Omega.{arith}
 use lib.Dec.{T, lit<, lit≤}
 use lib.Pow.{pow-pos}
-use lib.IntN.{ℤ, pos, negℤ, natAbs}
+use lib.IntN.{pos, negℤ, natAbs}
 use lib.Ieee.{Float, nan, inf, fin, binary64, up, down, unlike, round, mul, neg, le, toSigned}
 use lib.Ieee.Fits.{down-pos}
 use lib.Ieee.Exact.{HasValue, round-exact}

@@ -1,14 +1,14 @@
 -- Rust's `y as i32` of a float, by comparing y with ±2 ^ 31: in between, the cut to 64 bits is the cut to 32; beyond, the ends of the range;
 -- and 0 for what is neither, a NaN.
 use mathlib.Core.Path.{_≡_, refl, sym, ap, _∙_}
-use mathlib.Core.Bool.{Bool, true, false, _&&_, _||_, true≢false, false≢true}
+use mathlib.Core.Bool.{true, false, _&&_, _||_, true≢false, false≢true}
 use mathlib.Core.Logic.{inl, inr}
 use Prim.Native.Nat.{ℕ, _+_, _-_, _*_, _/_, _^_, _≤_, _<_, min}
 use native.Mathlib.Nat.{le-div-iff-mul-le, div-lt-iff-lt-mul}
 use native.Mathlib.Omega.{arith}
 use borrow.Author.Tests.{ltb-true, ltb-false, eqb-true, lt-ltb, eq-eqb}
-use lib.Dec.{T, ltb, eqb}
-use lib.IntN.{ℤ, pos, negℤ}
+use lib.Dec.{ltb, eqb}
+use lib.IntN.{pos, negℤ}
 use lib.Ieee.{Float, nan, inf, fin, up, down, lt, eq, le, toSigned}
 use lib.Ieee.Fits.{down-pos}
 use Rattle.laws.proofs.Bools.{or-true-cases, or-true-left, or-false-left, or-false-right, and-true, and-true-left}

@@ -1,13 +1,12 @@
 -- The series is finite at every sum of two latitudes.
-use mathlib.Core.Path.{_≡_}
-use Prim.Native.Nat.{ℕ, _+_, _^_, _≤_}
+use Prim.Native.Nat.{_^_, _≤_}
 use lib.Dec.{lit≤}
 use lib.IntN.{ℤ, natAbs}
-use lib.Ieee.{Float, binary64, ofBits, ofInt, add, sub, mul, div, neg, round}
-use Rattle.place.specs.Numbers.{half, one, pi, n24, n720, n40320, n3628800, n360M, _⊖_, _⊗_, _⊘_}
+use lib.Ieee.{Float, binary64, ofBits, ofInt, div, neg}
+use Rattle.place.specs.Numbers.{half, one, pi, n24, n720, n40320, n3628800, n360M, _⊖_, _⊘_}
 use Rattle.place.specs.Near.{angle, square, series}
 use Rattle.laws.specs.Floats.{Within}
-use Rattle.laws.proofs.Within.{wider, neg-within, mul-within, add-within, sub-within, div-within, ofInt-within}
+use Rattle.laws.proofs.Within.{mul-within, add-within, sub-within, div-within, ofInt-within}
 
 -- the constants, computed
 c40320 : Within (one ⊘ n40320) 68

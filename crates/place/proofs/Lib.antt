@@ -5,3 +5,4 @@ pub mod Cosine
 pub mod Meridian
 pub mod SameKeys
 pub mod Vectors
+pub mod Placed

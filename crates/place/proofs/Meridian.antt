@@ -1,22 +1,19 @@
 -- At equal longitude two positions are close by exactly where their latitudes differ by at most 1124 microdegrees: the square of the distance grows with
 -- the difference, and 1124 and 1125 are computed.
 use mathlib.Core.Path.{_≡_, refl, sym, ap, _∙_, subst}
-use mathlib.Core.Bool.{Bool, true, false, not, cond, _&&_, _||_}
-use mathlib.Core.Logic.{inl, inr}
+use mathlib.Core.Bool.{Bool, true, false, not}
 use Prim.Native.Nat.{ℕ, zero, suc, _+_, _-_, _*_, _^_, _≤_, _<_}
-use native.Mathlib.Nat.{le-trans, le-of-eq, mul-one, one-mul, zero-mul, zero-add, mul-pos, eq-or-lt-of-le, zero-lt-suc}
+use native.Mathlib.Nat.{le-trans, le-of-eq, mul-one, one-mul, zero-mul, zero-add, mul-pos, zero-lt-suc}
 use native.Mathlib.Omega.{arith}
-use lib.Dec.{T, leb, leb→le, le→leb, nleb→lt, ltb, eqb, eqb-refl, lit<, lit≤}
-use lib.IntN.{ℤ, pos, negsuc, negℤ, natAbs, _+ℤ_, _-ℤ_, +ℤ-invr}
-use lib.Ieee.{Float, nan, inf, fin, Format, binary64, up, down, ofBits, ofInt, round, sum, add, mul, div, le, unlike}
+use lib.Dec.{T, leb, leb→le, nleb→lt, lit<, lit≤}
+use lib.IntN.{ℤ, pos, negsuc, natAbs, _+ℤ_, _-ℤ_, +ℤ-invr}
+use lib.Ieee.{Float, nan, inf, fin, binary64, up, down, ofBits, ofInt, round, sum, add, mul, div, le, unlike}
 use lib.Ieee.Fits.{down-pos}
 use lib.Ieee.Order.{round-mono}
 use lib.Ieee.Scale.{round-same}
 use lib.Ieee.Positive.{num, den, den-pos, positive, le→cross, le-trans-positive, between, mul-mono}
-use Rattle.place.specs.declared.PlaceKey.{PlaceKey}
 use Rattle.place.specs.Numbers.{n125, n111195, n1M, _⊕_, _⊗_, _⊘_}
-use Rattle.place.specs.Near.{sameKeys, closeBy, closeAt, angle, square, series, metres, turn, around}
-use Rattle.laws.proofs.Ints.{natAbs-+ℤ, natAbs-negℤ}
+use Rattle.place.specs.Near.{closeBy, closeAt, angle, square, series, metres, turn, around}
 use Rattle.laws.proofs.Tests.{both-ways}
 use Rattle.place.proofs.Symmetric.{metres-neg}
 use Rattle.laws.specs.Floats.{Within}

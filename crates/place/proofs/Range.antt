@@ -1,5 +1,5 @@
 -- Microdegrees of a usable position are within ±90,000,000 and ±180,000,000, so Rust's sums of two of them fit an i32.
-use mathlib.Core.Path.{_≡_, sym, ap, subst}
+use mathlib.Core.Path.{sym, subst}
 use mathlib.Core.Bool.{Bool, true, false, _&&_}
 use Prim.Native.Nat.{ℕ, _+_, _*_, _^_, _≤_, _<_}
 use native.Mathlib.Nat.{le-trans, le-of-eq, mul-one}

@@ -1,12 +1,10 @@
 -- `sameKeys` is symmetric, at every two keys.
-use mathlib.Core.Path.{_≡_, refl, sym, ap, _∙_, subst}
-use mathlib.Core.Bool.{Bool, true, false, not, cond, _&&_}
+use mathlib.Core.Path.{_≡_, refl, sym, ap, _∙_}
+use mathlib.Core.Bool.{Bool, true, false, cond, _&&_}
 use Prim.Native.Nat.{ℕ, zero, suc}
 use lib.Dec.{T, eqb, ltb, eqb→eq}
-use lib.IntN.{ℤ, pos, negsuc, negℤ, natAbs, _+ℤ_, _-ℤ_, +ℤ-comm, negℤ-+ℤ, negℤ-negℤ}
-use lib.Ieee.{Float, binary64, ofInt, neg, mul, le}
-use lib.Ieee.Fits.{eq→eqb}
-use Rattle.place.specs.declared.PlaceKey.{PlaceKey}
+use lib.IntN.{ℤ, pos, negsuc, negℤ, _+ℤ_, _-ℤ_, +ℤ-comm, negℤ-+ℤ, negℤ-negℤ}
+use lib.Ieee.{Float, binary64, ofInt, neg, le}
 use Rattle.place.specs.Numbers.{n125, _⊕_, _⊗_}
 use Rattle.place.specs.Near.{sameKeys, closeBy, closeAt, angle, square, series, metres, turn, around}
 use Rattle.place.specs.Keys.{tagN}

@@ -2,7 +2,7 @@
 use mathlib.Core.Path.{_≡_, refl}
 use mathlib.Core.Bool.{true, false}
 use lib.IntN.{pos, negsuc}
-use lib.Ieee.{binary64, ofBits, toBits, add, sub, mul, div, neg, le, ofInt, round}
+use lib.Ieee.{binary64, ofBits, add, sub, mul, div, neg, le, ofInt, round}
 use Rattle.place.specs.Numbers.{one, n24, n720, n40320, n111195, n1M, n125, _⊗_, _⊘_}
 use Rattle.place.specs.Near.{closeBy, closeAt, turn, around, angle, square, series, metres}
 

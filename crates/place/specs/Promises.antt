@@ -5,7 +5,7 @@ use mathlib.Core.Bool.{Bool, true, false}
 use mathlib.Core.List.{List}
 use lib.Dec.{leb}
 use lib.IntN.{ℤ, natAbs, _+ℤ_, _-ℤ_}
-use Rattle.place.specs.Keys.{tagN}
+use Rattle.place.specs.Keys.{tagN, placeKey}
 use Rattle.place.specs.Near.{sameKeys}
 use Rattle.place.specs.Positions.{microOf}
 use Rattle.place.specs.declared.PlaceKey.{PlaceKey}
@@ -38,6 +38,10 @@ TagsApart = (a b : PlaceKey) → (a .tag ≡ b .tag → ⊥) → sameKeys a b �
 -- so are keys of different hashes
 abbrev pub HashesApart : Type 0
 HashesApart = (a b : PlaceKey) → (a .hash ≡ b .hash → ⊥) → sameKeys a b ≡ false
+
+-- a place key is never the key of a stop that has none
+abbrev pub Placed : Type 0
+Placed = (has : Bool) (parent : List ℕ) (p : Position) (named : Bool) (name id : List ℕ) → placeKey has parent p named name id .tag ≡ 0 → ⊥
 
 -- microdegrees of a usable position are within ±90,000,000 and ±180,000,000
 abbrev pub InRange : Type 0

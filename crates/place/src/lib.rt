@@ -4,7 +4,9 @@ ghost use mathlib.Core.Bool.{_&&_};
 ghost use lib.IntN.{pos, natAbs, _+ℤ_, _-ℤ_};
 ghost use lib.Ieee.{neg, le, toSigned};
 ghost use Rattle.place.specs.Positions.{positionOf, usableDegrees, isUsable, micro, microOf};
+ghost use Rattle.place.specs.Keys.{parentKey, idKey, namedKey, shownKey, locatedKey, placeKey};
 ghost use Rattle.place.specs.Near.{closeBy, turn, sameKeys};
+use key::NameKey;
 
 // The two floats of a stop's record.
 pub struct Degrees {
@@ -109,6 +111,90 @@ pub fn coordinates(p: Position) -> Micro
     match p {
         Position::Given(latitude, longitude) => microdegrees(latitude, longitude),
         Position::Absent => Micro::Nowhere,
+    }
+}
+
+// The key of a stop with a parent: the hash of the parent's id.
+fn parent_key(parent: &[u8]) -> PlaceKey
+    ensures { λ r. ⌜ r ≡ parentKey (now (parent .entry)) ⌝ }
+{
+    PlaceKey {
+        tag: b'P',
+        hash: key::key(parent),
+        lat: 0,
+        lon: 0,
+    }
+}
+
+// The key of a stop with neither a parent nor a usable position: the hash of its id.
+fn id_key(id: &[u8]) -> PlaceKey
+    ensures { λ r. ⌜ r ≡ idKey (now (id .entry)) ⌝ }
+{
+    PlaceKey {
+        tag: b'I',
+        hash: key::key(id),
+        lat: 0,
+        lon: 0,
+    }
+}
+
+// The key of the name, or of the id folded as a name where there is none.
+fn shown_key(named: bool, name: &[u8], id: &[u8]) -> NameKey
+    ensures { λ r. ⌜ r ≡ shownKey named (now (name .entry)) (now (id .entry)) ⌝ }
+{
+    if named {
+        return key::name_key(name);
+    }
+    key::name_key(id)
+}
+
+// The key of a name at a position; the id's where the name can't be used.
+fn named_key(k: NameKey, lat: i32, lon: i32, id: &[u8]) -> PlaceKey
+    ensures { λ r. ⌜ r ≡ namedKey k lat lon (now (id .entry)) ⌝ }
+{
+    if let NameKey::Hash(hash) = k {
+        return PlaceKey {
+            tag: b'N',
+            hash,
+            lat,
+            lon,
+        };
+    }
+    id_key(id)
+}
+
+fn located_key(m: Micro, k: NameKey, id: &[u8]) -> PlaceKey
+    ensures { λ r. ⌜ r ≡ locatedKey m k (now (id .entry)) ⌝ }
+{
+    match m {
+        Micro::At(lat, lon) => named_key(k, lat, lon, id),
+        Micro::Nowhere => id_key(id),
+    }
+}
+
+// The place key of a stop of type 0. Where there is no parent, or no name, those bytes are not read.
+pub fn place_key(
+    has_parent: bool,
+    parent: &[u8],
+    position: Position,
+    named: bool,
+    name: &[u8],
+    id: &[u8],
+) -> PlaceKey
+    ensures { λ r. ⌜ r ≡ placeKey «has_parent» (now (parent .entry)) position named (now (name .entry)) (now (id .entry)) ⌝ }
+{
+    if has_parent {
+        return parent_key(parent);
+    }
+    match position {
+        Position::Given(latitude, longitude) => {
+            located_key(
+                microdegrees(latitude, longitude),
+                shown_key(named, name, id),
+                id,
+            )
+        }
+        Position::Absent => id_key(id),
     }
 }
 

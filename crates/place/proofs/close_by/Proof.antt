@@ -6,38 +6,24 @@ use Rattle.place.specs.Near.{closeBy, closeAt, angle, square, series, me
 use Rattle.laws.proofs.Ints.{again}
 use Rattle.place.proofs.close_by.Statement.{statement}
 use Rattle.place.proofs.close_by.Tie as tie
-use Rattle.place.proofs.close_by.Reads as reads
-use Rattle.place.proofs.close_by.Lts as lts
-use Rattle.place.proofs.gap_of.Reads as gap-of-reads
-use Rattle.place.proofs.sum_of.Reads as sum-of-reads
-use Rattle.place.proofs.turn_of.Reads as turn-of-reads
-use Rattle.std.proofs.num.nearest_i64_to_f64.Reads as nearest-i64-to-f64-reads
 
--- src/lib.rt:47:48
 sum-of-requires : tie.Need-sum-of-requires
 sum-of-requires c κs = search needs
 
--- src/lib.rt:47:19
 nearest-i64-to-f64-requires : tie.Need-nearest-i64-to-f64-requires
 nearest-i64-to-f64-requires c κs = search needs
 
--- src/lib.rt:53:9
 turn-of-requires : tie.Need-turn-of-requires
 turn-of-requires c κs = search needs
 
--- src/lib.rt:54:14
 nearest-i64-to-f64-requires-2 : tie.Need-nearest-i64-to-f64-requires-2
 nearest-i64-to-f64-requires-2 c κs = search needs
 
--- src/lib.rt:55:43
 gap-of-requires : tie.Need-gap-of-requires
 gap-of-requires c κs = search needs
 
--- src/lib.rt:55:14
 nearest-i64-to-f64-requires-3 : tie.Need-nearest-i64-to-f64-requires-3
 nearest-i64-to-f64-requires-3 c κs = search needs
-
--- src/lib.rt:44:1
 
 whole : (c : tie.After-nearest-i64-to-f64) → c .nearest-i64-to-f64 .result ≡ ofInt binary64 (c .before .before .args .alat +ℤ c .before .before .args .blat)
 whole c = c .nearest-i64-to-f64 .ensures ∙ ap (ofInt binary64) (again (record { sfits = c .before .sum-of .ok }) ∙ c .before .sum-of .ensures ∙ (λ i. again (c .before .before .fits .alat) i +ℤ again (c .before .before .fits .blat) i))

@@ -1,7 +1,7 @@
 -- `place::cut` meets its contract: by how the float compares with the ends of the range.
 use mathlib.Core.Path.{_≡_, sym, _∙_, subst}
 use lib.Dec.{T}
-use lib.Ieee.{Float, ofBits, neg, toSigned}
+use lib.Ieee.{ofBits, neg, toSigned}
 use lib.Ieee.Casts.{toSigned-in}
 use mir.Syntax.{w32, w64}
 use mir.Val.{SFits, toZ, ofZ}

@@ -1,5 +1,5 @@
 -- `place::gap_of` meets its contract: 33 bits hold the difference.
-use mathlib.Core.Path.{ap, _∙_}
+use mathlib.Core.Path.{_∙_}
 use lib.IntN.{_-ℤ_}
 use Rattle.laws.proofs.Ints.{again, widens, widened, gap-fits}
 use Rattle.place.proofs.gap_of.Statement.{statement}

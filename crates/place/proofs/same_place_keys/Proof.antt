@@ -1,20 +1,16 @@
 -- `place::same_place_keys` meets its contract: by the three tests.
 use borrow.Author.Needs.{needs}
 use borrow.Author.Tests.{eq-eqb, ne-eqb}
-use mathlib.Core.Path.{_≡_, ap, _∙_, sym}
+use mathlib.Core.Path.{_≡_, _∙_, sym}
 use mathlib.Core.Bool.{Bool, true, false, cond, _&&_}
 use lib.Dec.{eqb}
 use mir.Syntax.{w32}
-use Rattle.place.specs.Near.{sameKeys, closeBy}
-use Rattle.place.specs.declared.PlaceKey.{PlaceKey}
+use Rattle.place.specs.Near.{closeBy}
 use Rattle.place.specs.Keys.{tagN}
 use Rattle.laws.proofs.Ints.{again}
 use Rattle.place.proofs.SameKeys.{by-tests}
 use Rattle.place.proofs.same_place_keys.Statement.{statement}
 use Rattle.place.proofs.same_place_keys.Tie as tie
-use Rattle.place.proofs.same_place_keys.Reads as reads
-use Rattle.place.proofs.same_place_keys.Lts as lts
-use Rattle.place.proofs.close_by.Reads as close-by-reads
 
 and-false : (x : Bool) (y : Bool) → false ≡ cond (x && false) y false
 and-false true y = λ i. false

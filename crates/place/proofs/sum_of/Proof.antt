@@ -1,5 +1,5 @@
 -- `place::sum_of` meets its contract: 33 bits hold the sum.
-use mathlib.Core.Path.{ap, _∙_}
+use mathlib.Core.Path.{_∙_}
 use lib.IntN.{_+ℤ_}
 use Rattle.laws.proofs.Ints.{again, widens, widened, sum-fits}
 use Rattle.place.proofs.sum_of.Statement.{statement}
