@@ -4,5 +4,4 @@ pub mod Symmetric
 pub mod Cosine
 pub mod Meridian
 pub mod SameKeys
-pub mod Vectors
 pub mod Placed

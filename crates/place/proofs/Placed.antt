@@ -1,36 +1,51 @@
--- A place key is never the key of a stop that has no place: its tag is P, N or I.
-use mathlib.Core.Path.{_≡_}
-use mathlib.Core.Bool.{true, false}
+-- What holds of every place key: its tag is not that of a stop without a place, and its microdegrees are in range.
+use mathlib.Core.Path.{_≡_, refl}
+use mathlib.Core.Bool.{Bool, true, false}
 use mathlib.Core.List.{List}
-use Prim.Native.Nat.{ℕ}
+use Prim.Native.Nat.{ℕ, _≤_}
 use native.Mathlib.Omega.{arith}
-use lib.IntN.{ℤ}
+use lib.Dec.{lit≤}
+use lib.IntN.{ℤ, natAbs}
 use Rattle.key.specs.declared.NameKey.{NameKey}
 use Rattle.key.specs.declared.NameKey.the-variants.{Hash, NoWord, Control, NotAscii}
+use Rattle.place.specs.declared.PlaceKey.{PlaceKey}
+use Rattle.place.specs.declared.Position.{Position}
 use Rattle.place.specs.declared.Micro.{Micro}
 use Rattle.place.specs.declared.Micro.the-variants.{At, Nowhere}
 use Rattle.place.specs.Positions.{microOf}
-use Rattle.place.specs.Keys.{parentKey, idKey, namedKey, locatedKey, shownKey}
-use Rattle.place.specs.Promises.{Placed}
+use Rattle.place.specs.Keys.{tagN, parentKey, idKey, namedKey, locatedKey, shownKey, placeKey}
+use Rattle.place.specs.Promises.{Placed, KeyInRange}
+use Rattle.place.proofs.Range.{in-range}
 
-of-parent : (parent : List ℕ) → parentKey parent .tag ≡ 0 → ⊥
-unfolding parentKey
-of-parent parent e = omega arith
+-- a property of a key that every place key has: it holds of every hash with no position, and of a name at the position's microdegrees
+every :
+    (P : PlaceKey → Type 0) (p : Position)
+    → ((parent : List ℕ) → P (parentKey parent)) → ((id : List ℕ) → P (idKey id))
+    → ((h : ℕ) (lat lon : ℤ) → microOf p ≡ At lat lon → P (record { tag = tagN; hash = h; lat = lat; lon = lon }))
+    → (has : Bool) (parent : List ℕ) (named : Bool) (name id : List ℕ) → P (placeKey has parent p named name id)
+every P p f g h true parent named name id = f parent
+every P p f g h false parent named name id = at-micro (microOf p) refl
+  where
+    at-name : (k : NameKey) (lat lon : ℤ) → microOf p ≡ At lat lon → P (namedKey k lat lon id)
+    at-name (Hash x) lat lon e = h x lat lon e
+    at-name NoWord lat lon e = g id
+    at-name Control lat lon e = g id
+    at-name NotAscii lat lon e = g id
 
-of-id : (id : List ℕ) → idKey id .tag ≡ 0 → ⊥
-unfolding idKey
-of-id id e = omega arith
-
-of-name : (k : NameKey) (lat lon : ℤ) (id : List ℕ) → namedKey k lat lon id .tag ≡ 0 → ⊥
-of-name (Hash h) lat lon id e = omega arith
-of-name NoWord lat lon id e = of-id id e
-of-name Control lat lon id e = of-id id e
-of-name NotAscii lat lon id e = of-id id e
-
-of-located : (m : Micro) (k : NameKey) (id : List ℕ) → locatedKey m k id .tag ≡ 0 → ⊥
-of-located (At lat lon) k id e = of-name k lat lon id e
-of-located Nowhere k id e = of-id id e
+    at-micro : (m : Micro) → microOf p ≡ m → P (locatedKey m (shownKey named name id) id)
+    at-micro (At lat lon) e = at-name (shownKey named name id) lat lon e
+    at-micro Nowhere e = g id
 
 pub placed : Placed
-placed true parent p named name id e = of-parent parent e
-placed false parent p named name id e = of-located (microOf p) (shownKey named name id) id e
+unfolding parentKey idKey
+placed has parent p named name id =
+    every (λ (k : PlaceKey). k .tag ≡ 0 → ⊥) p (λ x e. omega arith) (λ x e. omega arith) (λ h lat lon q e. omega arith) has parent named name id
+
+pub key-in-range : KeyInRange
+unfolding parentKey idKey
+key-in-range has parent p named name id =
+    every (λ (k : PlaceKey). (natAbs (k .lat) ≤ 90000000) × (natAbs (k .lon) ≤ 180000000)) p
+    (λ x. (lit≤ tt, lit≤ tt))
+    (λ x. (lit≤ tt, lit≤ tt))
+    (λ h lat lon e. in-range p lat lon e)
+    has parent named name id

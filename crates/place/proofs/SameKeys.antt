@@ -11,7 +11,7 @@ use Rattle.laws.proofs.Ints.{natAbs-+ℤ, natAbs-negℤ}
 use Rattle.place.specs.declared.PlaceKey.{PlaceKey}
 use Rattle.place.specs.Keys.{tagN}
 use Rattle.place.specs.Near.{sameKeys, closeBy}
-use Rattle.place.specs.Promises.{Reflexive, SameMeridian, TagsApart, HashesApart}
+use Rattle.place.specs.Promises.{Reflexive, SameMeridian, TagsApart, HashesApart, SameHash}
 use Rattle.place.proofs.Meridian.{close-meridian}
 
 -- by what the tests of the tags, of the hashes and of the tag with N say
@@ -29,6 +29,9 @@ hashes-apart a b n = by-tests a b (eqb (a .tag) (b .tag)) false (eqb (a .tag) ta
     none : (t x : Bool) → cond (t && false) x false ≡ false
     none true x = refl
     none false x = refl
+
+pub same-hash : SameHash
+same-hash a b t n h = by-tests a b true true false (eq-eqb _ _ t) (eq-eqb _ _ h) (ne-eqb _ _ n)
 
 both-in : (n a b : ℕ) → n ≤ a + b → a ≤ 2 ^ 31 → b ≤ 2 ^ 31 → n ≤ 2 ^ 32
 both-in n a b h p q = omega arith

@@ -35,13 +35,13 @@ SameMeridian =
 abbrev pub TagsApart : Type 0
 TagsApart = (a b : PlaceKey) → (a .tag ≡ b .tag → ⊥) → sameKeys a b ≡ false
 
--- so are keys of different hashes
+-- nor are keys of different hashes
 abbrev pub HashesApart : Type 0
 HashesApart = (a b : PlaceKey) → (a .hash ≡ b .hash → ⊥) → sameKeys a b ≡ false
 
--- a place key is never the key of a stop that has none
-abbrev pub Placed : Type 0
-Placed = (has : Bool) (parent : List ℕ) (p : Position) (named : Bool) (name id : List ℕ) → placeKey has parent p named name id .tag ≡ 0 → ⊥
+-- of parents, and of ids, equal hashes are enough
+abbrev pub SameHash : Type 0
+SameHash = (a b : PlaceKey) → a .tag ≡ b .tag → (a .tag ≡ tagN → ⊥) → a .hash ≡ b .hash → sameKeys a b ≡ true
 
 -- microdegrees of a usable position are within ±90,000,000 and ±180,000,000
 abbrev pub InRange : Type 0
@@ -52,3 +52,13 @@ abbrev pub SumsFit : Type 0
 SumsFit =
     (p q : Position) (lat lon lat′ lon′ : ℤ) → microOf p ≡ At lat lon → microOf q ≡ At lat′ lon′
     → (natAbs (lat +ℤ lat′) < 2 ^ 31) × (natAbs (lat -ℤ lat′) < 2 ^ 31) × (natAbs (lon -ℤ lon′) < 2 ^ 31)
+
+-- a place key is never the key of a stop that has none
+abbrev pub Placed : Type 0
+Placed = (has : Bool) (parent : List ℕ) (p : Position) (named : Bool) (name id : List ℕ) → placeKey has parent p named name id .tag ≡ 0 → ⊥
+
+-- and its microdegrees are in that range, so the test is reflexive for it
+abbrev pub KeyInRange : Type 0
+KeyInRange =
+    (has : Bool) (parent : List ℕ) (p : Position) (named : Bool) (name id : List ℕ)
+    → (natAbs (placeKey has parent p named name id .lat) ≤ 90000000) × (natAbs (placeKey has parent p named name id .lon) ≤ 180000000)
