@@ -8,3 +8,7 @@ pub mod Signs
 pub mod Within
 pub mod Turns
 pub mod Slots
+pub mod AtMost
+pub mod Cut
+pub mod Tests
+pub mod Halves

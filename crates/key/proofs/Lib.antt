@@ -1,0 +1,4 @@
+pub mod Stream
+pub mod Bytes
+pub mod Words
+pub mod Names

@@ -1,0 +1,4 @@
+pub mod Hash
+pub mod Name
+pub mod Stream
+pub mod Promises
