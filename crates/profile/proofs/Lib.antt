@@ -1,0 +1,10 @@
+pub mod FiguresLaws
+pub mod FrontLaws
+pub mod KeptLaws
+pub mod FallLaws
+pub mod PassLaws
+pub mod MapLaws
+pub mod PickLaws
+pub mod BestLaws
+pub mod ClaimLaws
+pub mod InstanceLaws
