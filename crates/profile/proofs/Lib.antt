@@ -8,3 +8,8 @@ pub mod PickLaws
 pub mod BestLaws
 pub mod ClaimLaws
 pub mod InstanceLaws
+pub mod CoverLaws
+pub mod RowLaws
+pub mod StepLaws
+pub mod ViewLaws
+pub mod OfferLaws

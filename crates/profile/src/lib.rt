@@ -1,4 +1,8 @@
 // What a search keeps: the records of a journey, the running state of a search, and the offer (`candidate`).
+pub mod figures;
+pub mod offer;
+mod slots;
+pub mod state;
 
 // A ride, as a kept journey holds it.
 pub struct Ride {
