@@ -177,6 +177,3 @@ module _ (l : List ℕ) (o : Row) (open′ : Open l) (early : due o ≤ horizonO
 pub packed-open : (p : Row → Bool) (l m : List ℕ) (c n : ℕ) → Open l → Packed p l m c n → Open m
 unfolding Open
 packed-open p l m c n e w = w .tail 653 (omega arith) ∙ e
-
-pub few : (l : List ℕ) (c : ℕ) → c ≡ countOf l → c ≤ 64
-few l c e = omega (arith, count-few l)

@@ -32,6 +32,9 @@ pub count-few : (l : List ℕ) → countOf l ≤ 64
 unfolding countOf
 count-few l = omega arith
 
+pub few : (l : List ℕ) (c : ℕ) → c ≡ countOf l → c ≤ 64
+few l c e = omega (arith, count-few l)
+
 pub limits-small : (l : List ℕ) → getD l 652 0 < 255 → getD l 652 0 ≡ limitsOf l
 unfolding limitsOf
 limits-small l h = omega arith

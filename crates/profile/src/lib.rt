@@ -1,4 +1,7 @@
 // What a search keeps: the records of a journey, the running state of a search, and the offer (`candidate`).
+ghost use mathlib.Core.Path.{_≡_};
+ghost use Rattle.profile.specs.Journeys.{noRide, noJourney};
+
 pub mod figures;
 pub mod offer;
 mod slots;
@@ -41,4 +44,35 @@ pub struct Row {
     pub alight: u16,
     pub board2: u16,
     pub alight2: u16,
+}
+
+pub fn no_ride() -> Ride
+    ensures { λ r. ⌜ r ≡ noRide ⌝ }
+{
+    Ride {
+        trip: 0,
+        day: 0,
+        from: 0,
+        to: 0,
+        departure: 0,
+        arrival: 0,
+        board_request: false,
+        alight_request: false,
+    }
+}
+
+pub fn no_journey() -> Journey
+    ensures { λ r. ⌜ r ≡ noJourney ⌝ }
+{
+    let none = no_ride();
+    Journey {
+        leave: 0,
+        arrival: 0,
+        rides: 0,
+        walk: 0,
+        origin: 0,
+        target: 0,
+        first: none,
+        last: none,
+    }
 }
