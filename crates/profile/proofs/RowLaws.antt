@@ -11,32 +11,28 @@ use lib.Dec.{ltb}
 use borrow.Author.Tests.{ltb-true, ltb-false}
 use Rattle.laws.proofs.Bools.{test}
 use Rattle.profile.specs.declared.Row.{Row}
-use Rattle.profile.specs.View.{rowAt, rowOf, tab, rows, noRow}
+use Rattle.profile.specs.View.{row, rowAt, tab, rows, noRow}
 use Rattle.profile.specs.Pieces.{putRow, puts, Tail}
 
 -- ---- numbers stored one after the other
 
 pub puts-long : (vs l : List ℕ) (a k : ℕ) → length (puts l a k vs) ≡ length l
-unfolding puts
 puts-long [] l a k = refl
 puts-long (v ∷ vs) l a k = puts-long vs (set l (a + k) v) a (suc k) ∙ length-set l (a + k) v
 
 pub puts-low : (vs l : List ℕ) (a k x : ℕ) → x < a + k → getD (puts l a k vs) x 0 ≡ getD l x 0
-unfolding puts
 puts-low [] l a k x h = refl
 puts-low (v ∷ vs) l a k x h =
     let n : x ≢ a + k = λ e. omega arith in
     puts-low vs (set l (a + k) v) a (suc k) x (omega arith) ∙ getD-set-other l (a + k) x v 0 n
 
 pub puts-high : (vs l : List ℕ) (a k x : ℕ) → a + k + length vs ≤ x → getD (puts l a k vs) x 0 ≡ getD l x 0
-unfolding puts
 puts-high [] l a k x h = refl
 puts-high (v ∷ vs) l a k x h =
     let n : x ≢ a + k = λ e. omega arith in
     puts-high vs (set l (a + k) v) a (suc k) x (omega arith) ∙ getD-set-other l (a + k) x v 0 n
 
 pub puts-in : (vs l : List ℕ) (a k j : ℕ) → j < length vs → a + k + length vs ≤ length l → getD (puts l a k vs) (a + (k + j)) 0 ≡ getD vs j 0
-unfolding puts
 puts-in [] l a k j h r = absurd (omega arith)
 puts-in (v ∷ vs) l a k zero h r =
     let e : a + (k + 0) ≡ a + k = omega arith in
@@ -50,7 +46,7 @@ puts-in (v ∷ vs) l a k (suc j) h r =
 pub seen : (l l′ : List ℕ) (k : ℕ) → ((y : ℕ) → k * 10 ≤ y → y < k * 10 + 10 → getD l′ y 0 ≡ getD l y 0) → rowAt l′ k ≡ rowAt l k
 unfolding rowAt
 seen l l′ k f =
-    λ t. rowOf (f (k * 10) (omega arith) (omega arith) t) (at 1 (omega arith) t) (at 2 (omega arith) t) (at 3 (omega arith) t) (at 4 (omega arith) t) (at 5 (omega arith) t)
+    λ t. row (f (k * 10) (omega arith) (omega arith) t) (at 1 (omega arith) t) (at 2 (omega arith) t) (at 3 (omega arith) t) (at 4 (omega arith) t) (at 5 (omega arith) t)
     (at 6 (omega arith) t) (at 7 (omega arith) t) (at 8 (omega arith) t) (at 9 (omega arith) t)
   where
     at : (j : ℕ) → j < 10 → getD l′ (k * 10 + j) 0 ≡ getD l (k * 10 + j) 0
@@ -97,14 +93,14 @@ module _ (l : List ℕ) (i : ℕ) (r : Row) where
     put-in j h = puts-in others (set l (i * 10) (r .leave)) (i * 10) 1 j (omega arith) (omega (arith, length-set l (i * 10) (r .leave)))
 
     pub put-here : rowAt (putRow l i r) i ≡ r
-    unfolding rowAt rowOf
+    unfolding rowAt
     put-here =
-        λ t. rowOf (put-first t) (put-in 0 (omega arith) t) (put-in 1 (omega arith) t) (put-in 2 (omega arith) t) (put-in 3 (omega arith) t) (put-in 4 (omega arith) t)
+        λ t. row (put-first t) (put-in 0 (omega arith) t) (put-in 1 (omega arith) t) (put-in 2 (omega arith) t) (put-in 3 (omega arith) t) (put-in 4 (omega arith) t)
         (put-in 5 (omega arith) t) (put-in 6 (omega arith) t) (put-in 7 (omega arith) t) (put-in 8 (omega arith) t)
 
 -- a row stored where it stands
 pub put-same : (l : List ℕ) (i : ℕ) → putRow l i (rowAt l i) ≡ l
-unfolding putRow puts rowAt rowOf
+unfolding putRow rowAt
 put-same l i = simp set-getD
 
 pub put-there : (l : List ℕ) (i n : ℕ) (k : Row) → n ≡ i → k ≡ rowAt l i → l ≡ putRow l n k

@@ -20,15 +20,18 @@ unfoldable pub due : Row → ℕ
 due r = r .arrival
 
 -- the numbers vs stored from a + k on
-unfoldable pub puts : List ℕ → ℕ → ℕ → List ℕ → List ℕ
+abbrev pub puts : List ℕ → ℕ → ℕ → List ℕ → List ℕ
 puts l a k [] = l
 puts l a k (v ∷ vs) = puts (set l (a + k) v) a (suc k) vs
 
 -- the row r stored in slot i
-unfoldable pub putRow : List ℕ → ℕ → Row → List ℕ
-putRow l i r =
+abbrev pub stored : List ℕ → ℕ → Row → List ℕ
+stored l i r =
     puts (set l (i * 10) (r .leave)) (i * 10) 1
     (r .arrival ∷ r .rides ∷ r .walk ∷ r .origin ∷ r .target ∷ r .board ∷ r .alight ∷ r .board2 ∷ r .alight2 ∷ [])
+
+unfoldable pub putRow : List ℕ → ℕ → Row → List ℕ
+putRow l i r = stored l i r
 
 -- nothing but the slots differs
 abbrev pub Tail : List ℕ → List ℕ → Type 0

@@ -10,17 +10,23 @@ use Rattle.profile.specs.Figures.{covᶠ, dueᶠ}
 use Rattle.profile.specs.Kept.{St, going, refused, offer}
 use Rattle.profile.specs.Journeys.{rowFigures}
 
-unfoldable pub rowOf : ℕ → ℕ → ℕ → ℕ → ℕ → ℕ → ℕ → ℕ → ℕ → ℕ → Row
-rowOf a b c d p q r s t u = record { leave = a; arrival = b; rides = c; walk = d; origin = p; target = q; board = r; alight = s; board2 = t; alight2 = u }
+abbrev pub row : ℕ → ℕ → ℕ → ℕ → ℕ → ℕ → ℕ → ℕ → ℕ → ℕ → Row
+row a b c d p q r s t u = record { leave = a; arrival = b; rides = c; walk = d; origin = p; target = q; board = r; alight = s; board2 = t; alight2 = u }
 
-unfoldable pub noRow : Row
-noRow = rowOf 0 0 0 0 0 0 0 0 0 0
+unfoldable pub rowOf : ℕ → ℕ → ℕ → ℕ → ℕ → ℕ → ℕ → ℕ → ℕ → ℕ → Row
+rowOf a b c d p q r s t u = row a b c d p q r s t u
+
+abbrev pub noRow : Row
+noRow = row 0 0 0 0 0 0 0 0 0 0
 
 -- the ten numbers of slot i
-unfoldable pub rowAt : List ℕ → ℕ → Row
-rowAt l i =
-    rowOf (getD l (i * 10) 0) (getD l (i * 10 + 1) 0) (getD l (i * 10 + 2) 0) (getD l (i * 10 + 3) 0) (getD l (i * 10 + 4) 0) (getD l (i * 10 + 5) 0)
+abbrev pub slot : List ℕ → ℕ → Row
+slot l i =
+    row (getD l (i * 10) 0) (getD l (i * 10 + 1) 0) (getD l (i * 10 + 2) 0) (getD l (i * 10 + 3) 0) (getD l (i * 10 + 4) 0) (getD l (i * 10 + 5) 0)
     (getD l (i * 10 + 6) 0) (getD l (i * 10 + 7) 0) (getD l (i * 10 + 8) 0) (getD l (i * 10 + 9) 0)
+
+unfoldable pub rowAt : List ℕ → ℕ → Row
+rowAt l i = slot l i
 
 -- f at i, i + 1, .. , k in number
 unfoldable pub tab : {A : Type 0} → (ℕ → A) → ℕ → ℕ → List A

@@ -3,7 +3,6 @@ ghost use mathlib.Core.Path.{_≡_};
 ghost use Rattle.profile.specs.Figures.{lexb, covers, prefer};
 ghost use Rattle.profile.specs.Journeys.{journeyFigures};
 ghost use Rattle.profile.specs.Pieces.{cov};
-
 use crate::Journey;
 use crate::Row;
 

@@ -15,7 +15,6 @@ ghost use Rattle.profile.specs.Pieces.{
   latestDue,
   settled,
 };
-
 use crate::Row;
 use crate::figures::covers;
 use crate::slots::known;

@@ -2,9 +2,8 @@
 ghost use mathlib.Core.Path.{_≡_};
 ghost use Prim.Native.Nat.{_+_, _*_, _<_};
 ghost use lib.ListN.{length};
-ghost use Rattle.profile.specs.View.{noRow, rowAt};
-ghost use Rattle.profile.specs.Pieces.{putRow};
-
+ghost use Rattle.profile.specs.View.{noRow, slot};
+ghost use Rattle.profile.specs.Pieces.{stored};
 use crate::Row;
 
 // An array has its length. A lent one shows it by a copy that nothing reads.
@@ -33,7 +32,7 @@ pub fn no_row() -> Row
 // The row in slot i.
 pub fn row_at(st: &[u16; 654], i: usize) -> Row
     requires { ⌜ (length (now st) ≡ 654) × (i < 65) ⌝ }
-    ensures { λ r. ⌜ r ≡ rowAt (now (st .entry)) i ⌝ }
+    ensures { λ r. ⌜ r ≡ slot (now (st .entry)) i ⌝ }
 {
     let at = i * 10;
     Row {
@@ -52,7 +51,7 @@ pub fn row_at(st: &[u16; 654], i: usize) -> Row
 
 pub fn put_row(st: &mut [u16; 654], i: usize, r: Row)
     requires { ⌜ (length (now st) ≡ 654) × (i < 65) ⌝ }
-    ensures { λ _. ⌜ now (st .exit) ≡ putRow (now (st .entry)) i r ⌝ }
+    ensures { λ _. ⌜ now (st .exit) ≡ stored (now (st .entry)) i r ⌝ }
 {
     let at = i * 10;
     st[at] = r.leave;

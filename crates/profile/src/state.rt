@@ -15,7 +15,6 @@ ghost use Rattle.profile.specs.View.{
   openOf,
   view,
 };
-
 use crate::Row;
 use crate::slots::known;
 use crate::slots::no_row;

@@ -2,7 +2,7 @@ use mathlib.Core.Path.{_≡_, refl}
 use Prim.Native.Nat.{_-_}
 use native.Mathlib.Omega.{arith}
 use lib.ListN.{take, drop}
-use Rattle.profile.specs.View.{rows}
+use Rattle.profile.specs.View.{rowAt, rows}
 use Rattle.profile.specs.Pieces.{coveredBy}
 use Rattle.profile.proofs.StepLaws.{covered-found, covered-on, covered-none}
 use Rattle.profile.proofs.offer.covered.Statement.{statement}
@@ -24,6 +24,7 @@ covers-requires : tie.Need-covers-requires Inv-loop μ-loop
 covers-requires c κs = tt
 
 returns : tie.Need-returns Inv-loop μ-loop
+unfolding rowAt
 returns c =
     let p = c .before .before .before in
     covered-found _ _ _ _ (p .before .before .pre .1) (p .loop-test .taken) _ _ (c .before .before .row-at .ensures) (c .before .covers .ensures) (c .if1 .taken) (p .before .loop .inv)
@@ -35,6 +36,7 @@ loop-less : tie.Need-loop-less Inv-loop μ-loop
 loop-less c = omega arith
 
 loop-again : tie.Need-loop-again Inv-loop μ-loop
+unfolding rowAt
 loop-again c =
     let p = c .before .before .before in
     covered-on _ _ _ _ (p .before .before .pre .1) (p .loop-test .taken) _ _ (c .before .before .row-at .ensures) (c .before .covers .ensures) (c .if1 .left) (p .before .loop .inv)

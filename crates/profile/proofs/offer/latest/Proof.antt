@@ -2,7 +2,7 @@ use mathlib.Core.Path.{_≡_}
 use Prim.Native.Nat.{_-_, max}
 use native.Mathlib.Omega.{arith}
 use lib.ListN.{drop}
-use Rattle.profile.specs.View.{rows}
+use Rattle.profile.specs.View.{rowAt, rows}
 use Rattle.profile.specs.Pieces.{latestDue}
 use Rattle.profile.proofs.StepLaws.{latest-turn, latest-done}
 use Rattle.profile.proofs.offer.latest.Statement.{statement}
@@ -30,6 +30,7 @@ loop-less : tie.Need-loop-less Inv-loop μ-loop
 loop-less c = omega arith
 
 loop-again : tie.Need-loop-again Inv-loop μ-loop
+unfolding rowAt
 loop-again c = latest-turn _ _ _ _ _ (c .before .before .loop-test .taken) (c .before .row-at .ensures) (c .later .ensures) (c .before .before .before .loop .inv)
 
 returns : tie.Need-returns Inv-loop μ-loop

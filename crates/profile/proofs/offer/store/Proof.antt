@@ -1,3 +1,4 @@
+use Rattle.profile.specs.Pieces.{putRow}
 use Rattle.profile.proofs.RowLaws.{put-there}
 use borrow.Author.Needs.{needs}
 use Rattle.profile.proofs.offer.store.Statement.{statement}
@@ -10,6 +11,7 @@ put-row-requires : tie.Need-put-row-requires
 put-row-requires c κs = search needs
 
 returns-2 : tie.Need-returns-2
+unfolding putRow
 returns-2 c = search needs
 
 pub store-spec : {M : Type 1} → statement M

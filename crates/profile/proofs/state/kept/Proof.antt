@@ -1,5 +1,6 @@
 -- `kept` meets its contract: a row below the count, and the blank row past it.
 use native.Mathlib.Omega.{arith}
+use Rattle.profile.specs.View.{rowAt}
 use Rattle.profile.proofs.ViewLaws.{few, kept-at, kept-past}
 use borrow.Author.Needs.{needs}
 use Rattle.profile.proofs.state.kept.Statement.{statement}
@@ -15,6 +16,7 @@ row-at-requires : tie.Need-row-at-requires
 row-at-requires c κs = (c .before .before .known .ensures, omega (arith, few _ _ (c .before .count .ensures)))
 
 returns : tie.Need-returns
+unfolding rowAt
 returns c = kept-at _ _ _ (c .before .before .count .ensures) _ (c .before .if1 .taken) (c .row-at .ensures)
 
 no-row-requires : tie.Need-no-row-requires
