@@ -1,0 +1,65 @@
+-- The claims of specs/Claims.antt, each from the laws of any order on any list.
+use mathlib.Core.Path.{_≡_, refl, sym, ap, _∙_}
+use mathlib.Core.List.{List, List·Memᴰ}
+use Prim.Native.Nat.{ℕ, _<_}
+use native.Mathlib.Omega.{arith}
+use lib.Dec.{leb}
+use lib.IntN.{ℤ}
+use Rattle.profile.specs.Figures.{Figures, covᶠ, dueᶠ}
+use Rattle.profile.specs.Claims.{KeptIsFront, FrontUnbeaten, KeptCovers, CoveredBeatsNone, SearchIsFall, FallsAtOneMore, LatePassedOver, KeptComplete, CompleteCut, Alike, OrderedFirst, SearchMaps}
+use Rattle.profile.proofs.FiguresLaws.{figures-order}
+use Rattle.profile.proofs.FrontLaws.{after-mem, after-unbeaten, covered-beats-none as front-beats-none}
+use Rattle.profile.proofs.KeptLaws.{run-kept, run-covers}
+use Rattle.profile.proofs.FallLaws.{run-marked, run-fall}
+use Rattle.profile.proofs.PassLaws.{offers-late}
+use Rattle.profile.proofs.PickLaws.{ordered-first as picked-first}
+use Rattle.profile.proofs.BestLaws.{complete-cut as cut, alike-asked}
+use Rattle.profile.proofs.MapLaws.{run-map}
+
+module _ {A : Type 0} (fig : A → Figures) where
+  pub kept-is-front : KeptIsFront fig
+  kept-is-front h₀ l₀ os ks h l e =
+      let (k, n, le, m) = run-kept (figures-order fig) 64 3600 (omega arith) h₀ l₀ os ks h l e in
+      (k, n, le)
+
+  pub front-unbeaten : FrontUnbeaten fig
+  front-unbeaten h os k m =
+      let (i, d) = after-mem (covᶠ fig) (dueᶠ fig) h _ os m in
+      (i, d, λ q n. after-unbeaten (covᶠ fig) (dueᶠ fig) h _ os m n)
+
+  pub kept-covers : KeptCovers fig
+  kept-covers h₀ l₀ os ks h l e = run-covers (figures-order fig) 64 3600 (omega arith) h₀ l₀ os ks h l e
+
+  pub covered-beats-none : CoveredBeatsNone fig
+  covered-beats-none h₀ l₀ os ks h l e o k k′ m c m′ =
+      let q = kept-is-front h₀ l₀ os ks h l e .0 in
+      front-beats-none (figures-order fig) h os o (rw q at m) c (rw q at m′)
+
+  pub search-is-fall : SearchIsFall fig
+  search-is-fall h₀ l₀ os = run-fall (figures-order fig) 64 3600 (omega arith) h₀ l₀ os
+
+  pub falls-at-one-more : FallsAtOneMore fig
+  falls-at-one-more h₀ l₀ os = run-marked (figures-order fig) 64 3600 (omega arith) h₀ l₀ os
+
+  pub late-passed-over : LatePassedOver fig
+  late-passed-over s os f = offers-late (covᶠ fig) (dueᶠ fig) 64 3600 s os f
+
+  pub kept-complete : KeptComplete fig
+  kept-complete h₀ l₀ os ks h l e a = record {
+    kept = λ k m. run-kept (figures-order fig) 64 3600 (omega arith) h₀ l₀ os ks h l e .3 k m .0;
+    covered = kept-covers h₀ l₀ os ks h l e;
+    ahead = a;
+  }
+
+  pub complete-cut : CompleteCut fig
+  complete-cut os ks h w le c = cut fig os ks h w le c
+
+  pub alike : (Asked : ℤ → Type 0) → Alike fig Asked
+  alike Asked os os′ ks ks′ h h′ asks c c′ = alike-asked fig Asked os os′ ks ks′ h h′ asks c c′
+
+  pub ordered-first : OrderedFirst fig
+  ordered-first ks s t = picked-first fig (λ k. leb t (fig k .leave)) ks s
+
+module _ {A B : Type 0} (f : A → B) (fig : A → Figures) (fig′ : B → Figures) where
+  pub search-maps : SearchMaps f fig fig′
+  search-maps h₀ l₀ os e = run-map f fig fig′ 64 3600 h₀ l₀ os e

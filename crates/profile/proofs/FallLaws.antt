@@ -1,0 +1,126 @@
+-- The horizon and the mark after any list of offers: they change exactly where more than `cap` count, and come to what `fall` says.
+use mathlib.Core.Path.{_≡_, refl, sym, ap, _∙_, subst}
+use mathlib.Core.Logic.{_⊎_, inl, inr}
+use mathlib.Core.Bool.{Bool, true, false, not, cond, _&&_, true≢false, false≢true, and-assoc, and-false}
+use mathlib.Core.List.{List, [], _∷_, _++_, append-assoc, append-nil, List·Memᴰ, List·Memᴰ·head, List·Memᴰ·tail, List·Memᴰ·not-nil, List·Memᴰ·cases-cons}
+use Prim.Native.Nat.{ℕ, zero, suc, _+_, _-_, _≤_, _<_, max}
+use native.Mathlib.Omega.{arith}
+use lib.Dec.{leb, ltb}
+use borrow.Author.Tests.{leb-true, leb-false, le-leb, lt-leb, ltb-true, ltb-false, lt-ltb, le-ltb}
+use lib.ListN.{length}
+use Rattle.laws.specs.Lists.{filterb, anyb, foldl}
+use Rattle.laws.proofs.Bools.{test, not-true}
+use Rattle.laws.proofs.Lists.{snoc-ind, length-filterb-lt}
+use Rattle.laws.proofs.Folds.{foldl-append}
+use Rattle.profile.specs.Front.{Order, front}
+use Rattle.profile.specs.Kept.{St, going, refused, latest, settle, offer, run}
+use Rattle.profile.specs.Fall.{Ends, upTo, never, fall, keeping, fits, Marked}
+use Rattle.profile.proofs.FrontLaws.{after-mem, front-one-more}
+use Rattle.profile.proofs.KeptLaws.{latest-le, latest-mem, Holds, offer-settles, settle-holds, run-holds}
+use Rattle.profile.proofs.PassLaws.{refused-stays}
+
+module _ {A : Type 0} (cov : A → A → Bool) (due : A → ℕ) (cap : ℕ) where
+  pub fits-snoc : (h : ℕ) (pre os : List A) (o : A) → fits cov due cap h pre (os ++ o ∷ []) ≡ (fits cov due cap h pre os && leb (length (front cov due h (pre ++ (os ++ o ∷ [])))) cap)
+  fits-snoc h pre [] o = refl
+  fits-snoc h pre (x ∷ os) o =
+      rw (fits-snoc h (pre ++ x ∷ []) os o, append-assoc pre (x ∷ []) (os ++ o ∷ []))
+      (sym (and-assoc (leb (length (front cov due h pre)) cap) (fits cov due cap h (pre ++ x ∷ []) os) (leb (length (front cov due h (pre ++ x ∷ (os ++ o ∷ [])))) cap)))
+
+module _ {A : Type 0} {cov : A → A → Bool} {due : A → ℕ} (ord : Order cov due) (cap floor : ℕ) (floor-pos : 0 < floor) where
+  -- the same where the horizon was the first one, h₀, and `b` says whether the list fits
+  settle-first : (h₀ l₀ : ℕ) (os : List A) → fits cov due cap h₀ [] os ≡ leb (length (front cov due h₀ os)) cap → Marked cov due cap h₀ l₀ os (settle due cap floor (front cov due h₀ os) h₀ l₀)
+  settle-first h₀ l₀ os f = fit (leb (length (front cov due h₀ os)) cap) refl
+    where
+      g : ℕ
+      g = latest due (front cov due h₀ os) - 1
+
+      lower : latest due (front cov due h₀ os) ≤ h₀
+      lower = latest-le due h₀ (front cov due h₀ os) (λ k m. after-mem cov due h₀ [] os m .1)
+
+      cut : leb (length (front cov due h₀ os)) cap ≡ false → (b : Bool) → ltb g floor ≡ b → Marked cov due cap h₀ l₀ os (cond b refused (going (filterb (λ k. leb (due k) g) (front cov due h₀ os)) g 1))
+      cut e true d = f ∙ e
+      cut e false d = inr (f ∙ e, omega (arith, lower, ltb-false g floor d), refl)
+
+      fit : (b : Bool) → leb (length (front cov due h₀ os)) cap ≡ b → Marked cov due cap h₀ l₀ os (cond b (going (front cov due h₀ os) h₀ l₀) (cond (ltb g floor) refused (going (filterb (λ k. leb (due k) g) (front cov due h₀ os)) g 1)))
+      fit true e = inl (f ∙ e, refl, refl)
+      fit false e = cut e (ltb g floor) refl
+
+  -- and where the horizon was earlier already
+  settle-later : (h₀ l₀ h : ℕ) (os : List A) → fits cov due cap h₀ [] os ≡ false → h < h₀ → Marked cov due cap h₀ l₀ os (settle due cap floor (front cov due h os) h 1)
+  settle-later h₀ l₀ h os f le = fit (leb (length (front cov due h os)) cap)
+    where
+      g : ℕ
+      g = latest due (front cov due h os) - 1
+
+      lower : latest due (front cov due h os) ≤ h
+      lower = latest-le due h (front cov due h os) (λ k m. after-mem cov due h [] os m .1)
+
+      cut : (b : Bool) → Marked cov due cap h₀ l₀ os (cond b refused (going (filterb (λ k. leb (due k) g) (front cov due h os)) g 1))
+      cut true = f
+      cut false = inr (f, omega (arith, lower), refl)
+
+      fit : (b : Bool) → Marked cov due cap h₀ l₀ os (cond b (going (front cov due h os) h 1) (cond (ltb g floor) refused (going (filterb (λ k. leb (due k) g) (front cov due h os)) g 1)))
+      fit true = inr (f, le, refl)
+      fit false = cut (ltb g floor)
+
+  offer-marked : (h₀ l₀ : ℕ) (os : List A) (o : A) (s : St A) → Holds cov due cap h₀ os s → Marked cov due cap h₀ l₀ os s → Marked cov due cap h₀ l₀ (os ++ o ∷ []) (offer cov due cap floor s o)
+  offer-marked h₀ l₀ os o refused w m = fits-snoc cov due cap h₀ [] os o ∙ rw m
+  offer-marked h₀ l₀ os o (going ks h l) (e, len, le) (inl (f, eh, el)) =
+      let len′ : length (front cov due h os) ≤ cap = rw e at len in
+      rw (e, offer-settles ord cap floor floor-pos h l os o len′, eh, el)
+      (settle-first h₀ l₀ (os ++ o ∷ []) (fits-snoc cov due cap h₀ [] os o ∙ rw f))
+  offer-marked h₀ l₀ os o (going ks h l) (e, len, le) (inr (f, lt, el)) =
+      let len′ : length (front cov due h os) ≤ cap = rw e at len in
+      rw (e, offer-settles ord cap floor floor-pos h l os o len′, el)
+      (settle-later h₀ l₀ h (os ++ o ∷ []) (fits-snoc cov due cap h₀ [] os o ∙ rw f) lt)
+
+  pub run-marked : (h₀ l₀ : ℕ) (os : List A) → Marked cov due cap h₀ l₀ os (run cov due cap floor h₀ l₀ os)
+  run-marked h₀ l₀ os = snoc-ind (λ xs. Marked cov due cap h₀ l₀ xs (run cov due cap floor h₀ l₀ xs)) (inl (le-leb 0 cap (omega arith), refl, refl))
+      (λ xs x w. rw (foldl-append (offer cov due cap floor) (going [] h₀ l₀) xs (x ∷ [])) (offer-marked h₀ l₀ xs x (run cov due cap floor h₀ l₀ xs) (run-holds ord cap floor floor-pos h₀ l₀ xs) w)) os
+
+  -- if of no beginning of `os` more than `cap` count, the search is not refused, and horizon and mark are as they were
+  pub run-fits : (h₀ l₀ : ℕ) (os : List A) → fits cov due cap h₀ [] os ≡ true → run cov due cap floor h₀ l₀ os ≡ going (front cov due h₀ os) h₀ l₀
+  run-fits h₀ l₀ os f = go (run cov due cap floor h₀ l₀ os) (run-holds ord cap floor floor-pos h₀ l₀ os) (run-marked h₀ l₀ os)
+    where
+      go : (s : St A) → Holds cov due cap h₀ os s → Marked cov due cap h₀ l₀ os s → s ≡ going (front cov due h₀ os) h₀ l₀
+      go refused w m = absurd (true≢false (sym f ∙ m))
+      go (going ks h l) (e, len, le) (inl (f′, eh, el)) = rw (e, eh, el)
+      go (going ks h l) w (inr (f′, lt, el)) = absurd (true≢false (sym f ∙ f′))
+
+  -- ---- by the offers alone
+
+  from : (pre os : List A) (h l : ℕ) → length (front cov due h pre) ≤ cap
+      → foldl (offer cov due cap floor) (going (front cov due h pre) h l) os ≡ keeping cov due (pre ++ os) (fall cov due cap floor h l pre os)
+  from pre [] h l len = rw append-nil
+  from pre (o ∷ os) h l len =
+      rw (offer-settles ord cap floor floor-pos h l pre o len)
+      (fit (leb (length (front cov due h (pre ++ o ∷ []))) cap) refl (λ h′ l′ len′. rw append-assoc at (from (pre ++ o ∷ []) os h′ l′ len′)))
+    where
+      f : List A
+      f = front cov due h (pre ++ o ∷ [])
+
+      g : ℕ
+      g = latest due f - 1
+
+      Later : Type 0
+      Later = (h′ l′ : ℕ) → length (front cov due h′ (pre ++ o ∷ [])) ≤ cap
+          → foldl (offer cov due cap floor) (going (front cov due h′ (pre ++ o ∷ [])) h′ l′) os ≡ keeping cov due (pre ++ o ∷ os) (fall cov due cap floor h′ l′ (pre ++ o ∷ []) os)
+
+      cut : leb (length f) cap ≡ false → (b : Bool) → ltb g floor ≡ b → Later
+          → foldl (offer cov due cap floor) (cond b refused (going (filterb (λ k. leb (due k) g) f) g 1)) os
+          ≡ keeping cov due (pre ++ o ∷ os) (cond b never (fall cov due cap floor g 1 (pre ++ o ∷ []) os))
+      cut e true d ih = refused-stays cov due cap floor os
+      cut e false d ih =
+          let w : Holds cov due cap h (pre ++ o ∷ []) (going (filterb (λ k. leb (due k) g) f) g 1) =
+          rw (e, d) at (settle-holds ord cap floor floor-pos h (pre ++ o ∷ []) h l (omega (arith, front-one-more ord h pre o)) (omega arith)) in
+          rw (w .0) (ih g 1 (rw (w .0) at (w .1)))
+
+      fit : (b : Bool) → leb (length f) cap ≡ b → Later
+          → foldl (offer cov due cap floor) (cond b (going f h l) (cond (ltb g floor) refused (going (filterb (λ k. leb (due k) g) f) g 1))) os
+          ≡ keeping cov due (pre ++ o ∷ os) (cond b (fall cov due cap floor h l (pre ++ o ∷ []) os) (cond (ltb g floor) never (fall cov due cap floor g 1 (pre ++ o ∷ []) os)))
+      fit true e ih = ih h l (leb-true (length f) cap e)
+      fit false e ih = cut e (ltb g floor) refl ih
+
+  -- the whole search: what counts at the horizon that the offers come to
+  pub run-fall : (h₀ l₀ : ℕ) (os : List A) → run cov due cap floor h₀ l₀ os ≡ keeping cov due os (fall cov due cap floor h₀ l₀ [] os)
+  run-fall h₀ l₀ os = from [] os h₀ l₀ (omega arith)

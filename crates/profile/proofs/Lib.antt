@@ -1,0 +1,15 @@
+pub mod FiguresLaws
+pub mod FrontLaws
+pub mod KeptLaws
+pub mod FallLaws
+pub mod PassLaws
+pub mod MapLaws
+pub mod PickLaws
+pub mod BestLaws
+pub mod ClaimLaws
+pub mod InstanceLaws
+pub mod CoverLaws
+pub mod RowLaws
+pub mod StepLaws
+pub mod ViewLaws
+pub mod OfferLaws

@@ -1,0 +1,30 @@
+-- Offers that change nothing: those to a refused search, and those due too late. And a search seen through a map of its journeys.
+use mathlib.Core.Path.{_≡_, refl, sym, ap, _∙_}
+use mathlib.Core.Bool.{Bool, true, false, not, cond, _||_}
+use mathlib.Core.List.{List, [], _∷_, _++_, map, List·Memᴰ, List·Memᴰ·head, List·Memᴰ·tail}
+use Prim.Native.Nat.{ℕ, _≤_, _<_}
+use native.Mathlib.Omega.{arith}
+use lib.Dec.{leb, ltb}
+use borrow.Author.Tests.{ltb-true, lt-ltb}
+use Rattle.laws.specs.Lists.{filterb, anyb, foldl}
+use Rattle.profile.specs.Kept.{St, going, refused, offer, run, tooLate}
+
+module _ {A : Type 0} (cov : A → A → Bool) (due : A → ℕ) (cap floor : ℕ) where
+  pub refused-stays : (os : List A) → foldl (offer cov due cap floor) refused os ≡ refused
+  refused-stays [] = refl
+  refused-stays (o ∷ os) = refused-stays os
+
+  -- an offer that is too late leaves the state as it is
+  pub offer-late : (s : St A) (o : A) → tooLate s (due o) ≡ true → offer cov due cap floor s o ≡ s
+  offer-late (going ks h l) o e = rw e
+  offer-late refused o e = refl
+
+  -- so do any number of them
+  pub offers-late : (s : St A) (os : List A) → ((o : A) → List·Memᴰ o os → tooLate s (due o) ≡ true) → foldl (offer cov due cap floor) s os ≡ s
+  offers-late s [] f = refl
+  offers-late s (o ∷ os) f = rw (offer-late s o (f o (List·Memᴰ·head refl))) (offers-late s os (λ x m. f x (List·Memᴰ·tail m)))
+
+-- what is due later than one that is too late is too late
+pub late-later : {A : Type 0} (s : St A) (a b : ℕ) → a ≤ b → tooLate s a ≡ true → tooLate s b ≡ true
+late-later (going ks h l) a b le e = lt-ltb h b (omega (arith, ltb-true h a e))
+late-later refused a b le e = refl

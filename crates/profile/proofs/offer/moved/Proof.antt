@@ -1,0 +1,31 @@
+use Rattle.profile.specs.View.{rowAt}
+use Rattle.profile.proofs.StepLaws.{moved-on, moved-not}
+use borrow.Author.Needs.{needs}
+use Rattle.profile.proofs.offer.moved.Statement.{statement}
+use Rattle.profile.proofs.offer.moved.Tie as tie
+
+row-at-requires : tie.Need-row-at-requires
+row-at-requires c κs = search needs
+
+stays-on-requires : tie.Need-stays-on-requires
+stays-on-requires c κs = search needs
+
+store-requires : tie.Need-store-requires
+unfolding rowAt
+store-requires c κs = search needs
+
+add-result : tie.Need-add-result
+add-result c = search needs
+
+returns : tie.Need-returns
+unfolding rowAt
+returns c = moved-on _ _ _ _ _ _ (c .before .before .before .before .row-at .ensures) (c .before .before .before .stays-on .ensures) (c .before .before .if1 .taken) (c .store .ensures)
+
+returns-2 : tie.Need-returns-2
+unfolding rowAt
+returns-2 c = moved-not _ _ _ _ _ (c .before .before .row-at .ensures) (c .before .stays-on .ensures) (c .if1 .left)
+
+pub moved-spec : {M : Type 1} → statement M
+moved-spec =
+    tie.close
+    (tie.spec row-at-requires stays-on-requires store-requires add-result returns returns-2)

@@ -1,0 +1,18 @@
+use Rattle.profile.specs.Pieces.{putRow}
+use Rattle.profile.proofs.RowLaws.{put-there}
+use borrow.Author.Needs.{needs}
+use Rattle.profile.proofs.offer.store.Statement.{statement}
+use Rattle.profile.proofs.offer.store.Tie as tie
+
+returns : tie.Need-returns
+returns c = put-there _ _ _ _ (c .if1 .taken) (c .before .pre .2)
+
+put-row-requires : tie.Need-put-row-requires
+put-row-requires c κs = search needs
+
+returns-2 : tie.Need-returns-2
+unfolding putRow
+returns-2 c = search needs
+
+pub store-spec : {M : Type 1} → statement M
+store-spec = tie.close (tie.spec returns put-row-requires returns-2)

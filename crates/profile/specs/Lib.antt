@@ -1,0 +1,10 @@
+pub mod Figures
+pub mod Kept
+pub mod Front
+pub mod Fall
+pub mod Best
+pub mod Journeys
+pub mod View
+pub mod Pieces
+pub mod Claims
+pub mod Instances

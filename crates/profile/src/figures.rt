@@ -1,0 +1,46 @@
+// Tests on the four figures of a journey.
+ghost use mathlib.Core.Path.{_≡_};
+ghost use Rattle.profile.specs.Figures.{lexb, covers, prefer};
+ghost use Rattle.profile.specs.Journeys.{journeyFigures};
+ghost use Rattle.profile.specs.Pieces.{cov};
+use crate::Journey;
+use crate::Row;
+
+fn lex(x: u16, y: u16, b: bool) -> bool
+    ensures { λ r. ⌜ r ≡ lexb x y b ⌝ }
+{
+    if x < y {
+        true
+    } else if x == y {
+        b
+    } else {
+        false
+    }
+}
+
+// Whether a equals or beats b.
+pub fn covers(a: Row, b: Row) -> bool
+    ensures { λ r. ⌜ r ≡ cov a b ⌝ }
+{
+    if a.leave < b.leave {
+        return false;
+    }
+    if a.arrival < b.arrival {
+        return true;
+    }
+    if b.arrival < a.arrival {
+        return false;
+    }
+    let w = a.walk <= b.walk;
+    lex(a.rides, b.rides, w)
+}
+
+// Whether best takes a rather than b, or they tie.
+pub fn preferred(a: Journey, b: Journey) -> bool
+    ensures { λ r. ⌜ r ≡ prefer (journeyFigures a) (journeyFigures b) ⌝ }
+{
+    let l = b.leave <= a.leave;
+    let w = lex(a.walk as u16, b.walk as u16, l);
+    let r = lex(a.rides as u16, b.rides as u16, w);
+    lex(a.arrival, b.arrival, r)
+}

@@ -1,0 +1,78 @@
+// What a search keeps: the records of a journey, the running state of a search, and the offer (`candidate`).
+ghost use mathlib.Core.Path.{_≡_};
+ghost use Rattle.profile.specs.Journeys.{noRide, noJourney};
+
+pub mod figures;
+pub mod offer;
+mod slots;
+pub mod state;
+
+// A ride, as a kept journey holds it.
+pub struct Ride {
+    pub trip: u16,
+    pub day: u8,
+    pub from: u16,
+    pub to: u16,
+    pub departure: u16,
+    pub arrival: u16,
+    pub board_request: bool,
+    pub alight_request: bool,
+}
+
+// A kept journey. For one ride, `last` is the blank ride.
+pub struct Journey {
+    pub leave: u16,
+    pub arrival: u16,
+    pub rides: u8,
+    pub walk: u8,
+    pub origin: u8,
+    pub target: u8,
+    pub first: Ride,
+    pub last: Ride,
+}
+
+// A journey while the search runs: its figures, its origin and target, and the numbers of the calls where it boards and
+// alights. For one ride, `board2` and `alight2` are 0.
+pub struct Row {
+    pub leave: u16,
+    pub arrival: u16,
+    pub rides: u16,
+    pub walk: u16,
+    pub origin: u16,
+    pub target: u16,
+    pub board: u16,
+    pub alight: u16,
+    pub board2: u16,
+    pub alight2: u16,
+}
+
+pub fn no_ride() -> Ride
+    ensures { λ r. ⌜ r ≡ noRide ⌝ }
+{
+    Ride {
+        trip: 0,
+        day: 0,
+        from: 0,
+        to: 0,
+        departure: 0,
+        arrival: 0,
+        board_request: false,
+        alight_request: false,
+    }
+}
+
+pub fn no_journey() -> Journey
+    ensures { λ r. ⌜ r ≡ noJourney ⌝ }
+{
+    let none = no_ride();
+    Journey {
+        leave: 0,
+        arrival: 0,
+        rides: 0,
+        walk: 0,
+        origin: 0,
+        target: 0,
+        first: none,
+        last: none,
+    }
+}
