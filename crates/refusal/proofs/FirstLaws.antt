@@ -1,10 +1,10 @@
 -- The laws of `firstAnswer`: it is the answer of the first test that holds, and a taken step failed every test.
 use mathlib.Core.Path.{_≡_, refl, sym, _∙_}
-use mathlib.Core.Bool.{Bool, true, false, cond}
+use mathlib.Core.Bool.{Bool, true, false, cond, false≢true}
 use mathlib.Core.List.{List, [], _∷_}
 use Rattle.refusal.specs.declared.Answer.{Answer}
 use Rattle.refusal.specs.declared.Answer.the-variants.{Taken, Outside, Refused}
-use Rattle.refusal.specs.First.{firstAnswer, First, none, hit, miss, AllFail, FirstIsAnswer, AnswerIsFirst, NeverTaken, TakenAllFail}
+use Rattle.refusal.specs.First.{isTaken, firstAnswer, First, none, hit, miss, AllFail, FirstIsAnswer, AnswerIsFirst, NeverTaken, TakenAllFail}
 
 pub first-is-answer : FirstIsAnswer
 unfolding firstAnswer
@@ -29,3 +29,8 @@ taken-all-fail ((b, a) ∷ ts) (n, ns) e = go b refl (taken-all-fail ts ns) e
     go : (c : Bool) → b ≡ c → (firstAnswer ts ≡ Taken → AllFail ts) → cond c a (firstAnswer ts) ≡ Taken → (b ≡ false) × AllFail ts
     go true q ih k = absurd (n k)
     go false q ih k = (q, ih k)
+
+pub taken-is : (a : Answer) → isTaken a ≡ true → a ≡ Taken
+taken-is Taken e = refl
+taken-is Outside e = absurd (false≢true e)
+taken-is (Refused r) e = absurd (false≢true e)

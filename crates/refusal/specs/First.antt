@@ -30,6 +30,11 @@ isRefused Taken = false
 isRefused Outside = false
 isRefused (Refused r) = true
 
+abbrev pub isTaken : Answer → Bool
+isTaken Taken = true
+isTaken Outside = false
+isTaken (Refused r) = false
+
 -- the number that an answer carries, 0 where the step is not sent back
 abbrev pub answerNumber : Answer → ℕ
 answerNumber Taken = 0
