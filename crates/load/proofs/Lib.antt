@@ -1,1 +1,4 @@
 pub mod StepLaws
+pub mod SoundLaws
+pub mod AnswerLaws
+pub mod TableLaws

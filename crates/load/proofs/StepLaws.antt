@@ -1,7 +1,7 @@
 -- The load that a step returns, by its answer: laws that the steps' proofs cite.
 use Prim.Native.Nat.{ℕ, _+_, _<_}
-use mathlib.Core.Path.{_≡_, refl, sym, ap, _∙_}
-use mathlib.Core.Bool.{Bool, true, false, cond}
+use mathlib.Core.Path.{_≡_, sym, ap, _∙_}
+use mathlib.Core.Bool.{true, false, cond}
 use mathlib.Core.List.{List}
 use lib.ListN.{set, replicate}
 use Rattle.laws.proofs.Bools.{cond-by, cond-not}
@@ -9,7 +9,6 @@ use Rattle.refusal.specs.declared.Answer.{Answer}
 use Rattle.refusal.specs.First.{isRefused, isTaken}
 use Rattle.refusal.proofs.FirstLaws.{taken-is}
 use Rattle.settings.specs.declared.Settings.{Settings}
-use Rattle.settings.specs.Settings.{canonicalOf}
 use Rattle.stops.specs.declared.Stop.{Stop}
 use Rattle.stops.specs.declared.StopInput.{StopInput}
 use Rattle.stops.specs.Taken.{stopOf, blankStop}

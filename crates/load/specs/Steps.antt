@@ -1,6 +1,6 @@
 -- Opening, stop, call and rule: the answer, and the load that is returned. A step that is sent back returns the load given.
 use Prim.Native.Nat.{ℕ, _+_}
-use mathlib.Core.Bool.{Bool, cond}
+use mathlib.Core.Bool.{cond}
 use mathlib.Core.List.{List}
 use lib.ListN.{set}
 use Rattle.refusal.specs.declared.Answer.{Answer}

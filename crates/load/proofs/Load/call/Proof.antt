@@ -4,24 +4,16 @@ use Rattle.load.proofs.StepLaws.{call-refused, call-taken}
 use borrow.Author.Needs.{needs}
 use Rattle.load.proofs.Load.call.Statement.{statement}
 use Rattle.load.proofs.Load.call.Tie as tie
-use Rattle.load.proofs.Load.call.Reads as reads
-use Rattle.load.proofs.Load.call.Lts as lts
-use Rattle.calls.proofs.step.call_on.Reads as call-on-reads
-use Rattle.refusal.proofs.is_refused.Reads as is-refused-reads
 
--- src/lib.rt:142:13
 call-on-requires : tie.Need-call-on-requires
 call-on-requires c κs = search needs
 
--- src/lib.rt:144:12
 is-refused-requires : tie.Need-is-refused-requires
 is-refused-requires c κs = search needs
 
--- src/lib.rt:145:13
 returns : tie.Need-returns
 returns c = call-refused (c .before .before .before .before .before .args .self) _ _ (c .before .before .call-on .ensures) (sym (c .before .is-refused .ensures) ∙ c .if1 .taken)
 
--- src/lib.rt:131:5
 returns-2 : tie.Need-returns-2
 returns-2 c = call-taken (c .before .before .before .before .before .before .before .args .self) _ _ (c .before .before .before .before .call-on .ensures) (sym (c .before .before .before .is-refused .ensures) ∙ c .before .before .if1 .left)
 

@@ -6,13 +6,7 @@ use Rattle.load.proofs.StepLaws.{rule-room, rule-taken, rule-refused}
 use borrow.Author.Needs.{needs}
 use Rattle.load.proofs.Load.rule.Statement.{statement}
 use Rattle.load.proofs.Load.rule.Tie as tie
-use Rattle.load.proofs.Load.rule.Reads as reads
-use Rattle.load.proofs.Load.rule.Lts as lts
-use Rattle.refusal.proofs.is_taken.Reads as is-taken-reads
-use Rattle.rules.proofs.rule_answer.Reads as rule-answer-reads
-use Rattle.rules.proofs.rule_of.Reads as rule-of-reads
 
--- src/lib.rt:165:13
 -- a rule that is taken has room
 fits : (c : tie.After-rule-of) → c .before .before .before .before .before .args .self .«rule_count» < 128
 fits c = rule-room (c .before .before .before .before .before .args .self) (c .before .before .before .before .before .args .input) _ (c .before .before .before .rule-answer .ensures) (sym (c .before .before .is-taken .ensures) ∙ c .before .if1 .taken)
@@ -20,31 +14,24 @@ fits c = rule-room (c .before .before .before .before .before .args .self) (c .b
 rule-answer-requires : tie.Need-rule-answer-requires
 rule-answer-requires c κs = search needs
 
--- src/lib.rt:166:12
 is-taken-requires : tie.Need-is-taken-requires
 is-taken-requires c κs = search needs
 
--- src/lib.rt:168:30
 rule-of-requires : tie.Need-rule-of-requires
 rule-of-requires c κs = search needs
 
--- src/lib.rt:168:13
 mul-t9 : tie.Need-mul-t9
 mul-t9 c = omega (arith, fits c)
 
--- src/lib.rt:168:13
 element-set-from-next : tie.Need-element-set-from-next
 element-set-from-next c = fits c
 
--- src/lib.rt:169:31
 add-next : tie.Need-add-next
 add-next c = omega (arith, fits c)
 
--- src/lib.rt:170:13
 returns : tie.Need-returns
 returns c = rule-taken (c .before .before .before .before .before .args .self) _ _ (c .before .before .before .rule-answer .ensures) _ (sym (c .before .before .is-taken .ensures) ∙ c .before .if1 .taken) (c .rule-of .ensures)
 
--- src/lib.rt:160:5
 returns-2 : tie.Need-returns-2
 returns-2 c = rule-refused (c .before .before .before .before .args .self) _ _ (c .before .before .rule-answer .ensures) (sym (c .before .is-taken .ensures) ∙ c .if1 .left)
 

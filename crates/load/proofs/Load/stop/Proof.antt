@@ -11,14 +11,7 @@ use Rattle.load.proofs.StepLaws.{stop-room, stop-taken, stop-refused}
 use borrow.Author.Needs.{needs}
 use Rattle.load.proofs.Load.stop.Statement.{statement}
 use Rattle.load.proofs.Load.stop.Tie as tie
-use Rattle.load.proofs.Load.stop.Reads as reads
-use Rattle.load.proofs.Load.stop.Lts as lts
-use Rattle.refusal.proofs.is_taken.Reads as is-taken-reads
-use Rattle.stops.proofs.answer.parent_of.Reads as parent-of-reads
-use Rattle.stops.proofs.answer.stop_answer.Reads as stop-answer-reads
-use Rattle.stops.proofs.taken.stop_of.Reads as stop-of-reads
 
--- src/lib.rt:119:13
 -- what was answered is the definition's answer
 answered : (d : tie.After-stop-answer) → (let a = d .before .before .before .before .before .before .args in d .stop-answer .result ≡ stopAnswer (a .self) (a .id .now) (a .name .now) (a .parent .now) (a .input))
 answered d =
@@ -36,31 +29,24 @@ fits c =
 parent-of-requires : tie.Need-parent-of-requires
 parent-of-requires c κs = search needs
 
--- src/lib.rt:120:13
 stop-answer-requires : tie.Need-stop-answer-requires
 stop-answer-requires c κs = search needs
 
--- src/lib.rt:121:12
 is-taken-requires : tie.Need-is-taken-requires
 is-taken-requires c κs = search needs
 
--- src/lib.rt:123:30
 stop-of-requires : tie.Need-stop-of-requires
 stop-of-requires c κs = search needs
 
--- src/lib.rt:123:13
 mul-t13 : tie.Need-mul-t13
 mul-t13 c = omega (arith, fits c)
 
--- src/lib.rt:123:13
 element-set-from-next : tie.Need-element-set-from-next
 element-set-from-next c = fits c
 
--- src/lib.rt:124:31
 add-next : tie.Need-add-next
 add-next c = omega (arith, fits c)
 
--- src/lib.rt:125:13
 returns : tie.Need-returns
 returns c =
     let d = c .before .before .before in
@@ -68,7 +54,6 @@ returns c =
     stop-taken (a .self) _ _ (a .parent .now) _ _ (answered d) _ (sym (c .before .before .is-taken .ensures) ∙ c .before .if1 .taken)
     (c .stop-of .ensures ∙ ap (λ (f : Found). stopOf (a .id .now) (a .name .now) f (a .input)) (d .before .parent-of .ensures))
 
--- src/lib.rt:114:5
 returns-2 : tie.Need-returns-2
 returns-2 c =
     let d = c .before .before in
