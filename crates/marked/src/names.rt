@@ -12,7 +12,7 @@ fn name(label: &[u8], bytes: &[u8]) {
     }
 }
 
-pub fn run() {
+fn spellings() {
     name(b"alexanderplatz sued", b"alexanderplatz sued");
     name(b"Alexanderplatz SUED", b"Alexanderplatz SUED");
     name(
@@ -21,6 +21,9 @@ pub fn run() {
     );
     name(b"alexanderplatzsued", b"alexanderplatzsued");
     name(b"@[`{~", b"@[`{~");
+}
+
+fn unusable() {
     name(b"", b"");
     name(b" \\t\\x0b ", b" \t\x0b ");
     name(b"a\\x08", b"a\x08");
@@ -29,4 +32,9 @@ pub fn run() {
     name(b"\\x7f", b"\x7f");
     name(b"B\\xc3\\xa9con\\0", b"B\xc3\xa9con\0");
     name(b"\\0\\x80", b"\0\x80");
+}
+
+pub fn run() {
+    spellings();
+    unusable();
 }

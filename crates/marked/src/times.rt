@@ -28,35 +28,51 @@ fn long() {
     shown(b"1 and 99993 zeros:00:00", &text);
 }
 
-pub fn run() {
+fn marked() {
     time(b"24:00:00");
     time(b"7:05:00");
     time(b"07:5:00");
     time(b"1193046:28:15");
     time(b"1193046:28:16");
+}
+
+fn ends() {
     time(b"0:00:00");
     time(b"0:59:59");
     time(b"0:60:00");
     time(b"0:00:60");
     time(b"000000000000000000000001193046:28:15");
     time(b"100000000000000000000000000000:00:00");
+}
+
+fn colons() {
     time(b"");
     time(b":");
     time(b"::");
     time(b"::::::");
     time(b":00:00");
     time(b"00:00");
+    time(b"1:00:0");
+    time(b"1:00:000");
+    time(b"1:0:000");
+    time(b"1:2:00:00");
+    time(b"1/00/00");
+}
+
+fn digits() {
     time(b"+1:00:00");
     time(b"-1:00:00");
     time(b"1:-1:00");
     time(b" 1:00:00");
     time(b"1:00:00 ");
-    time(b"1:00:0");
-    time(b"1:00:000");
-    time(b"1:2:00:00");
-    time(b"1/00/00");
-    time(b"1:0:000");
     shown(b"1:00:0\\xb0", b"1:00:0\xb0");
     shown(b"\\xff:00:00", b"\xff:00:00");
+}
+
+pub fn run() {
+    marked();
+    ends();
+    colons();
+    digits();
     long();
 }
