@@ -77,7 +77,7 @@ wordless s e f = judged-good s (cond (full (words s)) (Hash (keyOf (normalized s
 pub one-key : OneKey
 one-key s t hs ht e = keyed s hs ∙ ap (λ (bytes : List ℕ). Hash (keyOf bytes)) e ∙ sym (keyed t ht)
 
--- case
+-- case counts for nothing
 judged-lower : (s : List ℕ) (k : NameKey) → judged (map lowerOf s) k ≡ judged s k
 judged-lower [] k = refl
 judged-lower (b ∷ s) k = rw (lower-bad b) (go (isBad b) (judged-lower s k))
