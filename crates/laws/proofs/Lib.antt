@@ -5,8 +5,8 @@ pub mod Pack
 pub mod Sort
 pub mod Ints
 pub mod Signs
-pub mod Within
 pub mod AtMost
+pub mod Within
 pub mod Cut
 pub mod Tests
 pub mod Halves
