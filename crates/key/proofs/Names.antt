@@ -15,7 +15,7 @@ use Rattle.key.specs.declared.NameKey.{NameKey}
 use Rattle.key.specs.declared.NameKey.the-variants.{Hash, NoWord, Control, NotAscii}
 use Rattle.key.specs.Hash.{prime, stepOf, keyOf}
 use Rattle.key.specs.Name.{isSpace, isAscii, isBad, reasonOf, lowerOf, full, words, joined, normalized, unlessBad, nameKey, usable, answer}
-use Rattle.key.specs.Promises.{HashFits, Answered, Idempotent, OneKey, Alike, CaseBlind, SpaceBlind, RunBlind, StartBlind, EndBlind}
+use Rattle.key.specs.Promises.{HashFits, Answered, FirstBad, Wordless, Keyed, Idempotent, OneKey, Alike, CaseBlind, SpaceBlind, RunBlind, StartBlind, EndBlind}
 use Rattle.key.proofs.Bytes.{lower-bad, lower-reason, space-good}
 use Rattle.key.proofs.Words.{words-append, words-start, words-lower, normalized-lower, normalized-joined}
 
@@ -64,17 +64,20 @@ answered s = go (anyb isBad s) refl (full (words s))
     go false e true = ap answer (judged-good s (Hash (keyOf (normalized s))) e)
     go false e false = ap answer (judged-good s NoWord e)
 
--- a name that can be used has the hash of its normalized bytes
-pub usable-key : (s : List ℕ) → usable s ≡ true → nameKey s ≡ Hash (keyOf (normalized s))
+pub keyed : Keyed
 unfolding nameKey usable
-usable-key s e =
+keyed s e =
     rw (and-true-right (not (anyb isBad s)) (full (words s)) e)
     (judged-good s (Hash (keyOf (normalized s))) (not-true (anyb isBad s) (and-true-left (not (anyb isBad s)) (full (words s)) e)))
 
-pub one-key : OneKey
-one-key s t hs ht e = usable-key s hs ∙ ap (λ (bytes : List ℕ). Hash (keyOf bytes)) e ∙ sym (usable-key t ht)
+pub wordless : Wordless
+unfolding nameKey
+wordless s e f = judged-good s (cond (full (words s)) (Hash (keyOf (normalized s))) NoWord) e ∙ rw f refl
 
--- case
+pub one-key : OneKey
+one-key s t hs ht e = keyed s hs ∙ ap (λ (bytes : List ℕ). Hash (keyOf bytes)) e ∙ sym (keyed t ht)
+
+-- case counts for nothing
 judged-lower : (s : List ℕ) (k : NameKey) → judged (map lowerOf s) k ≡ judged s k
 judged-lower [] k = refl
 judged-lower (b ∷ s) k = rw (lower-bad b) (go (isBad b) (judged-lower s k))
@@ -107,6 +110,13 @@ judged-append (b ∷ s) t k = go (isBad b) (judged-append s t k)
     go : (x : Bool) → judged (s ++ t) k ≡ judged s (judged t k) → unlessBad (cond x (some b) (firstb isBad (s ++ t))) k ≡ unlessBad (cond x (some b) (firstb isBad s)) (judged t k)
     go true more = refl
     go false more = more
+
+pub first-bad : FirstBad
+unfolding nameKey
+first-bad s t b e f =
+    let all = s ++ b ∷ t in
+    let k = cond (full (words all)) (Hash (keyOf (normalized all))) NoWord in
+    judged-append s (b ∷ t) k ∙ judged-good s (judged (b ∷ t) k) e ∙ rw f refl
 
 judged-start : (a : ℕ) (t : List ℕ) (k : NameKey) → isSpace a ≡ true → judged (a ∷ t) k ≡ judged t k
 judged-start a t k e = rw (space-good a e) refl

@@ -2,10 +2,12 @@
 use Prim.Native.Nat.{ℕ, _^_, _<_}
 use mathlib.Core.Path.{_≡_}
 use mathlib.Core.List.{List, [], _∷_, _++_, map}
-use mathlib.Core.Bool.{true, cond}
+use mathlib.Core.Bool.{true, false, cond}
 use mathlib.Core.Logic.{inl, inr}
+use Rattle.laws.specs.Lists.{anyb}
+use Rattle.key.specs.declared.NameKey.the-variants.{Hash, NoWord}
 use Rattle.key.specs.Hash.{hashed, keyOf}
-use Rattle.key.specs.Name.{isSpace, lowerOf, normalized, nameKey, usable, answer}
+use Rattle.key.specs.Name.{isSpace, isBad, reasonOf, lowerOf, full, words, normalized, nameKey, usable, answer}
 
 -- a hash stays a u64
 abbrev pub HashFits : Type 0
@@ -14,6 +16,17 @@ HashFits = (hash : ℕ) (bytes : List ℕ) → hash < 2 ^ 64 → hashed hash byt
 -- a name that can be used has the hash of its normalized bytes, and any other is refused with 8
 abbrev pub Answered : Type 0
 Answered = (s : List ℕ) → answer (nameKey s) ≡ cond (usable s) (inl (keyOf (normalized s))) (inr 8)
+
+-- the first bad byte in reading order says why
+abbrev pub FirstBad : Type 0
+FirstBad = (s t : List ℕ) (b : ℕ) → anyb isBad s ≡ false → isBad b ≡ true → nameKey (s ++ b ∷ t) ≡ reasonOf b
+
+-- a name without a bad byte lacks only a word, or has its key
+abbrev pub Wordless : Type 0
+Wordless = (s : List ℕ) → anyb isBad s ≡ false → full (words s) ≡ false → nameKey s ≡ NoWord
+
+abbrev pub Keyed : Type 0
+Keyed = (s : List ℕ) → usable s ≡ true → nameKey s ≡ Hash (keyOf (normalized s))
 
 abbrev pub Idempotent : Type 0
 Idempotent = (s : List ℕ) → normalized (normalized s) ≡ normalized s
