@@ -1,25 +1,56 @@
--- `AtMost x b`: x is finite, and at most the whole number b in size. A product of binary64 keeps such a bound below 2 ^ 53, and so does a cut toward zero.
+-- `AtMost x b`: x is finite, and at most the whole number b in size. What is rounded keeps such a bound if rounding leaves b as it is, since rounding keeps the order;
+-- so does a product of binary64, and a cut toward zero.
 use mathlib.Core.Path.{sym, subst}
-use mathlib.Core.Bool.{Bool, true, false, true≢false}
-use Prim.Native.Nat.{ℕ, zero, suc, _-_, _*_, _/_, _^_, _≤_, _<_, min}
-use native.Mathlib.Nat.{le-refl, le-trans, le-of-eq, lt-of-lt-of-le, lt-of-le-of-lt, mul-one, mul-mul-mul-comm, mul-le-mul, mul-lt-mul-of-pos-right, mul-pos, div-lt-iff-lt-mul}
+use mathlib.Core.Logic.{inl, inr, _⊎_}
+use mathlib.Core.Bool.{Bool, true, false, not, cond, _&&_, _||_, true≢false}
+use Prim.Native.Nat.{ℕ, zero, suc, _+_, _-_, _*_, _/_, _^_, _≤_, _<_, min}
+use native.Mathlib.Nat.{le-refl, le-trans, le-of-eq, le-of-lt, lt-of-lt-of-le, lt-of-le-of-lt, mul-one, mul-mul-mul-comm, mul-le-mul, mul-lt-mul-of-pos-right, mul-pos, div-lt-iff-lt-mul}
 use native.Mathlib.Omega.{arith}
-use lib.Dec.{T, lit<, lit≤}
+use lib.Dec.{T, ltb, eqb, ltb→lt, eqb→eq, lit<, lit≤}
 use lib.Pow.{pow-pos}
 use lib.IntN.{pos, negℤ, natAbs}
-use lib.Ieee.{Float, nan, inf, fin, binary64, up, down, unlike, round, mul, neg, le, toSigned}
-use lib.Ieee.Fits.{down-pos}
+use lib.Ieee.{Float, nan, inf, fin, Format, binary64, prec, emax, low, up, down, unlike, odd, units, round, mul, neg, le, toSigned}
+use lib.Ieee.Fits.{down-pos, and-l, round-is}
 use lib.Ieee.Exact.{HasValue, round-exact}
 use lib.Ieee.Order.{round-mono}
 use lib.Ieee.Positive.{through}
+use Rattle.laws.specs.Floats.{AtMost}
 use Rattle.laws.proofs.Signs.{round-neg}
-use Rattle.laws.proofs.Within.{plus, round-plus, lt-or-eq}
 
--- x is finite, and at most b in size
-abbrev pub AtMost : Float → ℕ → Type 0
-AtMost nan b = ⊥
-AtMost (inf s) b = ⊥
-AtMost (fin s m e) b = m * up e ≤ b * down e
+pub neg-at-most : (x : Float) (b : ℕ) → AtMost x b → AtMost (neg x) b
+unfolding neg
+neg-at-most nan b w = w
+neg-at-most (inf s) b w = w
+neg-at-most (fin s m e) b w = w
+
+-- ---- rounding
+abbrev pub plus : Float → Bool
+plus nan = false
+plus (inf s) = not s
+plus (fin s m e) = not s
+
+odd-plus : (d q k l : ℕ) → T (plus (odd d false q k l))
+unfolding odd
+odd-plus d zero k l = tt
+odd-plus d (suc q) k l = tt
+
+units-plus : (f : Format) (q k : ℕ) → T (plus (units f false q k))
+unfolding units
+units-plus f q k = go (ltb (q * 2 ^ k) (2 ^ (low f + suc (emax f))))
+  where
+    go : (b : Bool) → T (plus (cond b (odd (suc (prec f)) false q k (low f)) (inf false)))
+    go true = odd-plus (suc (prec f)) q k (low f)
+    go false = tt
+
+pub round-plus : (f : Format) (a c : ℕ) → T (plus (round f false a c))
+round-plus f a c = subst (λ (x : Float). T (plus x)) (sym (round-is f false a c)) (units-plus f _ _)
+
+or-split : (a b : Bool) → T (a || b) → T a ⊎ T b
+or-split true b t = inl tt
+or-split false b t = inr t
+
+pub lt-or-eq : (a b : ℕ) → T (ltb a b || (eqb a b && true)) → a ≤ b
+lt-or-eq a b t = elim (or-split (ltb a b) (eqb a b && true) t) [ inl u ↦ le-of-lt (ltb→lt a b u) | inr u ↦ le-of-eq (eqb→eq a b (and-l (eqb a b) true u)) ]
 
 at-most-of-le : (x y : Float) (b : ℕ) → T (plus x) → HasValue y false b 1 → T (le x y) → AtMost x b
 unfolding le
@@ -36,29 +67,26 @@ at-most-of-le (fin false m e) (fin false n d) b p v h =
     le-trans (le-of-eq (sym (mul-one (m * up e))))
     (through (m * up e) (n * up d) b (down e) (down d) 1 (down-pos d) (lt-or-eq (m * up e * down d) (n * up d * down e) h) (le-of-eq (v .1)))
 
--- a whole number below 2 ^ 53 rounds to itself
-whole : (b : ℕ) → b < 2 ^ 53 → HasValue (round binary64 false b 1) false b 1
-whole b h =
+-- rounding leaves the whole number b as it is
+abbrev pub Stays : ℕ → Type 0
+Stays b = HasValue (round binary64 false b 1) false b 1
+
+pub whole-stays : (b : ℕ) → b < 2 ^ 53 → Stays b
+whole-stays b h =
     round-exact binary64 false b 1 b 1074 (lit< tt) h
     (lt-of-lt-of-le (mul-lt-mul-of-pos-right h (pow-pos 1074)) (lit≤ tt))
     (sym (mul-one (b * 2 ^ 1074)))
 
-plain : (a c b : ℕ) → 0 < c → b < 2 ^ 53 → a ≤ b * c → AtMost (round binary64 false a c) b
+plain : (a c b : ℕ) → 0 < c → Stays b → a ≤ b * c → AtMost (round binary64 false a c) b
 plain a c b C B h =
-    at-most-of-le (round binary64 false a c) (round binary64 false b 1) b (round-plus binary64 a c) (whole b B)
+    at-most-of-le (round binary64 false a c) (round binary64 false b 1) b (round-plus binary64 a c) B
     (round-mono binary64 a c b 1 C (lit< tt) (le-trans (le-of-eq (mul-one a)) h))
 
-neg-at-most : (x : Float) (b : ℕ) → AtMost x b → AtMost (neg x) b
-unfolding neg
-neg-at-most nan b w = w
-neg-at-most (inf s) b w = w
-neg-at-most (fin s m e) b w = w
-
-pub round-at-most : (s : Bool) (a c b : ℕ) → 0 < c → b < 2 ^ 53 → a ≤ b * c → AtMost (round binary64 s a c) b
+pub round-at-most : (s : Bool) (a c b : ℕ) → 0 < c → Stays b → a ≤ b * c → AtMost (round binary64 s a c) b
 round-at-most false a c b C B h = plain a c b C B h
 round-at-most true a c b C B h = subst (λ (x : Float). AtMost x b) (sym (round-neg binary64 a c)) (neg-at-most (round binary64 false a c) b (plain a c b C B h))
 
-pub mul-at-most : (x y : Float) (a b : ℕ) → a * b < 2 ^ 53 → AtMost x a → AtMost y b → AtMost (mul binary64 x y) (a * b)
+pub mul-at-most : (x y : Float) (a b : ℕ) → Stays (a * b) → AtMost x a → AtMost y b → AtMost (mul binary64 x y) (a * b)
 unfolding mul
 mul-at-most nan y a b h v w = absurd v
 mul-at-most (inf s) y a b h v w = absurd v

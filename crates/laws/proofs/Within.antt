@@ -1,6 +1,7 @@
 -- `Within x k`: x is finite, and at most 2 ^ k in size. Every operation of binary64 keeps such a bound, as long as the exponent stays below 1023:
 -- the exact result is at most a power of two, which rounding leaves as it is, and rounding keeps the order.
 use mathlib.Core.Path.{_≡_, sym, ap, _∙_, subst}
+<<<<<<< HEAD
 use mathlib.Core.Logic.{inl, inr, _⊎_}
 use mathlib.Core.Bool.{Bool, true, false, not, cond, _&&_, _||_, Bool·beq, true≢false}
 use Prim.Native.Nat.{ℕ, zero, suc, _+_, _-_, _*_, _^_, _≤_, _<_}
@@ -16,93 +17,43 @@ use lib.Ieee.Order.{round-mono}
 use lib.Ieee.Positive.{through}
 use Rattle.laws.specs.Floats.{Within}
 use Rattle.laws.proofs.Signs.{round-neg}
+=======
+use mathlib.Core.Bool.{Bool, true, false, cond, _&&_, Bool·beq}
+use Prim.Native.Nat.{ℕ, zero, suc, _+_, _-_, _*_, _^_, _≤_, _<_}
+use native.Mathlib.Nat.{le-trans, le-of-eq, lt-of-lt-of-le, mul-one, one-mul, mul-comm, mul-assoc, mul-right-comm, mul-le-mul, mul-le-mul-right, mul-pos}
+use native.Mathlib.Omega.{arith}
+use lib.Dec.{T, ltb, leb, eqb, eqb·suc-zero, leb→le, lit<}
+use lib.Pow.{pow-add, pow-mono, pow-lt}
+use lib.IntN.{ℤ, pos, negsuc, natAbs}
+use lib.Ieee.{Float, nan, inf, fin, binary64, up, down, unlike, round, sum, neg, add, sub, mul, div, ofInt}
+use lib.Ieee.Fits.{down-pos}
+use lib.Ieee.Exact.{round-exact}
+use Rattle.laws.specs.Floats.{AtMost, Within}
+use Rattle.laws.proofs.AtMost.{Stays, neg-at-most, round-at-most, mul-at-most}
+>>>>>>> place
 
 pub wider : (x : Float) (j k : ℕ) → j ≤ k → Within x j → Within x k
 wider nan j k h w = w
 wider (inf s) j k h w = w
 wider (fin s m e) j k h w = le-trans w (mul-le-mul-right (down e) (pow-mono h))
 
-pub neg-within : (x : Float) (k : ℕ) → Within x k → Within (neg x) k
-unfolding neg
-neg-within nan k w = w
-neg-within (inf s) k w = w
-neg-within (fin s m e) k w = w
-
 -- ---- rounding
-abbrev pub plus : Float → Bool
-plus nan = false
-plus (inf s) = not s
-plus (fin s m e) = not s
-
-odd-plus : (d q k l : ℕ) → T (plus (odd d false q k l))
-unfolding odd
-odd-plus d zero k l = tt
-odd-plus d (suc q) k l = tt
-
-units-plus : (f : Format) (q k : ℕ) → T (plus (units f false q k))
-unfolding units
-units-plus f q k = go (ltb (q * 2 ^ k) (2 ^ (low f + suc (emax f))))
-  where
-    go : (b : Bool) → T (plus (cond b (odd (suc (prec f)) false q k (low f)) (inf false)))
-    go true = odd-plus (suc (prec f)) q k (low f)
-    go false = tt
-
-pub round-plus : (f : Format) (a c : ℕ) → T (plus (round f false a c))
-round-plus f a c = subst (λ (x : Float). T (plus x)) (sym (round-is f false a c)) (units-plus f _ _)
-
-or-split : (a b : Bool) → T (a || b) → T a ⊎ T b
-or-split true b t = inl tt
-or-split false b t = inr t
-
-pub lt-or-eq : (a b : ℕ) → T (ltb a b || (eqb a b && true)) → a ≤ b
-lt-or-eq a b t = elim (or-split (ltb a b) (eqb a b && true) t) [ inl u ↦ le-of-lt (ltb→lt a b u) | inr u ↦ le-of-eq (eqb→eq a b (and-l (eqb a b) true u)) ]
-
-within-of-le : (x y : Float) (k : ℕ) → T (plus x) → HasValue y false (2 ^ k) 1 → T (le x y) → Within x k
-unfolding le
-within-of-le nan y k p v h = absurd p
-within-of-le (inf true) y k p v h = absurd p
-within-of-le (inf false) nan k p v h = absurd v
-within-of-le (inf false) (inf t) k p v h = absurd v
-within-of-le (inf false) (fin t n d) k p v h = absurd h
-within-of-le (fin true m e) y k p v h = absurd p
-within-of-le (fin false m e) nan k p v h = absurd v
-within-of-le (fin false m e) (inf t) k p v h = absurd v
-within-of-le (fin false m e) (fin true n d) k p v h = absurd (true≢false (v .0))
-within-of-le (fin false m e) (fin false n d) k p v h =
-    le-trans (le-of-eq (sym (mul-one (m * up e))))
-    (through (m * up e) (n * up d) (2 ^ k) (down e) (down d) 1 (down-pos d) (lt-or-eq (m * up e * down d) (n * up d * down e) h) (le-of-eq (v .1)))
-
 room : (k : ℕ) → k ≤ 1023 → k + 1074 < 1074 + 1024
 room k h = omega arith
 
-power : (k : ℕ) → k ≤ 1023 → HasValue (round binary64 false (2 ^ k) 1) false (2 ^ k) 1
-power k h =
+power-stays : (k : ℕ) → k ≤ 1023 → Stays (2 ^ k)
+power-stays k h =
     round-exact binary64 false (2 ^ k) 1 1 (k + 1074) (lit< tt) (lit< tt)
     (subst (λ (x : ℕ). x < 2 ^ (1074 + 1024)) (sym (one-mul (2 ^ (k + 1074)))) (pow-lt (room k h)))
     (sym (pow-add 2 k 1074) ∙ sym (one-mul (2 ^ (k + 1074))) ∙ sym (mul-one (1 * 2 ^ (k + 1074))))
 
-plain-within : (a c k : ℕ) → 0 < c → k ≤ 1023 → a ≤ 2 ^ k * c → Within (round binary64 false a c) k
-plain-within a c k C K h =
-    within-of-le (round binary64 false a c) (round binary64 false (2 ^ k) 1) k (round-plus binary64 a c) (power k K)
-    (round-mono binary64 a c (2 ^ k) 1 C (lit< tt) (le-trans (le-of-eq (mul-one a)) h))
-
 pub round-within : (s : Bool) (a c k : ℕ) → 0 < c → k ≤ 1023 → a ≤ 2 ^ k * c → Within (round binary64 s a c) k
-round-within false a c k C K h = plain-within a c k C K h
-round-within true a c k C K h = subst (λ (x : Float). Within x k) (sym (round-neg binary64 a c)) (neg-within (round binary64 false a c) k (plain-within a c k C K h))
+round-within s a c k C K h = round-at-most s a c (2 ^ k) C (power-stays k K) h
 
 -- ---- the operations
-regroup : (a c b d : ℕ) → (a * c) * (b * d) ≡ (a * b) * (c * d)
-regroup a c b d = mul-mul-mul-comm a c b d
-
 pub mul-within : (x y : Float) (j k : ℕ) → j + k ≤ 1023 → Within x j → Within y k → Within (mul binary64 x y) (j + k)
-unfolding mul
-mul-within nan y j k h v w = absurd v
-mul-within (inf s) y j k h v w = absurd v
-mul-within (fin s m e) nan j k h v w = absurd w
-mul-within (fin s m e) (inf t) j k h v w = absurd w
-mul-within (fin s m e) (fin t n d) j k h v w =
-    round-within (unlike s t) (m * up e * (n * up d)) (down e * down d) (j + k) (mul-pos (down-pos e) (down-pos d)) h
-    (le-trans (mul-le-mul v w) (le-of-eq (regroup (2 ^ j) (down e) (2 ^ k) (down d) ∙ ap (λ (z : ℕ). z * (down e * down d)) (sym (pow-add 2 j k)))))
+mul-within x y j k h v w =
+    subst (AtMost (mul binary64 x y)) (sym (pow-add 2 j k)) (mul-at-most x y (2 ^ j) (2 ^ k) (subst Stays (pow-add 2 j k) (power-stays (j + k) h)) v w)
 
 twice : (p a b : ℕ) → a ≤ p → b ≤ p → a + b ≤ p * 2
 twice p a b h k = omega arith
@@ -141,7 +92,7 @@ add-within (fin s m e) (fin t n d) k h v w =
 
 pub sub-within : (x y : Float) (k : ℕ) → k + 1 ≤ 1023 → Within x k → Within y k → Within (sub binary64 x y) (k + 1)
 unfolding sub
-sub-within x y k h v w = add-within x (neg y) k h v (neg-within y k w)
+sub-within x y k h v w = add-within x (neg y) k h v (neg-at-most y (2 ^ k) w)
 
 -- y is finite, and at least 1 in size
 abbrev pub atLeastOne : Float → Bool

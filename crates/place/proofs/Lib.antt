@@ -1,3 +1,4 @@
+pub mod Constants
 pub mod Reach
 pub mod Range
 pub mod Symmetric

@@ -7,9 +7,9 @@ use native.Mathlib.Omega.{arith}
 use lib.Dec.{T, lit<, lit≤}
 use lib.IntN.{ℤ, pos, natAbs, negℤ, _+ℤ_, _-ℤ_}
 use lib.Ieee.{Float, nan, inf, fin, up, down, ofBits, le}
-use Rattle.laws.proofs.AtMost.{AtMost, mul-at-most, cut-size}
+use Rattle.laws.specs.Floats.{AtMost}
+use Rattle.laws.proofs.AtMost.{lt-or-eq, whole-stays, mul-at-most, cut-size}
 use Rattle.laws.proofs.Ints.{natAbs-+ℤ, natAbs-negℤ}
-use Rattle.laws.proofs.Within.{lt-or-eq}
 use Rattle.place.specs.declared.Position.{Position}
 use Rattle.place.specs.declared.Position.the-variants.{Given, Absent}
 use Rattle.place.specs.declared.Micro.{Micro}
@@ -31,7 +31,7 @@ million = lit≤ tt
 -- a product with a million, cut
 micro-size : (x : Float) (b : ℕ) → b * 1000000 < 2 ^ 53 → AtMost x b → natAbs (micro x) ≤ b * 1000000
 unfolding micro
-micro-size x b h w = cut-size (x ⊗ n1M) (b * 1000000) (mul-at-most x n1M b 1000000 h w million)
+micro-size x b h w = cut-size (x ⊗ n1M) (b * 1000000) (mul-at-most x n1M b 1000000 (whole-stays (b * 1000000) h) w million)
 
 lat-size : (x : Float) → T (inReach n90 x) → natAbs (micro x) ≤ 90000000
 unfolding ofBits

@@ -5,7 +5,7 @@ use mathlib.Core.Bool.{Bool, true, false}
 use mathlib.Core.List.{List}
 use lib.Dec.{leb}
 use lib.IntN.{ℤ, natAbs, _+ℤ_, _-ℤ_}
-use Rattle.place.specs.Keys.{tagN, placeKey}
+use Rattle.place.specs.Keys.{tagN, noPlace, placeKey}
 use Rattle.place.specs.Near.{sameKeys}
 use Rattle.place.specs.Positions.{microOf}
 use Rattle.place.specs.declared.PlaceKey.{PlaceKey}
@@ -55,7 +55,7 @@ SumsFit =
 
 -- a place key is never the key of a stop that has none
 abbrev pub Placed : Type 0
-Placed = (has : Bool) (parent : List ℕ) (p : Position) (named : Bool) (name id : List ℕ) → placeKey has parent p named name id .tag ≡ 0 → ⊥
+Placed = (has : Bool) (parent : List ℕ) (p : Position) (named : Bool) (name id : List ℕ) → placeKey has parent p named name id .tag ≡ noPlace .tag → ⊥
 
 -- and its microdegrees are in that range, so the test is reflexive for it
 abbrev pub KeyInRange : Type 0

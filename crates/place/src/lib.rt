@@ -4,7 +4,7 @@ ghost use mathlib.Core.Bool.{_&&_};
 ghost use lib.IntN.{pos, natAbs, _+ℤ_, _-ℤ_};
 ghost use lib.Ieee.{neg, le, toSigned};
 ghost use Rattle.place.specs.Positions.{positionOf, usableDegrees, isUsable, micro, microOf};
-ghost use Rattle.place.specs.Keys.{parentKey, idKey, namedKey, shownKey, locatedKey, placeKey};
+ghost use Rattle.place.specs.Keys.{noPlace, parentKey, idKey, namedKey, shownKey, locatedKey, placeKey};
 ghost use Rattle.place.specs.Near.{closeBy, turn, sameKeys};
 use key::NameKey;
 
@@ -111,6 +111,18 @@ pub fn coordinates(p: Position) -> Micro
     match p {
         Position::Given(latitude, longitude) => microdegrees(latitude, longitude),
         Position::Absent => Micro::Nowhere,
+    }
+}
+
+// The key of a stop that has no place.
+pub fn no_place() -> PlaceKey
+    ensures { λ r. ⌜ r ≡ noPlace ⌝ }
+{
+    PlaceKey {
+        tag: 0,
+        hash: 0,
+        lat: 0,
+        lon: 0,
     }
 }
 

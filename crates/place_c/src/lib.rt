@@ -50,16 +50,22 @@ pub extern "C" fn place_usable(located: bool, latitude: f64, longitude: f64) -> 
     place::usable(place::position_of(located, degrees))
 }
 
-// The latitude in microdegrees; 0 where the position is not usable.
-#[no_mangle]
-pub extern "C" fn place_latitude(located: bool, latitude: f64, longitude: f64) -> i32
-    ensures { λ r. ⌜ r ≡ latOf (microOf (positionWith located latitude longitude)) ⌝ }
+fn micro_with(located: bool, latitude: f64, longitude: f64) -> Micro
+    ensures { λ r. ⌜ r ≡ microOf (positionWith located latitude longitude) ⌝ }
 {
     let degrees = Degrees {
         latitude,
         longitude,
     };
-    let micro = place::coordinates(place::position_of(located, degrees));
+    place::coordinates(place::position_of(located, degrees))
+}
+
+// The latitude in microdegrees; 0 where the position is not usable.
+#[no_mangle]
+pub extern "C" fn place_latitude(located: bool, latitude: f64, longitude: f64) -> i32
+    ensures { λ r. ⌜ r ≡ latOf (microOf (positionWith located latitude longitude)) ⌝ }
+{
+    let micro = micro_with(located, latitude, longitude);
     match micro {
         Micro::At(lat, _) => lat,
         Micro::Nowhere => 0,
@@ -71,11 +77,7 @@ pub extern "C" fn place_latitude(located: bool, latitude: f64, longitude: f64) -
 pub extern "C" fn place_longitude(located: bool, latitude: f64, longitude: f64) -> i32
     ensures { λ r. ⌜ r ≡ lonOf (microOf (positionWith located latitude longitude)) ⌝ }
 {
-    let degrees = Degrees {
-        latitude,
-        longitude,
-    };
-    let micro = place::coordinates(place::position_of(located, degrees));
+    let micro = micro_with(located, latitude, longitude);
     match micro {
         Micro::At(_, lon) => lon,
         Micro::Nowhere => 0,

@@ -1,3 +1,4 @@
+-- `place::close_by` meets its contract: each number that is made a float is the sum, the way round or the difference of the definition.
 use borrow.Author.Needs.{needs}
 use mathlib.Core.Path.{_≡_, ap, _∙_}
 use lib.IntN.{_+ℤ_, _-ℤ_}
@@ -37,11 +38,8 @@ gap c = c .nearest-i64-to-f643 .ensures ∙ ap (ofInt binary64) (again (record {
 returns : tie.Need-returns
 unfolding closeBy closeAt angle square series metres
 returns c =
-    let at-gap = c .before in
     let at-way = c .before .before in
-    let at-turn = at-way .before in
-    let at-sum = at-turn .before in
-    λ i. closeAt (whole at-sum i) (way at-way i) (gap c i)
+    λ i. closeAt (whole (at-way .before .before) i) (way at-way i) (gap c i)
 
 pub close-by-spec : {M : Type 1} → statement M
 close-by-spec =
