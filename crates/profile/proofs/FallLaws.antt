@@ -1,22 +1,21 @@
 -- The horizon and the mark after any list of offers: they change exactly where more than `cap` count, and come to what `fall` says.
-use mathlib.Core.Path.{_≡_, refl, sym, ap, _∙_, subst}
-use mathlib.Core.Logic.{_⊎_, inl, inr}
-use mathlib.Core.Bool.{Bool, true, false, not, cond, _&&_, true≢false, false≢true, and-assoc, and-false}
-use mathlib.Core.List.{List, [], _∷_, _++_, append-assoc, append-nil, List·Memᴰ, List·Memᴰ·head, List·Memᴰ·tail, List·Memᴰ·not-nil, List·Memᴰ·cases-cons}
-use Prim.Native.Nat.{ℕ, zero, suc, _+_, _-_, _≤_, _<_, max}
+use mathlib.Core.Path.{_≡_, refl, sym, _∙_}
+use mathlib.Core.Logic.{inl, inr}
+use mathlib.Core.Bool.{Bool, true, false, cond, _&&_, true≢false, and-assoc}
+use mathlib.Core.List.{List, [], _∷_, _++_, append-assoc, append-nil}
+use Prim.Native.Nat.{ℕ, _+_, _-_, _≤_, _<_}
 use native.Mathlib.Omega.{arith}
 use lib.Dec.{leb, ltb}
-use borrow.Author.Tests.{leb-true, leb-false, le-leb, lt-leb, ltb-true, ltb-false, lt-ltb, le-ltb}
+use borrow.Author.Tests.{leb-true, le-leb, ltb-false}
 use lib.ListN.{length}
-use Rattle.laws.specs.Lists.{filterb, anyb, foldl}
-use Rattle.laws.proofs.Bools.{test, not-true}
-use Rattle.laws.proofs.Lists.{snoc-ind, length-filterb-lt}
+use Rattle.laws.specs.Lists.{filterb, foldl}
+use Rattle.laws.proofs.Lists.{snoc-ind}
 use Rattle.laws.proofs.Folds.{foldl-append}
 use Rattle.profile.specs.Front.{Order, front}
 use Rattle.profile.specs.Kept.{St, going, refused, latest, settle, offer, run}
-use Rattle.profile.specs.Fall.{Ends, upTo, never, fall, keeping, fits, Marked}
+use Rattle.profile.specs.Fall.{never, fall, keeping, fits, Marked}
 use Rattle.profile.proofs.FrontLaws.{after-mem, front-one-more}
-use Rattle.profile.proofs.KeptLaws.{latest-le, latest-mem, Holds, offer-settles, settle-holds, run-holds}
+use Rattle.profile.proofs.KeptLaws.{latest-le, Holds, offer-settles, settle-holds, run-holds}
 use Rattle.profile.proofs.PassLaws.{refused-stays}
 
 module _ {A : Type 0} (cov : A → A → Bool) (due : A → ℕ) (cap : ℕ) where

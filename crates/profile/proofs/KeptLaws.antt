@@ -1,15 +1,15 @@
 -- What a search keeps after any list of offers: the unbeaten list at the horizon reached, which covers every offer due by it.
-use mathlib.Core.Path.{_≡_, refl, sym, ap, _∙_, subst}
+use mathlib.Core.Path.{_≡_, refl, _∙_}
 use mathlib.Core.Logic.{_⊎_, inl, inr}
-use mathlib.Core.Bool.{Bool, true, false, not, cond, _&&_, true≢false, false≢true, and-assoc, and-false}
-use mathlib.Core.List.{List, [], _∷_, _++_, append-assoc, append-nil, List·Memᴰ, List·Memᴰ·head, List·Memᴰ·tail, List·Memᴰ·not-nil, List·Memᴰ·cases-cons}
-use Prim.Native.Nat.{ℕ, zero, suc, _+_, _-_, _≤_, _<_, max}
+use mathlib.Core.Bool.{Bool, true, false, not, cond}
+use mathlib.Core.List.{List, [], _∷_, _++_, List·Memᴰ, List·Memᴰ·head, List·Memᴰ·tail}
+use Prim.Native.Nat.{ℕ, suc, _+_, _-_, _≤_, _<_}
 use native.Mathlib.Omega.{arith}
 use lib.Dec.{leb, ltb}
-use borrow.Author.Tests.{leb-true, leb-false, le-leb, lt-leb, ltb-true, ltb-false, lt-ltb, le-ltb}
+use borrow.Author.Tests.{leb-true, leb-false, le-leb, lt-leb, ltb-true, ltb-false}
 use lib.ListN.{length}
-use Rattle.laws.specs.Lists.{filterb, anyb, foldl}
-use Rattle.laws.proofs.Bools.{test, not-true}
+use Rattle.laws.specs.Lists.{filterb, anyb}
+use Rattle.laws.proofs.Bools.{test}
 use Rattle.laws.proofs.Lists.{snoc-ind, length-filterb-lt}
 use Rattle.laws.proofs.Folds.{foldl-append}
 use Rattle.profile.specs.Front.{Order, front}

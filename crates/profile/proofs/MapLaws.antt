@@ -1,15 +1,15 @@
 -- A search over f of the offers is f of the search over the offers, where f leaves an offer's figures as they are.
 use mathlib.Core.Path.{_≡_, refl, sym, ap, _∙_}
 use mathlib.Core.Logic.{_⊎_, inl, inr}
-use mathlib.Core.Bool.{Bool, true, false, not, cond, _||_}
+use mathlib.Core.Bool.{Bool, true, false, not, cond}
 use mathlib.Core.List.{List, [], _∷_, _++_, map, List·Memᴰ, List·Memᴰ·head, List·Memᴰ·tail, List·Memᴰ·not-nil, List·Memᴰ·append-cases, List·Memᴰ·eq-of-singleton}
-use Prim.Native.Nat.{ℕ, suc, _-_, max}
+use Prim.Native.Nat.{ℕ, suc, _-_}
 use lib.Dec.{leb, ltb}
 use lib.ListN.{length}
 use Rattle.laws.specs.Lists.{filterb, anyb, foldl}
 use Rattle.laws.proofs.Lists.{filterb-mem}
 use Rattle.profile.specs.Figures.{Figures, covers, covᶠ, dueᶠ}
-use Rattle.profile.specs.Kept.{St, going, refused, latest, settle, offer, run, searched, mapSt}
+use Rattle.profile.specs.Kept.{St, going, refused, latest, settle, offer, run, mapSt}
 
 module _ {A B : Type 0} (f : A → B) where
   map-length : (xs : List A) → length (map f xs) ≡ length xs

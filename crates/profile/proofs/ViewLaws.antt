@@ -1,16 +1,16 @@
 -- The array as a state: what is read of it, and a state with nothing kept.
 use mathlib.Core.Path.{_≡_, refl, sym, ap, _∙_}
-use mathlib.Core.Bool.{Bool, true, false, not, cond, true≢false}
+use mathlib.Core.Bool.{Bool, true, false, cond, true≢false}
 use mathlib.Core.Logic.{_≢_}
 use mathlib.Core.List.{List, []}
-use Prim.Native.Nat.{ℕ, _+_, _≤_, _<_}
+use Prim.Native.Nat.{ℕ, _≤_, _<_}
 use native.Mathlib.Omega.{arith}
 use lib.Dec.{ltb, eqb}
 use borrow.Author.Tests.{eq-eqb, ne-eqb, eqb-true, ltb-false}
 use lib.ListN.{length, getD, set, take, replicate, length-set, length-take, length-replicate, getD-replicate, List·getD-eq-default}
 use lib.Seq.{getD-set-same, getD-set-other, getD-take}
 use Rattle.profile.specs.declared.Row.{Row}
-use Rattle.profile.specs.Kept.{St, going, refused, tooLate}
+use Rattle.profile.specs.Kept.{going, refused, tooLate}
 use Rattle.profile.specs.View.{rowAt, rows, noRow, countOf, horizonOf, limitsOf, keptOf, openOf, view, ViewParts, ViewRefused}
 use Rattle.profile.proofs.RowLaws.{rows-length, rows-get}
 

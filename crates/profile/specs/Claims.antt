@@ -1,8 +1,8 @@
 -- What is claimed of a search's kept list, at 64 journeys and a least horizon of 3600, of anything that has the four figures.
 use mathlib.Core.Path.{_≡_}
 use mathlib.Core.Logic.{_↔_}
-use mathlib.Core.Bool.{Bool, true, false}
-use mathlib.Core.List.{List, [], _∷_, map, List·Memᴰ}
+use mathlib.Core.Bool.{true, false}
+use mathlib.Core.List.{List, [], map, List·Memᴰ}
 use Prim.Native.Nat.{ℕ, _≤_, min}
 use lib.Dec.{leb}
 use lib.IntN.{ℤ, pos}

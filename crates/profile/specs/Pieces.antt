@@ -1,8 +1,8 @@
 -- What the private functions of an offer do to the array, piece by piece.
 use mathlib.Core.Path.{_≡_}
 use mathlib.Core.Bool.{Bool, true, false, not, cond}
-use mathlib.Core.List.{List, [], _∷_, _++_}
-use Prim.Native.Nat.{ℕ, zero, suc, _+_, _*_, _≤_}
+use mathlib.Core.List.{List, [], _∷_}
+use Prim.Native.Nat.{ℕ, suc, _+_, _*_, _≤_}
 use lib.Dec.{leb}
 use lib.ListN.{getD, length, set, take}
 use Rattle.laws.specs.Lists.{filterb, anyb}
@@ -10,7 +10,7 @@ use Rattle.profile.specs.declared.Row.{Row}
 use Rattle.profile.specs.Figures.{covers}
 use Rattle.profile.specs.Kept.{St, latest, settle}
 use Rattle.profile.specs.Journeys.{rowFigures}
-use Rattle.profile.specs.View.{rowAt, rows, noRow, horizonOf, limitsOf, view}
+use Rattle.profile.specs.View.{rowAt, rows, noRow, horizonOf, limitsOf}
 
 -- a equals or beats b; when a is due
 unfoldable pub cov : Row → Row → Bool

@@ -1,3 +1,4 @@
+-- `stays_on` meets its contract, by which of the two tests is asked.
 use Rattle.profile.specs.Pieces.{stays, due}
 use borrow.Author.Needs.{needs}
 use Rattle.profile.proofs.offer.stays_on.Statement.{statement}
