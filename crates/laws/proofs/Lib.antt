@@ -6,3 +6,5 @@ pub mod Sort
 pub mod Ints
 pub mod Signs
 pub mod Within
+pub mod Arrays
+pub mod Maps

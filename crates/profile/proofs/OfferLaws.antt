@@ -15,9 +15,9 @@ use Rattle.laws.proofs.Lists.{length-filterb-lt}
 use Rattle.profile.specs.declared.Row.{Row}
 use Rattle.profile.specs.Figures.{covᶠ, dueᶠ}
 use Rattle.profile.specs.Kept.{going, refused, latest, tooLate}
-use Rattle.profile.specs.Journeys.{rowFigures}
+use Rattle.profile.specs.Journeys.{rowFigures, cov, due}
 use Rattle.profile.specs.View.{rows, countOf, horizonOf, limitsOf, keptOf, view, offerTo, OffersSearch, OffersLate}
-use Rattle.profile.specs.Pieces.{cov, due, putRow, Tail, coveredBy, stays, Packed, Open, latestDue, settled}
+use Rattle.profile.specs.Pieces.{putRow, Tail, coveredBy, stays, Packed, Open, latestDue, settled}
 use Rattle.profile.proofs.KeptLaws.{latest-mem}
 use Rattle.profile.proofs.PassLaws.{offer-late}
 use Rattle.profile.proofs.ClaimLaws.{late-passed-over}

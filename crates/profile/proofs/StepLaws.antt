@@ -10,10 +10,11 @@ use lib.ListN.{length, getD, take, drop, length-take, drop-of-length-le}
 use lib.Seq.{getD-set-other, take-suc, take-suc-set, drop-cons, getD-take}
 use Rattle.laws.specs.Lists.{filterb, anyb}
 use Rattle.laws.proofs.Lists.{filterb-append}
+use Rattle.profile.specs.Journeys.{cov, due}
 use Rattle.profile.specs.Kept.{latest}
 use Rattle.profile.specs.declared.Row.{Row}
 use Rattle.profile.specs.View.{rowAt, rows, noRow}
-use Rattle.profile.specs.Pieces.{cov, due, putRow, coveredBy, Packed, Moved, latestDue}
+use Rattle.profile.specs.Pieces.{putRow, coveredBy, Packed, Moved, latestDue}
 use Rattle.profile.proofs.RowLaws.{put-long, put-tail, rows-length, rows-get, rows-put}
 
 -- ---- is it covered

@@ -2,13 +2,14 @@
 use mathlib.Core.Path.{_≡_}
 use mathlib.Core.Bool.{Bool, true, false, cond}
 use mathlib.Core.Logic.{_↔_}
-use mathlib.Core.List.{List, [], _∷_, List·Memᴰ}
-use Prim.Native.Nat.{ℕ, zero, suc, _+_, _*_, min}
+use mathlib.Core.List.{List, [], List·Memᴰ}
+use Prim.Native.Nat.{ℕ, _+_, _*_, min}
 use lib.Dec.{eqb}
 use lib.ListN.{getD, length, take}
 use Rattle.profile.specs.declared.Row.{Row}
 use Rattle.profile.specs.Figures.{covᶠ, dueᶠ}
 use Rattle.laws.specs.Lists.{foldl}
+use Rattle.laws.specs.Arrays.{tab}
 use Rattle.profile.specs.Kept.{St, going, refused, offer, searched, tooLate}
 use Rattle.profile.specs.Journeys.{rowFigures}
 
@@ -32,11 +33,6 @@ slot l i =
 -- the same, shut
 unfoldable pub rowAt : List ℕ → ℕ → Row
 rowAt l i = slot l i
-
--- f at i, i + 1, .. , k in number
-unfoldable pub tab : {A : Type 0} → (ℕ → A) → ℕ → ℕ → List A
-tab f zero i = []
-tab f (suc k) i = f i ∷ tab f k (suc i)
 
 -- every slot
 unfoldable pub rows : List ℕ → List Row
