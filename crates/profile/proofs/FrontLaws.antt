@@ -153,7 +153,7 @@ module _ {A : Type 0} {cov : A → A → Bool} {due : A → ℕ} (ord : Order co
   beats-uncovered h os o {k} m b =
       anyb-none (λ q. cov q o) os (λ q n. not-true (cov q o) (λ c. true≢false (sym (beats-trans q o k c b) ∙ after-unbeaten cov due h [] os m n)))
 
-  abbrev Covered : ℕ → List A → A → Type 0
+  abbrev pub Covered : ℕ → List A → A → Type 0
   Covered h os o = (k : A) × List·Memᴰ k (front cov due h os) × (cov k o ≡ true)
 
   covered-snoc : (h : ℕ) (os : List A) (z : A) → ((o : A) → List·Memᴰ o os → due o ≤ h → Covered h os o) → (o : A) → List·Memᴰ o (os ++ z ∷ []) → due o ≤ h → Covered h (os ++ z ∷ []) o

@@ -15,7 +15,7 @@ use Rattle.profile.proofs.KeptLaws.{settle-elim}
 
 module _ {A B : Type 0} (f : A → B) (fig : A → Figures) (fig′ : B → Figures) where
   -- the figures of each of the list are those of f of it
-  abbrev Same : List A → Type 0
+  abbrev pub Same : List A → Type 0
   Same xs = (x : A) → List·Memᴰ x xs → fig′ (f x) ≡ fig x
 
   latest-map : (xs : List A) → Same xs → latest (dueᶠ fig′) (map f xs) ≡ latest (dueᶠ fig) xs
@@ -73,7 +73,7 @@ module _ {A B : Type 0} (f : A → B) (fig : A → Figures) (fig′ : B → Figu
         go false false = refl
 
     -- what holds of each kept holds after an offer of which it holds
-    abbrev Held : St A → Type 0
+    abbrev pub Held : St A → Type 0
     Held (going ks h l) = Same ks
     Held refused = Unit {0}
 
