@@ -12,3 +12,5 @@ pub mod AtMost
 pub mod Cut
 pub mod Tests
 pub mod Halves
+pub mod Arrays
+pub mod Maps

@@ -1,3 +1,4 @@
 pub mod Lists
 pub mod Sort
 pub mod Floats
+pub mod Arrays

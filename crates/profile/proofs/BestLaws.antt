@@ -1,20 +1,20 @@
 -- Best over a complete list is the answer that the offers alone give; so two complete lists answer alike exactly if their offers cover each other.
 use mathlib.Core.Path.{_≡_, refl, sym, ap, _∙_}
 use mathlib.Core.Logic.{_⊎_, inl, inr, _↔_}
-use mathlib.Core.Bool.{Bool, true, false, not, cond, true≢false, false≢true}
+use mathlib.Core.Bool.{Bool, true, false, cond}
 use mathlib.Core.Option.{Option, none, some}
-use mathlib.Core.List.{List, [], _∷_, _++_, List·Memᴰ, List·Memᴰ·head, List·Memᴰ·tail, List·Memᴰ·not-nil, List·Memᴰ·cases-cons}
+use mathlib.Core.List.{List, List·Memᴰ}
 use Prim.Native.Nat.{ℕ, _≤_, _<_, min}
 use native.Mathlib.Omega.{arith}
 use lib.Dec.{leb, ltb}
 use lib.IntN.{ℤ, pos, negsuc}
-use borrow.Author.Tests.{leb-true, leb-false, le-leb, lt-leb, ltb-true, ltb-false}
-use Rattle.laws.specs.Lists.{filterb, foldl, firstb}
-use Rattle.laws.proofs.Bools.{test, not-true}
+use borrow.Author.Tests.{leb-true, leb-false, le-leb, ltb-true}
+use Rattle.laws.specs.Lists.{filterb}
+use Rattle.laws.proofs.Bools.{test}
 use Rattle.laws.proofs.Lists.{filterb-mem, mem-filterb}
 use Rattle.profile.specs.Figures.{Figures, covers, prefer}
-use Rattle.profile.specs.Best.{choose, pick, best, bestℤ, keep, readBy, Covers, Ahead, Complete, Ordered}
-use Rattle.profile.proofs.FiguresLaws.{covers-arrival, covers-leave, covers-prefer, prefer-refl, prefer-trans, prefer-total, prefer-antisym, prefer-arrival, prefer-covers}
+use Rattle.profile.specs.Best.{pick, best, bestℤ, readBy, Covers, Complete}
+use Rattle.profile.proofs.FiguresLaws.{covers-arrival, covers-leave, covers-prefer, prefer-trans, prefer-antisym, prefer-arrival, prefer-covers}
 use Rattle.profile.proofs.PickLaws.{Picked, pick-picked}
 
 module _ {A : Type 0} (fig : A → Figures) where

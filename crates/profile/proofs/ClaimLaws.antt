@@ -1,7 +1,4 @@
 -- The claims of specs/Claims.antt, each from the laws of any order on any list.
-use mathlib.Core.Path.{_≡_, refl, sym, ap, _∙_}
-use mathlib.Core.List.{List, List·Memᴰ}
-use Prim.Native.Nat.{ℕ, _<_}
 use native.Mathlib.Omega.{arith}
 use lib.Dec.{leb}
 use lib.IntN.{ℤ}

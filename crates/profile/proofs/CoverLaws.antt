@@ -5,9 +5,9 @@ use Prim.Native.Nat.{_≤_, _<_}
 use native.Mathlib.Omega.{arith}
 use lib.Dec.{leb}
 use borrow.Author.Tests.{le-leb, lt-leb}
+use Rattle.profile.specs.Journeys.{cov}
 use Rattle.profile.specs.Figures.{lexb}
 use Rattle.profile.specs.declared.Row.{Row}
-use Rattle.profile.specs.Pieces.{cov}
 use Rattle.profile.proofs.FiguresLaws.{lexb-lt, lexb-gt, lexb-same}
 
 module _ (a b : Row) where

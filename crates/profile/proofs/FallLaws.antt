@@ -1,22 +1,21 @@
 -- The horizon and the mark after any list of offers: they change exactly where more than `cap` count, and come to what `fall` says.
-use mathlib.Core.Path.{_≡_, refl, sym, ap, _∙_, subst}
-use mathlib.Core.Logic.{_⊎_, inl, inr}
-use mathlib.Core.Bool.{Bool, true, false, not, cond, _&&_, true≢false, false≢true, and-assoc, and-false}
-use mathlib.Core.List.{List, [], _∷_, _++_, append-assoc, append-nil, List·Memᴰ, List·Memᴰ·head, List·Memᴰ·tail, List·Memᴰ·not-nil, List·Memᴰ·cases-cons}
-use Prim.Native.Nat.{ℕ, zero, suc, _+_, _-_, _≤_, _<_, max}
+use mathlib.Core.Path.{_≡_, refl, sym, _∙_}
+use mathlib.Core.Logic.{inl, inr}
+use mathlib.Core.Bool.{Bool, true, false, cond, _&&_, true≢false, and-assoc}
+use mathlib.Core.List.{List, [], _∷_, _++_, append-assoc, append-nil}
+use Prim.Native.Nat.{ℕ, _+_, _-_, _≤_, _<_}
 use native.Mathlib.Omega.{arith}
 use lib.Dec.{leb, ltb}
-use borrow.Author.Tests.{leb-true, leb-false, le-leb, lt-leb, ltb-true, ltb-false, lt-ltb, le-ltb}
+use borrow.Author.Tests.{leb-true, le-leb, lt-leb}
 use lib.ListN.{length}
-use Rattle.laws.specs.Lists.{filterb, anyb, foldl}
-use Rattle.laws.proofs.Bools.{test, not-true}
-use Rattle.laws.proofs.Lists.{snoc-ind, length-filterb-lt}
+use Rattle.laws.specs.Lists.{filterb, foldl}
+use Rattle.laws.proofs.Lists.{snoc-ind}
 use Rattle.laws.proofs.Folds.{foldl-append}
 use Rattle.profile.specs.Front.{Order, front}
 use Rattle.profile.specs.Kept.{St, going, refused, latest, settle, offer, run}
-use Rattle.profile.specs.Fall.{Ends, upTo, never, fall, keeping, fits, Marked}
-use Rattle.profile.proofs.FrontLaws.{after-mem, front-one-more}
-use Rattle.profile.proofs.KeptLaws.{latest-le, latest-mem, Holds, offer-settles, settle-holds, run-holds}
+use Rattle.profile.specs.Fall.{never, fall, keeping, fits, Marked}
+use Rattle.profile.proofs.FrontLaws.{front-one-more}
+use Rattle.profile.proofs.KeptLaws.{settle-elim, front-latest, Holds, offer-settles, settle-holds, run-holds}
 use Rattle.profile.proofs.PassLaws.{refused-stays}
 
 module _ {A : Type 0} (cov : A → A → Bool) (due : A → ℕ) (cap : ℕ) where
@@ -27,41 +26,18 @@ module _ {A : Type 0} (cov : A → A → Bool) (due : A → ℕ) (cap : ℕ) whe
       (sym (and-assoc (leb (length (front cov due h pre)) cap) (fits cov due cap h (pre ++ x ∷ []) os) (leb (length (front cov due h (pre ++ x ∷ (os ++ o ∷ [])))) cap)))
 
 module _ {A : Type 0} {cov : A → A → Bool} {due : A → ℕ} (ord : Order cov due) (cap floor : ℕ) (floor-pos : 0 < floor) where
-  -- the same where the horizon was the first one, h₀, and `b` says whether the list fits
+  -- the offer that makes `os` settles what counts at the first horizon, h₀
   settle-first : (h₀ l₀ : ℕ) (os : List A) → fits cov due cap h₀ [] os ≡ leb (length (front cov due h₀ os)) cap → Marked cov due cap h₀ l₀ os (settle due cap floor (front cov due h₀ os) h₀ l₀)
-  settle-first h₀ l₀ os f = fit (leb (length (front cov due h₀ os)) cap) refl
-    where
-      g : ℕ
-      g = latest due (front cov due h₀ os) - 1
+  settle-first h₀ l₀ os f =
+      settle-elim due cap floor (Marked cov due cap h₀ l₀ os) (front cov due h₀ os) h₀ l₀
+      (λ le. inl (f ∙ le-leb (length (front cov due h₀ os)) cap le, refl, refl)) (λ more. f ∙ lt-leb (length (front cov due h₀ os)) cap more)
+      (λ more low. inr (f ∙ lt-leb (length (front cov due h₀ os)) cap more, omega (arith, front-latest cov due h₀ os), refl))
 
-      lower : latest due (front cov due h₀ os) ≤ h₀
-      lower = latest-le due h₀ (front cov due h₀ os) (λ k m. after-mem cov due h₀ [] os m .1)
-
-      cut : leb (length (front cov due h₀ os)) cap ≡ false → (b : Bool) → ltb g floor ≡ b → Marked cov due cap h₀ l₀ os (cond b refused (going (filterb (λ k. leb (due k) g) (front cov due h₀ os)) g 1))
-      cut e true d = f ∙ e
-      cut e false d = inr (f ∙ e, omega (arith, lower, ltb-false g floor d), refl)
-
-      fit : (b : Bool) → leb (length (front cov due h₀ os)) cap ≡ b → Marked cov due cap h₀ l₀ os (cond b (going (front cov due h₀ os) h₀ l₀) (cond (ltb g floor) refused (going (filterb (λ k. leb (due k) g) (front cov due h₀ os)) g 1)))
-      fit true e = inl (f ∙ e, refl, refl)
-      fit false e = cut e (ltb g floor) refl
-
-  -- and where the horizon was earlier already
+  -- or at an earlier one
   settle-later : (h₀ l₀ h : ℕ) (os : List A) → fits cov due cap h₀ [] os ≡ false → h < h₀ → Marked cov due cap h₀ l₀ os (settle due cap floor (front cov due h os) h 1)
-  settle-later h₀ l₀ h os f le = fit (leb (length (front cov due h os)) cap)
-    where
-      g : ℕ
-      g = latest due (front cov due h os) - 1
-
-      lower : latest due (front cov due h os) ≤ h
-      lower = latest-le due h (front cov due h os) (λ k m. after-mem cov due h [] os m .1)
-
-      cut : (b : Bool) → Marked cov due cap h₀ l₀ os (cond b refused (going (filterb (λ k. leb (due k) g) (front cov due h os)) g 1))
-      cut true = f
-      cut false = inr (f, omega (arith, lower), refl)
-
-      fit : (b : Bool) → Marked cov due cap h₀ l₀ os (cond b (going (front cov due h os) h 1) (cond (ltb g floor) refused (going (filterb (λ k. leb (due k) g) (front cov due h os)) g 1)))
-      fit true = inr (f, le, refl)
-      fit false = cut (ltb g floor)
+  settle-later h₀ l₀ h os f le =
+      settle-elim due cap floor (Marked cov due cap h₀ l₀ os) (front cov due h os) h 1 (λ few. inr (f, le, refl)) (λ more. f)
+      (λ more low. inr (f, omega (arith, front-latest cov due h os), refl))
 
   offer-marked : (h₀ l₀ : ℕ) (os : List A) (o : A) (s : St A) → Holds cov due cap h₀ os s → Marked cov due cap h₀ l₀ os s → Marked cov due cap h₀ l₀ (os ++ o ∷ []) (offer cov due cap floor s o)
   offer-marked h₀ l₀ os o refused w m = fits-snoc cov due cap h₀ [] os o ∙ rw m

@@ -1,11 +1,11 @@
 -- The laws of `lexb`; `covers` is reflexive and transitive, `prefer` a total order, and the one follows from the other where the leave allows.
-use mathlib.Core.Path.{_≡_, refl, sym, ap, _∙_}
+use mathlib.Core.Path.{_≡_, refl, sym, _∙_}
 use mathlib.Core.Logic.{_⊎_, inl, inr}
 use mathlib.Core.Bool.{Bool, true, false, _&&_, _||_, true≢false, false≢true}
 use Prim.Native.Nat.{ℕ, _≤_, _<_}
 use native.Mathlib.Omega.{arith}
 use lib.Dec.{leb, ltb, eqb}
-use borrow.Author.Tests.{leb-true, leb-false, le-leb, lt-leb, ltb-true, ltb-false, lt-ltb, le-ltb, eqb-true, eqb-false, eq-eqb, ne-eqb}
+use borrow.Author.Tests.{leb-true, leb-false, le-leb, ltb-true, ltb-false, lt-ltb, le-ltb, eqb-true, eqb-false, eq-eqb, ne-eqb}
 use Rattle.laws.proofs.Bools.{and-true, and-true-left, and-true-right, not-true}
 use Rattle.profile.specs.Figures.{Figures, lexb, lexle, covers, prefer, covᶠ, dueᶠ}
 use Rattle.profile.specs.Front.{Order}

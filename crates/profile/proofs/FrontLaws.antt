@@ -1,17 +1,17 @@
 -- The laws of `front`: what one offer more does to it, at an earlier horizon, who is in it, and that it covers every offer due by the horizon.
 -- That `cov` is an `Order` is a parameter where it is needed.
-use mathlib.Core.Path.{_≡_, refl, sym, ap, _∙_, subst}
-use mathlib.Core.Logic.{_⊎_, inl, inr, ⊎-elim}
+use mathlib.Core.Path.{_≡_, refl, sym, ap, _∙_}
+use mathlib.Core.Logic.{_⊎_, inl, inr}
 use mathlib.Core.Bool.{Bool, true, false, not, cond, _&&_, _||_, true≢false, false≢true, and-not-self, and-false, and-true as and-true′}
 use mathlib.Core.List.{List, [], _∷_, _++_, append-assoc, append-nil, List·Memᴰ, List·Memᴰ·head, List·Memᴰ·tail, List·Memᴰ·not-nil, List·Memᴰ·cases-cons, List·Memᴰ·append-cases, Memᴰ·append-left, Memᴰ·append-right, List·Memᴰ·eq-of-singleton}
-use Prim.Native.Nat.{ℕ, zero, suc, _+_, _-_, _≤_, _<_}
+use Prim.Native.Nat.{ℕ, suc, _+_, _-_, _≤_, _<_}
 use native.Mathlib.Omega.{arith}
-use lib.Dec.{leb, ltb}
-use borrow.Author.Tests.{leb-true, leb-false, le-leb, lt-leb}
+use lib.Dec.{leb}
+use borrow.Author.Tests.{leb-true, le-leb, lt-leb}
 use lib.ListN.{length, length-append}
 use Rattle.laws.specs.Lists.{filterb, anyb}
 use Rattle.laws.proofs.Bools.{and-true, and-true-left, and-true-right, test, not-true}
-use Rattle.laws.proofs.Lists.{anyb-mem, mem-anyb, anyb-not, anyb-none, anyb-append, filterb-mem, mem-filterb, filterb-cong, filterb-all, filterb-append, length-filterb, snoc-ind}
+use Rattle.laws.proofs.Lists.{anyb-mem, mem-anyb, anyb-not, anyb-none, anyb-append, mem-filterb, filterb-cong, filterb-all, length-filterb, snoc-ind}
 use Rattle.profile.specs.Front.{beats, counts, after, front, Order}
 
 module _ {A : Type 0} (cov : A → A → Bool) (due : A → ℕ) where
@@ -153,7 +153,7 @@ module _ {A : Type 0} {cov : A → A → Bool} {due : A → ℕ} (ord : Order co
   beats-uncovered h os o {k} m b =
       anyb-none (λ q. cov q o) os (λ q n. not-true (cov q o) (λ c. true≢false (sym (beats-trans q o k c b) ∙ after-unbeaten cov due h [] os m n)))
 
-  abbrev Covered : ℕ → List A → A → Type 0
+  abbrev pub Covered : ℕ → List A → A → Type 0
   Covered h os o = (k : A) × List·Memᴰ k (front cov due h os) × (cov k o ≡ true)
 
   covered-snoc : (h : ℕ) (os : List A) (z : A) → ((o : A) → List·Memᴰ o os → due o ≤ h → Covered h os o) → (o : A) → List·Memᴰ o (os ++ z ∷ []) → due o ≤ h → Covered h (os ++ z ∷ []) o

@@ -1,15 +1,15 @@
 -- What a search keeps after any list of offers: the unbeaten list at the horizon reached, which covers every offer due by it.
-use mathlib.Core.Path.{_≡_, refl, sym, ap, _∙_, subst}
+use mathlib.Core.Path.{_≡_, refl, _∙_}
 use mathlib.Core.Logic.{_⊎_, inl, inr}
-use mathlib.Core.Bool.{Bool, true, false, not, cond, _&&_, true≢false, false≢true, and-assoc, and-false}
-use mathlib.Core.List.{List, [], _∷_, _++_, append-assoc, append-nil, List·Memᴰ, List·Memᴰ·head, List·Memᴰ·tail, List·Memᴰ·not-nil, List·Memᴰ·cases-cons}
-use Prim.Native.Nat.{ℕ, zero, suc, _+_, _-_, _≤_, _<_, max}
+use mathlib.Core.Bool.{Bool, true, false, not, cond}
+use mathlib.Core.List.{List, [], _∷_, _++_, List·Memᴰ, List·Memᴰ·head, List·Memᴰ·tail}
+use Prim.Native.Nat.{ℕ, suc, _+_, _-_, _≤_, _<_}
 use native.Mathlib.Omega.{arith}
 use lib.Dec.{leb, ltb}
-use borrow.Author.Tests.{leb-true, leb-false, le-leb, lt-leb, ltb-true, ltb-false, lt-ltb, le-ltb}
+use borrow.Author.Tests.{leb-true, leb-false, le-leb, lt-leb, ltb-true, ltb-false}
 use lib.ListN.{length}
-use Rattle.laws.specs.Lists.{filterb, anyb, foldl}
-use Rattle.laws.proofs.Bools.{test, not-true}
+use Rattle.laws.specs.Lists.{filterb, anyb}
+use Rattle.laws.proofs.Bools.{test}
 use Rattle.laws.proofs.Lists.{snoc-ind, length-filterb-lt}
 use Rattle.laws.proofs.Folds.{foldl-append}
 use Rattle.profile.specs.Front.{Order, front}
@@ -30,6 +30,30 @@ module _ {A : Type 0} (due : A → ℕ) where
           → (z : A) × List·Memᴰ z (x ∷ y ∷ ys) × (due z ≡ latest due (x ∷ y ∷ ys))
       go (inl e) (z, m, q) = (z, List·Memᴰ·tail m, omega (arith, leb-true (due x) (latest due (y ∷ ys)) e))
       go (inr e) w = (x, List·Memᴰ·head refl, omega (arith, leb-false (due x) (latest due (y ∷ ys)) e))
+
+module _ {A : Type 0} (due : A → ℕ) (cap floor : ℕ) where
+  -- the three ways of `settle`: the list fits, the search is refused, or the horizon falls
+  pub settle-elim : (P : St A → Type 0) (ks : List A) (h l : ℕ)
+      → (length ks ≤ cap → P (going ks h l))
+      → (cap < length ks → P refused)
+      → (cap < length ks → floor ≤ latest due ks - 1 → P (going (filterb (λ k. leb (due k) (latest due ks - 1)) ks) (latest due ks - 1) 1))
+      → P (settle due cap floor ks h l)
+  settle-elim P ks h l whole low cut = fit (leb (length ks) cap) refl
+    where
+      g : ℕ
+      g = latest due ks - 1
+
+      falls : cap < length ks → (b : Bool) → ltb g floor ≡ b → P (cond b refused (going (filterb (λ k. leb (due k) g) ks) g 1))
+      falls more true e = low more
+      falls more false e = cut more (ltb-false g floor e)
+
+      fit : (b : Bool) → leb (length ks) cap ≡ b → P (cond b (going ks h l) (cond (ltb g floor) refused (going (filterb (λ k. leb (due k) g) ks) g 1)))
+      fit true e = whole (leb-true (length ks) cap e)
+      fit false e = falls (leb-false (length ks) cap e) (ltb g floor) refl
+
+-- those that count are due by the horizon
+pub front-latest : {A : Type 0} (cov : A → A → Bool) (due : A → ℕ) (h : ℕ) (os : List A) → latest due (front cov due h os) ≤ h
+front-latest cov due h os = latest-le due h (front cov due h os) (λ k m. after-mem cov due h [] os m .1)
 
 module _ {A : Type 0} (cov : A → A → Bool) (due : A → ℕ) (cap : ℕ) where
   -- what holds of a state after the offers `os`, from the horizon h₀
@@ -57,27 +81,18 @@ module _ {A : Type 0} {cov : A → A → Bool} {due : A → ℕ} (ord : Order co
 
   -- a list of at most one too many is cut
   pub settle-holds : (h₀ : ℕ) (os : List A) (h l : ℕ) → length (front cov due h os) ≤ suc cap → h ≤ h₀ → Holds cov due cap h₀ os (settle due cap floor (front cov due h os) h l)
-  settle-holds h₀ os h l len le = fit (leb (length (front cov due h os)) cap) refl
+  settle-holds h₀ os h l len le =
+      settle-elim due cap floor (Holds cov due cap h₀ os) (front cov due h os) h l (λ fits. (refl, fits, le)) (λ more. tt)
+      (λ more low. (after-due cov due g h [] os (omega (arith, front-latest cov due h os)), shorter more low, omega (arith, front-latest cov due h os)))
     where
       g : ℕ
       g = latest due (front cov due h os) - 1
-
-      lower : latest due (front cov due h os) ≤ h
-      lower = latest-le due h (front cov due h os) (λ k m. after-mem cov due h [] os m .1)
 
       shorter : cap < length (front cov due h os) → floor ≤ g → length (filterb (λ k. leb (due k) g) (front cov due h os)) ≤ cap
       shorter more low =
           let w = latest-mem due (front cov due h os) (omega arith) in
           let lt = length-filterb-lt (λ k. leb (due k) g) (w .1) (lt-leb (due (w .0)) g (omega (arith, w .2))) in
           omega arith
-
-      cut : cap < length (front cov due h os) → (b : Bool) → ltb g floor ≡ b → Holds cov due cap h₀ os (cond b refused (going (filterb (λ k. leb (due k) g) (front cov due h os)) g 1))
-      cut more true e = tt
-      cut more false e = (after-due cov due g h [] os (omega (arith, lower)), shorter more (ltb-false g floor e), omega (arith, lower))
-
-      fit : (b : Bool) → leb (length (front cov due h os)) cap ≡ b → Holds cov due cap h₀ os (cond b (going (front cov due h os) h l) (cond (ltb g floor) refused (going (filterb (λ k. leb (due k) g) (front cov due h os)) g 1)))
-      fit true e = (refl, leb-true (length (front cov due h os)) cap e, le)
-      fit false e = cut (leb-false (length (front cov due h os)) cap e) (ltb g floor) refl
 
   offer-holds : (h₀ : ℕ) (os : List A) (o : A) (s : St A) → Holds cov due cap h₀ os s → Holds cov due cap h₀ (os ++ o ∷ []) (offer cov due cap floor s o)
   offer-holds h₀ os o refused w = tt

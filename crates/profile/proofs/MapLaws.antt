@@ -1,40 +1,21 @@
 -- A search over f of the offers is f of the search over the offers, where f leaves an offer's figures as they are.
 use mathlib.Core.Path.{_≡_, refl, sym, ap, _∙_}
 use mathlib.Core.Logic.{_⊎_, inl, inr}
-use mathlib.Core.Bool.{Bool, true, false, not, cond, _||_}
-use mathlib.Core.List.{List, [], _∷_, _++_, map, List·Memᴰ, List·Memᴰ·head, List·Memᴰ·tail, List·Memᴰ·not-nil, List·Memᴰ·append-cases, List·Memᴰ·eq-of-singleton}
-use Prim.Native.Nat.{ℕ, suc, _-_, max}
+use mathlib.Core.Bool.{Bool, true, false, not, cond}
+use mathlib.Core.List.{List, [], _∷_, _++_, map, map-append, List·Memᴰ, List·Memᴰ·head, List·Memᴰ·tail, List·Memᴰ·not-nil, List·Memᴰ·append-cases, List·Memᴰ·eq-of-singleton}
+use Prim.Native.Nat.{ℕ, _-_}
 use lib.Dec.{leb, ltb}
-use lib.ListN.{length}
+use lib.ListN.{length, length-map}
 use Rattle.laws.specs.Lists.{filterb, anyb, foldl}
 use Rattle.laws.proofs.Lists.{filterb-mem}
+use Rattle.laws.proofs.Maps.{filterb-map, anyb-map}
 use Rattle.profile.specs.Figures.{Figures, covers, covᶠ, dueᶠ}
-use Rattle.profile.specs.Kept.{St, going, refused, latest, settle, offer, run, searched, mapSt}
-
-module _ {A B : Type 0} (f : A → B) where
-  map-length : (xs : List A) → length (map f xs) ≡ length xs
-  map-length [] = refl
-  map-length (x ∷ xs) = ap suc (map-length xs)
-
-  map-append : (xs ys : List A) → map f (xs ++ ys) ≡ map f xs ++ map f ys
-  map-append [] ys = refl
-  map-append (x ∷ xs) ys = ap (λ (r : List B). f x ∷ r) (map-append xs ys)
-
-  filterb-map : (p : A → Bool) (q : B → Bool) (xs : List A) → ((x : A) → List·Memᴰ x xs → q (f x) ≡ p x) → filterb q (map f xs) ≡ map f (filterb p xs)
-  filterb-map p q [] e = refl
-  filterb-map p q (x ∷ xs) e = rw (e x (List·Memᴰ·head refl), filterb-map p q xs (λ y m. e y (List·Memᴰ·tail m))) (go (p x))
-    where
-      go : (b : Bool) → cond b (f x ∷ map f (filterb p xs)) (map f (filterb p xs)) ≡ map f (cond b (x ∷ filterb p xs) (filterb p xs))
-      go true = refl
-      go false = refl
-
-  anyb-map : (p : A → Bool) (q : B → Bool) (xs : List A) → ((x : A) → List·Memᴰ x xs → q (f x) ≡ p x) → anyb q (map f xs) ≡ anyb p xs
-  anyb-map p q [] e = refl
-  anyb-map p q (x ∷ xs) e = rw (e x (List·Memᴰ·head refl), anyb-map p q xs (λ y m. e y (List·Memᴰ·tail m)))
+use Rattle.profile.specs.Kept.{St, going, refused, latest, settle, offer, run, mapSt}
+use Rattle.profile.proofs.KeptLaws.{settle-elim}
 
 module _ {A B : Type 0} (f : A → B) (fig : A → Figures) (fig′ : B → Figures) where
   -- the figures of each of the list are those of f of it
-  abbrev Same : List A → Type 0
+  abbrev pub Same : List A → Type 0
   Same xs = (x : A) → List·Memᴰ x xs → fig′ (f x) ≡ fig x
 
   latest-map : (xs : List A) → Same xs → latest (dueᶠ fig′) (map f xs) ≡ latest (dueᶠ fig) xs
@@ -46,7 +27,7 @@ module _ {A B : Type 0} (f : A → B) (fig : A → Figures) (fig′ : B → Figu
   module _ (cap floor : ℕ) where
     settle-map : (ks : List A) (h l : ℕ) → Same ks → settle (dueᶠ fig′) cap floor (map f ks) h l ≡ mapSt f (settle (dueᶠ fig) cap floor ks h l)
     settle-map ks h l e =
-        rw (map-length f ks, latest-map ks e, filterb-map f (λ k. leb (dueᶠ fig k) g) (λ k. leb (dueᶠ fig′ k) g) ks (λ x m. ap (λ (q : Figures). leb (q .arrival) g) (e x m)))
+        rw (length-map ks f, latest-map ks e, filterb-map f (λ k. leb (dueᶠ fig k) g) (λ k. leb (dueᶠ fig′ k) g) ks (λ x m. ap (λ (q : Figures). leb (q .arrival) g) (e x m)))
         (go (leb (length ks) cap) (ltb g floor))
       where
         g : ℕ
@@ -92,20 +73,13 @@ module _ {A B : Type 0} (f : A → B) (fig : A → Figures) (fig′ : B → Figu
         go false false = refl
 
     -- what holds of each kept holds after an offer of which it holds
-    abbrev Held : St A → Type 0
+    abbrev pub Held : St A → Type 0
     Held (going ks h l) = Same ks
     Held refused = Unit {0}
 
     settle-held : (ks : List A) (h l : ℕ) → Same ks → Held (settle (dueᶠ fig) cap floor ks h l)
-    settle-held ks h l e = go (leb (length ks) cap) (ltb g floor)
-      where
-        g : ℕ
-        g = latest (dueᶠ fig) ks - 1
-
-        go : (b c : Bool) → Held (cond b (going ks h l) (cond c refused (going (filterb (λ k. leb (dueᶠ fig k) g) ks) g 1)))
-        go true c = e
-        go false true = tt
-        go false false = λ x m. e x (filterb-mem (λ k. leb (dueᶠ fig k) g) ks m .0)
+    settle-held ks h l e =
+        settle-elim (dueᶠ fig) cap floor Held ks h l (λ few. e) (λ more. tt) (λ more low x m. e x (filterb-mem (λ k. leb (dueᶠ fig k) (latest (dueᶠ fig) ks - 1)) ks m .0))
 
     offer-held : (ks : List A) (h l : ℕ) (o : A) → Same ks → fig′ (f o) ≡ fig o → Held (offer (covᶠ fig) (dueᶠ fig) cap floor (going ks h l) o)
     offer-held ks h l o e eo = go (ltb h (dueᶠ fig o)) (anyb (λ k. covᶠ fig k o) ks)

@@ -1,12 +1,12 @@
 -- What an offer leaves, as a state.
 use mathlib.Core.Path.{_≡_, refl, sym, ap, _∙_}
-use mathlib.Core.Bool.{Bool, true, false, not, cond}
+use mathlib.Core.Bool.{Bool, true, false, not}
 use mathlib.Core.Logic.{_≢_}
 use mathlib.Core.List.{List, [], _∷_, _++_}
 use Prim.Native.Nat.{ℕ, suc, _+_, _-_, _≤_, _<_}
 use native.Mathlib.Omega.{arith}
 use native.Mathlib.Numerals.{add-one}
-use lib.Dec.{leb, ltb}
+use lib.Dec.{leb}
 use borrow.Author.Tests.{le-leb, lt-leb, lt-ltb, le-ltb}
 use lib.ListN.{length, getD, set, take, length-set, length-take, length-append}
 use lib.Seq.{getD-set-same, getD-set-other, take-suc-set, take-all}
@@ -14,14 +14,15 @@ use Rattle.laws.specs.Lists.{filterb, anyb}
 use Rattle.laws.proofs.Lists.{length-filterb-lt}
 use Rattle.profile.specs.declared.Row.{Row}
 use Rattle.profile.specs.Figures.{covᶠ, dueᶠ}
-use Rattle.profile.specs.Kept.{St, going, refused, latest, tooLate}
-use Rattle.profile.specs.Journeys.{rowFigures}
-use Rattle.profile.specs.View.{rows, countOf, horizonOf, limitsOf, keptOf, view, offerTo}
-use Rattle.profile.specs.Pieces.{cov, due, putRow, Tail, coveredBy, stays, Packed, Open, latestDue, settled}
+use Rattle.profile.specs.Kept.{going, refused, latest, tooLate}
+use Rattle.profile.specs.Journeys.{rowFigures, cov, due}
+use Rattle.profile.specs.View.{rows, countOf, horizonOf, limitsOf, keptOf, view, offerTo, OffersSearch, OffersLate}
+use Rattle.profile.specs.Pieces.{putRow, Tail, coveredBy, stays, Packed, Open, latestDue, settled}
 use Rattle.profile.proofs.KeptLaws.{latest-mem}
 use Rattle.profile.proofs.PassLaws.{offer-late}
+use Rattle.profile.proofs.ClaimLaws.{late-passed-over}
 use Rattle.profile.proofs.RowLaws.{put-long, put-tail, rows-length, rows-put, rows-set}
-use Rattle.profile.proofs.ViewLaws.{count-is, count-few, view-open, view-refused, view-is}
+use Rattle.profile.proofs.ViewLaws.{count-is, view-open, view-refused, view-is}
 
 -- ---- what is to be settled
 
@@ -150,6 +151,14 @@ module _ (l m : List ℕ) (n : ℕ) (o : Row) (long : length l ≡ 654) (mark : 
       f ∙ settled-same l m (rows m) (added-tail h) ∙ ap (settled l) all
 
 -- ---- the whole offer
+
+pub offers-search : OffersSearch
+unfolding offerTo
+offers-search h g os = refl
+
+pub offers-late : OffersLate
+unfolding offerTo
+offers-late s os f = late-passed-over rowFigures s os f
 
 pub offered-late : (l : List ℕ) (o : Row) (b : Bool) → b ≡ tooLate (view l) (due o) → b ≡ true → view l ≡ offerTo (view l) o
 unfolding offerTo due

@@ -1,13 +1,12 @@
 -- Offers that change nothing: those to a refused search, and those due too late. And a search seen through a map of its journeys.
-use mathlib.Core.Path.{_≡_, refl, sym, ap, _∙_}
-use mathlib.Core.Bool.{Bool, true, false, not, cond, _||_}
-use mathlib.Core.List.{List, [], _∷_, _++_, map, List·Memᴰ, List·Memᴰ·head, List·Memᴰ·tail}
-use Prim.Native.Nat.{ℕ, _≤_, _<_}
+use mathlib.Core.Path.{_≡_, refl}
+use mathlib.Core.Bool.{Bool, true}
+use mathlib.Core.List.{List, [], _∷_, List·Memᴰ, List·Memᴰ·head, List·Memᴰ·tail}
+use Prim.Native.Nat.{ℕ, _≤_}
 use native.Mathlib.Omega.{arith}
-use lib.Dec.{leb, ltb}
 use borrow.Author.Tests.{ltb-true, lt-ltb}
-use Rattle.laws.specs.Lists.{filterb, anyb, foldl}
-use Rattle.profile.specs.Kept.{St, going, refused, offer, run, tooLate}
+use Rattle.laws.specs.Lists.{foldl}
+use Rattle.profile.specs.Kept.{St, going, refused, offer, tooLate}
 
 module _ {A : Type 0} (cov : A → A → Bool) (due : A → ℕ) (cap floor : ℕ) where
   pub refused-stays : (os : List A) → foldl (offer cov due cap floor) refused os ≡ refused

@@ -1,20 +1,15 @@
 -- What `pick` gives: one of the list that none is preferred to; the loop that keeps what it has where they tie; and the first of an ordered list.
-use mathlib.Core.Path.{_≡_, refl, sym, ap, _∙_}
-use mathlib.Core.Logic.{_⊎_, inl, inr, _↔_}
-use mathlib.Core.Bool.{Bool, true, false, not, cond, true≢false, false≢true}
+use mathlib.Core.Path.{_≡_, refl, sym, _∙_}
+use mathlib.Core.Logic.{_⊎_, inl, inr}
+use mathlib.Core.Bool.{Bool, true, false, cond, true≢false}
 use mathlib.Core.Option.{Option, none, some}
-use mathlib.Core.List.{List, [], _∷_, _++_, List·Memᴰ, List·Memᴰ·head, List·Memᴰ·tail, List·Memᴰ·not-nil, List·Memᴰ·cases-cons}
-use Prim.Native.Nat.{ℕ, _≤_, _<_, min}
-use native.Mathlib.Omega.{arith}
-use lib.Dec.{leb, ltb}
-use lib.IntN.{ℤ, pos, negsuc}
-use borrow.Author.Tests.{leb-true, leb-false, le-leb, lt-leb, ltb-true, ltb-false}
+use mathlib.Core.List.{List, [], _∷_, List·Memᴰ, List·Memᴰ·head, List·Memᴰ·tail, List·Memᴰ·not-nil, List·Memᴰ·cases-cons}
 use Rattle.laws.specs.Lists.{filterb, foldl, firstb}
-use Rattle.laws.proofs.Bools.{test, not-true}
-use Rattle.laws.proofs.Lists.{filterb-mem, mem-filterb}
-use Rattle.profile.specs.Figures.{Figures, covers, prefer}
-use Rattle.profile.specs.Best.{choose, pick, best, bestℤ, keep, readBy, Covers, Ahead, Complete, Ordered}
-use Rattle.profile.proofs.FiguresLaws.{covers-arrival, covers-leave, covers-prefer, prefer-refl, prefer-trans, prefer-total, prefer-antisym, prefer-arrival, prefer-covers}
+use Rattle.laws.proofs.Bools.{not-true}
+use Rattle.laws.proofs.Lists.{filterb-mem}
+use Rattle.profile.specs.Figures.{Figures, prefer}
+use Rattle.profile.specs.Best.{choose, pick, keep, Ordered}
+use Rattle.profile.proofs.FiguresLaws.{prefer-refl, prefer-trans, prefer-total}
 
 module _ {A : Type 0} (fig : A → Figures) where
   -- what was picked is one of the list, and preferred to each of it; or the list is empty

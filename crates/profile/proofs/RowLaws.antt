@@ -1,45 +1,19 @@
 -- The rows of a number array, and what a store does to them.
-use mathlib.Core.Path.{_≡_, refl, sym, ap, _∙_}
+use mathlib.Core.Path.{_≡_, sym, _∙_}
 use mathlib.Core.Bool.{true, false}
 use mathlib.Core.Logic.{_≢_, _⊎_, inl, inr}
 use mathlib.Core.List.{List, [], _∷_}
-use Prim.Native.Nat.{ℕ, zero, suc, _+_, _*_, _-_, _≤_, _<_}
+use Prim.Native.Nat.{ℕ, _+_, _*_, _-_, _≤_, _<_}
 use native.Mathlib.Omega.{arith}
 use lib.ListN.{length, getD, set, length-set}
 use lib.Seq.{getD-set-same, getD-set-other, ext-getD, set-getD}
 use lib.Dec.{ltb}
 use borrow.Author.Tests.{ltb-true, ltb-false}
 use Rattle.laws.proofs.Bools.{test}
+use Rattle.laws.proofs.Arrays.{length-puts, puts-low, puts-high, puts-in, length-tab, getD-tab}
 use Rattle.profile.specs.declared.Row.{Row}
-use Rattle.profile.specs.View.{row, rowAt, tab, rows, noRow}
-use Rattle.profile.specs.Pieces.{putRow, puts, Tail}
-
--- ---- numbers stored one after the other
-
-pub puts-long : (vs l : List ℕ) (a k : ℕ) → length (puts l a k vs) ≡ length l
-puts-long [] l a k = refl
-puts-long (v ∷ vs) l a k = puts-long vs (set l (a + k) v) a (suc k) ∙ length-set l (a + k) v
-
-pub puts-low : (vs l : List ℕ) (a k x : ℕ) → x < a + k → getD (puts l a k vs) x 0 ≡ getD l x 0
-puts-low [] l a k x h = refl
-puts-low (v ∷ vs) l a k x h =
-    let n : x ≢ a + k = λ e. omega arith in
-    puts-low vs (set l (a + k) v) a (suc k) x (omega arith) ∙ getD-set-other l (a + k) x v 0 n
-
-pub puts-high : (vs l : List ℕ) (a k x : ℕ) → a + k + length vs ≤ x → getD (puts l a k vs) x 0 ≡ getD l x 0
-puts-high [] l a k x h = refl
-puts-high (v ∷ vs) l a k x h =
-    let n : x ≢ a + k = λ e. omega arith in
-    puts-high vs (set l (a + k) v) a (suc k) x (omega arith) ∙ getD-set-other l (a + k) x v 0 n
-
-pub puts-in : (vs l : List ℕ) (a k j : ℕ) → j < length vs → a + k + length vs ≤ length l → getD (puts l a k vs) (a + (k + j)) 0 ≡ getD vs j 0
-puts-in [] l a k j h r = absurd (omega arith)
-puts-in (v ∷ vs) l a k zero h r =
-    let e : a + (k + 0) ≡ a + k = omega arith in
-    rw e (puts-low vs (set l (a + k) v) a (suc k) (a + k) (omega arith) ∙ getD-set-same l (a + k) v 0 (omega arith))
-puts-in (v ∷ vs) l a k (suc j) h r =
-    let e : a + (k + suc j) ≡ a + (suc k + j) = omega arith in
-    rw e (puts-in vs (set l (a + k) v) a (suc k) j (omega arith) (omega (arith, length-set l (a + k) v)))
+use Rattle.profile.specs.View.{row, rowAt, rows, noRow}
+use Rattle.profile.specs.Pieces.{putRow, Tail}
 
 -- ---- a row is seen by its ten numbers
 
@@ -60,7 +34,7 @@ module _ (l : List ℕ) (i : ℕ) (r : Row) where
 
   pub put-long : length (putRow l i r) ≡ length l
   unfolding putRow
-  put-long = puts-long others (set l (i * 10) (r .leave)) (i * 10) 1 ∙ length-set l (i * 10) (r .leave)
+  put-long = length-puts others (set l (i * 10) (r .leave)) (i * 10) 1 ∙ length-set l (i * 10) (r .leave)
 
   put-low : (x : ℕ) → x < i * 10 → getD (putRow l i r) x 0 ≡ getD l x 0
   unfolding putRow
@@ -108,24 +82,13 @@ put-there l i n k en ek = sym (rw (en, ek) (put-same l i))
 
 -- ---- the rows
 
-pub tab-length : {A : Type 0} (f : ℕ → A) (k i : ℕ) → length (tab f k i) ≡ k
-unfolding tab
-tab-length f zero i = refl
-tab-length f (suc k) i = ap suc (tab-length f k (suc i))
-
-pub tab-get : {A : Type 0} (f : ℕ → A) (k i j : ℕ) (d : A) → j < k → getD (tab f k i) j d ≡ f (i + j)
-unfolding tab
-tab-get f zero i j d h = absurd (omega arith)
-tab-get f (suc k) i zero d h = let e : i + 0 ≡ i = omega arith in rw e refl
-tab-get f (suc k) i (suc j) d h = let e : i + suc j ≡ suc i + j = omega arith in rw e (tab-get f k (suc i) j d (omega arith))
-
 pub rows-length : (l : List ℕ) → length (rows l) ≡ 65
 unfolding rows
-rows-length l = tab-length (rowAt l) 65 0
+rows-length l = length-tab (rowAt l) 65 0
 
 pub rows-get : (l : List ℕ) (i : ℕ) → i < 65 → getD (rows l) i noRow ≡ rowAt l i
 unfolding rows
-rows-get l i h = let e : 0 + i ≡ i = omega arith in rw e at (tab-get (rowAt l) 65 0 i noRow h)
+rows-get l i h = let e : 0 + i ≡ i = omega arith in rw e at (getD-tab (rowAt l) 65 0 i noRow h)
 
 pub rows-same : (l l′ : List ℕ) → ((k : ℕ) → k < 65 → rowAt l′ k ≡ rowAt l k) → rows l′ ≡ rows l
 rows-same l l′ f =

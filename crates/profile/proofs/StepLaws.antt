@@ -1,21 +1,20 @@
 -- What the loops of an offer do, turn by turn.
 use mathlib.Core.Path.{_≡_, refl, sym, ap, _∙_}
 use mathlib.Core.Bool.{Bool, true, false, cond, _||_}
-use mathlib.Core.Logic.{_≢_, _⊎_, inl, inr}
+use mathlib.Core.Logic.{_≢_}
 use mathlib.Core.List.{List, [], _∷_, _++_, append-nil}
 use Prim.Native.Nat.{ℕ, suc, _+_, _-_, _≤_, _<_, max}
 use native.Mathlib.Omega.{arith}
 use native.Mathlib.Numerals.{add-one}
-use lib.Dec.{ltb}
-use borrow.Author.Tests.{ltb-true, ltb-false}
-use lib.ListN.{length, getD, set, take, drop, length-take, drop-of-length-le}
-use lib.Seq.{getD-set-same, getD-set-other, take-suc, take-suc-set, take-set-le, drop-cons, getD-take}
+use lib.ListN.{length, getD, take, drop, length-take, drop-of-length-le}
+use lib.Seq.{getD-set-other, take-suc, take-suc-set, drop-cons, getD-take}
 use Rattle.laws.specs.Lists.{filterb, anyb}
 use Rattle.laws.proofs.Lists.{filterb-append}
+use Rattle.profile.specs.Journeys.{cov, due}
 use Rattle.profile.specs.Kept.{latest}
 use Rattle.profile.specs.declared.Row.{Row}
 use Rattle.profile.specs.View.{rowAt, rows, noRow}
-use Rattle.profile.specs.Pieces.{cov, due, putRow, Tail, coveredBy, Packed, Moved, latestDue}
+use Rattle.profile.specs.Pieces.{putRow, coveredBy, Packed, Moved, latestDue}
 use Rattle.profile.proofs.RowLaws.{put-long, put-tail, rows-length, rows-get, rows-put}
 
 -- ---- is it covered

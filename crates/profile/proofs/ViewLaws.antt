@@ -1,17 +1,17 @@
 -- The array as a state: what is read of it, and a state with nothing kept.
 use mathlib.Core.Path.{_≡_, refl, sym, ap, _∙_}
-use mathlib.Core.Bool.{Bool, true, false, not, cond, true≢false}
+use mathlib.Core.Bool.{Bool, true, false, cond, true≢false}
 use mathlib.Core.Logic.{_≢_}
 use mathlib.Core.List.{List, []}
-use Prim.Native.Nat.{ℕ, _+_, _≤_, _<_}
+use Prim.Native.Nat.{ℕ, _≤_, _<_}
 use native.Mathlib.Omega.{arith}
 use lib.Dec.{ltb, eqb}
 use borrow.Author.Tests.{eq-eqb, ne-eqb, eqb-true, ltb-false}
 use lib.ListN.{length, getD, set, take, replicate, length-set, length-take, length-replicate, getD-replicate, List·getD-eq-default}
 use lib.Seq.{getD-set-same, getD-set-other, getD-take}
 use Rattle.profile.specs.declared.Row.{Row}
-use Rattle.profile.specs.Kept.{St, going, refused, tooLate}
-use Rattle.profile.specs.View.{rowAt, rows, noRow, countOf, horizonOf, limitsOf, keptOf, openOf, view}
+use Rattle.profile.specs.Kept.{going, refused, tooLate}
+use Rattle.profile.specs.View.{rowAt, rows, noRow, countOf, horizonOf, limitsOf, keptOf, openOf, view, ViewParts, ViewRefused}
 use Rattle.profile.proofs.RowLaws.{rows-length, rows-get}
 
 -- ---- the numbers behind the slots
@@ -46,6 +46,10 @@ limits-large l h = omega arith
 pub limits-is : (l : List ℕ) (n : ℕ) → getD l 652 0 ≡ n → n < 256 → limitsOf l ≡ n
 unfolding limitsOf
 limits-is l n e h = omega arith
+
+pub length-kept : (l : List ℕ) → length (keptOf l) ≡ countOf l
+unfolding keptOf
+length-kept l = omega (arith, length-take (countOf l) (rows l), rows-length l, count-few l)
 
 -- ---- a row kept
 
@@ -89,6 +93,26 @@ in-time l a b eb f = go (eqb (getD l 653 0) 0) refl (sym eb ∙ f)
     go : (c : Bool) → eqb (getD l 653 0) 0 ≡ c → tooLate (cond c (going (keptOf l) (horizonOf l) (limitsOf l)) refused) a ≡ false → (getD l 653 0 ≡ 0) × (a ≤ horizonOf l)
     go true e k = (eqb-true (getD l 653 0) 0 e, ltb-false (horizonOf l) a k)
     go false e k = absurd (true≢false k)
+
+pub view-parts : ViewParts
+unfolding view
+view-parts l ks h g e = go (openOf l) refl e
+  where
+    few-kept : countOf l ≡ length (keptOf l)
+    few-kept = sym (length-kept l)
+
+    go : (b : Bool) → openOf l ≡ b → cond b (going (keptOf l) (horizonOf l) (limitsOf l)) refused ≡ going ks h g
+        → (openOf l ≡ true) × (countOf l ≡ length ks) × (keptOf l ≡ ks) × (horizonOf l ≡ h) × (limitsOf l ≡ g)
+    go true o k = let q : keptOf l ≡ ks = cc in (o, few-kept ∙ ap length q, q, (cc), (cc))
+    go false o k = let z : _≡_ {A = ℕ} 0 1 = cc in absurd (omega arith)
+
+pub view-is-refused : ViewRefused
+unfolding view
+view-is-refused l = (λ e. go (openOf l) refl e, λ o. rw o)
+  where
+    go : (b : Bool) → openOf l ≡ b → cond b (going (keptOf l) (horizonOf l) (limitsOf l)) refused ≡ refused → openOf l ≡ false
+    go true o k = let z : _≡_ {A = ℕ} 0 1 = cc in absurd (omega arith)
+    go false o k = o
 
 -- ---- nothing kept
 

@@ -1,8 +1,8 @@
 -- What is claimed of a search's kept list, at 64 journeys and a least horizon of 3600, of anything that has the four figures.
 use mathlib.Core.Path.{_≡_}
 use mathlib.Core.Logic.{_↔_}
-use mathlib.Core.Bool.{Bool, true, false}
-use mathlib.Core.List.{List, [], _∷_, map, List·Memᴰ}
+use mathlib.Core.Bool.{true, false}
+use mathlib.Core.List.{List, [], map, List·Memᴰ}
 use Prim.Native.Nat.{ℕ, _≤_, min}
 use lib.Dec.{leb}
 use lib.IntN.{ℤ, pos}
@@ -16,12 +16,12 @@ use Rattle.profile.specs.Best.{pick, bestℤ, readBy, Covers, Ahead, Com
 
 module _ {A : Type 0} (fig : A → Figures) where
   -- a search of the offers `os`, from the horizon h₀ and the mark l₀, ends with ks kept, the horizon h and the mark l
-  abbrev pub Found : ℕ → ℕ → List A → List A → ℕ → ℕ → Type 0
-  Found h₀ l₀ os ks h l = searched fig 64 3600 h₀ l₀ os ≡ going ks h l
+  abbrev pub Keeps : ℕ → ℕ → List A → List A → ℕ → ℕ → Type 0
+  Keeps h₀ l₀ os ks h l = searched fig 64 3600 h₀ l₀ os ≡ going ks h l
 
   -- what is kept is the unbeaten list, in offer order, the older of equals; there are at most 64, and the horizon is no later than it was
   abbrev pub KeptIsFront : Type 0
-  KeptIsFront = (h₀ l₀ : ℕ) (os ks : List A) (h l : ℕ) → Found h₀ l₀ os ks h l → (ks ≡ front (covᶠ fig) (dueᶠ fig) h os) × (length ks ≤ 64) × (h ≤ h₀)
+  KeptIsFront = (h₀ l₀ : ℕ) (os ks : List A) (h l : ℕ) → Keeps h₀ l₀ os ks h l → (ks ≡ front (covᶠ fig) (dueᶠ fig) h os) × (length ks ≤ 64) × (h ≤ h₀)
 
   -- each of the unbeaten list was offered, is due by the horizon, and is beaten by no offer
   abbrev pub FrontUnbeaten : Type 0
@@ -30,11 +30,11 @@ module _ {A : Type 0} (fig : A → Figures) where
 
   -- every offer due by the horizon is equalled or beaten by a kept one
   abbrev pub KeptCovers : Type 0
-  KeptCovers = (h₀ l₀ : ℕ) (os ks : List A) (h l : ℕ) → Found h₀ l₀ os ks h l → Covers fig h os ks
+  KeptCovers = (h₀ l₀ : ℕ) (os ks : List A) (h l : ℕ) → Keeps h₀ l₀ os ks h l → Covers fig h os ks
 
   -- an offer that a kept journey equals or beats beats none of those kept
   abbrev pub CoveredBeatsNone : Type 0
-  CoveredBeatsNone = (h₀ l₀ : ℕ) (os ks : List A) (h l : ℕ) → Found h₀ l₀ os ks h l
+  CoveredBeatsNone = (h₀ l₀ : ℕ) (os ks : List A) (h l : ℕ) → Keeps h₀ l₀ os ks h l
       → (o k k′ : A) → List·Memᴰ k ks → covers (fig k) (fig o) ≡ true → List·Memᴰ k′ ks → beats (covᶠ fig) o k′ ≡ false
 
   -- the horizon and the mark come from the offers alone, and with them the whole state
@@ -53,7 +53,7 @@ module _ {A : Type 0} (fig : A → Figures) where
 
   -- what a search keeps stands for its offers up to its horizon, if none leaves after it arrives
   abbrev pub KeptComplete : Type 0
-  KeptComplete = (h₀ l₀ : ℕ) (os ks : List A) (h l : ℕ) → Found h₀ l₀ os ks h l → Ahead fig os → Complete fig os ks h
+  KeptComplete = (h₀ l₀ : ℕ) (os ks : List A) (h l : ℕ) → Keeps h₀ l₀ os ks h l → Ahead fig os → Complete fig os ks h
 
   -- what is complete up to h is so up to an earlier w, without those due later
   abbrev pub CompleteCut : Type 0

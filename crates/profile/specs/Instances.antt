@@ -6,7 +6,7 @@ use Prim.Native.Nat.{ℕ, zero, suc, _+_}
 use lib.ListN.{length}
 use Rattle.profile.specs.Figures.{Figures, covers}
 use Rattle.profile.specs.Kept.{St, going, refused, searched}
-use Rattle.profile.specs.Front.{beats, front}
+use Rattle.profile.specs.Front.{beats}
 
 abbrev pub figuresOf : ℕ → ℕ → ℕ → ℕ → Figures
 figuresOf a b c d = record { leave = a; arrival = b; rides = c; walk = d }

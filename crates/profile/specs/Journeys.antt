@@ -1,15 +1,23 @@
--- The figures of a journey and of a row, and the blank ones.
-use mathlib.Core.Bool.{false}
+-- The figures of a journey and of a row (a journey while the search runs), the tests on rows, and the blank journey.
+use mathlib.Core.Bool.{Bool, false}
+use Prim.Native.Nat.{ℕ}
 use Rattle.profile.specs.declared.Ride.{Ride}
 use Rattle.profile.specs.declared.Journey.{Journey}
 use Rattle.profile.specs.declared.Row.{Row}
-use Rattle.profile.specs.Figures.{Figures}
+use Rattle.profile.specs.Figures.{Figures, covers}
 
 abbrev pub journeyFigures : Journey → Figures
 journeyFigures j = record { leave = j .leave; arrival = j .arrival; rides = j .rides; walk = j .walk }
 
 abbrev pub rowFigures : Row → Figures
 rowFigures r = record { leave = r .leave; arrival = r .arrival; rides = r .rides; walk = r .walk }
+
+-- whether the row a equals or beats b; when it is due
+unfoldable pub cov : Row → Row → Bool
+cov a b = covers (rowFigures a) (rowFigures b)
+
+unfoldable pub due : Row → ℕ
+due r = r .arrival
 
 -- no ride: what a journey of one ride has as its last
 abbrev pub noRide : Ride

@@ -1,28 +1,16 @@
 -- What the private functions of an offer do to the array, piece by piece.
 use mathlib.Core.Path.{_≡_}
 use mathlib.Core.Bool.{Bool, true, false, not, cond}
-use mathlib.Core.List.{List, [], _∷_, _++_}
-use Prim.Native.Nat.{ℕ, zero, suc, _+_, _*_, _≤_}
+use mathlib.Core.List.{List, [], _∷_}
+use Prim.Native.Nat.{ℕ, _+_, _*_, _≤_}
 use lib.Dec.{leb}
 use lib.ListN.{getD, length, set, take}
 use Rattle.laws.specs.Lists.{filterb, anyb}
+use Rattle.laws.specs.Arrays.{puts}
 use Rattle.profile.specs.declared.Row.{Row}
-use Rattle.profile.specs.Figures.{covers}
 use Rattle.profile.specs.Kept.{St, latest, settle}
-use Rattle.profile.specs.Journeys.{rowFigures}
-use Rattle.profile.specs.View.{rowAt, rows, noRow, horizonOf, limitsOf, view}
-
--- a equals or beats b; when a is due
-unfoldable pub cov : Row → Row → Bool
-cov a b = covers (rowFigures a) (rowFigures b)
-
-unfoldable pub due : Row → ℕ
-due r = r .arrival
-
--- the numbers vs stored from a + k on
-abbrev pub puts : List ℕ → ℕ → ℕ → List ℕ → List ℕ
-puts l a k [] = l
-puts l a k (v ∷ vs) = puts (set l (a + k) v) a (suc k) vs
+use Rattle.profile.specs.Journeys.{cov, due}
+use Rattle.profile.specs.View.{rowAt, rows, noRow, horizonOf, limitsOf}
 
 -- the row r stored in slot i
 abbrev pub stored : List ℕ → ℕ → Row → List ℕ
@@ -30,6 +18,7 @@ stored l i r =
     puts (set l (i * 10) (r .leave)) (i * 10) 1
     (r .arrival ∷ r .rides ∷ r .walk ∷ r .origin ∷ r .target ∷ r .board ∷ r .alight ∷ r .board2 ∷ r .alight2 ∷ [])
 
+-- the same, shut
 unfoldable pub putRow : List ℕ → ℕ → Row → List ℕ
 putRow l i r = stored l i r
 

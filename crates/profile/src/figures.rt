@@ -1,8 +1,7 @@
 // Tests on the four figures of a journey.
 ghost use mathlib.Core.Path.{_≡_};
-ghost use Rattle.profile.specs.Figures.{lexb, covers, prefer};
-ghost use Rattle.profile.specs.Journeys.{journeyFigures};
-ghost use Rattle.profile.specs.Pieces.{cov};
+ghost use Rattle.profile.specs.Figures.{lexb, prefer};
+ghost use Rattle.profile.specs.Journeys.{journeyFigures, cov};
 use crate::Journey;
 use crate::Row;
 

@@ -46,6 +46,7 @@ pub struct Row {
     pub alight2: u16,
 }
 
+// The blank ride and the blank journey: what stands where there is none.
 pub fn no_ride() -> Ride
     ensures { λ r. ⌜ r ≡ noRide ⌝ }
 {

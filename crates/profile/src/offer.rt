@@ -3,9 +3,9 @@ ghost use mathlib.Core.Path.{_≡_};
 ghost use mathlib.Core.List.{[], _∷_, _++_};
 ghost use Prim.Native.Nat.{_+_, _≤_, _<_, max};
 ghost use lib.ListN.{length, take};
+ghost use Rattle.profile.specs.Journeys.{due};
 ghost use Rattle.profile.specs.View.{rowOf, rowAt, rows, horizonOf, view, offerTo};
 ghost use Rattle.profile.specs.Pieces.{
-  due,
   putRow,
   coveredBy,
   stays,

@@ -1,3 +1,4 @@
+-- `covers` meets its contract, test by test.
 use Rattle.profile.proofs.CoverLaws.{cov-early, cov-sooner, cov-later, cov-tie}
 use borrow.Author.Needs.{needs}
 use Rattle.profile.proofs.figures.covers.Statement.{statement}

@@ -1,3 +1,4 @@
+-- `lex` meets its contract, by the three ways of a branch on x and y.
 use mathlib.Core.Path.{sym}
 use native.Mathlib.Omega.{arith}
 use Rattle.profile.proofs.FiguresLaws.{lexb-lt, lexb-same, lexb-gt}

@@ -1,5 +1,6 @@
 -- `added` meets its contract: the row is stored, and then counted or one too many.
 use mathlib.Core.Path.{refl}
+use native.Mathlib.Omega.{arith}
 use Rattle.profile.specs.Pieces.{Open, putRow}
 use Rattle.profile.proofs.OfferLaws.{added-fits, added-open, added-too-many, added-long}
 use borrow.Author.Needs.{needs}
@@ -22,7 +23,7 @@ returns : tie.Need-returns
 unfolding Open putRow
 returns c =
     let p = c .before .before .before .pre in
-    added-fits _ _ _ _ (p .0) (p .1) (c .before .put-row .ensures) _ (c .if1 .taken) refl
+    added-fits _ _ _ _ (p .0) (p .1) (c .before .put-row .ensures) _ (omega (arith, c .if1 .taken)) refl
 
 overflow-requires : tie.Need-overflow-requires
 unfolding Open putRow
@@ -36,7 +37,7 @@ returns-2 : tie.Need-returns-2
 unfolding Open putRow
 returns-2 c =
     let p = c .before .before .before .before .before .pre in
-    added-too-many _ _ _ _ (p .0) (p .1) (c .before .before .before .put-row .ensures) _ (p .2) (c .before .before .if1 .left) (c .overflow .ensures)
+    added-too-many _ _ _ _ (p .0) (p .1) (c .before .before .before .put-row .ensures) _ (p .2) (omega (arith, c .before .before .if1 .left)) (c .overflow .ensures)
 
 pub added-spec : {M : Type 1} → statement M
 added-spec =

@@ -1,7 +1,7 @@
 -- `candidate` meets its contract: passed over if too late, else considered.
-use mathlib.Core.Path.{_≡_, ap, _∙_}
-use Rattle.profile.specs.View.{rowOf, offerTo}
-use Rattle.profile.specs.Pieces.{Open, due}
+use Rattle.profile.specs.Journeys.{due}
+use Rattle.profile.specs.View.{rowOf}
+use Rattle.profile.specs.Pieces.{Open}
 use Rattle.profile.proofs.ViewLaws.{in-time}
 use Rattle.profile.proofs.OfferLaws.{offered-late}
 use borrow.Author.Needs.{needs}

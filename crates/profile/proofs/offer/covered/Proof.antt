@@ -1,3 +1,4 @@
+-- `covered` meets its contract. The invariant: the rows not yet looked at decide as all of them do.
 use mathlib.Core.Path.{_≡_, refl}
 use Prim.Native.Nat.{_-_}
 use native.Mathlib.Omega.{arith}

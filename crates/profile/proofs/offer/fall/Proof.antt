@@ -1,3 +1,4 @@
+-- `fall` meets its contract: of 65 rows those due by h stay, which are at most 64.
 use mathlib.Core.Path.{refl}
 use Rattle.profile.specs.Pieces.{Open}
 use Rattle.profile.proofs.OfferLaws.{fallen-all}

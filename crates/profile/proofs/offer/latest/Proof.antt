@@ -1,3 +1,4 @@
+-- `latest` meets its contract. The invariant: the latest so far and that of the rows left is the latest of all.
 use mathlib.Core.Path.{_≡_}
 use Prim.Native.Nat.{_-_, max}
 use native.Mathlib.Omega.{arith}

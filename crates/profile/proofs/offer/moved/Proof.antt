@@ -1,3 +1,4 @@
+-- `moved` meets its contract, by whether the row stays.
 use Rattle.profile.specs.View.{rowAt}
 use Rattle.profile.proofs.StepLaws.{moved-on, moved-not}
 use borrow.Author.Needs.{needs}

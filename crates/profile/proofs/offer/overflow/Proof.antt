@@ -1,5 +1,6 @@
 -- `overflow` meets its contract: refused below 3601, else the horizon falls.
 use mathlib.Core.Path.{refl}
+use native.Mathlib.Omega.{arith}
 use Rattle.profile.proofs.OfferLaws.{refused-all}
 use borrow.Author.Needs.{needs}
 use Rattle.profile.proofs.offer.overflow.Statement.{statement}
@@ -12,7 +13,7 @@ element-write-st : tie.Need-element-write-st
 element-write-st c = search needs
 
 returns : tie.Need-returns
-returns c = refused-all _ _ _ (c .before .before .before .pre .0) (c .before .latest .ensures) (c .if1 .taken) refl
+returns c = refused-all _ _ _ (c .before .before .before .pre .0) (c .before .latest .ensures) (omega (arith, c .if1 .taken)) refl
 
 sub-fall : tie.Need-sub-fall
 sub-fall c = search needs

@@ -1,3 +1,4 @@
+-- `pack` meets its contract. The invariant: the rows that stay of those looked at stand in front, and the rest is as it was.
 use Prim.Native.Nat.{_-_, _≤_}
 use native.Mathlib.Omega.{arith}
 use Rattle.profile.specs.Pieces.{Packed, stays}

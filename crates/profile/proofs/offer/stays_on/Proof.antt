@@ -1,4 +1,6 @@
-use Rattle.profile.specs.Pieces.{stays, due}
+-- `stays_on` meets its contract, by which of the two tests is asked.
+use Rattle.profile.specs.Journeys.{due}
+use Rattle.profile.specs.Pieces.{stays}
 use borrow.Author.Needs.{needs}
 use Rattle.profile.proofs.offer.stays_on.Statement.{statement}
 use Rattle.profile.proofs.offer.stays_on.Tie as tie

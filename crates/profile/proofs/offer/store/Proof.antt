@@ -1,3 +1,4 @@
+-- `store` meets its contract: a row stored where it stands changes nothing.
 use Rattle.profile.specs.Pieces.{putRow}
 use Rattle.profile.proofs.RowLaws.{put-there}
 use borrow.Author.Needs.{needs}
