@@ -1,23 +1,6 @@
 -- `Within x k`: x is finite, and at most 2 ^ k in size. Every operation of binary64 keeps such a bound, as long as the exponent stays below 1023:
 -- the exact result is at most a power of two, which rounding leaves as it is, and rounding keeps the order.
 use mathlib.Core.Path.{_≡_, sym, ap, _∙_, subst}
-<<<<<<< HEAD
-use mathlib.Core.Logic.{inl, inr, _⊎_}
-use mathlib.Core.Bool.{Bool, true, false, not, cond, _&&_, _||_, Bool·beq, true≢false}
-use Prim.Native.Nat.{ℕ, zero, suc, _+_, _-_, _*_, _^_, _≤_, _<_}
-use native.Mathlib.Nat.{le-trans, le-of-eq, le-of-lt, lt-of-lt-of-le, mul-one, one-mul, mul-comm, mul-assoc, mul-right-comm, mul-mul-mul-comm, mul-le-mul, mul-le-mul-right, mul-pos}
-use native.Mathlib.Omega.{arith}
-use lib.Dec.{T, ltb, leb, eqb, ltb→lt, eqb→eq, eqb·suc-zero, leb→le, lit<}
-use lib.Pow.{pow-add, pow-mono, pow-lt}
-use lib.IntN.{ℤ, pos, negsuc, natAbs}
-use lib.Ieee.{Float, nan, inf, fin, Format, binary64, prec, emax, low, up, down, unlike, odd, units, round, sum, neg, add, sub, mul, div, le, ofInt}
-use lib.Ieee.Fits.{down-pos, and-l, round-is}
-use lib.Ieee.Exact.{HasValue, round-exact}
-use lib.Ieee.Order.{round-mono}
-use lib.Ieee.Positive.{through}
-use Rattle.laws.specs.Floats.{Within}
-use Rattle.laws.proofs.Signs.{round-neg}
-=======
 use mathlib.Core.Bool.{Bool, true, false, cond, _&&_, Bool·beq}
 use Prim.Native.Nat.{ℕ, zero, suc, _+_, _-_, _*_, _^_, _≤_, _<_}
 use native.Mathlib.Nat.{le-trans, le-of-eq, lt-of-lt-of-le, mul-one, one-mul, mul-comm, mul-assoc, mul-right-comm, mul-le-mul, mul-le-mul-right, mul-pos}
@@ -30,7 +13,6 @@ use lib.Ieee.Fits.{down-pos}
 use lib.Ieee.Exact.{round-exact}
 use Rattle.laws.specs.Floats.{AtMost, Within}
 use Rattle.laws.proofs.AtMost.{Stays, neg-at-most, round-at-most, mul-at-most}
->>>>>>> place
 
 pub wider : (x : Float) (j k : ℕ) → j ≤ k → Within x j → Within x k
 wider nan j k h w = w
