@@ -1,0 +1,37 @@
+-- `Cache::best` and `next_after`: none before 0 or after the horizon; else, of kept journeys leaving at or after the second, least
+-- arrival, then rides, then walk, then latest leave.
+use mathlib.Core.Bool.{cond}
+use mathlib.Core.Option.{Option, none, some}
+use mathlib.Core.List.{List}
+use Prim.Native.Nat.{ℕ, _+_}
+use lib.ListN.{take}
+use lib.IntN.{ℤ, pos}
+use lib.Signed.{ltZ}
+use Rattle.profile.specs.declared.Journey.{Journey}
+use Rattle.profile.specs.Journeys.{journeyFigures}
+use Rattle.profile.specs.Best.{bestℤ}
+use Rattle.load.specs.declared.Load.{Load}
+use Rattle.best.specs.declared.Found.{Found}
+
+unfoldable pub foundOf : Option Journey → Found
+foundOf none = Found.Nothing
+foundOf (some j) = Found.Best j
+
+-- over a list, up to a horizon; of full ties the first
+abbrev pub bestOf : List Journey → ℕ → ℤ → Found
+bestOf ks h s = foundOf (bestℤ journeyFigures ks h s)
+
+-- the kept journeys of a load
+abbrev pub keptOf : Load → List Journey
+keptOf l = take (l .«journey_count») (l .journeys)
+
+-- an unsearched load answers none
+unfoldable pub bestSpec : Load → ℤ → Found
+bestSpec l s = cond (l .searched) (bestOf (keptOf l) (l .horizon) s) Found.Nothing
+
+-- the larger of the second and the given leave + 1
+unfoldable pub afterOf : ℤ → ℕ → ℤ
+afterOf s leave = cond (ltZ s (pos (leave + 1))) (pos (leave + 1)) s
+
+unfoldable pub nextSpec : Load → ℤ → Journey → Found
+nextSpec l s j = bestSpec l (afterOf s (j .leave))
