@@ -1,10 +1,38 @@
 //! Load files of version 1 (document 02, request 01): records read one by one.
 
 pub enum Record<'a> {
-    Settings { origin_walks: &'a [u8], target_walks: &'a [u8], transfer_minutes: u8, max_transfers: u8, now: i64, epochs: [i64; 3] },
-    Stop { id: &'a [u8], name: Option<&'a [u8]>, parent: Option<&'a [u8]>, location_type: u8, position: Option<(f64, f64)>, members: u8 },
-    Call { trip: u16, day: u8, sequence: u32, stop: u16, arrival: Option<u32>, departure: Option<u32>, pickup_type: u8, drop_off_type: u8 },
-    Rule { from: u16, to: u16, transfer_type: u8, seconds: Option<u16> },
+    Settings {
+        origin_walks: &'a [u8],
+        target_walks: &'a [u8],
+        transfer_minutes: u8,
+        max_transfers: u8,
+        now: i64,
+        epochs: [i64; 3],
+    },
+    Stop {
+        id: &'a [u8],
+        name: Option<&'a [u8]>,
+        parent: Option<&'a [u8]>,
+        location_type: u8,
+        position: Option<(f64, f64)>,
+        members: u8,
+    },
+    Call {
+        trip: u16,
+        day: u8,
+        sequence: u32,
+        stop: u16,
+        arrival: Option<u32>,
+        departure: Option<u32>,
+        pickup_type: u8,
+        drop_off_type: u8,
+    },
+    Rule {
+        from: u16,
+        to: u16,
+        transfer_type: u8,
+        seconds: Option<u16>,
+    },
     Search,
 }
 

@@ -83,7 +83,8 @@ impl Load {
         test(name.is_some_and(|n| n.len() > 64), Beyond(8))?;
         let usable = position.is_some_and(|p| harness::microdegrees(p.0, p.1).is_some());
         let needed = location_type == 0 && parent.is_none() && usable;
-        let row = id_text.map(|id| StopRow { id, name: name.and_then(text), parent: parent.and_then(text), location_type, position });
+        let row =
+            id_text.map(|id| StopRow { id, name: name.and_then(text), parent: parent.and_then(text), location_type, position });
         if needed {
             let shown = name.unwrap_or(id);
             let readable = row.as_ref().filter(|_| text(shown).is_some());

@@ -36,7 +36,13 @@ pub fn place(line: &str) -> Option<String> {
     match *words.first()? {
         "key" if words.len() == 6 => {
             let position = if words[4] == "-" { None } else { Some((degrees(words[4])?, degrees(words[5])?)) };
-            let row = StopRow { id: optional(words[1])??, name: optional(words[2])?, parent: optional(words[3])?, location_type: 0, position };
+            let row = StopRow {
+                id: optional(words[1])??,
+                name: optional(words[2])?,
+                parent: optional(words[3])?,
+                location_type: 0,
+                position,
+            };
             Some(match harness::key_of(&row) {
                 Ok((tag, hash, lat, lon)) => format!("{} {hash:016x} {lat} {lon}", char::from(tag)),
                 Err(_) => "refused 8".to_string(),
@@ -82,8 +88,11 @@ pub fn best(line: &str) -> Option<String> {
         return Some("beyond".to_string());
     }
     let found = harness::best_of(&paths, horizon, second);
-    Some(found.map_or_else(|| "none".to_string(), |i| {
-        let p = &paths[i];
-        format!("{i} {} {} {} {}", p.leave, p.arrival, p.len, p.walk)
-    }))
+    Some(found.map_or_else(
+        || "none".to_string(),
+        |i| {
+            let p = &paths[i];
+            format!("{i} {} {} {} {}", p.leave, p.arrival, p.len, p.walk)
+        },
+    ))
 }

@@ -37,8 +37,16 @@ fn accepted(out: &mut String, load: &Load) {
         let _ = writeln!(
             out,
             "call {} {} {} {} {} {} {} {} {} {}",
-            c.trip, c.day, c.sequence, c.stop, c.arrival, c.departure,
-            flag(c.board), flag(c.alight), flag(c.board_request), flag(c.alight_request)
+            c.trip,
+            c.day,
+            c.sequence,
+            c.stop,
+            c.arrival,
+            c.departure,
+            flag(c.board),
+            flag(c.alight),
+            flag(c.board_request),
+            flag(c.alight_request)
         );
     }
     if load.searched {
@@ -50,7 +58,14 @@ fn accepted(out: &mut String, load: &Load) {
             let _ = write!(
                 out,
                 " | {} {} {} {} {} {} {} {}",
-                r.trip, r.day, r.from, r.to, r.departure, r.arrival, flag(r.board_request), flag(r.alight_request)
+                r.trip,
+                r.day,
+                r.from,
+                r.to,
+                r.departure,
+                r.arrival,
+                flag(r.board_request),
+                flag(r.alight_request)
             );
         }
         out.push('\n');
