@@ -1,0 +1,350 @@
+"""Document 01, read slowly: one method for each of its sentences, so that wrong.py can misread one at a time.
+
+Written from the words of 01, its constants for the place test from `same_place_keys`, which 01 names as the definition.
+"""
+import math
+from collections import namedtuple
+
+Settings = namedtuple("Settings", "origin_walks target_walks transfer_minutes max_transfers now epochs")
+Stop = namedtuple("Stop", "id name parent location_type position members")
+StopTime = namedtuple("StopTime", "trip day sequence stop arrival departure pickup drop_off")
+Rule = namedtuple("Rule", "src dst transfer_type seconds")
+Call = namedtuple("Call", "trip day sequence stop arrival departure board alight board_request alight_request")
+Ride = namedtuple("Ride", "trip day src dst departure arrival board_request alight_request")
+Journey = namedtuple("Journey", "leave arrival rides walk origin target legs")
+Key = namedtuple("Key", "tag hash lat lon")
+
+
+class Refused(Exception):
+    def __init__(self, number):
+        self.number = number
+
+
+def first_cause(causes):
+    for holds, number in causes:
+        if holds:
+            raise Refused(number)
+
+
+class Load:
+    def __init__(self, settings):
+        self.settings, self.stops, self.rules, self.searched = settings, [], [], False
+        self.handed, self.table, self.answers = [], [], ""   # calls answered taken, and as the window leaves them
+        self.horizon, self.limits, self.kept, self.places = 21600, 0, [], None
+
+
+class Reading:
+    # --- hash, names, positions ---
+    def fold(self, data):
+        value = 0xcbf29ce484222325
+        for byte in data:
+            value = (value ^ byte) * 0x100000001b3 % 2**64
+        return value
+
+    def parts(self, byte):
+        return 9 <= byte <= 13 or byte == 32
+
+    def words(self, name):
+        found, word = [], []
+        for byte in name:
+            if self.parts(byte):
+                found, word = found + [word] * bool(word), []
+            else:
+                word = word + [byte]
+        return found + [word] * bool(word)
+
+    def lower(self, byte):
+        return byte + 32 if 65 <= byte <= 90 else byte
+
+    def folded(self, name):
+        return b" ".join(bytes(self.lower(b) for b in word) for word in self.words(name))
+
+    def bad_byte(self, byte):
+        return byte > 126 or (byte < 32 and not 9 <= byte <= 13)
+
+    def usable(self, position):
+        if position is None:
+            return False
+        lat, lon = position
+        return math.isfinite(lat) and math.isfinite(lon) and abs(lat) <= 90 and abs(lon) <= 180
+
+    def micro(self, degrees):
+        return math.trunc(degrees * 1000000.0)
+
+    def shown(self, stop):
+        return stop.id if stop.name is None else stop.name
+
+    def place_key(self, stop):
+        if stop.parent is not None:
+            return Key("P", self.fold(stop.parent), 0, 0)
+        if self.usable(stop.position):
+            lat, lon = stop.position
+            return Key("N", self.fold(self.folded(self.shown(stop))), self.micro(lat), self.micro(lon))
+        return Key("I", self.fold(stop.id), 0, 0)
+
+    def same_key(self, a, b):
+        return a.tag == b.tag and a.hash == b.hash
+
+    def near(self, a, b):
+        radians = float(a.lat + b.lat) * math.pi / 360000000.0
+        x2 = radians * radians
+        cos = 1.0 + x2 * (-0.5 + x2 * (1.0 / 24.0 + x2 * (-1.0 / 720.0 + x2 * (1.0 / 40320.0 - x2 / 3628800.0))))
+        dx = float(self.turn(abs(a.lon - b.lon))) * (111195.0 / 1000000.0) * cos
+        dy = float(a.lat - b.lat) * (111195.0 / 1000000.0)
+        return dx * dx + dy * dy <= 125.0 * 125.0
+
+    def turn(self, delta):
+        return 360000000 - delta if delta > 180000000 else delta
+
+    def same_place(self, a, b):
+        return self.same_key(a, b) and (a.tag != "N" or self.near(a, b))
+
+    def place_order(self, stops):
+        return sorted(range(len(stops)), key=lambda i: stops[i].id)
+
+    def keyed(self, stop):
+        return stop.location_type == 0
+
+    def group(self, stops):
+        places = [None] * len(stops)
+        keys = {i: self.place_key(s) for i, s in enumerate(stops) if self.keyed(s)}
+        for i in self.place_order(stops):
+            if i in keys:
+                places[i] = self.representative(stops, keys, places, i)
+        return places
+
+    def representative(self, stops, keys, places, i):
+        for j in self.place_order(stops):
+            if places[j] == j and self.same_place(keys[i], keys[j]):
+                return j
+        return i
+
+    # --- opening, stops, rules ---
+    def open(self, s):
+        first_cause([
+            (len(s.origin_walks) > 4 or len(s.target_walks) > 4 or s.max_transfers > 1, 1),
+            (any(abs(t) > 2**40 for t in (s.now, *s.epochs)), 2)])
+        return Load(s)
+
+    def bad_name(self, s):
+        if s.name is not None and len(s.name) > 64:
+            return True
+        needed = s.location_type == 0 and s.parent is None and self.usable(s.position)
+        return needed and (not self.words(self.shown(s)) or any(self.bad_byte(b) for b in self.shown(s)))
+
+    def stop(self, load, s):
+        first_cause([
+            (load.searched, 15),
+            (not 1 <= len(s.id) <= 32, 3),
+            (any(t.id == s.id for t in load.stops), 5),
+            (s.location_type > 1 or (s.location_type == 1 and s.parent is not None), 6),
+            (s.parent is not None and not any(t.id == s.parent and t.location_type == 1 for t in load.stops), 7),
+            (self.bad_name(s), 8),
+            (len(load.stops) >= 128, 4)])
+        load.stops.append(s)
+
+    def rule(self, load, r):
+        n = len(load.stops)
+        first_cause([
+            (load.searched, 15),
+            (r.src >= n or r.dst >= n, 9),
+            (r.transfer_type > 3 or (r.transfer_type == 2 and r.seconds is None), 12),
+            (any((q.src, q.dst) == (r.src, r.dst) for q in load.rules), 13),
+            (len(load.rules) >= 128, 11)])
+        load.rules.append(r)
+
+    # --- windows and the full table ---
+    def offset(self, load, day, seconds):
+        return load.settings.epochs[day] + seconds - load.settings.now
+
+    def outside(self, arrival, departure, horizon):
+        return departure < 0 or arrival > horizon
+
+    def inside(self, time, horizon):
+        return 0 <= time <= horizon
+
+    def hold(self, time, horizon):
+        return min(max(time, 0), horizon)
+
+    def request(self, able, kind):
+        return able and kind in (2, 3)
+
+    def window(self, load, c, horizon):
+        arrival, departure = self.offset(load, c.day, c.arrival), self.offset(load, c.day, c.departure)
+        if self.outside(arrival, departure, horizon):
+            return None
+        board = self.inside(departure, horizon) and c.pickup != 1
+        alight = self.inside(arrival, horizon) and c.drop_off != 1
+        return Call(c.trip, c.day, c.sequence, c.stop, self.hold(arrival, horizon), self.hold(departure, horizon),
+                    board, alight, self.request(board, c.pickup), self.request(alight, c.drop_off))
+
+    def less(self, horizon):
+        return horizon - horizon // 4
+
+    def cut(self, load):
+        """The table as the window at the smaller horizon leaves it."""
+        horizon = self.less(load.horizon)
+        first_cause([(horizon < 3600, 11)])
+        load.horizon, load.limits = horizon, 1
+        seen = [(c, self.window(load, c, horizon)) for c in load.handed]
+        load.handed = [c for c, w in seen if w]
+        load.table = [w for c, w in seen if w]
+
+    def bad_call(self, load, c):
+        return c.stop >= len(load.stops) or c.trip == 65535 or c.day > 2 or c.pickup > 3 or c.drop_off > 3
+
+    def call(self, load, c):
+        first_cause([(load.searched, 15), (self.bad_call(load, c), 9)])
+        load.answers += "t" if self.taken(load, c) else "o"
+
+    def taken(self, load, c):
+        if c.arrival is None or c.departure is None:
+            return False
+        first_cause([(c.arrival > c.departure, 10)])
+        while True:
+            w = self.window(load, c, load.horizon)
+            if w is None:
+                return False
+            if len(load.table) < 512:
+                load.table.append(w)
+                load.handed.append(c)
+                return True
+            self.cut(load)
+
+    # --- transfers ---
+    def sides(self, load, stop):
+        """The stop's number and, where it has a parent, the parent's."""
+        parent = load.stops[stop].parent
+        return [stop] if parent is None else [stop, next(i for i, s in enumerate(load.stops) if s.id == parent)]
+
+    def exact(self, r, a, b):
+        return (r.src == a) + (r.dst == b)
+
+    def chosen(self, rules, a, b):
+        most = max(self.exact(r, a, b) for r in rules)
+        return [r for r in rules if self.exact(r, a, b) == most][-1]
+
+    def change(self, load):
+        return load.settings.transfer_minutes * 60
+
+    def seconds(self, load, r):
+        return max(r.seconds or 0, self.change(load))
+
+    def linked(self, load, a, b):
+        parents = load.stops[a].parent, load.stops[b].parent
+        return (a == b or (parents[0] is not None and parents[0] == parents[1])
+                or (load.places[a] is not None and load.places[a] == load.places[b]))
+
+    def transfer(self, load, a, b):
+        here, there = self.sides(load, a), self.sides(load, b)
+        rules = [r for r in load.rules if r.src in here and r.dst in there]
+        if rules:
+            r = self.chosen(rules, a, b)
+            return None if r.transfer_type == 3 else self.seconds(load, r)
+        return self.change(load) if self.linked(load, a, b) else None
+
+    def other(self, first, last):
+        return (first.trip, first.day) != (last.trip, last.day)
+
+    def meets(self, arrival, seconds, departure):
+        return arrival + seconds <= departure
+
+    # --- the search ---
+    def call_order(self, call):
+        return call.trip, call.day, call.sequence
+
+    def clash(self, a, b):
+        return (a.trip, a.day) == (b.trip, b.day) and (a.sequence == b.sequence or a.departure > b.arrival)
+
+    def bits(self, byte, count):
+        return [i for i in range(count) if byte >> i & 1]
+
+    def origins(self, load, stop):
+        return self.bits(load.stops[stop].members & 15, len(load.settings.origin_walks))
+
+    def targets(self, load, stop):
+        return self.bits(load.stops[stop].members >> 4, len(load.settings.target_walks))
+
+    def alightings(self, calls, i):
+        return [c for c in calls[i + 1:] if (c.trip, c.day) == (calls[i].trip, calls[i].day) and c.alight]
+
+    def ride(self, b, a):
+        return Ride(b.trip, b.day, b.stop, a.stop, b.departure, a.arrival, b.board_request, a.alight_request)
+
+    def boards(self, departure, walk):
+        return departure >= walk * 60
+
+    def journey(self, load, origin, target, legs):
+        walk = load.settings.origin_walks[origin]
+        due = legs[-1].arrival + load.settings.target_walks[target] * 60
+        return Journey(legs[0].departure - walk * 60, due, len(legs), walk, origin, target, legs)
+
+    def offers(self, load, calls):
+        rides = [(b, [self.ride(b, a) for a in self.alightings(calls, i)]) for i, b in enumerate(calls) if b.board]
+        lasts = [(r, self.targets(load, r.dst)) for _, rs in rides for r in rs]
+        lasts = [(r, targets) for r, targets in lasts if targets]
+        known = {}
+        for b, firsts in rides:
+            for origin in self.origins(load, b.stop):
+                if self.boards(b.departure, load.settings.origin_walks[origin]):
+                    for first in firsts:
+                        yield from self.from_first(load, origin, first, lasts, known)
+
+    def from_first(self, load, origin, first, lasts, known):
+        for target in self.targets(load, first.dst):
+            yield self.journey(load, origin, target, [first])
+        if load.settings.max_transfers == 1:
+            for last, targets in lasts:
+                pair = first.dst, last.src
+                if pair not in known:
+                    known[pair] = self.transfer(load, *pair)
+                if self.other(first, last) and known[pair] is not None and self.meets(first.arrival, known[pair], last.departure):
+                    for target in targets:
+                        yield self.journey(load, origin, target, [first, last])
+
+    def covers(self, a, b):
+        return a.leave >= b.leave and (a.arrival, a.rides, a.walk) <= (b.arrival, b.rides, b.walk)
+
+    def due(self, j):
+        return j.arrival
+
+    def candidate(self, load, j):
+        if self.due(j) > load.horizon or any(self.covers(k, j) for k in load.kept):
+            return
+        kept = [k for k in load.kept if not self.covers(j, k)] + [j]
+        load.kept = self.listed(load, kept)
+
+    def full(self):
+        return 65
+
+    def end(self, kept):
+        return max(self.due(k) for k in kept) - 1
+
+    def listed(self, load, kept):
+        if len(kept) < self.full():
+            return kept
+        horizon = self.end(kept)
+        first_cause([(horizon < 3600, 11)])
+        load.horizon, load.limits = horizon, 1
+        return [k for k in kept if self.due(k) <= horizon]
+
+    def search(self, load):
+        first_cause([(load.searched, 15)])
+        calls = sorted(load.table, key=self.call_order)
+        first_cause([(any(self.clash(a, b) for a, b in zip(calls, calls[1:])), 14)])
+        load.places = self.group(load.stops)
+        for j in self.offers(load, calls):
+            self.candidate(load, j)
+        load.searched = True
+
+    # --- best ---
+    def rank(self, j):
+        return j.arrival, j.rides, j.walk, -j.leave
+
+    def best(self, load, second):
+        if not load.searched or second < 0 or second > load.horizon:
+            return None
+        return min((k for k in load.kept if k.leave >= second), key=self.rank, default=None)
+
+    def next_after(self, load, second, journey):
+        return self.best(load, max(second, journey.leave + 1))
