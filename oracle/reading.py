@@ -34,6 +34,12 @@ class Load:
 
 
 class Reading:
+    ENDS, TRANSFERS, TIME, ID, NAME, STOPS, RULES, CALLS, LIST, LEAST = 4, 1, 2**40, 32, 64, 128, 128, 512, 64, 3600
+
+    def refuse(self, step, causes):
+        """The first cause that holds, in 01's order for the step."""
+        first_cause(causes)
+
     # --- hash, names, positions ---
     def fold(self, data):
         value = 0xcbf29ce484222325
@@ -121,36 +127,44 @@ class Reading:
 
     # --- opening, stops, rules ---
     def open(self, s):
-        first_cause([
-            (len(s.origin_walks) > 4 or len(s.target_walks) > 4 or s.max_transfers > 1, 1),
-            (any(abs(t) > 2**40 for t in (s.now, *s.epochs)), 2)])
+        self.refuse("open", [
+            (max(len(s.origin_walks), len(s.target_walks)) > self.ENDS or s.max_transfers > self.TRANSFERS, 1),
+            (any(abs(t) > self.TIME for t in (s.now, *s.epochs)), 2)])
         return Load(s)
 
+    def needed(self, s):
+        return s.location_type == 0 and s.parent is None and self.usable(s.position)
+
+    def known_parent(self, load, parent):
+        return any(t.id == parent and t.location_type == 1 for t in load.stops)
+
     def bad_name(self, s):
-        if s.name is not None and len(s.name) > 64:
+        if s.name is not None and len(s.name) > self.NAME:
             return True
-        needed = s.location_type == 0 and s.parent is None and self.usable(s.position)
-        return needed and (not self.words(self.shown(s)) or any(self.bad_byte(b) for b in self.shown(s)))
+        return self.needed(s) and (not self.words(self.shown(s)) or any(self.bad_byte(b) for b in self.shown(s)))
 
     def stop(self, load, s):
-        first_cause([
+        self.refuse("stop", [
             (load.searched, 15),
-            (not 1 <= len(s.id) <= 32, 3),
+            (not 1 <= len(s.id) <= self.ID, 3),
             (any(t.id == s.id for t in load.stops), 5),
             (s.location_type > 1 or (s.location_type == 1 and s.parent is not None), 6),
-            (s.parent is not None and not any(t.id == s.parent and t.location_type == 1 for t in load.stops), 7),
+            (s.parent is not None and not self.known_parent(load, s.parent), 7),
             (self.bad_name(s), 8),
-            (len(load.stops) >= 128, 4)])
+            (len(load.stops) >= self.STOPS, 4)])
         load.stops.append(s)
+
+    def bad_rule(self, r):
+        return r.transfer_type > 3 or (r.transfer_type == 2 and r.seconds is None)
 
     def rule(self, load, r):
         n = len(load.stops)
-        first_cause([
+        self.refuse("rule", [
             (load.searched, 15),
             (r.src >= n or r.dst >= n, 9),
-            (r.transfer_type > 3 or (r.transfer_type == 2 and r.seconds is None), 12),
+            (self.bad_rule(r), 12),
             (any((q.src, q.dst) == (r.src, r.dst) for q in load.rules), 13),
-            (len(load.rules) >= 128, 11)])
+            (len(load.rules) >= self.RULES, 11)])
         load.rules.append(r)
 
     # --- windows and the full table ---
@@ -178,14 +192,17 @@ class Reading:
         return Call(c.trip, c.day, c.sequence, c.stop, self.hold(arrival, horizon), self.hold(departure, horizon),
                     board, alight, self.request(board, c.pickup), self.request(alight, c.drop_off))
 
+    def mark(self, load):
+        return 1
+
     def less(self, horizon):
         return horizon - horizon // 4
 
     def cut(self, load):
         """The table as the window at the smaller horizon leaves it."""
         horizon = self.less(load.horizon)
-        first_cause([(horizon < 3600, 11)])
-        load.horizon, load.limits = horizon, 1
+        first_cause([(horizon < self.LEAST, 11)])
+        load.horizon, load.limits = horizon, self.mark(load)
         seen = [(c, self.window(load, c, horizon)) for c in load.handed]
         load.handed = [c for c, w in seen if w]
         load.table = [w for c, w in seen if w]
@@ -194,7 +211,7 @@ class Reading:
         return c.stop >= len(load.stops) or c.trip == 65535 or c.day > 2 or c.pickup > 3 or c.drop_off > 3
 
     def call(self, load, c):
-        first_cause([(load.searched, 15), (self.bad_call(load, c), 9)])
+        self.refuse("call", [(load.searched, 15), (self.bad_call(load, c), 9)])
         load.answers += "t" if self.taken(load, c) else "o"
 
     def taken(self, load, c):
@@ -205,7 +222,7 @@ class Reading:
             w = self.window(load, c, load.horizon)
             if w is None:
                 return False
-            if len(load.table) < 512:
+            if len(load.table) < self.CALLS:
                 load.table.append(w)
                 load.handed.append(c)
                 return True
@@ -308,24 +325,24 @@ class Reading:
     def due(self, j):
         return j.arrival
 
+    def late(self, load, j):
+        return self.due(j) > load.horizon
+
     def candidate(self, load, j):
-        if self.due(j) > load.horizon or any(self.covers(k, j) for k in load.kept):
+        if self.late(load, j) or any(self.covers(k, j) for k in load.kept):
             return
         kept = [k for k in load.kept if not self.covers(j, k)] + [j]
         load.kept = self.listed(load, kept)
-
-    def full(self):
-        return 65
 
     def end(self, kept):
         return max(self.due(k) for k in kept) - 1
 
     def listed(self, load, kept):
-        if len(kept) < self.full():
+        if len(kept) <= self.LIST:
             return kept
         horizon = self.end(kept)
-        first_cause([(horizon < 3600, 11)])
-        load.horizon, load.limits = horizon, 1
+        first_cause([(horizon < self.LEAST, 11)])
+        load.horizon, load.limits = horizon, self.mark(load)
         return [k for k in kept if self.due(k) <= horizon]
 
     def search(self, load):

@@ -1,6 +1,7 @@
 //! `gen --profile P --files N --seed S [--from I]` writes load files in batch form (a big-endian u32 length before each);
-//! `gen --profiles` lists the profiles; `gen --tables DIR` writes the benchmark's tables.
-use program::generate::{self, PROFILES, tables};
+//! `gen --marked` writes 01's marked instances likewise; `gen --profiles` lists the profiles; `gen --tables DIR` writes the
+//! benchmark's tables.
+use program::generate::{self, PROFILES, marked, tables};
 use std::io::{self, Write};
 
 fn value(words: &[String], name: &str) -> Option<String> {
@@ -19,6 +20,14 @@ fn main() -> io::Result<()> {
         }
         return Ok(());
     }
+    let mut output = io::BufWriter::with_capacity(1 << 16, io::stdout().lock());
+    let mut write = |bytes: Vec<u8>| {
+        output.write_all(&(bytes.len() as u32).to_be_bytes())?;
+        output.write_all(&bytes)
+    };
+    if words.iter().any(|w| w == "--marked") {
+        return marked::instances().into_iter().try_for_each(write);
+    }
     let name = value(&words, "--profile").unwrap_or("all".to_string());
     let number = |word, other| value(&words, word).and_then(|n| n.parse().ok()).unwrap_or(other);
     let (files, seed, from) = (number("--files", 100), number("--seed", 1), number("--from", 0));
@@ -26,11 +35,5 @@ fn main() -> io::Result<()> {
         eprintln!("gen: no such profile: {name}");
         std::process::exit(2)
     };
-    let mut output = io::BufWriter::with_capacity(1 << 16, io::stdout().lock());
-    for i in from..from + files {
-        let bytes = generate::file(profile, seed, i);
-        output.write_all(&(bytes.len() as u32).to_be_bytes())?;
-        output.write_all(&bytes)?;
-    }
-    output.flush()
+    (from..from + files).try_for_each(|i| write(generate::file(profile, seed, i)))
 }

@@ -43,8 +43,7 @@ fn stops(rng: &mut Rng) -> Vec<Step> {
     stops.insert(4, station);
     stops.into_iter().map(Step::Stop).collect()
 }
-fn trip(rng: &mut Rng, draw: &Draw, settings: &Settings, number: u16, line: &[u16], out: &mut Vec<Step>) {
-    let day = if rng.once_in(4) { rng.below(3) as u8 } else { 0 };
+fn trip(rng: &mut Rng, draw: &Draw, settings: &Settings, (number, day): (u16, u8), line: &[u16], out: &mut Vec<Step>) {
     let mut at = rng.below(draw.times) as i64 * draw.grid + rng.pick(&[0, 0, 0, 600]);
     for (k, &stop) in line.iter().enumerate() {
         let departure = at + rng.pick(&[0, 0, 0, 30]);
@@ -78,6 +77,8 @@ fn load(rng: &mut Rng, draw: &Draw) -> Vec<u8> {
     let (origin, target) = (|rng: &mut Rng| rng.pick(&[0, 0, 1]), |rng: &mut Rng| rng.pick(&[2, 2, 3]));
     let change = |rng: &mut Rng| rng.pick(&[5, 5, 6, 7, 4]);
     let mut calls = Vec::new();
+    // One trip on three days, or a trip for each line.
+    let shared = rng.once_in(3);
     for number in 0..rng.range(2, 8) as u16 {
         let line = match rng.below(7) {
             0 => vec![origin(rng), change(rng), target(rng)],
@@ -86,13 +87,50 @@ fn load(rng: &mut Rng, draw: &Draw) -> Vec<u8> {
             3 | 4 => vec![origin(rng), change(rng)],
             _ => vec![change(rng), target(rng)],
         };
-        let number = if rng.once_in(40) { number / 2 } else { number };
-        trip(rng, draw, &settings, number, &line, &mut calls);
+        let day = if rng.once_in(4) { rng.below(3) as u8 } else { 0 };
+        let run = if shared { (number / 3, (number % 3) as u8) } else { (number, day) };
+        let run = if rng.once_in(40) { (number / 2, day) } else { run };
+        trip(rng, draw, &settings, run, &line, &mut calls);
     }
     if rng.once_in(3) {
         rng.shuffle(&mut calls);
     }
     steps.extend(calls);
+    steps.push(Step::Search);
+    file(&settings, &steps)
+}
+
+/// Three origins and two targets with their own walks, one change stop: equal arrivals with other rides and walks.
+pub fn figures(rng: &mut Rng) -> Vec<u8> {
+    let walks = rng.pick(&[vec![0, 1, 2, 3], vec![0, 5, 10], vec![0, 2]]);
+    let settings = Settings {
+        origin_walks: (0..3).map(|_| rng.pick(&walks)).collect(),
+        target_walks: (0..2).map(|_| rng.pick(&walks)).collect(),
+        transfer_minutes: 0,
+        max_transfers: 1,
+        ..Settings::default()
+    };
+    let stop = |id: &str, members| Step::Stop(Stop { id: id.into(), members, ..Stop::default() });
+    let mut steps = vec![stop("o", 1), stop("p", 2), stop("q", 4), stop("t", 16), stop("u", 32), stop("m", 0)];
+    let (grid, times) = (rng.pick(&[60, 120]), rng.pick(&[4, 6, 9]));
+    let mut run = |trip: u16, line: &[u64], rng: &mut Rng| {
+        let mut at = 900 + grid * rng.below(times) as u32;
+        for (k, &stop) in line.iter().enumerate() {
+            let (arrival, departure) = (Some(at), Some(at));
+            steps.push(Step::Call(Call { trip, sequence: k as u32, stop: stop as u16, arrival, departure, ..Call::default() }));
+            at += grid * (rng.below(times) as u32 + 1);
+        }
+    };
+    for trip in 0..rng.range(2, 9) as u16 {
+        let (origin, target) = (rng.below(3), 3 + rng.below(2));
+        match rng.below(5) {
+            0 => run(trip, &[origin, rng.below(3), target], rng),
+            1 => run(trip, &[origin, 5], rng),
+            2 => run(trip, &[5, target], rng),
+            3 => run(trip, &[origin, 5, target], rng),
+            _ => run(trip, &[origin, target], rng),
+        }
+    }
     steps.push(Step::Search);
     file(&settings, &steps)
 }

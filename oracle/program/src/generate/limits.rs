@@ -21,7 +21,7 @@ pub fn list(rng: &mut Rng) -> Vec<u8> {
         endpoints(vec![walk, walk + 1], vec![rng.pick(&[0, 0, 2]), 1], (rng.pick(&[1, 1, 3]), rng.pick(&[16, 16, 48])));
     settings.max_transfers = rng.pick(&[0, 1]);
     let step = rng.pick(&[1, 7, 20]);
-    let last = rng.pick(&[3599u32, 3600, 3601, 3602, 3660, 3720, 3721, 9000, 21480, 21600]);
+    let last = rng.pick(&[3599u32, 3600, 3600, 3601, 3601, 3602, 3660, 3720, 3721, 9000, 21480, 21600]);
     let ride = rng.pick(&[60, 240, 600]);
     let first = (last - ride).saturating_sub(step * (n - 1)).max(180);
     let mut trips: Vec<(u32, u32)> = (0..n).map(|i| (first + step * i, first + step * i + ride)).collect();
@@ -43,6 +43,39 @@ pub fn list(rng: &mut Rng) -> Vec<u8> {
     for (trip, &(departure, arrival)) in trips.iter().enumerate() {
         steps.push(call(trip as u16, 1, 0, departure, departure));
         steps.push(call(trip as u16, 2, 1, arrival, arrival));
+    }
+    steps.push(Step::Search);
+    file(&settings, &steps)
+}
+
+/// A list near 64 made by plain trips, then trips through a change stop and from a second origin, whose journeys come
+/// and go: the order of offers, equal arrivals and one trip's own changes show in the horizon.
+pub fn brim(rng: &mut Rng) -> Vec<u8> {
+    let (settings, mut steps) = endpoints(vec![0, 5], vec![0, rng.pick(&[2, 10])], (1, 16));
+    let stop = |id: &str, members| Step::Stop(Stop { id: id.into(), members, ..Stop::default() });
+    steps.extend([stop("m", rng.pick(&[0, 16, 32, 32])), stop("c", rng.pick(&[2, 2, 3, 32])), stop("d", rng.pick(&[32, 48]))]);
+    let (n, step, ride) = (rng.pick(&[60, 62, 63, 63, 64]), rng.pick(&[20, 40]), 2000);
+    let first = 1800;
+    let mut runs: Vec<Vec<(u16, u32)>> = (0..n).map(|i| vec![(0, first + step * i), (1, first + step * i + ride)]).collect();
+    for _ in 0..rng.range(1, 4) {
+        let last = first + step * (n - 1);
+        let at = match rng.below(3) {
+            0 => last + step * rng.below(3) as u32,
+            _ => first + step * rng.below(n.into()) as u32 + rng.pick(&[0, 1, 10]),
+        };
+        let end = at + ride - rng.pick(&[0, 0, 1, 10, 30, 300]);
+        match rng.below(5) {
+            0 => runs.push(vec![(0, at), (2, at + 600), (1, end)]),
+            1 => runs.push(vec![(3, at + 300 + step), (1, end)]),
+            2 => runs.extend([vec![(0, at), (2, at + 600)], vec![(2, at + 600 + rng.below(2) as u32), (1, end)]]),
+            3 => runs.extend([vec![(0, at), (2, at + 600), (1, end)], vec![(2, at + 600), (4, end - rng.below(700) as u32)]]),
+            _ => runs.push(vec![(0, at), (4, end - rng.below(700) as u32), (1, end)]),
+        }
+    }
+    for (trip, run) in runs.iter().enumerate() {
+        for (k, &(stop, at)) in run.iter().enumerate() {
+            steps.push(call(trip as u16, k as u32, stop, at, at));
+        }
     }
     steps.push(Step::Search);
     file(&settings, &steps)

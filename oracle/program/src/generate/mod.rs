@@ -2,6 +2,7 @@
 pub mod changes;
 pub mod faults;
 pub mod limits;
+pub mod marked;
 pub mod places;
 pub mod rng;
 pub mod tables;
@@ -13,19 +14,21 @@ use rng::Rng;
 pub type Profile = fn(&mut Rng) -> Vec<u8>;
 /// Name, generator, and how many of a hundred files of `all` are drawn from it.
 pub const PROFILES: &[(&str, Profile, u64)] = &[
-    ("small", world::small, 8),
+    ("small", world::small, 5),
     ("window", world::window, 7),
-    ("types", world::types, 7),
+    ("types", world::types, 5),
     ("days", world::days, 7),
     ("neighbours", world::neighbours, 6),
-    ("ties", world::ties, 5),
+    ("ties", world::ties, 4),
     ("changes", changes::changes, 8),
     ("change-ties", changes::ties, 6),
+    ("figures", changes::figures, 6),
     ("rules", places::rules, 10),
     ("places", places::places, 8),
     ("names", places::names, 5),
     ("ids", places::ids, 3),
-    ("list", limits::list, 3),
+    ("list", limits::list, 2),
+    ("brim", limits::brim, 1),
     ("cut", limits::cut, 1),
     ("counts", limits::counts, 1),
     ("settings", faults::settings, 2),

@@ -28,10 +28,17 @@ pub fn rules(rng: &mut Rng) -> Vec<u8> {
     }
     let change = |rng: &mut Rng| if rng.once_in(7) { rng.pick(&[2, 3]) } else { rng.range(4, 3 + places) as u16 };
     let mut steps: Vec<Step> = stops.into_iter().map(Step::Stop).collect();
+    // Half the time every rule is about one pair of platforms and their stations, so that exactness decides.
+    let (p, q) = (change(rng), change(rng));
+    let close = rng.once_in(2);
     let mut pairs = Vec::new();
     for _ in 0..rng.range(0, 6) {
-        let side = |rng: &mut Rng| if rng.once_in(2) { rng.pick(&[2, 3]) } else { change(rng) };
-        let pair = (side(rng), side(rng));
+        let side = |rng: &mut Rng, near: u16| match rng.below(4) {
+            0 | 1 => rng.pick(&[2, 3]),
+            _ if close => near,
+            _ => change(rng),
+        };
+        let pair = (side(rng, p), side(rng, q));
         if !pairs.contains(&pair) {
             pairs.push(pair);
         }
@@ -42,13 +49,14 @@ pub fn rules(rng: &mut Rng) -> Vec<u8> {
         let seconds = (transfer_type == 2 || rng.once_in(2)).then(|| rng.pick(&lengths));
         steps.push(Step::Rule(Rule { from, to, transfer_type, seconds }));
     }
+    let (arrive, board) = (|rng: &mut Rng| if close { p } else { change(rng) }, |rng: &mut Rng| if close { q } else { change(rng) });
     for trip in 0..rng.range(1, 4) as u16 {
-        steps.extend(ride(trip, 0, change(rng), 600 + 60 * u32::from(trip), 1000 + 10 * u32::from(trip)));
+        steps.extend(ride(trip, 0, arrive(rng), 600 + 60 * u32::from(trip), 1000 + 10 * u32::from(trip)));
     }
     for trip in 10..rng.range(12, 20) as u16 {
         let wait = u32::from(rng.pick(&lengths)) + 1000 + 10 * rng.below(3) as u32;
         let departure = wait - u32::from(rng.once_in(3));
-        steps.extend(ride(trip, change(rng), 1, departure, departure + 10 * u32::from(trip)));
+        steps.extend(ride(trip, board(rng), 1, departure, departure + 10 * u32::from(trip)));
     }
     steps.push(Step::Search);
     file(&settings, &steps)
@@ -69,6 +77,9 @@ fn position(rng: &mut Rng, centre: (i64, i64)) -> (f64, f64) {
     let lat = centre.0 + step * rng.range(-1, 1);
     let mut lon =
         centre.1 + if rng.once_in(2) { 0 } else { rng.pick(&[1, 500, 795, 1000, 1123, 1124, 1125, 1590]) * rng.range(-2, 2) };
+    if centre.0.abs() > 89_000_000 && rng.once_in(2) {
+        lon = rng.range(-180_000_000, 180_000_000);
+    }
     if lon > 180_000_000 {
         lon -= 360_000_000;
     }
@@ -77,15 +88,17 @@ fn position(rng: &mut Rng, centre: (i64, i64)) -> (f64, f64) {
 }
 /// Stops about one centre, with few names; chains of neighbours, the antimeridian and the poles.
 pub fn places(rng: &mut Rng) -> Vec<u8> {
-    let lat = rng.pick(&[0, 0, 52_000_000, -33_000_000, 60_000_000, 89_999_000, -90_000_000, 90_000_000, 75_522_487]);
+    let lat = rng.pick(&[0, 0, 52_000_000, -33_000_000, 60_000_000, 89_998_300, 89_998_876, -90_000_000, 90_000_000, 75_522_487, -3]);
     let lon = rng.pick(&[0, 16_900_000, 180_000_000, 179_999_500, -179_999_500, 179_999_999]);
     let chain = rng.once_in(3);
-    let names = rng.pick(&[vec!["Quay"], vec!["Quay", "quay", " QUAY\t"], vec!["Quay", "Pier", "Quay Pier", "QuayPier"]]);
+    let names = rng.pick(&[vec!["Quay"], vec!["Quay", "quay", " QUAY\t"], vec!["Quay", "Pier", "Quay Pier", "QuayPier"], vec!["x[", "x{", "X[ "]]);
     let mut steps = Vec::new();
-    let stations = rng.range(0, 2);
-    for i in 0..stations {
-        steps.push(Step::Stop(Stop { id: format!("S{i}").into(), location_type: 1, ..Stop::default() }));
+    let stations = rng.pick(&[vec![], vec!["S0"], vec!["S0", "s0"], vec!["quay"], vec!["pier", "Pier"]]);
+    for i in 0..stations.len() {
+        steps.push(Step::Stop(Stop { id: stations[i].into(), location_type: 1, ..Stop::default() }));
     }
+    // An id that reads like a name, no two alike.
+    let told = |k: i64| -> Vec<u8> { format!("{}Q{}", " ".repeat(k as usize), if k % 2 == 0 { "uay" } else { "UAY" }).into() };
     let n = rng.range(2, 8);
     let mut order: Vec<i64> = (0..n).collect();
     rng.shuffle(&mut order);
@@ -93,16 +106,16 @@ pub fn places(rng: &mut Rng) -> Vec<u8> {
         let centre = if chain { (lat.min(89_900_000) + 1000 * i as i64, lon) } else { (lat, lon) };
         let at = position(rng, centre);
         let stop = Stop {
-            id: format!("{}{k}", if rng.once_in(4) { "P" } else { "p" }).into(),
-            name: (!rng.once_in(9)).then(|| rng.pick(&names).into()),
-            parent: (stations > 0 && rng.once_in(6)).then(|| format!("S{}", rng.range(0, stations - 1)).into()),
+            id: if rng.once_in(9) { told(k) } else { format!("{}{}", if k % 2 == 0 { "P" } else { "p" }, k / 2).into() },
+            name: (!rng.once_in(7)).then(|| rng.pick(&names).into()),
+            parent: (!stations.is_empty() && rng.once_in(4)).then(|| rng.pick(&stations).into()),
             location_type: 0,
-            position: (!rng.once_in(9)).then_some(at),
+            position: (!rng.once_in(6)).then_some(at),
             members: rng.pick(&[1, 16, 17, 0]),
         };
         steps.push(Step::Stop(stop));
     }
-    let count = (stations + n) as u64;
+    let count = stations.len() as u64 + n as u64;
     for trip in 0..rng.range(0, 4) as u16 {
         let (a, b) = (rng.below(count) as u16, rng.below(count) as u16);
         let start = 600 + rng.below(6) as u32 * 200;
@@ -127,11 +140,12 @@ pub fn names(rng: &mut Rng) -> Vec<u8> {
         if risky && rng.once_in(3) {
             let at = rng.below(name.len() as u64 + 1) as usize;
             let any = rng.below(256) as u8;
-            let byte = rng.pick(&[0, 8, 9, 13, 14, 28, 31, 32, 126, 127, 128, 133, 160, 255, any]);
+            let byte = rng.pick(&[0, 8, 9, 13, 14, 28, 31, 32, 126, 127, 127, 128, 133, 160, 255, any]);
             name.insert(at, byte);
         }
-        if risky && rng.once_in(6) {
+        if risky && rng.once_in(4) {
             name = rng.pick(&[
+                b"".to_vec(),
                 b"".to_vec(),
                 b" \t ".to_vec(),
                 "B\u{e9}con".into(),

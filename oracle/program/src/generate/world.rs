@@ -156,7 +156,7 @@ pub fn window(rng: &mut Rng) -> Vec<u8> {
     for edge in [0, 0, 3600, 21600, 21600, 300, 120, 60, 3600, 15300, 21600 - 120, 21600 - 300, 21600 - 60] {
         starts.extend([-10, -1, 0, 1].map(|d| edge + d));
     }
-    let gaps = vec![0, 1, 60, 300, 21600, 6300];
+    let gaps = vec![0, 0, 1, 60, 300, 21600, 6300];
     let dwells = vec![0, 0, 1, 10, 11, 600];
     world(rng, &Draw { walks, starts, gaps, dwells, rules: 1, stops: (2, 4), ..Draw::default() })
 }
@@ -171,8 +171,8 @@ pub fn days(rng: &mut Rng) -> Vec<u8> {
 }
 /// Equal sequences, overlapping times and times held at the horizon.
 pub fn neighbours(rng: &mut Rng) -> Vec<u8> {
-    let starts = vec![-100, 0, 600, 21500, 21550, 21590];
-    let gaps = vec![0, 0, 1, 10, 50, 100];
+    let starts = vec![-100, 0, 600, 21500, 21550, 21590, 21600];
+    let gaps = vec![0, 0, 1, 10, 50, 100, -8990, -100];
     let dwells = vec![0, 1, 10, 110, 9000];
     let odd = rng.pick(&[6, 30, 300]);
     world(rng, &Draw { starts, gaps, dwells, odd, trips: (1, 3), stops: (2, 3), ..Draw::default() })

@@ -35,6 +35,7 @@ pub struct Rule {
     pub transfer_type: u8,
     pub seconds: Option<u16>,
 }
+#[derive(Clone)]
 pub enum Step {
     Stop(Stop),
     Call(Call),
