@@ -111,8 +111,41 @@ fn two_readings(files: &mut Vec<Vec<u8>>) {
     files.push(searched(&settings(&[5, 5], &[2, 2], 3), [vec![both], rides].concat()));
 }
 
+/// Files for readings that the profiles seldom tell apart.
+fn seldom(files: &mut Vec<Vec<u8>>) {
+    let plain = settings(&[0], &[0], 0);
+    // Near the pole the polynomial cosine is a twentieth below the true one.
+    let pole = |lon| vec![named("p", "Quay", 89.9994385, 0.0), named("q", "Quay", 89.9994385, lon)];
+    for lon in [113.0, 117.0, 122.0] {
+        files.push(searched(&plain, vec![pole(lon)]));
+    }
+    // 64 kept journeys, then a trip whose direct journey beats one of them; a change within the trip would be a 65th.
+    let base = || (0..64u16).map(|i| trip(i, &[(0, 1800 + 20 * u32::from(i)), (1, 3800 + 20 * u32::from(i))])).collect::<Vec<_>>().concat();
+    files.push(searched(&plain, vec![ends(), vec![stop("m", 0)], base(), trip(64, &[(0, 2405), (2, 3000), (1, 4400)])]));
+    // The same with the change stop a target far from its end: its direct journey, its changes, then the trip's own.
+    for walk in [10, 30] {
+        let onward = [trip(64, &[(0, 2405), (2, 3000), (1, 4400)]), trip(65, &[(2, 3000), (1, 4410)])].concat();
+        files.push(searched(&settings(&[0], &[0, walk], 0), vec![ends(), vec![stop("m", 32)], base(), onward]));
+    }
+    // Seconds on a rule of type 0 count; two stops of one place without a parent change; byte 127 is a control.
+    let rule = Step::Rule(Rule { from: 2, to: 2, transfer_type: 0, seconds: Some(240) });
+    let rides = || vec![trip(1, &[(0, 600), (2, 1000)]), trip(2, &[(2, 1200), (1, 1500)])].concat();
+    files.push(searched(&plain, vec![ends(), vec![stop("m", 0), rule], rides()]));
+    let near = vec![named("m", "Quay", 1.0, 1.0), named("n", " quay", 1.001, 1.0), named("o", "Quay", 1.0011, 1.0)];
+    let across = vec![trip(1, &[(0, 600), (2, 1000)]), trip(2, &[(3, 1200), (1, 1500)])].concat();
+    files.push(searched(&plain, vec![ends(), near, across]));
+    files.push(searched(&plain, vec![vec![named("m", "q\u{7f}", 1.0, 1.0)]]));
+    // The 65th arrives with another, leaving later from a farther stop: both go.
+    let spread = (0..63u16).map(|i| trip(i, &[(0, 1000 + 10 * u32::from(i)), (1, 3000 + 10 * u32::from(i))])).collect::<Vec<_>>();
+    let latest = [trip(63, &[(0, 1700), (1, 5000)]), trip(64, &[(2, 2100), (1, 5000)])].concat();
+    files.push(searched(&settings(&[0, 5], &[0], 0), vec![ends(), vec![stop("c", 2)], spread.concat(), latest]));
+    // A journey that leaves and arrives at the horizon, asked for after it.
+    files.push(searched(&plain, vec![ends(), trip(1, &[(0, 21600), (1, 21600)])]));
+}
+
 pub fn instances() -> Vec<Vec<u8>> {
     let mut files = Vec::new();
+    seldom(&mut files);
     of_01(&mut files);
     two_readings(&mut files);
     files

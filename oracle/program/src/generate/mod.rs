@@ -1,5 +1,6 @@
 //! Load files from a seed: one profile for each group of rules that could go wrong.
 pub mod changes;
+pub mod combined;
 pub mod faults;
 pub mod limits;
 pub mod marked;
