@@ -1,6 +1,6 @@
 """Readings of 01 that are wrong on purpose, each in one place. oracle/tell shows the files that tell them from the right one."""
 import math
-from reading import Journey, Key, Reading, Refused, first_cause
+from reading import Reading, first_cause
 
 READINGS = {}
 

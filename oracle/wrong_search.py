@@ -1,5 +1,4 @@
 """Wrong readings of windows, the search, best and the refusals."""
-import wrong
 from reading import Reading, first_cause
 from wrong import misread, reordered
 

@@ -120,7 +120,9 @@ fn seldom(files: &mut Vec<Vec<u8>>) {
         files.push(searched(&plain, vec![pole(lon)]));
     }
     // 64 kept journeys, then a trip whose direct journey beats one of them; a change within the trip would be a 65th.
-    let base = || (0..64u16).map(|i| trip(i, &[(0, 1800 + 20 * u32::from(i)), (1, 3800 + 20 * u32::from(i))])).collect::<Vec<_>>().concat();
+    let base = || {
+        (0..64u16).map(|i| trip(i, &[(0, 1800 + 20 * u32::from(i)), (1, 3800 + 20 * u32::from(i))])).collect::<Vec<_>>().concat()
+    };
     files.push(searched(&plain, vec![ends(), vec![stop("m", 0)], base(), trip(64, &[(0, 2405), (2, 3000), (1, 4400)])]));
     // The same with the change stop a target far from its end: its direct journey, its changes, then the trip's own.
     for walk in [10, 30] {

@@ -49,7 +49,8 @@ pub fn rules(rng: &mut Rng) -> Vec<u8> {
         let seconds = (transfer_type == 2 || rng.once_in(2)).then(|| rng.pick(&lengths));
         steps.push(Step::Rule(Rule { from, to, transfer_type, seconds }));
     }
-    let (arrive, board) = (|rng: &mut Rng| if close { p } else { change(rng) }, |rng: &mut Rng| if close { q } else { change(rng) });
+    let (arrive, board) =
+        (|rng: &mut Rng| if close { p } else { change(rng) }, |rng: &mut Rng| if close { q } else { change(rng) });
     for trip in 0..rng.range(1, 4) as u16 {
         steps.extend(ride(trip, 0, arrive(rng), 600 + 60 * u32::from(trip), 1000 + 10 * u32::from(trip)));
     }
@@ -88,10 +89,16 @@ fn position(rng: &mut Rng, centre: (i64, i64)) -> (f64, f64) {
 }
 /// Stops about one centre, with few names; chains of neighbours, the antimeridian and the poles.
 pub fn places(rng: &mut Rng) -> Vec<u8> {
-    let lat = rng.pick(&[0, 0, 52_000_000, -33_000_000, 60_000_000, 89_998_300, 89_998_876, -90_000_000, 90_000_000, 75_522_487, -3]);
+    let lat =
+        rng.pick(&[0, 0, 52_000_000, -33_000_000, 60_000_000, 89_998_300, 89_998_876, -90_000_000, 90_000_000, 75_522_487, -3]);
     let lon = rng.pick(&[0, 16_900_000, 180_000_000, 179_999_500, -179_999_500, 179_999_999]);
     let chain = rng.once_in(3);
-    let names = rng.pick(&[vec!["Quay"], vec!["Quay", "quay", " QUAY\t"], vec!["Quay", "Pier", "Quay Pier", "QuayPier"], vec!["x[", "x{", "X[ "]]);
+    let names = rng.pick(&[
+        vec!["Quay"],
+        vec!["Quay", "quay", " QUAY\t"],
+        vec!["Quay", "Pier", "Quay Pier", "QuayPier"],
+        vec!["x[", "x{", "X[ "],
+    ]);
     let mut steps = Vec::new();
     let stations = rng.pick(&[vec![], vec!["S0"], vec!["S0", "s0"], vec!["quay"], vec!["pier", "Pier"]]);
     for i in 0..stations.len() {

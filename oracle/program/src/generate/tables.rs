@@ -97,6 +97,7 @@ pub fn recorded() -> Vec<(String, Vec<u8>)> {
         let mut rng = Rng::new(trips * 100 + calls);
         tables.push((format!("{trips}x{calls}-direct"), table(&mut rng, trips, calls, 40, Ends::Several, 0)));
     }
+    tables.push(("64x8-one-128-stops".to_string(), table(&mut Rng::new(128), 64, 8, 128, Ends::One, 1)));
     tables.push(("unbeaten-200".to_string(), unbeaten()));
     for i in 0..10 {
         tables.push((format!("paper-{i}"), paper(&mut Rng::new(1000 + i))));
