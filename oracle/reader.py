@@ -7,72 +7,31 @@ usage: reader.py [--batch] [--wrong NAME]      load files on standard input, the
 It prints what the oracle prints, with `refused N` for every refusal.
 """
 import struct, sys
-from reading import Reading, Refused, Rule, Settings, Stop, StopTime, first_cause
-
-
-class Fields:
-    """The fields of one record; too few bytes, or an optional byte above 1, is 18."""
-    def __init__(self, data):
-        self.data, self.at = data, 0
-
-    def take(self, n):
-        first_cause([(self.at + n > len(self.data), 18)])
-        self.at += n
-        return self.data[self.at - n:self.at]
-
-    def number(self, code):
-        return struct.unpack(">" + code, self.take(struct.calcsize(">" + code)))[0]
-
-    def text(self):
-        return bytes(self.take(self.number("B")))
-
-    def optional(self, field):
-        mark = self.number("B")
-        first_cause([(mark > 1, 18)])
-        return field() if mark else None
-
-    def numbers(self, codes):
-        return [self.number(code) for code in codes]
-
-    def settings(self):
-        origins, targets = self.numbers("BB")
-        walks = list(self.take(origins)), list(self.take(targets))
-        minutes, transfers, now, *epochs = self.numbers("BBqqqq")
-        return Settings(*walks, minutes, transfers, now, epochs)
-
-    def stop(self):
-        return Stop(self.text(), self.optional(self.text), self.optional(self.text), self.number("B"),
-                    self.optional(lambda: self.numbers("dd")), self.number("B"))
-
-    def call(self):
-        time = lambda: self.number("I")
-        return StopTime(*self.numbers("HBIH"), self.optional(time), self.optional(time), *self.numbers("BB"))
-
-    def rule(self):
-        return Rule(*self.numbers("HHB"), self.optional(lambda: self.number("H")))
+from fields import Refused
+from reading import Reading
 
 
 def records(reading, data):
     """Each record is tested and handed on before the next is looked at."""
-    first_cause([(data[:1] != b"\x01", 17)])
+    reading.refuse("version", [(data[:1] != b"\x01", 17)])
     at, load = 1, None
     while at < len(data):
-        first_cause([(at + 2 > len(data), 18)])
+        reading.refuse("length", [(at + 2 > len(data), 18)])
         length = struct.unpack(">H", data[at:at + 2])[0]
         body = data[at + 2:at + 2 + length]
-        first_cause([(length == 0 or len(body) < length, 18)])
+        reading.refuse("length", [(length == 0 or len(body) < length, 18)])
         kind = body[0]
-        first_cause([(not 1 <= kind <= 5 or (kind == 1) != (load is None), 19)])
-        load = step(reading, load, kind, Fields(body[1:]))
+        reading.refuse("kind", [(not 1 <= kind <= 5, 19), (load is None and kind != 1, 19), (load is not None and kind == 1, 19)])
+        load = step(reading, load, kind, reading.Fields(body[1:]))
         at += 2 + length
-    first_cause([(load is None, 19)])
+    reading.refuse("end", [(load is None, 19)])
     return load
 
 
 def step(reading, load, kind, fields):
     names = {1: "settings", 2: "stop", 3: "call", 4: "rule"}
     record = getattr(fields, names[kind])() if kind in names else None
-    first_cause([(fields.at != len(fields.data), 18)])
+    reading.refuse("rest", [(fields.at != len(fields.data), 18)])
     if kind == 1:
         return reading.open(record)
     if kind == 5:

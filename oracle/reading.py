@@ -3,26 +3,12 @@
 Written from the words of 01, its constants for the place test from `same_place_keys`, which 01 names as the definition.
 """
 from collections import namedtuple
+from fields import Fields, first_cause
 from places import Places
 
-Settings = namedtuple("Settings", "origin_walks target_walks transfer_minutes max_transfers now epochs")
-Stop = namedtuple("Stop", "id name parent location_type position members")
-StopTime = namedtuple("StopTime", "trip day sequence stop arrival departure pickup drop_off")
-Rule = namedtuple("Rule", "src dst transfer_type seconds")
 Call = namedtuple("Call", "trip day sequence stop arrival departure board alight board_request alight_request")
 Ride = namedtuple("Ride", "trip day src dst departure arrival board_request alight_request")
 Journey = namedtuple("Journey", "leave arrival rides walk origin target legs")
-
-
-class Refused(Exception):
-    def __init__(self, number):
-        self.number = number
-
-
-def first_cause(causes):
-    for holds, number in causes:
-        if holds:
-            raise Refused(number)
 
 
 class Load:
@@ -34,6 +20,8 @@ class Load:
 
 class Reading(Places):
     ENDS, TRANSFERS, TIME, ID, NAME, STOPS, RULES, CALLS, LIST, LEAST = 4, 1, 2**40, 32, 64, 128, 128, 512, 64, 3600
+
+    Fields = Fields
 
     def refuse(self, step, causes):
         """The first cause that holds, in 01's order for the step."""

@@ -1,6 +1,7 @@
 """Readings of 01 that are wrong on purpose, each in one place. oracle/tell shows the files that tell them from the right one."""
 import math
-from reading import Reading, first_cause
+from fields import first_cause
+from reading import Reading
 
 READINGS = {}
 
@@ -127,4 +128,4 @@ misread("empty-name-is-none", shown=lambda self, stop: stop.name or stop.id)
 misread("every-name-needed", needed=lambda self, s: True)
 misread("name-needed-without-position", needed=lambda self, s: s.location_type == 0 and s.parent is None)
 
-import wrong_search  # the rest of the readings, of windows, search, best and refusals
+import wrong_search, wrong_file  # the rest of the readings

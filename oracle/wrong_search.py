@@ -1,5 +1,6 @@
 """Wrong readings of windows, the search, best and the refusals."""
-from reading import Reading, first_cause
+from fields import first_cause
+from reading import Reading
 from wrong import misread, reordered
 
 # --- windows ---

@@ -1,6 +1,7 @@
 //! Load files from a seed: one profile for each group of rules that could go wrong.
 pub mod changes;
 pub mod combined;
+pub mod damaged;
 pub mod faults;
 pub mod limits;
 pub mod marked;
