@@ -1,5 +1,6 @@
 """Readings of 01 that are wrong on purpose, each in one place. oracle/tell shows the files that tell them from the right one."""
 import math
+from fractions import Fraction
 from fields import first_cause
 from reading import Reading
 
@@ -81,6 +82,14 @@ def with_real_cosine(self, a, b):
     return math.hypot(dx, (a.lat - b.lat) * 0.111195) <= 125
 
 
+def without_rounding(self, a, b):
+    """The same polynomial in exact numbers, with the f64 nearest to pi."""
+    x2 = (Fraction(a.lat + b.lat) * Fraction(math.pi) / 360000000) ** 2
+    cos = 1 + x2 * (Fraction(-1, 2) + x2 * (Fraction(1, 24) + x2 * (Fraction(-1, 720) + x2 * (Fraction(1, 40320) - x2 / 3628800))))
+    metre = Fraction(111195, 1000000)
+    return (self.turn(abs(a.lon - b.lon)) * metre * cos) ** 2 + ((a.lat - b.lat) * metre) ** 2 <= 15625
+
+
 def flat(self, a, b):
     return math.hypot(self.turn(abs(a.lon - b.lon)) * 0.111195, (a.lat - b.lat) * 0.111195) <= 125
 
@@ -102,6 +111,7 @@ misread("no-hash-in-key", same_key=lambda self, a, b: a.tag == b.tag)
 misread("any-distance", near=lambda self, a, b: True)
 misread("exact-position", near=lambda self, a, b: (a.lat, a.lon) == (b.lat, b.lon))
 misread("real-cosine", near=with_real_cosine)
+misread("real-algebra", near=without_rounding)
 misread("no-cosine", near=flat)
 misread("no-antimeridian", turn=lambda self, delta: delta)
 misread("antimeridian-at-180-too", turn=lambda self, delta: 360000000 - delta if delta >= 180000000 else delta)

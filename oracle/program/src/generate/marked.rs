@@ -119,6 +119,10 @@ fn seldom(files: &mut Vec<Vec<u8>>) {
     for lon in [113.0, 117.0, 122.0] {
         files.push(searched(&plain, vec![pole(lon)]));
     }
+    // Pairs where rounding decides: one place in f64 and two in exact numbers, and the other way round.
+    for (south, north, lon) in [(89.9985925, 89.9994355, 44.3912265), (89.9985775, 89.9994595, 41.7998065)] {
+        files.push(searched(&plain, vec![vec![named("p", "Quay", south, 0.0), named("q", "Quay", north, lon)]]));
+    }
     // 64 kept journeys, then a trip whose direct journey beats one of them; a change within the trip would be a 65th.
     let base = || {
         (0..64u16).map(|i| trip(i, &[(0, 1800 + 20 * u32::from(i)), (1, 3800 + 20 * u32::from(i))])).collect::<Vec<_>>().concat()
