@@ -11,32 +11,40 @@ fn ride(trip: u16, from: u16, to: u16, departure: u32, arrival: u32) -> [Step; 2
     [Step::Call(call(1, from, departure)), Step::Call(call(2, to, arrival))]
 }
 
-/// One origin, one target and up to six change stops in two stations: changes one second around what the rules give.
-pub fn rules(rng: &mut Rng) -> Vec<u8> {
-    let minutes = rng.pick(&[0, 1, 3]);
-    let settings = plain(vec![0], vec![0], minutes);
+/// One origin, one target, two stations and up to six change stops; with each stop its station's number.
+fn stations(rng: &mut Rng) -> (Vec<Step>, Vec<Option<u16>>) {
     let mut stops = vec![Stop { id: b"origin".to_vec(), members: 1, ..Stop::default() }];
     stops.push(Stop { id: b"target".to_vec(), members: 16, ..Stop::default() });
     for id in ["S", "R"] {
         stops.push(Stop { id: id.into(), location_type: 1, ..Stop::default() });
     }
-    let places = rng.range(2, 6);
-    for i in 0..places {
-        let parent = rng.pick(&[None, Some(b"S".to_vec()), Some(b"S".to_vec()), Some(b"R".to_vec())]);
+    let mut parents = vec![None; 4];
+    for i in 0..rng.range(2, 6) {
+        let parent = rng.pick(&[None, Some(2), Some(2), Some(2), Some(3), Some(3)]);
         let position = rng.once_in(2).then_some((1.0, 1.0));
-        stops.push(Stop { id: format!("p{i}").into(), name: Some(b"Quay".to_vec()), parent, position, ..Stop::default() });
+        let id = format!("p{i}").into();
+        let station = parent.map(|p| if p == 2 { b"S".to_vec() } else { b"R".to_vec() });
+        stops.push(Stop { id, name: Some(b"Quay".to_vec()), parent: station, position, ..Stop::default() });
+        parents.push(parent);
     }
-    let change = |rng: &mut Rng| if rng.once_in(7) { rng.pick(&[2, 3]) } else { rng.range(4, 3 + places) as u16 };
-    let mut steps: Vec<Step> = stops.into_iter().map(Step::Stop).collect();
-    // Half the time every rule is about one pair of platforms and their stations, so that exactness decides.
+    (stops.into_iter().map(Step::Stop).collect(), parents)
+}
+/// Changes one second around what the rules give. Half the time every rule is about one pair of platforms and their
+/// stations, so that exactness and the order of rules decide.
+pub fn rules(rng: &mut Rng) -> Vec<u8> {
+    let minutes = rng.pick(&[0, 0, 1, 3]);
+    let (mut steps, parents) = stations(rng);
+    let last = parents.len() as i64 - 1;
+    let change = |rng: &mut Rng| if rng.once_in(7) { rng.pick(&[2, 3]) } else { rng.range(4, last) as u16 };
     let (p, q) = (change(rng), change(rng));
     let close = rng.once_in(2);
     let mut pairs = Vec::new();
     for _ in 0..rng.range(0, 6) {
-        let side = |rng: &mut Rng, near: u16| match rng.below(4) {
-            0 | 1 => rng.pick(&[2, 3]),
-            _ if close => near,
-            _ => change(rng),
+        let side = |rng: &mut Rng, near: u16| match (close, rng.once_in(2)) {
+            (true, true) => near,
+            (true, false) => parents[usize::from(near)].unwrap_or(2),
+            (false, true) => rng.pick(&[2, 3]),
+            (false, false) => change(rng),
         };
         let pair = (side(rng, p), side(rng, q));
         if !pairs.contains(&pair) {
@@ -49,18 +57,18 @@ pub fn rules(rng: &mut Rng) -> Vec<u8> {
         let seconds = (transfer_type == 2 || rng.once_in(2)).then(|| rng.pick(&lengths));
         steps.push(Step::Rule(Rule { from, to, transfer_type, seconds }));
     }
-    let (arrive, board) =
-        (|rng: &mut Rng| if close { p } else { change(rng) }, |rng: &mut Rng| if close { q } else { change(rng) });
     for trip in 0..rng.range(1, 4) as u16 {
-        steps.extend(ride(trip, 0, arrive(rng), 600 + 60 * u32::from(trip), 1000 + 10 * u32::from(trip)));
+        let to = if close { p } else { change(rng) };
+        steps.extend(ride(trip, 0, to, 600 + 60 * u32::from(trip), 1000 + 10 * u32::from(trip)));
     }
     for trip in 10..rng.range(12, 20) as u16 {
         let wait = u32::from(rng.pick(&lengths)) + 1000 + 10 * rng.below(3) as u32;
         let departure = wait - u32::from(rng.once_in(3));
-        steps.extend(ride(trip, board(rng), 1, departure, departure + 10 * u32::from(trip)));
+        let from = if close { q } else { change(rng) };
+        steps.extend(ride(trip, from, 1, departure, departure + 10 * u32::from(trip)));
     }
     steps.push(Step::Search);
-    file(&settings, &steps)
+    file(&plain(vec![0], vec![0], minutes), &steps)
 }
 
 /// Degrees whose product with a million cuts to these microdegrees, or lies just beside.
