@@ -2,12 +2,12 @@
 use crate::load::Load;
 use std::time::{Duration, Instant};
 
-/// Median, least and most, in microseconds.
+/// Least, lower quartile, median and upper quartile, in microseconds.
 fn summary(mut times: Vec<Duration>) -> String {
     times.sort_unstable();
-    let micro = |d: Duration| d.as_secs_f64() * 1e6;
-    let (least, most) = (times[0], times[times.len() - 1]);
-    format!("{:>12.1} {:>12.1} {:>12.1}", micro(times[times.len() / 2]), micro(least), micro(most))
+    let last = times.len() - 1;
+    let micro = |i: usize| format!("{:>12.1}", times[i].as_secs_f64() * 1e6);
+    [0, last / 4, last / 2, last - last / 4].map(micro).join(" ")
 }
 /// As many repetitions as fit in about a second and a half, at least 5 and at most 1001.
 fn repetitions(once: Duration) -> usize {
@@ -19,7 +19,8 @@ fn filled(bytes: &[u8]) -> Load {
 }
 
 pub fn run(names: &[String]) -> std::io::Result<()> {
-    println!("{:<28} {:<10} {:>7} {:>12} {:>12} {:>12}", "table", "part", "times", "median us", "least us", "most us");
+    let heads = ["least us", "quarter", "median", "quarter"].map(|head| format!("{head:>12}"));
+    println!("{:<28} {:<10} {:>7} {}", "table", "part", "times", heads.join(" "));
     for name in names {
         let bytes = std::fs::read(name)?;
         let shown = name.rsplit('/').next().unwrap_or(name);
