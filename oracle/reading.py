@@ -1,0 +1,269 @@
+"""Document 01, read slowly: one method for each of its sentences, so that wrong.py can misread one at a time.
+
+Written from the words of 01, its constants for the place test from `same_place_keys`, which 01 names as the definition.
+"""
+from collections import namedtuple
+from fields import Fields, first_cause
+from places import Places
+
+Call = namedtuple("Call", "trip day sequence stop arrival departure board alight board_request alight_request")
+Ride = namedtuple("Ride", "trip day src dst departure arrival board_request alight_request")
+Journey = namedtuple("Journey", "leave arrival rides walk origin target legs")
+
+
+class Load:
+    def __init__(self, settings):
+        self.settings, self.stops, self.rules, self.searched = settings, [], [], False
+        self.handed, self.table, self.answers = [], [], ""   # calls answered taken, and as the window leaves them
+        self.horizon, self.limits, self.kept, self.places = 21600, 0, [], None
+
+
+class Reading(Places):
+    ENDS, TRANSFERS, TIME, ID, NAME, STOPS, RULES, CALLS, LIST, LEAST = 4, 1, 2**40, 32, 64, 128, 128, 512, 64, 3600
+
+    Fields = Fields
+
+    def refuse(self, step, causes):
+        """The first cause that holds, in 01's order for the step."""
+        first_cause(causes)
+
+    # --- opening, stops, rules ---
+    def open(self, s):
+        self.refuse("open", [
+            (max(len(s.origin_walks), len(s.target_walks)) > self.ENDS or s.max_transfers > self.TRANSFERS, 1),
+            (any(abs(t) > self.TIME for t in (s.now, *s.epochs)), 2)])
+        return Load(s)
+
+    def needed(self, s):
+        return s.location_type == 0 and s.parent is None and self.usable(s.position)
+
+    def known_parent(self, load, parent):
+        return any(t.id == parent and t.location_type == 1 for t in load.stops)
+
+    def bad_name(self, s):
+        if s.name is not None and len(s.name) > self.NAME:
+            return True
+        return self.needed(s) and (not self.words(self.shown(s)) or any(self.bad_byte(b) for b in self.shown(s)))
+
+    def stop(self, load, s):
+        self.refuse("stop", [
+            (load.searched, 15),
+            (not 1 <= len(s.id) <= self.ID, 3),
+            (any(t.id == s.id for t in load.stops), 5),
+            (s.location_type > 1 or (s.location_type == 1 and s.parent is not None), 6),
+            (s.parent is not None and not self.known_parent(load, s.parent), 7),
+            (self.bad_name(s), 8),
+            (len(load.stops) >= self.STOPS, 4)])
+        load.stops.append(s)
+
+    def bad_rule(self, r):
+        return r.transfer_type > 3 or (r.transfer_type == 2 and r.seconds is None)
+
+    def rule(self, load, r):
+        n = len(load.stops)
+        self.refuse("rule", [
+            (load.searched, 15),
+            (r.src >= n or r.dst >= n, 9),
+            (self.bad_rule(r), 12),
+            (any((q.src, q.dst) == (r.src, r.dst) for q in load.rules), 13),
+            (len(load.rules) >= self.RULES, 11)])
+        load.rules.append(r)
+
+    # --- windows and the full table ---
+    def offset(self, load, day, seconds):
+        return load.settings.epochs[day] + seconds - load.settings.now
+
+    def outside(self, arrival, departure, horizon):
+        return departure < 0 or arrival > horizon
+
+    def inside(self, time, horizon):
+        return 0 <= time <= horizon
+
+    def hold(self, time, horizon):
+        return min(max(time, 0), horizon)
+
+    def request(self, able, kind):
+        return able and kind in (2, 3)
+
+    def window(self, load, c, horizon):
+        arrival, departure = self.offset(load, c.day, c.arrival), self.offset(load, c.day, c.departure)
+        if self.outside(arrival, departure, horizon):
+            return None
+        board = self.inside(departure, horizon) and c.pickup != 1
+        alight = self.inside(arrival, horizon) and c.drop_off != 1
+        return Call(c.trip, c.day, c.sequence, c.stop, self.hold(arrival, horizon), self.hold(departure, horizon),
+                    board, alight, self.request(board, c.pickup), self.request(alight, c.drop_off))
+
+    def mark(self, load):
+        return 1
+
+    def less(self, horizon):
+        return horizon - horizon // 4
+
+    def cut(self, load):
+        """The table as the window at the smaller horizon leaves it."""
+        horizon = self.less(load.horizon)
+        first_cause([(horizon < self.LEAST, 11)])
+        load.horizon, load.limits = horizon, self.mark(load)
+        seen = [(c, self.window(load, c, horizon)) for c in load.handed]
+        load.handed = [c for c, w in seen if w]
+        load.table = [w for c, w in seen if w]
+
+    def bad_call(self, load, c):
+        return c.stop >= len(load.stops) or c.trip == 65535 or c.day > 2 or c.pickup > 3 or c.drop_off > 3
+
+    def call(self, load, c):
+        self.refuse("call", [(load.searched, 15), (self.bad_call(load, c), 9)])
+        load.answers += "t" if self.taken(load, c) else "o"
+
+    def taken(self, load, c):
+        if c.arrival is None or c.departure is None:
+            return False
+        first_cause([(c.arrival > c.departure, 10)])
+        while True:
+            w = self.window(load, c, load.horizon)
+            if w is None:
+                return False
+            if len(load.table) < self.CALLS:
+                load.table.append(w)
+                load.handed.append(c)
+                return True
+            self.cut(load)
+
+    # --- transfers ---
+    def sides(self, load, stop):
+        """The stop's number and, where it has a parent, the parent's."""
+        parent = load.stops[stop].parent
+        return [stop] if parent is None else [stop, next(i for i, s in enumerate(load.stops) if s.id == parent)]
+
+    def exact(self, r, a, b):
+        return (r.src == a) + (r.dst == b)
+
+    def chosen(self, rules, a, b):
+        most = max(self.exact(r, a, b) for r in rules)
+        return [r for r in rules if self.exact(r, a, b) == most][-1]
+
+    def change(self, load):
+        return load.settings.transfer_minutes * 60
+
+    def seconds(self, load, r):
+        return max(r.seconds or 0, self.change(load))
+
+    def linked(self, load, a, b):
+        parents = load.stops[a].parent, load.stops[b].parent
+        return (a == b or (parents[0] is not None and parents[0] == parents[1])
+                or (load.places[a] is not None and load.places[a] == load.places[b]))
+
+    def transfer(self, load, a, b):
+        here, there = self.sides(load, a), self.sides(load, b)
+        rules = [r for r in load.rules if r.src in here and r.dst in there]
+        if rules:
+            r = self.chosen(rules, a, b)
+            return None if r.transfer_type == 3 else self.seconds(load, r)
+        return self.change(load) if self.linked(load, a, b) else None
+
+    def other(self, first, last):
+        return (first.trip, first.day) != (last.trip, last.day)
+
+    def meets(self, arrival, seconds, departure):
+        return arrival + seconds <= departure
+
+    # --- the search ---
+    def call_order(self, call):
+        return call.trip, call.day, call.sequence
+
+    def clash(self, a, b):
+        return (a.trip, a.day) == (b.trip, b.day) and (a.sequence == b.sequence or a.departure > b.arrival)
+
+    def bits(self, byte, count):
+        return [i for i in range(count) if byte >> i & 1]
+
+    def origins(self, load, stop):
+        return self.bits(load.stops[stop].members & 15, len(load.settings.origin_walks))
+
+    def targets(self, load, stop):
+        return self.bits(load.stops[stop].members >> 4, len(load.settings.target_walks))
+
+    def alightings(self, calls, i):
+        return [c for c in calls[i + 1:] if (c.trip, c.day) == (calls[i].trip, calls[i].day) and c.alight]
+
+    def ride(self, b, a):
+        return Ride(b.trip, b.day, b.stop, a.stop, b.departure, a.arrival, b.board_request, a.alight_request)
+
+    def boards(self, departure, walk):
+        return departure >= walk * 60
+
+    def journey(self, load, origin, target, legs):
+        walk = load.settings.origin_walks[origin]
+        due = legs[-1].arrival + load.settings.target_walks[target] * 60
+        return Journey(legs[0].departure - walk * 60, due, len(legs), walk, origin, target, legs)
+
+    def offers(self, load, calls):
+        rides = [(b, [self.ride(b, a) for a in self.alightings(calls, i)]) for i, b in enumerate(calls) if b.board]
+        lasts = [(r, self.targets(load, r.dst)) for _, rs in rides for r in rs]
+        lasts = [(r, targets) for r, targets in lasts if targets]
+        known = {}
+        for b, firsts in rides:
+            for origin in self.origins(load, b.stop):
+                if self.boards(b.departure, load.settings.origin_walks[origin]):
+                    for first in firsts:
+                        yield from self.from_first(load, origin, first, lasts, known)
+
+    def from_first(self, load, origin, first, lasts, known):
+        for target in self.targets(load, first.dst):
+            yield self.journey(load, origin, target, [first])
+        if load.settings.max_transfers == 1:
+            for last, targets in lasts:
+                pair = first.dst, last.src
+                if pair not in known:
+                    known[pair] = self.transfer(load, *pair)
+                if self.other(first, last) and known[pair] is not None and self.meets(first.arrival, known[pair], last.departure):
+                    for target in targets:
+                        yield self.journey(load, origin, target, [first, last])
+
+    def covers(self, a, b):
+        return a.leave >= b.leave and (a.arrival, a.rides, a.walk) <= (b.arrival, b.rides, b.walk)
+
+    def due(self, j):
+        return j.arrival
+
+    def late(self, load, j):
+        return self.due(j) > load.horizon
+
+    def candidate(self, load, j):
+        if self.late(load, j) or any(self.covers(k, j) for k in load.kept):
+            return
+        kept = [k for k in load.kept if not self.covers(j, k)] + [j]
+        load.kept = self.listed(load, kept)
+
+    def end(self, kept):
+        return max(self.due(k) for k in kept) - 1
+
+    def listed(self, load, kept):
+        if len(kept) <= self.LIST:
+            return kept
+        horizon = self.end(kept)
+        first_cause([(horizon < self.LEAST, 11)])
+        load.horizon, load.limits = horizon, self.mark(load)
+        return [k for k in kept if self.due(k) <= horizon]
+
+    def search(self, load):
+        first_cause([(load.searched, 15)])
+        calls = sorted(load.table, key=self.call_order)
+        first_cause([(any(self.clash(a, b) for a, b in zip(calls, calls[1:])), 14)])
+        load.places = self.group(load.stops)
+        for j in self.offers(load, calls):
+            self.candidate(load, j)
+        load.searched = True
+
+    # --- best ---
+    def rank(self, j):
+        return j.arrival, j.rides, j.walk, -j.leave
+
+    def best(self, load, second):
+        if not load.searched or second < 0 or second > load.horizon:
+            return None
+        return min((k for k in load.kept if k.leave >= second), key=self.rank, default=None)
+
+    def next_after(self, load, second, journey):
+        return self.best(load, max(second, journey.leave + 1))
