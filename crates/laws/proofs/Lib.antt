@@ -12,3 +12,6 @@ pub mod AtMost
 pub mod Cut
 pub mod Tests
 pub mod Halves
+pub mod Tails
+pub mod Bits
+pub mod Places
