@@ -1,1 +1,4 @@
 pub mod OrderLaws
+pub mod RunLaws
+pub mod OfferLaws
+pub mod AnyOrder
