@@ -1,7 +1,7 @@
 -- Flat lists over the places of a list: by a function of the place, by tests, and what is left of a count.
 use mathlib.Core.Path.{_≡_, refl, sym, ap, _∙_}
 use mathlib.Core.Bool.{Bool, true, false, cond}
-use mathlib.Core.List.{List, [], _∷_, _++_, map, append-assoc}
+use mathlib.Core.List.{List, [], _∷_, _++_, map, map-append}
 use Prim.Native.Nat.{ℕ, zero, suc, _+_, _-_, _≤_, _<_}
 use native.Mathlib.Omega.{arith}
 use native.Mathlib.Numerals.{add-one}
@@ -28,6 +28,11 @@ module _ {A B : Type 0} where
       let q : n - (i + 1) ≡ k = omega arith in
       rw (q, add-one i, tails-span at g n k (suc i) (omega arith))
 
+module _ {A B : Type 0} where
+  pub map-cond : (c : Bool) (f : A → B) (xs : List A) → map f (cond c xs []) ≡ cond c (map f xs) []
+  map-cond true f xs = refl
+  map-cond false f xs = refl
+
 module _ {A B C : Type 0} where
   pub concatMap-map : (f : C → B) (g : B → List A) (xs : List C) → concatMap g (map f xs) ≡ concatMap (λ x. g (f x)) xs
   concatMap-map f g [] = refl
@@ -35,17 +40,9 @@ module _ {A B C : Type 0} where
 
   pub map-concatMap : (f : A → B) (g : C → List A) (xs : List C) → map f (concatMap g xs) ≡ concatMap (λ x. map f (g x)) xs
   map-concatMap f g [] = refl
-  map-concatMap f g (x ∷ xs) = map-join f (g x) (concatMap g xs) ∙ ap (λ (r : List B). map f (g x) ++ r) (map-concatMap f g xs)
-    where
-      map-join : (f : A → B) (xs ys : List A) → map f (xs ++ ys) ≡ map f xs ++ map f ys
-      map-join f [] ys = refl
-      map-join f (x ∷ xs) ys = ap {B = List B} (λ r. f x ∷ r) (map-join f xs ys)
+  map-concatMap f g (x ∷ xs) = map-append f (g x) (concatMap g xs) ∙ ap (λ (r : List B). map f (g x) ++ r) (map-concatMap f g xs)
 
 module _ {A B : Type 0} where
-  pub map-cond : (c : Bool) (f : A → B) (xs : List A) → map f (cond c xs []) ≡ cond c (map f xs) []
-  map-cond true f xs = refl
-  map-cond false f xs = refl
-
   pub takeWhile-map : (f : B → A) (p : A → Bool) (xs : List B) → takeWhile p (map f xs) ≡ map f (takeWhile (λ x. p (f x)) xs)
   takeWhile-map f p [] = refl
   takeWhile-map f p (x ∷ xs) = go (p (f x)) (takeWhile-map f p xs)
