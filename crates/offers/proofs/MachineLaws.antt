@@ -11,7 +11,7 @@ use Rattle.profile.specs.Figures.{covᶠ, dueᶠ}
 use Rattle.profile.specs.Kept.{going, searched}
 use Rattle.profile.specs.Fall.{Ends, upTo, never, fall, keeping}
 use Rattle.profile.specs.Best.{bestℤ, readBy, Covers}
-use Rattle.profile.specs.Claims.{Found}
+use Rattle.profile.specs.Claims.{Keeps}
 use Rattle.profile.specs.Journeys.{journeyFigures}
 use Rattle.profile.proofs.ClaimLaws.{kept-is-front, kept-covers, kept-complete, search-is-fall, alike}
 use Rattle.offers.specs.Offers.{Timetable, offers}
@@ -28,7 +28,7 @@ covered-by g t t′ e e′ = (
 )
 
 -- what a search comes to, by the offers alone
-reached : (h₀ l₀ h l : ℕ) (os ks : List Journey) → Found journeyFigures h₀ l₀ os ks h l → fall (covᶠ journeyFigures) (dueᶠ journeyFigures) 64 3600 h₀ l₀ [] os ≡ upTo h l
+reached : (h₀ l₀ h l : ℕ) (os ks : List Journey) → Keeps journeyFigures h₀ l₀ os ks h l → fall (covᶠ journeyFigures) (dueᶠ journeyFigures) 64 3600 h₀ l₀ [] os ≡ upTo h l
 reached h₀ l₀ h l os ks e = go (fall (covᶠ journeyFigures) (dueᶠ journeyFigures) 64 3600 h₀ l₀ [] os) (sym (search-is-fall journeyFigures h₀ l₀ os) ∙ e)
   where
     go : (x : Ends) → keeping (covᶠ journeyFigures) (dueᶠ journeyFigures) os x ≡ going ks h l → x ≡ upTo h l
@@ -40,7 +40,7 @@ module _ (M : Machine) (w : Steps M) where
   record Came (p l : M .Load) : Type 0 where
     from : w .Sound p
     clear : Clear (M .timetable p)
-    ran : Found journeyFigures (M .table-horizon p) (M .table-limits p) (offers (M .timetable p)) (M .kept l) (M .horizon l) (M .limits l)
+    ran : Keeps journeyFigures (M .table-horizon p) (M .table-limits p) (offers (M .timetable p)) (M .kept l) (M .horizon l) (M .limits l)
 
   came-step : (p l : M .Load) (x : M .Step) → w .Sound l → (M .done l ≡ true → Came p l) → M .done (M .step l x) ≡ true → Came (cond (accepts M l x) l p) (M .step l x)
   came-step p l x s c e = go (M .done l) refl
