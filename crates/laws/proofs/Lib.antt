@@ -12,3 +12,7 @@ pub mod AtMost
 pub mod Cut
 pub mod Tests
 pub mod Halves
+pub mod Insertion
+pub mod Tables
+pub mod Order
+pub mod Stores

@@ -1,3 +1,5 @@
 pub mod Lists
 pub mod Sort
 pub mod Floats
+pub mod Tables
+pub mod Order
