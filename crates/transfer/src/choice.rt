@@ -1,12 +1,11 @@
 // The rule that holds for a change: of those that apply the one with most exact sides, the last taken of equals.
 ghost use mathlib.Core.Path.{_≡_};
-ghost use Prim.Native.Nat.{_<_};
 ghost use Rattle.transfer.specs.Choice.{applies, exact, read, chosen};
-ghost use Rattle.transfer.specs.Copied.{ruleAt, rulesOf, least};
+ghost use Rattle.transfer.specs.Copied.{rulesOf, least};
 use crate::Chosen;
 use crate::Ends;
-use crate::copied::at_most;
-use crate::copied::rule_at;
+use crate::reads::at_most;
+use crate::reads::rule_at;
 use rules::Rule;
 
 // Whether a rule is for these stops, or for their parents.

@@ -1,7 +1,9 @@
 // The time that a change from one stop to another takes, and which rides join.
-pub mod choice;
+mod choice;
 pub mod copied;
 pub mod pair;
+mod parts;
+mod reads;
 pub mod row;
 
 use rules::Rule;

@@ -9,30 +9,23 @@ ghost use Rattle.laws.specs.Tables.{table};
 ghost use Rattle.transfer.specs.Copied.{rulesOf, least};
 ghost use Rattle.transfer.specs.Rows.{changeRow, openEntry, levelOf, entryTurn, readEntry, readRow};
 use crate::Chosen;
-use crate::copied::at_most;
-use crate::copied::number_at;
-use crate::copied::rule_at;
-use crate::pair::are_near;
-use crate::pair::change_by;
-use crate::pair::change_number;
-use crate::pair::ends_of;
-use crate::pair::rule_change;
+use crate::parts::are_near;
+use crate::parts::change_by;
+use crate::parts::change_number;
+use crate::parts::ends_of;
+use crate::parts::rule_change;
+use crate::reads::at_most;
+use crate::reads::number_at;
+use crate::reads::rule_at;
 use rules::Rule;
 
 // A row that is lent has its length.
 fn known_row(row: [u32; 128])
     ensures { λ _. ⌜ length row ≡ 128 ⌝ }
-{
-}
+{}
 
 // The entry of the stop `to` with no rule read.
-fn open_entry(
-    parents: &[u16; 128],
-    places: &[u16; 128],
-    from: u16,
-    to: u16,
-    change: u16,
-) -> u32
+fn open_entry(parents: &[u16; 128], places: &[u16; 128], from: u16, to: u16, change: u16) -> u32
     ensures { λ r. ⌜ r ≡ openEntry (now (parents .entry)) (now (places .entry)) from change to ⌝ }
 {
     let ends = ends_of(parents, from, to);
@@ -43,13 +36,7 @@ fn open_entry(
     change_number(open) * 4
 }
 
-fn open_row(
-    row: &mut [u32; 128],
-    parents: &[u16; 128],
-    places: &[u16; 128],
-    from: u16,
-    change: u16,
-)
+fn open_row(row: &mut [u32; 128], parents: &[u16; 128], places: &[u16; 128], from: u16, change: u16)
     ensures { λ _. ⌜ now (row .exit) ≡ table 128 (openEntry (now (parents .entry)) (now (places .entry)) from change) ⌝ }
 {
     known_row(*row);

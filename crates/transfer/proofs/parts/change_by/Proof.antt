@@ -4,8 +4,8 @@ use borrow.Author.Needs.{needs}
 use Rattle.laws.proofs.Bools.{cond-by, cond-not}
 use Rattle.transfer.specs.declared.Chosen.{Chosen}
 use Rattle.transfer.specs.Changes.{changeOf}
-use Rattle.transfer.proofs.pair.change_by.Statement.{statement}
-use Rattle.transfer.proofs.pair.change_by.Tie as tie
+use Rattle.transfer.proofs.parts.change_by.Statement.{statement}
+use Rattle.transfer.proofs.parts.change_by.Tie as tie
 
 enum-known-rule : tie.Need-enum-known-rule
 enum-known-rule c = search needs

@@ -7,8 +7,8 @@ use borrow.Author.Tests.{eq-eqb, ne-eqb, le-leb, lt-leb}
 use mathlib.Core.Bool.{not}
 use mathlib.Core.Logic.{⊎-elim}
 use borrow.Author.Needs.{needs}
-use Rattle.transfer.proofs.pair.are_near.Statement.{statement}
-use Rattle.transfer.proofs.pair.are_near.Tie as tie
+use Rattle.transfer.proofs.parts.are_near.Statement.{statement}
+use Rattle.transfer.proofs.parts.are_near.Tie as tie
 
 returns : tie.Need-returns
 returns c = sym (or-by _ (eq-eqb _ _ (c .if1 .taken)))

@@ -2,8 +2,8 @@
 use mathlib.Core.Path.{sym}
 use borrow.Author.Tests.{le-leb, lt-leb}
 use Rattle.laws.proofs.Bools.{cond-by, cond-not}
-use Rattle.transfer.proofs.copied.at_most.Statement.{statement}
-use Rattle.transfer.proofs.copied.at_most.Tie as tie
+use Rattle.transfer.proofs.reads.at_most.Statement.{statement}
+use Rattle.transfer.proofs.reads.at_most.Tie as tie
 
 returns : tie.Need-returns
 returns c = sym (cond-by _ _ (le-leb _ _ (c .if1 .taken)))

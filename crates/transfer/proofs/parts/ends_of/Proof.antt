@@ -2,8 +2,8 @@
 use mathlib.Core.Path.{_≡_}
 use borrow.Author.Needs.{needs}
 use Rattle.transfer.specs.Changes.{endsOf}
-use Rattle.transfer.proofs.pair.ends_of.Statement.{statement}
-use Rattle.transfer.proofs.pair.ends_of.Tie as tie
+use Rattle.transfer.proofs.parts.ends_of.Statement.{statement}
+use Rattle.transfer.proofs.parts.ends_of.Tie as tie
 
 number-at-requires : tie.Need-number-at-requires
 number-at-requires c κs = search needs

@@ -4,8 +4,8 @@ use mathlib.Core.Path.{sym}
 use native.Mathlib.Omega.{arith}
 use lib.ListN.{List·getD-eq-default}
 use Rattle.transfer.proofs.Laws.{getD-any}
-use Rattle.transfer.proofs.copied.number_at.Statement.{statement}
-use Rattle.transfer.proofs.copied.number_at.Tie as tie
+use Rattle.transfer.proofs.reads.number_at.Statement.{statement}
+use Rattle.transfer.proofs.reads.number_at.Tie as tie
 
 known-requires : tie.Need-known-requires
 known-requires c κs = search needs
