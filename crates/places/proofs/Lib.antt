@@ -4,3 +4,4 @@ pub mod Numbers
 pub mod Orders
 pub mod First
 pub mod Invariant
+pub mod Claims
