@@ -1,5 +1,5 @@
 -- The order of byte strings is strict; and a loop over two held texts compares them byte by byte.
-use mathlib.Core.Path.{_≡_, refl, sym, ap, ap₂, _∙_}
+use mathlib.Core.Path.{_≡_, refl, sym, _∙_}
 use mathlib.Core.Logic.{_⊎_, inl, inr}
 use mathlib.Core.Bool.{Bool, true, false, true≢false, false≢true}
 use mathlib.Core.List.{List, [], _∷_}

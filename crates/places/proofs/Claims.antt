@@ -1,5 +1,5 @@
 -- Every stop with a key has the right place, a stop without one has none, and places are not merged through a chain.
-use Prim.Native.Nat.{ℕ, zero, suc, _^_, _≤_, _<_}
+use Prim.Native.Nat.{ℕ, _^_, _≤_, _<_}
 use mathlib.Core.Path.{_≡_, refl, sym, ap, _∙_, subst}
 use mathlib.Core.Logic.{_⊎_, inl, inr}
 use mathlib.Core.Bool.{Bool, true, false, cond, not, true≢false}
@@ -8,16 +8,14 @@ use native.Mathlib.Nat.{le-trans}
 use native.Mathlib.Omega.{arith}
 use lib.Dec.{eqb, lit≤}
 use lib.IntN.{natAbs}
-use lib.ListN.{length, getD, take}
+use lib.ListN.{length, take}
 use Rattle.laws.specs.Lists.{span, foldl}
-use Rattle.laws.specs.Sort.{sort, Strict, Ordered}
-use Rattle.laws.proofs.Bools.{cond-by}
+use Rattle.laws.specs.Sort.{sort, Strict}
 use Rattle.laws.proofs.Folds.{mem-span}
 use Rattle.laws.proofs.Order.{strict-bytes}
 use Rattle.laws.proofs.Sort.{sort-ordered, mem-sort}
 use Rattle.place.specs.declared.PlaceKey.{PlaceKey}
 use Rattle.place.specs.Keys.{placeKey, noPlace}
-use Rattle.place.specs.Near.{sameKeys}
 use Rattle.place.specs.Positions.{positionOf}
 use Rattle.place.specs.Promises.{LatFits}
 use Rattle.place.proofs.Placed.{key-in-range}
@@ -26,11 +24,11 @@ use Rattle.stops.specs.declared.Stop.{Stop}
 use Rattle.stops.specs.Stops.{idOf}
 use Rattle.stops.specs.Sound.{stopAt}
 use Rattle.places.specs.Keys.{stopKey, keyAt}
-use Rattle.places.specs.Places.{hasKey, samePlace, idLess, Groups, place, none, idOrder, groupsOf, placesOf}
+use Rattle.places.specs.Places.{hasKey, samePlace, idLess, place, none, idOrder, groupsOf, placesOf}
 use Rattle.places.specs.Promises.{placeAt, PlaceRight, EveryPlace, NoKeyNoPlace, ChainNotMerged}
-use Rattle.places.proofs.Orders.{Apart, order-apart}
+use Rattle.places.proofs.Orders.{order-apart}
 use Rattle.places.proofs.Numbers.{order-below}
-use Rattle.places.proofs.Invariant.{Has, Good, good-all}
+use Rattle.places.proofs.Invariant.{Good, good-all}
 
 strict-ids : (ss : List Stop) → Strict (idLess ss)
 unfolding idLess

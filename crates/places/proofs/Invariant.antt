@@ -1,5 +1,5 @@
 -- What holds of the representatives and the places once some stops are placed, for any test `same` and order `lt`.
-use Prim.Native.Nat.{ℕ, zero, suc, _≤_, _<_}
+use Prim.Native.Nat.{ℕ, zero, suc, _<_}
 use mathlib.Core.Path.{_≡_, refl, sym, ap, _∙_, subst}
 use mathlib.Core.Logic.{_⊎_, inl, inr, _≢_}
 use mathlib.Core.Bool.{Bool, true, false, cond, true≢false}
@@ -140,9 +140,11 @@ module _ (same : ℕ → ℕ → Bool) (keyed : ℕ → Bool) (lt : ℕ → ℕ 
                   least = λ y j s. least k (w .0) (w .1) y s (List·Memᴰ·append-cases (g .reps) j);
                 },
               )
-          each k q (inr e) =
-              (i, subst (λ (j : ℕ). Has (placed g i Nothing) j i) (sym e)
-              (record { at = here i; rep = Memᴰ·append-right (g .reps) (List·Memᴰ·head refl); fits = inl refl; least = λ y j s. mine y s (List·Memᴰ·append-cases (g .reps) j) }))
+          each k q (inr e) = (
+            i,
+            subst (λ (j : ℕ). Has (placed g i Nothing) j i) (sym e)
+                (record { at = here i; rep = Memᴰ·append-right (g .reps) (List·Memᴰ·head refl); fits = inl refl; least = λ y j s. mine y s (List·Memᴰ·append-cases (g .reps) j) }),
+          )
 
       by-found : (f : Found) → Right (same i) lt o (g .reps) f → Good (done ++ i ∷ []) (placed g i f)
       by-found (At r) w = good-join r w

@@ -1,39 +1,31 @@
 -- What the proofs of this crate share: texts in arrays, the entry that the code makes, the grouping of entries.
-use Prim.Native.Nat.{ℕ, zero, suc, _+_, _%_, _≤_, _<_}
-use mathlib.Core.Path.{_≡_, refl, sym, ap, ap₂, _∙_}
+use Prim.Native.Nat.{ℕ, zero, suc, _+_, _≤_, _<_}
+use mathlib.Core.Path.{_≡_, refl, sym, ap, _∙_}
 use mathlib.Core.Logic.{inl}
 use mathlib.Core.Bool.{Bool, true, false, cond, not}
-use mathlib.Core.List.{List, [], _∷_, _++_, map, map-append, List·Memᴰ, List·Memᴰ·head, List·Memᴰ·tail}
-use native.Mathlib.Numerals.{add-one}
-use native.Mathlib.Nat.{mod-eq-of-lt}
+use mathlib.Core.List.{List, [], _∷_}
 use native.Mathlib.Omega.{arith}
 use lib.Dec.{leb, ltb, eqb}
-use lib.ListN.{length, getD, take, drop, set, length-take, length-set, List·getD-eq-default}
+use lib.ListN.{length, getD, take, drop, length-take, List·getD-eq-default}
 use lib.Seq.{take-all, take-at, length-take-le, getD-take}
-use borrow.Author.Tests.{leb-true, leb-false, lt-ltb, le-ltb, ltb-true, ltb-false, eq-eqb, ne-eqb, eqb-true, eqb-false}
-use Rattle.laws.specs.Lists.{foldl, span}
+use borrow.Author.Tests.{leb-true, leb-false, ltb-true, ltb-false}
 use Rattle.laws.specs.Sort.{sort}
-use Rattle.laws.specs.Tables.{table}
 use Rattle.laws.proofs.Bools.{cond-by, cond-not}
-use Rattle.laws.proofs.Folds.{foldl-append}
 use Rattle.laws.proofs.Insertion.{from, done}
-use Rattle.laws.proofs.Sort.{length-sort, sort-mem}
-use Rattle.laws.proofs.Tables.{sort-map}
+use Rattle.laws.proofs.Sort.{length-sort}
 use Rattle.laws.proofs.Turns.{drop-take-cons, drop-take-nil}
 use Rattle.place.specs.declared.PlaceKey.{PlaceKey}
 use Rattle.place.specs.Keys.{placeKey, noPlace}
 use Rattle.place.specs.Near.{sameKeys}
 use Rattle.place.specs.Positions.{positionOf}
-use Rattle.place.proofs.Placed.{placed}
 use Rattle.stops.specs.declared.Stop.{Stop}
 use Rattle.stops.specs.Stops.{idOf}
 use Rattle.stops.specs.Sound.{stopAt}
 use Rattle.stops.specs.Taken.{blankStop}
 use Rattle.places.specs.declared.Entry.{Entry}
-use Rattle.places.specs.declared.Found.{Found}
 use Rattle.places.specs.declared.Found.the-variants.{At, Nothing}
-use Rattle.places.specs.Keys.{stopKey, keyAt}
-use Rattle.places.specs.Entries.{least, within, held, parentId, entryOf, entryAt, idBefore, firstEntry, EntryGroups, put, placeEntry, noEntries, groupEntries}
+use Rattle.places.specs.Keys.{stopKey}
+use Rattle.places.specs.Entries.{least, within, parentId, entryOf, entryAt, firstEntry}
 
 pub least-under : (a b : ℕ) → least a b ≤ b
 least-under a b = go (leb a b) refl

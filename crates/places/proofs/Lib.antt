@@ -5,3 +5,4 @@ pub mod Orders
 pub mod First
 pub mod Invariant
 pub mod Claims
+pub mod InstanceLaws

@@ -15,7 +15,7 @@ use Rattle.stops.specs.Sound.{stopAt}
 use Rattle.places.specs.declared.Entry.{Entry}
 use Rattle.places.specs.declared.Found.{Found}
 use Rattle.places.specs.declared.Found.the-variants.{At, Nothing}
-use Rattle.places.specs.Keys.{stopKey, keyAt}
+use Rattle.places.specs.Keys.{stopKey}
 
 abbrev pub least : ℕ → ℕ → ℕ
 least a b = cond (leb a b) a b

@@ -1,5 +1,5 @@
 -- The place key of a stop of a load. "Only stops of type 0 have a place key."
-use mathlib.Core.Bool.{Bool, not, cond}
+use mathlib.Core.Bool.{not, cond}
 use mathlib.Core.List.{List}
 use Prim.Native.Nat.{ℕ}
 use lib.Dec.{eqb}

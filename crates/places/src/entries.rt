@@ -44,13 +44,11 @@ fn blank_entry() -> Entry
 // An array has its length.
 fn known32(a: [u8; 32])
     ensures { λ _. ⌜ length a ≡ 32 ⌝ }
-{
-}
+{}
 
 fn known64(a: [u8; 64])
     ensures { λ _. ⌜ length a ≡ 64 ⌝ }
-{
-}
+{}
 
 // The place key of texts that are held in arrays.
 fn text_key(

@@ -1,20 +1,16 @@
 -- What a chosen rule gives, what holds of the rules of a sound load, and what a row decides.
 use mathlib.Core.Path.{_≡_, refl, sym, ap, _∙_}
 use mathlib.Core.Logic.{_⊎_, inl, inr}
-use mathlib.Core.Bool.{Bool, true, false, cond, _&&_, true≢false}
-use mathlib.Core.List.{List}
-use Prim.Native.Nat.{ℕ, _+_, _≤_, _<_}
+use mathlib.Core.Bool.{true≢false}
+use Prim.Native.Nat.{ℕ, _+_, _<_}
 use native.Mathlib.Omega.{arith}
-use lib.Dec.{leb, eqb}
+use lib.Dec.{leb}
 use lib.ListN.{getD}
 use borrow.Author.Tests.{eq-eqb, lt-leb}
-use Rattle.laws.specs.Tables.{table}
 use Rattle.laws.proofs.Bools.{cond-by, and-true}
 use Rattle.laws.proofs.Order.{tri}
 use Rattle.laws.proofs.Tables.{getD-table}
-use Rattle.rules.specs.declared.Rule.{Rule}
-use Rattle.rules.specs.Rules.{samePair}
-use Rattle.rules.specs.Sound.{ruleAt, RulesSound}
+use Rattle.rules.specs.Sound.{ruleAt}
 use Rattle.stops.specs.Sound.{stopAt}
 use Rattle.transfer.specs.declared.Chosen.{Chosen}
 use Rattle.transfer.specs.declared.Change.{Change}

@@ -1,7 +1,7 @@
 -- An entry of a row while the rules are read, case by case, and that it keeps up with the rule chosen.
-use Prim.Native.Nat.{ℕ, zero, suc, _+_, _*_, _%_, _/_, _≤_, _<_}
+use Prim.Native.Nat.{ℕ, _+_, _*_, _%_, _/_, _≤_, _<_}
 use mathlib.Core.Path.{_≡_, refl, sym, ap, ap₂, _∙_}
-use mathlib.Core.Bool.{Bool, true, false, cond, _&&_, _||_, true≢false, false≢true}
+use mathlib.Core.Bool.{Bool, true, false, cond, _||_, true≢false, false≢true}
 use mathlib.Core.List.{List, [], _∷_}
 use native.Mathlib.Omega.{arith}
 use native.Mathlib.Nat.{mod-eq-of-lt, mul-add-mod-self-left}
@@ -17,7 +17,7 @@ use Rattle.transfer.specs.declared.Ends.{Ends}
 use Rattle.transfer.specs.declared.Chosen.{Chosen}
 use Rattle.transfer.specs.declared.Chosen.the-variants.{By, Open}
 use Rattle.transfer.specs.declared.Change.{Change}
-use Rattle.transfer.specs.Choice.{side, bit, applies, exact, better, read, chosen}
+use Rattle.transfer.specs.Choice.{side, bit, exact, better, read, chosen}
 use Rattle.transfer.specs.Changes.{endsOf, near, ruleChange, changeOf, transferOf, changeNumber}
 use Rattle.transfer.proofs.Laws.{read-none}
 use Rattle.transfer.specs.Rows.{packed, closeTo, openEntry, levelOf, entryTurn, readEntry, readRow, entryOf, changeRow}

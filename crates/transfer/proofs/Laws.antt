@@ -1,7 +1,7 @@
 -- What the proofs of this crate share: rules read one by one, the parts of a transfer, the smaller of two numbers.
 use Prim.Native.Nat.{ℕ, zero, suc, _+_, _<_, _≤_}
-use mathlib.Core.Path.{_≡_, refl, sym, ap, _∙_}
-use mathlib.Core.List.{List, [], _∷_, _++_}
+use mathlib.Core.Path.{_≡_, refl, _∙_}
+use mathlib.Core.List.{List, [], _∷_}
 use mathlib.Core.Bool.{Bool, true, false, cond}
 use native.Mathlib.Numerals.{add-one}
 use native.Mathlib.Omega.{arith}
@@ -9,16 +9,15 @@ use lib.Dec.{leb}
 use borrow.Author.Tests.{leb-true}
 use lib.ListN.{length, getD}
 use Rattle.laws.specs.Lists.{foldl}
-use Rattle.laws.proofs.Bools.{cond-by, cond-not}
+use Rattle.laws.proofs.Bools.{cond-not}
 use Rattle.laws.proofs.Folds.{foldl-append}
 use Rattle.rules.specs.declared.Rule.{Rule}
 use Rattle.transfer.specs.declared.Ends.{Ends}
 use Rattle.transfer.specs.declared.Chosen.{Chosen}
 use Rattle.transfer.specs.declared.Chosen.the-variants.{By, Open}
 use Rattle.transfer.specs.declared.Change.{Change}
-use Rattle.transfer.specs.declared.Change.the-variants.{Takes, Never}
 use Rattle.transfer.specs.Choice.{bit, applies, read, chosen}
-use Rattle.transfer.specs.Changes.{endsOf, near, changeOf, transferOf, joinsBy, joinOf}
+use Rattle.transfer.specs.Changes.{endsOf, near, changeOf, transferOf}
 use Rattle.transfer.specs.Copied.{least, ruleAt, rulesOf}
 
 pub bits : {p q a b : Bool} → p ≡ a → q ≡ b → bit p + bit q ≡ bit a + bit b

@@ -4,16 +4,16 @@ use mathlib.Core.Bool.{true, false}
 use mathlib.Core.List.{List, _++_, _∷_, List·Memᴰ}
 use Prim.Native.Nat.{ℕ, _+_, _≤_, _<_}
 use lib.Dec.{leb}
-use lib.ListN.{take, getD}
+use lib.ListN.{getD}
 use Rattle.rules.specs.declared.Rule.{Rule}
 use Rattle.rules.specs.Sound.{ruleAt, RulesSound}
 use Rattle.stops.specs.declared.Stop.{Stop}
-use Rattle.stops.specs.Sound.{stopAt, StopsSound}
+use Rattle.stops.specs.Sound.{stopAt}
 use Rattle.transfer.specs.declared.Ends.{Ends}
 use Rattle.transfer.specs.declared.Chosen.{Chosen}
 use Rattle.transfer.specs.declared.Chosen.the-variants.{By, Open}
 use Rattle.transfer.specs.declared.Change.the-variants.{Never}
-use Rattle.transfer.specs.Choice.{applies, exact, better, chosen}
+use Rattle.transfer.specs.Choice.{applies, better, chosen}
 use Rattle.transfer.specs.Changes.{transferOf, endsOf, joinsBy}
 use Rattle.transfer.specs.Copied.{parentsOf}
 use Rattle.transfer.specs.Rows.{changeRow}

@@ -1,7 +1,6 @@
 -- The two cases.
-use borrow.Author.Needs.{needs}
-use mathlib.Core.Path.{_≡_, refl, sym, ap, ap₂, _∙_}
-use borrow.Author.Tests.{eq-eqb, ne-eqb, le-leb, lt-leb, lt-ltb, le-ltb}
+use mathlib.Core.Path.{sym}
+use borrow.Author.Tests.{le-leb, lt-leb}
 use Rattle.laws.proofs.Bools.{cond-by, cond-not}
 use Rattle.places.proofs.entries.at_most.Statement.{statement}
 use Rattle.places.proofs.entries.at_most.Tie as tie

@@ -1,6 +1,6 @@
 -- The blank entry.
 use borrow.Author.Needs.{needs}
-use mathlib.Core.Path.{_≡_, refl, sym, ap, ap₂, _∙_}
+use mathlib.Core.Path.{ap}
 use Rattle.place.specs.declared.PlaceKey.{PlaceKey}
 use lib.ListN.{replicate}
 use Rattle.places.specs.declared.Entry.{Entry}

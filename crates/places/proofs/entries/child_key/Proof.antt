@@ -1,11 +1,9 @@
 -- What is held of the parent's id.
 use borrow.Author.Needs.{needs}
-use mathlib.Core.Path.{_≡_, refl, sym, ap, ap₂, _∙_}
+use mathlib.Core.Path.{sym, ap, _∙_}
 use native.Mathlib.Omega.{arith}
-use Prim.Native.Nat.{ℕ, _+_, _-_, _≤_, _<_}
-use lib.ListN.{length, take}
+use Prim.Native.Nat.{_-_}
 use lib.Seq.{length-take-le}
-use mathlib.Core.List.{List}
 use Rattle.places.specs.Keys.{stopKey}
 use Rattle.places.proofs.Laws.{least-under, take-least}
 use Rattle.places.proofs.entries.child_key.Statement.{statement}

@@ -1,8 +1,8 @@
 -- Each place is filled with its entry.
 use borrow.Author.Needs.{needs}
-use mathlib.Core.Path.{_≡_, refl, sym, ap, ap₂, _∙_}
+use mathlib.Core.Path.{_≡_, refl}
 use native.Mathlib.Omega.{arith}
-use Prim.Native.Nat.{ℕ, _+_, _-_, _≤_, _<_}
+use Prim.Native.Nat.{_-_, _≤_, _<_}
 use lib.ListN.{length, getD, take}
 use Rattle.laws.proofs.Tables.{Filled, filled-none, filled-more, filled-front}
 use Rattle.stops.proofs.Texts.{past}

@@ -1,8 +1,7 @@
 -- The record, with the key of the parent's id.
 use borrow.Author.Needs.{needs}
-use mathlib.Core.Path.{_≡_, refl, sym, ap, ap₂, _∙_}
+use mathlib.Core.Path.{ap, _∙_}
 use lib.ListN.{take}
-use mathlib.Core.List.{List}
 use Prim.Native.Nat.{ℕ}
 use Rattle.place.specs.declared.PlaceKey.{PlaceKey}
 use Rattle.places.specs.declared.Entry.{Entry}

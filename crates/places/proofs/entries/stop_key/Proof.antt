@@ -1,7 +1,7 @@
 -- A station has no key; of a stop of type 0 the key of its texts.
 use borrow.Author.Needs.{needs}
-use mathlib.Core.Path.{_≡_, refl, sym, ap, ap₂, _∙_}
-use borrow.Author.Tests.{eq-eqb, ne-eqb, le-leb, lt-leb, lt-ltb, le-ltb}
+use mathlib.Core.Path.{refl, ap, _∙_}
+use borrow.Author.Tests.{eq-eqb, ne-eqb}
 use mathlib.Core.Bool.{not}
 use Rattle.place.specs.declared.Position.{Position}
 use Rattle.place.specs.Keys.{placeKey}

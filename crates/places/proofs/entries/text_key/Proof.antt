@@ -1,13 +1,11 @@
 -- What is held of the name and of the id.
 use borrow.Author.Needs.{needs}
-use mathlib.Core.Path.{_≡_, refl, sym, ap, ap₂, _∙_}
+use mathlib.Core.Path.{sym, ap₂, _∙_}
 use native.Mathlib.Omega.{arith}
-use Prim.Native.Nat.{ℕ, _+_, _-_, _≤_, _<_}
-use lib.ListN.{length, take}
+use Prim.Native.Nat.{ℕ, _-_}
 use lib.Seq.{length-take-le}
 use mathlib.Core.List.{List}
 use Rattle.place.specs.Keys.{placeKey}
-use Rattle.places.specs.Entries.{least}
 use Rattle.places.proofs.Laws.{least-under, take-least}
 use Rattle.places.proofs.entries.text_key.Statement.{statement}
 use Rattle.places.proofs.entries.text_key.Tie as tie

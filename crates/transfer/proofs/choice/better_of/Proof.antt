@@ -1,12 +1,12 @@
 -- The four ends of reading one more rule.
-use Rattle.laws.proofs.Bools.{and-by, and-not, or-by, or-not, cond-by, cond-not}
+use Rattle.laws.proofs.Bools.{cond-by, cond-not}
 use Rattle.transfer.specs.Choice.{read}
 use Rattle.transfer.proofs.Laws.{read-none}
 use mathlib.Core.Path.{ap₂}
 use lib.Dec.{leb}
 use Rattle.transfer.specs.declared.Chosen.{Chosen}
-use mathlib.Core.Path.{_≡_, refl, sym, ap, _∙_}
-use borrow.Author.Tests.{eq-eqb, ne-eqb, le-leb, lt-leb}
+use mathlib.Core.Path.{sym, ap, _∙_}
+use borrow.Author.Tests.{le-leb, lt-leb}
 use borrow.Author.Needs.{needs}
 use Rattle.transfer.proofs.choice.better_of.Statement.{statement}
 use Rattle.transfer.proofs.choice.better_of.Tie as tie

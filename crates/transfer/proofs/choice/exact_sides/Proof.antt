@@ -1,9 +1,7 @@
 -- The four pairs of tests.
-use Rattle.laws.proofs.Bools.{and-by, and-not, or-by, or-not, cond-by, cond-not}
 use Rattle.transfer.proofs.Laws.{bits}
-use mathlib.Core.Path.{_≡_, refl, sym, ap, _∙_}
-use borrow.Author.Tests.{eq-eqb, ne-eqb, le-leb, lt-leb}
-use borrow.Author.Needs.{needs}
+use mathlib.Core.Path.{sym}
+use borrow.Author.Tests.{eq-eqb, ne-eqb}
 use Rattle.transfer.proofs.choice.exact_sides.Statement.{statement}
 use Rattle.transfer.proofs.choice.exact_sides.Tie as tie
 

@@ -1,8 +1,7 @@
 -- Each end of the tests, in the order of the definition.
-use Rattle.laws.proofs.Bools.{and-by, and-not, or-by, or-not, cond-by, cond-not}
-use mathlib.Core.Path.{_≡_, refl, sym, ap, _∙_}
-use borrow.Author.Tests.{eq-eqb, ne-eqb, le-leb, lt-leb}
-use borrow.Author.Needs.{needs}
+use Rattle.laws.proofs.Bools.{and-by, and-not, or-by, or-not}
+use mathlib.Core.Path.{sym, _∙_}
+use borrow.Author.Tests.{eq-eqb, ne-eqb}
 use Rattle.transfer.proofs.choice.rule_applies.Statement.{statement}
 use Rattle.transfer.proofs.choice.rule_applies.Tie as tie
 

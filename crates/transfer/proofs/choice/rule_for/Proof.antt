@@ -1,6 +1,6 @@
 -- The rule that holds among the first i is that of the loop.
 use mathlib.Core.Path.{_≡_, ap, ap₂, sym, _∙_}
-use Prim.Native.Nat.{ℕ, _+_, _-_, _≤_, _<_}
+use Prim.Native.Nat.{ℕ, _-_, _≤_}
 use native.Mathlib.Omega.{arith}
 use Rattle.transfer.specs.declared.Chosen.the-variants.{Open}
 use Rattle.transfer.specs.Choice.{read, chosen}

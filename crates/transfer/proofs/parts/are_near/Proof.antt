@@ -1,12 +1,11 @@
 -- The three ways of being near, in order.
-use Rattle.laws.proofs.Bools.{and-by, and-not, or-by, or-not, cond-by, cond-not}
-use mathlib.Core.Bool.{Bool, false, _&&_}
+use Rattle.laws.proofs.Bools.{and-by, and-not, or-by, or-not}
+use mathlib.Core.Bool.{false, _&&_}
 use lib.Dec.{eqb}
-use mathlib.Core.Path.{_≡_, refl, sym, ap, _∙_}
-use borrow.Author.Tests.{eq-eqb, ne-eqb, le-leb, lt-leb}
+use mathlib.Core.Path.{_≡_, sym, ap, _∙_}
+use borrow.Author.Tests.{eq-eqb, ne-eqb}
 use mathlib.Core.Bool.{not}
 use mathlib.Core.Logic.{⊎-elim}
-use borrow.Author.Needs.{needs}
 use Rattle.transfer.proofs.parts.are_near.Statement.{statement}
 use Rattle.transfer.proofs.parts.are_near.Tie as tie
 

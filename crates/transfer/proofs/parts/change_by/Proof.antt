@@ -1,7 +1,7 @@
 -- By the rule, near, or not near.
 use mathlib.Core.Path.{sym, ap, _∙_}
 use borrow.Author.Needs.{needs}
-use Rattle.laws.proofs.Bools.{cond-by, cond-not}
+use Rattle.laws.proofs.Bools.{cond-by}
 use Rattle.transfer.specs.declared.Chosen.{Chosen}
 use Rattle.transfer.specs.Changes.{changeOf}
 use Rattle.transfer.proofs.parts.change_by.Statement.{statement}

@@ -1,5 +1,4 @@
 -- The two stops, and what the array has for each.
-use mathlib.Core.Path.{_≡_}
 use borrow.Author.Needs.{needs}
 use Rattle.transfer.specs.Changes.{endsOf}
 use Rattle.transfer.proofs.parts.ends_of.Statement.{statement}

@@ -1,9 +1,6 @@
 -- Nearness alone, as a number.
 use borrow.Author.Needs.{needs}
-use mathlib.Core.Path.{_≡_, ap, _∙_}
 use native.Mathlib.Omega.{arith}
-use Prim.Native.Nat.{ℕ, _*_}
-use Rattle.transfer.specs.Rows.{openEntry}
 use Rattle.transfer.proofs.Entries.{open-parts}
 use Rattle.transfer.proofs.row.open_entry.Statement.{statement}
 use Rattle.transfer.proofs.row.open_entry.Tie as tie

@@ -1,6 +1,6 @@
 -- Each place is filled with its entry.
 use borrow.Author.Needs.{needs}
-use Prim.Native.Nat.{_+_, _-_, _≤_, _<_}
+use Prim.Native.Nat.{_-_, _≤_}
 use native.Mathlib.Omega.{arith}
 use Rattle.laws.proofs.Tables.{Filled, filled-none, filled-more, filled-all}
 use Rattle.transfer.specs.Rows.{openEntry}

@@ -1,7 +1,5 @@
 -- A rule that does not apply on the from side leaves the row.
 use borrow.Author.Needs.{needs}
-use mathlib.Core.Path.{sym, ap, _∙_}
-use borrow.Author.Tests.{eq-eqb, ne-eqb}
 use native.Mathlib.Omega.{arith}
 use Rattle.transfer.proofs.Entries.{level-small, rule-passed, rule-parts}
 use Rattle.transfer.proofs.row.read_rule.Statement.{statement}

@@ -1,7 +1,7 @@
 -- The rules read so far.
 use borrow.Author.Needs.{needs}
 use mathlib.Core.Path.{_≡_, ap, ap₂, sym, _∙_}
-use Prim.Native.Nat.{ℕ, _+_, _-_, _≤_, _<_}
+use Prim.Native.Nat.{ℕ, _-_, _≤_}
 use native.Mathlib.Omega.{arith}
 use mathlib.Core.List.{List}
 use Rattle.laws.specs.Lists.{foldl}

@@ -1,7 +1,6 @@
 -- Each place is filled with its entry once the rule is read.
 use borrow.Author.Needs.{needs}
-use mathlib.Core.Path.{_≡_, _∙_}
-use Prim.Native.Nat.{_+_, _-_, _≤_, _<_}
+use Prim.Native.Nat.{_-_, _≤_}
 use native.Mathlib.Omega.{arith}
 use Rattle.laws.proofs.Tables.{Filled, filled-none, filled-more, filled-all}
 use Rattle.transfer.specs.Rows.{readEntry}
