@@ -17,3 +17,7 @@ pub mod Maps
 pub mod Tails
 pub mod Bits
 pub mod Places
+pub mod Insertion
+pub mod Tables
+pub mod Order
+pub mod Stores

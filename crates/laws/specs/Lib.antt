@@ -4,3 +4,5 @@ pub mod Floats
 pub mod Arrays
 pub mod Tails
 pub mod Bits
+pub mod Tables
+pub mod Order
