@@ -14,3 +14,6 @@ pub mod Tests
 pub mod Halves
 pub mod Arrays
 pub mod Maps
+pub mod Tails
+pub mod Bits
+pub mod Places

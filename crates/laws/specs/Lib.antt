@@ -2,3 +2,5 @@ pub mod Lists
 pub mod Sort
 pub mod Floats
 pub mod Arrays
+pub mod Tails
+pub mod Bits
