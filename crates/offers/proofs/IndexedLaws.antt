@@ -1,7 +1,7 @@
 -- The offers by places are the offers, and a search of their rows is the search.
 use mathlib.Core.Path.{_≡_, refl, sym, ap, _∙_}
 use mathlib.Core.Bool.{Bool, true, false, cond}
-use mathlib.Core.List.{List, [], _∷_, _++_, map, map-append}
+use mathlib.Core.List.{List, [], _∷_, map, map-append}
 use Prim.Native.Nat.{ℕ, _+_, _-_, _*_, _/_, _%_, _^_, _≤_, _<_, min}
 use native.Mathlib.Omega.{arith}
 use native.Mathlib.Nat.{lt-of-lt-of-le, mod-lt}
@@ -19,8 +19,8 @@ use Rattle.profile.specs.declared.Journey.{Journey}
 use Rattle.profile.specs.Journeys.{journeyFigures, rowFigures}
 use Rattle.profile.specs.Kept.{searched}
 use Rattle.profile.proofs.ClaimLaws.{search-maps}
-use Rattle.offers.specs.Offers.{Timetable, rideOf, changeOf, runOf, sameRun, targetsOf, originsOf, lastAt, lastAlight, lastBoard, directAt, changesAt, alightAt, originAt, boardAt, sorted, offers}
-use Rattle.offers.specs.Indexed.{overBits, overCalls, laterFrom, overRun, maskOf, originMask, targetMask, directRow, changeRow, journeyAt, lastAlightRows, lastBoardRows, changeRows, directRows, alightRows, originRows, boardRows, rowOffers, InPlaces, OffersByPlaces, SearchByRows}
+use Rattle.offers.specs.Offers.{Timetable, rideOf, changeOf, runOf, sameRun, targetsOf, lastAt, lastAlight, lastBoard, directAt, changesAt, alightAt, originAt, boardAt, offersIn, offers}
+use Rattle.offers.specs.Indexed.{overBits, overCalls, laterFrom, overRun, maskOf, originMask, targetMask, directRow, changeRow, journeyAt, lastAlightRows, lastBoardRows, changeRows, directRows, alightRows, originRows, boardRows, rowOffers, OffersByPlaces, SearchByRows}
 
 -- the digits of a mask are those below its count
 pub mask-bits : (c m : ℕ) → bitsOf (maskOf c m) ≡ bitsFrom (min c 4) 0 m
@@ -120,9 +120,9 @@ module _ (t : Timetable) (at : ℕ → Call) (n : ℕ) where
       (bits-places at (originRows t at n i) (originAt t (map at (span 0 n)) (at i) (map at (span (i + 1) (n - (i + 1))))) (origin i) (t .origins) (t .members (at i .stop)))
 
 pub offers-by-places : OffersByPlaces
-unfolding offers rowOffers
+unfolding offers offersIn rowOffers
 offers-by-places t at n e =
-    ap (λ (s : List Call). overTails (boardAt t s) s) e ∙ sym (calls-places at n (boardRows t at n) (boardAt t (map at (span 0 n))) (board t at n))
+    ap (offersIn t) e ∙ sym (calls-places at n (boardRows t at n) (boardAt t (map at (span 0 n))) (board t at n))
 
 -- a row has the figures of its journey
 pub row-figures : (at : ℕ → Call) (r : Row) → journeyFigures (journeyAt at r) ≡ rowFigures r
