@@ -7,11 +7,12 @@ use native.Mathlib.Omega.{arith}
 use native.Mathlib.Nat.{lt-of-lt-of-le, mod-lt}
 use lib.Pow.{pow-pos, pow-mono}
 use lib.Dec.{eqb, leb}
+use lib.ListN.{length, getD, take}
 use Rattle.laws.specs.Lists.{concatMap, takeWhile, span}
 use Rattle.laws.specs.Tails.{overTails}
 use Rattle.laws.specs.Bits.{bitsFrom, bitsOf}
 use Rattle.laws.proofs.Bits.{bits-masked}
-use Rattle.laws.proofs.Places.{concatMap-cong, concatMap-cond, concatMap-map, map-concatMap, map-cond, takeWhile-map, tails-span}
+use Rattle.laws.proofs.Places.{concatMap-cong, concatMap-cond, concatMap-map, map-concatMap, map-cond, take-places, takeWhile-map, tails-span}
 use Rattle.calls.specs.declared.Call.{Call}
 use Rattle.profile.specs.declared.Row.{Row}
 use Rattle.profile.specs.declared.Ride.{Ride}
@@ -19,8 +20,8 @@ use Rattle.profile.specs.declared.Journey.{Journey}
 use Rattle.profile.specs.Journeys.{journeyFigures, rowFigures}
 use Rattle.profile.specs.Kept.{searched}
 use Rattle.profile.proofs.ClaimLaws.{search-maps}
-use Rattle.offers.specs.Offers.{Timetable, rideOf, changeOf, runOf, sameRun, targetsOf, lastAt, lastAlight, lastBoard, directAt, changesAt, alightAt, originAt, boardAt, offersIn, offers}
-use Rattle.offers.specs.Indexed.{overBits, overCalls, laterFrom, overRun, maskOf, originMask, targetMask, directRow, changeRow, journeyAt, lastAlightRows, lastBoardRows, changeRows, directRows, alightRows, originRows, boardRows, rowOffers, OffersByPlaces, SearchByRows}
+use Rattle.offers.specs.Offers.{Timetable, rideOf, changeOf, runOf, sameRun, targetsOf, lastAt, lastAlight, lastBoard, directAt, changesAt, alightAt, originAt, boardAt, offersIn, sorted, offers}
+use Rattle.offers.specs.Indexed.{overBits, overCalls, laterFrom, overRun, maskOf, originMask, targetMask, directRow, changeRow, journeyAt, lastAlightRows, lastBoardRows, changeRows, directRows, alightRows, originRows, boardRows, rowOffers, InPlaces, OffersByPlaces, SearchByRows}
 
 -- the digits of a mask are those below its count
 pub mask-bits : (c m : ℕ) → bitsOf (maskOf c m) ≡ bitsFrom (min c 4) 0 m
@@ -139,3 +140,7 @@ unfolding maskOf
 mask-small c m =
     let h : min c 4 ≤ 4 = omega arith in
     lt-of-lt-of-le (mod-lt m (pow-pos (min c 4))) (pow-mono h)
+
+-- an array whose first n calls are sorted holds the calls in order
+pub array-in-places : (t : Timetable) (l : List Call) (n : ℕ) (d : Call) → n ≤ length l → take n l ≡ sorted t → InPlaces t (λ i. getD l i d) n
+array-in-places t l n d h e = sym e ∙ take-places l d n h
