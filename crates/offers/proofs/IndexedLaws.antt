@@ -1,17 +1,18 @@
 -- The offers by places are the offers, and a search of their rows is the search.
 use mathlib.Core.Path.{_≡_, refl, sym, ap, _∙_}
 use mathlib.Core.Bool.{Bool, true, false, cond}
-use mathlib.Core.List.{List, [], _∷_, _++_, map, map-append}
+use mathlib.Core.List.{List, [], _∷_, map, map-append}
 use Prim.Native.Nat.{ℕ, _+_, _-_, _*_, _/_, _%_, _^_, _≤_, _<_, min}
 use native.Mathlib.Omega.{arith}
 use native.Mathlib.Nat.{lt-of-lt-of-le, mod-lt}
 use lib.Pow.{pow-pos, pow-mono}
 use lib.Dec.{eqb, leb}
+use lib.ListN.{length, getD, take}
 use Rattle.laws.specs.Lists.{concatMap, takeWhile, span}
 use Rattle.laws.specs.Tails.{overTails}
 use Rattle.laws.specs.Bits.{bitsFrom, bitsOf}
 use Rattle.laws.proofs.Bits.{bits-masked}
-use Rattle.laws.proofs.Places.{concatMap-cong, concatMap-cond, concatMap-map, map-concatMap, map-cond, takeWhile-map, tails-span}
+use Rattle.laws.proofs.Places.{concatMap-cong, concatMap-cond, concatMap-map, map-concatMap, map-cond, take-places, takeWhile-map, tails-span}
 use Rattle.calls.specs.declared.Call.{Call}
 use Rattle.profile.specs.declared.Row.{Row}
 use Rattle.profile.specs.declared.Ride.{Ride}
@@ -19,7 +20,7 @@ use Rattle.profile.specs.declared.Journey.{Journey}
 use Rattle.profile.specs.Journeys.{journeyFigures, rowFigures}
 use Rattle.profile.specs.Kept.{searched}
 use Rattle.profile.proofs.ClaimLaws.{search-maps}
-use Rattle.offers.specs.Offers.{Timetable, rideOf, changeOf, runOf, sameRun, targetsOf, originsOf, lastAt, lastAlight, lastBoard, directAt, changesAt, alightAt, originAt, boardAt, sorted, offers}
+use Rattle.offers.specs.Offers.{Timetable, rideOf, changeOf, runOf, sameRun, targetsOf, lastAt, lastAlight, lastBoard, directAt, changesAt, alightAt, originAt, boardAt, offersIn, sorted, offers}
 use Rattle.offers.specs.Indexed.{overBits, overCalls, laterFrom, overRun, maskOf, originMask, targetMask, directRow, changeRow, journeyAt, lastAlightRows, lastBoardRows, changeRows, directRows, alightRows, originRows, boardRows, rowOffers, InPlaces, OffersByPlaces, SearchByRows}
 
 -- the digits of a mask are those below its count
@@ -120,9 +121,9 @@ module _ (t : Timetable) (at : ℕ → Call) (n : ℕ) where
       (bits-places at (originRows t at n i) (originAt t (map at (span 0 n)) (at i) (map at (span (i + 1) (n - (i + 1))))) (origin i) (t .origins) (t .members (at i .stop)))
 
 pub offers-by-places : OffersByPlaces
-unfolding offers rowOffers
+unfolding offers offersIn rowOffers
 offers-by-places t at n e =
-    ap (λ (s : List Call). overTails (boardAt t s) s) e ∙ sym (calls-places at n (boardRows t at n) (boardAt t (map at (span 0 n))) (board t at n))
+    ap (offersIn t) e ∙ sym (calls-places at n (boardRows t at n) (boardAt t (map at (span 0 n))) (board t at n))
 
 -- a row has the figures of its journey
 pub row-figures : (at : ℕ → Call) (r : Row) → journeyFigures (journeyAt at r) ≡ rowFigures r
@@ -139,3 +140,7 @@ unfolding maskOf
 mask-small c m =
     let h : min c 4 ≤ 4 = omega arith in
     lt-of-lt-of-le (mod-lt m (pow-pos (min c 4))) (pow-mono h)
+
+-- an array whose first n calls are sorted holds the calls in order
+pub array-in-places : (t : Timetable) (l : List Call) (n : ℕ) (d : Call) → n ≤ length l → take n l ≡ sorted t → InPlaces t (λ i. getD l i d) n
+array-in-places t l n d h e = sym e ∙ take-places l d n h

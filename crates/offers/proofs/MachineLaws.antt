@@ -8,7 +8,7 @@ use native.Mathlib.Omega.{arith}
 use lib.IntN.{ℤ}
 use Rattle.profile.specs.declared.Journey.{Journey}
 use Rattle.profile.specs.Figures.{covᶠ, dueᶠ}
-use Rattle.profile.specs.Kept.{going, searched}
+use Rattle.profile.specs.Kept.{going}
 use Rattle.profile.specs.Fall.{Ends, upTo, never, fall, keeping}
 use Rattle.profile.specs.Best.{bestℤ, readBy, Covers}
 use Rattle.profile.specs.Claims.{Keeps}

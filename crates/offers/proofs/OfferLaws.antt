@@ -17,8 +17,8 @@ use Rattle.calls.specs.declared.Call.{Call}
 use Rattle.profile.specs.declared.Ride.{Ride}
 use Rattle.profile.specs.declared.Journey.{Journey}
 use Rattle.offers.specs.Order.{earlier, Rising, Timed}
-use Rattle.offers.specs.Offers.{Timetable, rideOf, directOf, changeOf, runOf, originsOf, targetsOf, lastAt, lastAlight, lastBoard, directAt, changesAt, alightAt, originAt, boardAt, sorted, offers}
-use Rattle.offers.specs.Admitted.{Rides, Starts, Ends, Direct, Change, Admitted, Clear, InTime, OffersAdmitted, OffersAhead}
+use Rattle.offers.specs.Offers.{Timetable, rideOf, changeOf, runOf, originsOf, targetsOf, lastAt, lastAlight, lastBoard, directAt, changesAt, alightAt, originAt, boardAt, offersIn, sorted, offers}
+use Rattle.offers.specs.Admitted.{Rides, Starts, Ends, Admitted, Clear, InTime, OffersAdmitted, OffersAhead}
 use Rattle.offers.proofs.OrderLaws.{accepted-rising, accepted-follows}
 use Rattle.offers.proofs.RunLaws.{later-mem, mem-later, tail-follows}
 
@@ -32,12 +32,12 @@ module _ (t : Timetable) (e : Clear t) (b a : Call) where
   pub rides-found : (cs : List Call) → Tail b cs (sorted t) → List·Memᴰ a (runOf b cs) → b .board ≡ true → a .alight ≡ true → Rides (t .calls) b a
   rides-found cs tl m p q =
       let (n, i, r, h) = later-mem (sorted t) (clear-rising t e) b cs tl a m in
-      record { from = sort-mem earlier (t .calls) (tail-mem b cs (sorted t) tl); to = sort-mem earlier (t .calls) i; run = r; later = h; board = p; alight = q }
+      record { from = sort-mem earlier (t .calls) (tail-mem b cs (sorted t) tl); to = sort-mem earlier (t .calls) i; run = r; later = omega (arith, h); board = p; alight = q }
 
   pub found-rides : Rides (t .calls) b a → (cs : List Call) × Tail b cs (sorted t) × List·Memᴰ a (runOf b cs)
   found-rides r =
       let (cs, tl) = mem-tail (mem-sort earlier (t .calls) (r .from)) in
-      (cs, tl, mem-later (sorted t) (clear-rising t e) b cs tl a (mem-sort earlier (t .calls) (r .to)) (r .run) (r .later))
+      (cs, tl, mem-later (sorted t) (clear-rising t e) b cs tl a (mem-sort earlier (t .calls) (r .to)) (r .run) (omega (arith, r .later)))
 
   -- a ride departs no later than it arrives
   pub ride-ahead : Timed (t .calls) → Rides (t .calls) b a → b .departure ≤ a .arrival
@@ -113,7 +113,7 @@ pub record First (t : Timetable) (j : Journey) : Type 0 where
   pub then : List·Memᴰ j (concatMap (directAt t o (rideOf b a)) (targetsOf t a)) ⊎ List·Memᴰ j (changesAt t (sorted t) o (rideOf b a))
 
 offers-mem : (t : Timetable) → Clear t → (j : Journey) → List·Memᴰ j (offers t) → First t j
-unfolding offers boardAt originAt alightAt
+unfolding offers offersIn boardAt originAt alightAt
 offers-mem t e j m =
     let s = sorted t in
     let (b, cs, tl, m₁) = overTails-mem (boardAt t s) s m in
@@ -134,7 +134,7 @@ offers-mem t e j m =
 
 mem-offers : (t : Timetable) → Clear t → (j : Journey) (b a : Call) (o : ℕ) → Rides (t .calls) b a → Starts t b o
     → List·Memᴰ j (concatMap (directAt t o (rideOf b a)) (targetsOf t a) ++ changesAt t (sorted t) o (rideOf b a)) → List·Memᴰ j (offers t)
-unfolding offers boardAt originAt alightAt
+unfolding offers offersIn boardAt originAt alightAt
 mem-offers t e j b a o r x m =
     let s = sorted t in
     let (cs, tl, n) = found-rides t e b a r in

@@ -13,7 +13,7 @@ use Rattle.profile.proofs.ClaimLaws.{search-is-fall}
 use Rattle.offers.specs.Order.{clashes}
 use Rattle.offers.specs.Offers.{sorted, offers}
 use Rattle.offers.specs.Admitted.{Clear}
-use Rattle.offers.specs.Search.{Outcome, clashing, falling, found, foundBy, endsBy, searchOf, SearchFound, SearchByOffers}
+use Rattle.offers.specs.Search.{Outcome, clashing, found, foundBy, endsBy, searchOf, SearchFound, SearchByOffers}
 
 pub search-found : SearchFound
 unfolding searchOf

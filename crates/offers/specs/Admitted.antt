@@ -2,7 +2,7 @@
 -- "A ride boards at a boardable call and alights at a later alightable call of that trip and day."
 use mathlib.Core.Path.{_≡_}
 use mathlib.Core.Logic.{_⊎_, _↔_}
-use mathlib.Core.Bool.{Bool, true, false}
+use mathlib.Core.Bool.{true, false}
 use mathlib.Core.List.{List, List·Memᴰ, List·Permᴰ}
 use Prim.Native.Nat.{ℕ, _*_, _/_, _≤_, _<_, min}
 use Rattle.laws.specs.Bits.{digit}

@@ -62,32 +62,26 @@ leaveOf t o departure = departure - t .origin-walk o * 60
 abbrev pub arrivalOf : Timetable → ℕ → ℕ → ℕ
 arrivalOf t k alighting = alighting + t .target-walk k * 60
 
--- one ride, from origin o to target k: no ride is the last
-abbrev pub directOf : Timetable → Ride → ℕ → ℕ → Journey
-directOf t f o k =
+-- n rides from origin o to target k, the first f and the last l, that alight last at `alighting`
+abbrev pub journeyOf : Timetable → ℕ → Ride → Ride → ℕ → ℕ → ℕ → Journey
+journeyOf t n f l alighting o k =
     record {
       leave = leaveOf t o (f .departure);
-      arrival = arrivalOf t k (f .arrival);
-      rides = 1;
-      walk = t .origin-walk o;
-      origin = o;
-      target = k;
-      first = f;
-      last = noRide;
-    }
-
-abbrev pub changeOf : Timetable → Ride → Ride → ℕ → ℕ → Journey
-changeOf t f l o k =
-    record {
-      leave = leaveOf t o (f .departure);
-      arrival = arrivalOf t k (l .arrival);
-      rides = 2;
+      arrival = arrivalOf t k alighting;
+      rides = n;
       walk = t .origin-walk o;
       origin = o;
       target = k;
       first = f;
       last = l;
     }
+
+-- one ride: its last is the blank ride
+abbrev pub directOf : Timetable → Ride → ℕ → ℕ → Journey
+directOf t f o k = journeyOf t 1 f noRide (f .arrival) o k
+
+abbrev pub changeOf : Timetable → Ride → Ride → ℕ → ℕ → Journey
+changeOf t f l o k = journeyOf t 2 f l (l .arrival) o k
 
 -- ---- the ways that the loops go
 
@@ -133,9 +127,13 @@ originAt t s b later o = cond (leb (t .origin-walk o * 60) (b .departure)) (conc
 unfoldable pub boardAt : Timetable → List Call → Call → List Call → List Journey
 boardAt t s b later = cond (b .board) (concatMap (originAt t s b later) (originsOf t b)) []
 
+-- of the calls s in order, every offer
+unfoldable pub offersIn : Timetable → List Call → List Journey
+offersIn t s = overTails (boardAt t s) s
+
 abbrev pub sorted : Timetable → List Call
 sorted t = inOrder (t .calls)
 
 -- every offer of a search, in order
 unfoldable pub offers : Timetable → List Journey
-offers t = overTails (boardAt t (sorted t)) (sorted t)
+offers t = offersIn t (sorted t)
