@@ -1,31 +1,31 @@
+-- `last_alight` meets its contract: the targets of the stop, if the call is alightable.
 use borrow.Author.Needs.{needs}
+use Rattle.rides.specs.Rows.{lastAlightRows}
+use Rattle.rides.specs.Feed.{sheetOf}
+use Rattle.rides.proofs.LoopLaws.{nothing, targets-small}
 use Rattle.rides.proofs.last.last_alight.Statement.{statement}
 use Rattle.rides.proofs.last.last_alight.Tie as tie
-use Rattle.rides.proofs.last.last_alight.Reads as reads
-use Rattle.rides.proofs.last.last_alight.Lts as lts
-use Rattle.rides.proofs.feed.call_at.Reads as call-at-reads
-use Rattle.rides.proofs.feed.targets_of.Reads as targets-of-reads
-use Rattle.rides.proofs.last.last_targets.Reads as last-targets-reads
 
--- src/last.rt:74:9
 call-at-requires : tie.Need-call-at-requires
 call-at-requires c κs = search needs
 
--- src/last.rt:76:41
 targets-of-requires : tie.Need-targets-of-requires
 targets-of-requires c κs = search needs
 
--- src/last.rt:76:9
 last-targets-requires : tie.Need-last-targets-requires
-last-targets-requires c κs = ?
+last-targets-requires c κs =
+    let p = c .before .before .before .before .pre in
+    (p .0, p .1, rw (c .targets-of .ensures) (targets-small _ _))
 
--- src/last.rt:70:1
 returns : tie.Need-returns
-returns c = ?
+unfolding lastAlightRows sheetOf
+returns c =
+    let p = c .before .before .before in
+    rw (← p .before .call-at .ensures, p .if1 .taken, ← c .before .targets-of .ensures) (c .last-targets .ensures)
 
--- src/last.rt:70:1
 returns-2 : tie.Need-returns-2
-returns-2 c = ?
+unfolding lastAlightRows sheetOf
+returns-2 c = rw (← c .before .call-at .ensures, c .if1 .left) nothing
 
 pub last-alight-spec : {M : Type 1} → statement M
 last-alight-spec =

@@ -1,60 +1,58 @@
+-- `last_alightings` meets its contract: a loop over the later calls of the run.
+use Prim.Native.Nat.{_-_}
+use native.Mathlib.Omega.{arith}
+use borrow.Author.Needs.{needs}
+use Rattle.rides.specs.Rows.{overRun, lastAlightRows}
+use Rattle.rides.specs.Feed.{callAt, sheetOf}
+use Rattle.rides.proofs.LoopLaws.{Left, starts, run-turn, run-other, run-done}
 use Rattle.rides.proofs.last.last_alightings.Statement.{statement}
 use Rattle.rides.proofs.last.last_alightings.Tie as tie
-use Rattle.rides.proofs.last.last_alightings.Reads as reads
-use Rattle.rides.proofs.last.last_alightings.Lts as lts
-use Rattle.rides.proofs.feed.call_at.Reads as call-at-reads
-use Rattle.rides.proofs.feed.same_run.Reads as same-run-reads
-use Rattle.rides.proofs.last.last_alight.Reads as last-alight-reads
 
 abbrev Inv-loop : tie.InvT-loop
-Inv-loop st₀ feed n f j b m₀ st m = ?
+Inv-loop st₀ feed n f j b m₀ st m =
+    Left st₀ st (overRun (lastAlightRows (sheetOf feed) f j) (callAt feed) n j m₀) (overRun (lastAlightRows (sheetOf feed) f j) (callAt feed) n j m)
 
 abbrev μ-loop : tie.MeasureT-loop
-μ-loop st₀ feed n f j b m₀ st m = ?
+μ-loop st₀ feed n f j b m₀ st m = n - m
 
--- src/last.rt:85:9
 call-at-requires : tie.Need-call-at-requires Inv-loop μ-loop
-call-at-requires c κs = ?
+call-at-requires c κs = search needs
 
--- src/last.rt:86:17
 add-m : tie.Need-add-m Inv-loop μ-loop
-add-m c = ?
+add-m c = omega arith
 
--- src/last.rt:87:5
 loop-holds : tie.Need-loop-holds Inv-loop μ-loop
-loop-holds c = ?
+loop-holds c = starts
 
--- src/last.rt:88:13
 call-at-requires-2 : tie.Need-call-at-requires-2 Inv-loop μ-loop
-call-at-requires-2 c κs = ?
+call-at-requires-2 c κs = search needs
 
--- src/last.rt:89:12
 same-run-requires : tie.Need-same-run-requires Inv-loop μ-loop
-same-run-requires c κs = ?
+same-run-requires c κs = tt
 
--- src/last.rt:90:13
 last-alight-requires : tie.Need-last-alight-requires Inv-loop μ-loop
-last-alight-requires c κs = ?
+last-alight-requires c κs = search needs
 
--- src/last.rt:91:13
 add-m-2 : tie.Need-add-m-2 Inv-loop μ-loop
-add-m-2 c = ?
+add-m-2 c = omega arith
 
--- src/last.rt:87:5
 loop-less : tie.Need-loop-less Inv-loop μ-loop
-loop-less c = ?
+loop-less c = omega arith
 
--- src/last.rt:87:5
 loop-again : tie.Need-loop-again Inv-loop μ-loop
-loop-again c = ?
+loop-again c =
+    let p = c .before .before .before .before .before in
+    run-turn _ _ _ _ _ (p .loop-test .taken) (p .before .before .call-at .ensures) (c .before .before .before .before .call-at2 .ensures)
+    (c .before .before .before .same-run .ensures) (c .before .before .if1 .taken) (c .last-alight .ensures) (p .before .loop .inv)
 
--- src/last.rt:93:13
 returns : tie.Need-returns Inv-loop μ-loop
-returns c = ?
+returns c =
+    let p = c .before .before .before in
+    run-other _ _ _ _ _ (p .loop-test .taken) (p .before .before .call-at .ensures) (c .before .before .call-at2 .ensures)
+    (c .before .same-run .ensures) (c .if1 .left) (p .before .loop .inv)
 
--- src/last.rt:81:1
 returns-2 : tie.Need-returns-2 Inv-loop μ-loop
-returns-2 c = ?
+returns-2 c = run-done _ _ _ _ _ (c .loop-test .left) (c .before .loop .inv)
 
 pub last-alightings-spec : {M : Type 1} → statement M
 last-alightings-spec =
