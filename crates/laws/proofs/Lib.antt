@@ -16,3 +16,4 @@ pub mod Insertion
 pub mod Tables
 pub mod Order
 pub mod Stores
+pub mod Bounds

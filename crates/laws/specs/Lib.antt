@@ -3,3 +3,4 @@ pub mod Sort
 pub mod Floats
 pub mod Tables
 pub mod Order
+pub mod Bounds
