@@ -21,3 +21,4 @@ pub mod Insertion
 pub mod Tables
 pub mod Order
 pub mod Stores
+pub mod Bounds

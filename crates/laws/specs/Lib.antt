@@ -6,3 +6,4 @@ pub mod Tails
 pub mod Bits
 pub mod Tables
 pub mod Order
+pub mod Bounds

@@ -1,14 +1,15 @@
 -- What the proofs of this crate share: texts in arrays, the entry that the code makes, the grouping of entries.
-use Prim.Native.Nat.{ℕ, zero, suc, _+_, _≤_, _<_}
+use Rattle.laws.proofs.Bounds.{getD-any}
+use Prim.Native.Nat.{ℕ, _+_, _≤_, _<_}
 use mathlib.Core.Path.{_≡_, refl, sym, ap, _∙_}
 use mathlib.Core.Logic.{inl}
 use mathlib.Core.Bool.{Bool, true, false, cond, not}
-use mathlib.Core.List.{List, [], _∷_}
+use mathlib.Core.List.{List, []}
 use native.Mathlib.Omega.{arith}
-use lib.Dec.{leb, ltb, eqb}
+use lib.Dec.{ltb, eqb}
 use lib.ListN.{length, getD, take, drop, length-take, List·getD-eq-default}
-use lib.Seq.{take-all, take-at, length-take-le, getD-take}
-use borrow.Author.Tests.{leb-true, leb-false, ltb-true, ltb-false}
+use lib.Seq.{take-at, length-take-le, getD-take}
+use borrow.Author.Tests.{ltb-true, ltb-false}
 use Rattle.laws.specs.Sort.{sort}
 use Rattle.laws.proofs.Bools.{cond-by, cond-not}
 use Rattle.laws.proofs.Insertion.{from, done}
@@ -25,28 +26,7 @@ use Rattle.stops.specs.Taken.{blankStop}
 use Rattle.places.specs.declared.Entry.{Entry}
 use Rattle.places.specs.declared.Found.the-variants.{At, Nothing}
 use Rattle.places.specs.Keys.{stopKey}
-use Rattle.places.specs.Entries.{least, within, parentId, entryOf, entryAt, firstEntry}
-
-pub least-under : (a b : ℕ) → least a b ≤ b
-least-under a b = go (leb a b) refl
-  where
-    go : (t : Bool) → leb a b ≡ t → cond t a b ≤ b
-    go true e = leb-true a b e
-    go false e = omega arith
-
-module _ {A : Type 0} where
-  pub getD-any : (l : List A) (i : ℕ) (d e : A) → i < length l → getD l i d ≡ getD l i e
-  getD-any [] i d e h = absurd (omega arith)
-  getD-any (x ∷ l) zero d e h = refl
-  getD-any (x ∷ l) (suc i) d e h = getD-any l i d e (omega arith)
-
-  -- no more is taken than there is
-  pub take-least : (l : List A) (m n k : ℕ) → k ≡ least m n → length l ≡ n → take k l ≡ take m l
-  take-least l m n k e h = go (leb m n) refl
-    where
-      go : (b : Bool) → leb m n ≡ b → take k l ≡ take m l
-      go true q = ap (λ (j : ℕ). take j l) (e ∙ cond-by _ _ q)
-      go false q = let b = leb-false m n q in take-all k l (omega (arith, e, cond-not {p = leb m n} m n q)) ∙ sym (take-all m l (omega arith))
+use Rattle.places.specs.Entries.{within, parentId, entryOf, entryAt, firstEntry}
 
 -- ---- the entry that the code makes
 

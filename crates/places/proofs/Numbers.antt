@@ -1,4 +1,6 @@
 -- Grouping the entries of stops is grouping their numbers.
+use Rattle.laws.specs.Bounds.{least}
+use Rattle.laws.proofs.Bounds.{least-under, take-least}
 use Prim.Native.Nat.{ℕ, _+_, _%_, _≤_, _<_}
 use mathlib.Core.Path.{_≡_, refl, sym, ap, ap₂, _∙_}
 use mathlib.Core.Bool.{Bool, true, false, cond, not}
@@ -29,8 +31,7 @@ use Rattle.places.specs.declared.Found.the-variants.{At, Nothing}
 use Rattle.places.specs.Keys.{stopKey, keyAt}
 use Rattle.places.specs.Places.{hasKey, samePlace, idLess, Groups, firstMatch, place, none, idOrder, groupsOf, placesOf}
 use Rattle.places.specs.Places as P
-use Rattle.places.specs.Entries.{least, entryOf, entryAt, idBefore, firstEntry, EntryGroups, put, placeEntry, noEntries, groupEntries}
-use Rattle.places.proofs.Laws.{least-under, take-least}
+use Rattle.places.specs.Entries.{entryOf, entryAt, idBefore, firstEntry, EntryGroups, put, placeEntry, noEntries, groupEntries}
 
 module _ (ss : List Stop) where
   -- a stop has a key if its key's tag is not 0

@@ -2,7 +2,7 @@
 use mathlib.Core.Bool.{Bool, cond}
 use mathlib.Core.List.{List, [], _∷_, _++_}
 use Prim.Native.Nat.{ℕ, _%_}
-use lib.Dec.{leb, ltb, eqb}
+use lib.Dec.{ltb, eqb}
 use lib.ListN.{take, set, replicate}
 use Rattle.laws.specs.Lists.{foldl}
 use Rattle.laws.specs.Order.{lessBytes}
@@ -16,9 +16,6 @@ use Rattle.places.specs.declared.Entry.{Entry}
 use Rattle.places.specs.declared.Found.{Found}
 use Rattle.places.specs.declared.Found.the-variants.{At, Nothing}
 use Rattle.places.specs.Keys.{stopKey}
-
-abbrev pub least : ℕ → ℕ → ℕ
-least a b = cond (leb a b) a b
 
 -- a number below n as it is, any other as 0
 abbrev pub within : ℕ → ℕ → ℕ

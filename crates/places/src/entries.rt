@@ -1,10 +1,11 @@
 // The entry of each stop: id, number and place key.
+ghost use Rattle.laws.specs.Bounds.{least};
 ghost use mathlib.Core.Path.{_≡_};
 ghost use Prim.Native.Nat.{ℕ, _≤_};
 ghost use lib.ListN.{length, take};
 ghost use Rattle.laws.specs.Tables.{table};
 ghost use Rattle.place.specs.Keys.{placeKey, noPlace};
-ghost use Rattle.places.specs.Entries.{least, held, parentId, entryOf, entryAt, blankEntry, within};
+ghost use Rattle.places.specs.Entries.{held, parentId, entryOf, entryAt, blankEntry, within};
 ghost use Rattle.places.specs.Keys.{stopKey};
 use crate::Entry;
 use place::PlaceKey;

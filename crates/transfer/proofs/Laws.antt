@@ -1,13 +1,10 @@
 -- What the proofs of this crate share: rules read one by one, the parts of a transfer, the smaller of two numbers.
-use Prim.Native.Nat.{ℕ, zero, suc, _+_, _<_, _≤_}
+use Prim.Native.Nat.{ℕ, _+_}
 use mathlib.Core.Path.{_≡_, refl, _∙_}
 use mathlib.Core.List.{List, [], _∷_}
-use mathlib.Core.Bool.{Bool, true, false, cond}
+use mathlib.Core.Bool.{Bool, false}
 use native.Mathlib.Numerals.{add-one}
-use native.Mathlib.Omega.{arith}
-use lib.Dec.{leb}
-use borrow.Author.Tests.{leb-true}
-use lib.ListN.{length, getD}
+use lib.ListN.{getD}
 use Rattle.laws.specs.Lists.{foldl}
 use Rattle.laws.proofs.Bools.{cond-not}
 use Rattle.laws.proofs.Folds.{foldl-append}
@@ -18,7 +15,7 @@ use Rattle.transfer.specs.declared.Chosen.the-variants.{By, Open}
 use Rattle.transfer.specs.declared.Change.{Change}
 use Rattle.transfer.specs.Choice.{bit, applies, read, chosen}
 use Rattle.transfer.specs.Changes.{endsOf, near, changeOf, transferOf}
-use Rattle.transfer.specs.Copied.{least, ruleAt, rulesOf}
+use Rattle.transfer.specs.Copied.{ruleAt, rulesOf}
 
 pub bits : {p q a b : Bool} → p ≡ a → q ≡ b → bit p + bit q ≡ bit a + bit b
 bits e f = rw (e, f)
@@ -27,11 +24,6 @@ bits e f = rw (e, f)
 pub read-none : (e : Ends) (b : Chosen) (r : Rule) → applies e r ≡ false → read e b r ≡ b
 read-none e (By old) r h = cond-not _ _ h
 read-none e Open r h = cond-not _ _ h
-
-pub getD-any : {A : Type 0} (l : List A) (i : ℕ) (d e : A) → i < length l → getD l i d ≡ getD l i e
-getD-any [] i d e h = absurd (omega arith)
-getD-any (x ∷ l) zero d e h = refl
-getD-any (x ∷ l) (suc i) d e h = getD-any l i d e (omega arith)
 
 -- the parts of a transfer, as the code computes them
 pub transfer-parts : (rules : List Rule) (parents places : List ℕ) (f t m : ℕ) {ends : Ends} {pf pt : ℕ} {rule : Chosen} {close : Bool} {r : Change}
@@ -48,10 +40,3 @@ rules-turn g s l i = rw (add-one i) (foldl-append g s (rulesOf l i) (ruleAt l i 
 pub rules-none : {S : Type 0} (g : S → Rule → S) (s : S) (l : List ℕ) → s ≡ foldl g s (rulesOf l 0)
 unfolding rulesOf
 rules-none g s l = refl
-
-pub least-under : (a b : ℕ) → least a b ≤ b
-least-under a b = go (leb a b) refl
-  where
-    go : (t : Bool) → leb a b ≡ t → cond t a b ≤ b
-    go true e = leb-true a b e
-    go false e = omega arith

@@ -1,5 +1,6 @@
 -- "Type 3 forbids; types 0 to 2 give max(seconds, `transfer_minutes` × 60). With no rule, same stop, same parent or same place gives
 -- `transfer_minutes` × 60; else none." And "`join`: trip or day differs, and arrival + transfer seconds is at most departure."
+use Rattle.laws.specs.Bounds.{most}
 use mathlib.Core.Bool.{Bool, not, false, cond, _&&_, _||_}
 use mathlib.Core.List.{List}
 use Prim.Native.Nat.{ℕ, _+_}
@@ -12,9 +13,6 @@ use Rattle.transfer.specs.declared.Chosen.the-variants.{By, Open}
 use Rattle.transfer.specs.declared.Change.{Change}
 use Rattle.transfer.specs.declared.Change.the-variants.{Takes, Never}
 use Rattle.transfer.specs.Choice.{chosen}
-
-abbrev pub most : ℕ → ℕ → ℕ
-most a b = cond (leb a b) b a
 
 -- the seconds that a rule gives; `change` is the settings' change time
 abbrev pub ruleSeconds : Rule → ℕ → ℕ

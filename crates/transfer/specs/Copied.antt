@@ -1,16 +1,12 @@
 -- Rules as plain numbers, five for each: from, to, type, seconds, and 1 if seconds were given; and the parents of stops.
-use mathlib.Core.Bool.{cond}
 use mathlib.Core.List.{List, [], _∷_, _++_}
 use Prim.Native.Nat.{ℕ, zero, suc, _+_, _*_, _%_}
-use lib.Dec.{leb, eqb}
+use lib.Dec.{eqb}
 use lib.ListN.{getD}
 use Rattle.laws.specs.Tables.{table}
 use Rattle.rules.specs.declared.Rule.{Rule}
 use Rattle.stops.specs.declared.Stop.{Stop}
 use Rattle.stops.specs.Sound.{stopAt}
-
-abbrev pub least : ℕ → ℕ → ℕ
-least a b = cond (leb a b) a b
 
 abbrev pub ruleAt : List ℕ → ℕ → Rule
 ruleAt l i = record {

@@ -1,7 +1,8 @@
 // The rule that holds for a change: of those that apply the one with most exact sides, the last taken of equals.
+ghost use Rattle.laws.specs.Bounds.{least};
 ghost use mathlib.Core.Path.{_≡_};
 ghost use Rattle.transfer.specs.Choice.{applies, exact, read, chosen};
-ghost use Rattle.transfer.specs.Copied.{rulesOf, least};
+ghost use Rattle.transfer.specs.Copied.{rulesOf};
 use crate::Chosen;
 use crate::Ends;
 use crate::reads::at_most;

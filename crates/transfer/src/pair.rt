@@ -1,6 +1,7 @@
 // The change between two stops, and whether two rides join.
+ghost use Rattle.laws.specs.Bounds.{least};
 ghost use mathlib.Core.Path.{_≡_};
-ghost use Rattle.transfer.specs.Copied.{rulesOf, least};
+ghost use Rattle.transfer.specs.Copied.{rulesOf};
 ghost use Rattle.transfer.specs.Changes.{transferOf, joinOf};
 use crate::Change;
 use crate::choice::rule_for;

@@ -1,8 +1,9 @@
 // Reads of lent arrays of numbers.
+ghost use Rattle.laws.specs.Bounds.{least};
 ghost use mathlib.Core.Path.{_≡_};
 ghost use Prim.Native.Nat.{_<_};
 ghost use lib.ListN.{length, getD};
-ghost use Rattle.transfer.specs.Copied.{ruleAt, least};
+ghost use Rattle.transfer.specs.Copied.{ruleAt};
 use rules::Rule;
 
 pub fn at_most(a: usize, b: usize) -> usize

@@ -1,12 +1,13 @@
 // The changes from one stop to each of 128, in one pass over the rules.
 // While the rules are read an entry is four times the number of the change, and one more than the exact sides of the
 // rule that gives it, or 0 if none does.
+ghost use Rattle.laws.specs.Bounds.{least};
 ghost use mathlib.Core.Path.{_≡_};
 ghost use Prim.Native.Nat.{ℕ, _+_, _*_, _≤_, _/_};
 ghost use lib.ListN.{length, getD};
 ghost use Rattle.laws.specs.Lists.{foldl};
 ghost use Rattle.laws.specs.Tables.{table};
-ghost use Rattle.transfer.specs.Copied.{rulesOf, least};
+ghost use Rattle.transfer.specs.Copied.{rulesOf};
 ghost use Rattle.transfer.specs.Rows.{changeRow, openEntry, levelOf, entryTurn, readEntry, readRow};
 use crate::Chosen;
 use crate::parts::are_near;

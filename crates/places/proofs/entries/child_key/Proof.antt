@@ -1,11 +1,11 @@
 -- What is held of the parent's id.
+use Rattle.laws.proofs.Bounds.{least-under, take-least}
 use borrow.Author.Needs.{needs}
 use mathlib.Core.Path.{sym, ap, _∙_}
 use native.Mathlib.Omega.{arith}
 use Prim.Native.Nat.{_-_}
 use lib.Seq.{length-take-le}
 use Rattle.places.specs.Keys.{stopKey}
-use Rattle.places.proofs.Laws.{least-under, take-least}
 use Rattle.places.proofs.entries.child_key.Statement.{statement}
 use Rattle.places.proofs.entries.child_key.Tie as tie
 

@@ -1,4 +1,5 @@
 -- What is held of the name and of the id.
+use Rattle.laws.proofs.Bounds.{least-under, take-least}
 use borrow.Author.Needs.{needs}
 use mathlib.Core.Path.{sym, ap₂, _∙_}
 use native.Mathlib.Omega.{arith}
@@ -6,7 +7,6 @@ use Prim.Native.Nat.{ℕ, _-_}
 use lib.Seq.{length-take-le}
 use mathlib.Core.List.{List}
 use Rattle.place.specs.Keys.{placeKey}
-use Rattle.places.proofs.Laws.{least-under, take-least}
 use Rattle.places.proofs.entries.text_key.Statement.{statement}
 use Rattle.places.proofs.entries.text_key.Tie as tie
 

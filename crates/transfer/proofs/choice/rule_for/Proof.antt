@@ -1,11 +1,13 @@
 -- The rule that holds among the first i is that of the loop.
+use Rattle.laws.specs.Bounds.{least}
+use Rattle.laws.proofs.Bounds.{least-under}
 use mathlib.Core.Path.{_≡_, ap, ap₂, sym, _∙_}
 use Prim.Native.Nat.{ℕ, _-_, _≤_}
 use native.Mathlib.Omega.{arith}
 use Rattle.transfer.specs.declared.Chosen.the-variants.{Open}
 use Rattle.transfer.specs.Choice.{read, chosen}
-use Rattle.transfer.specs.Copied.{rulesOf, least}
-use Rattle.transfer.proofs.Laws.{rules-turn, rules-none, least-under}
+use Rattle.transfer.specs.Copied.{rulesOf}
+use Rattle.transfer.proofs.Laws.{rules-turn, rules-none}
 use borrow.Author.Needs.{needs}
 use Rattle.transfer.proofs.choice.rule_for.Statement.{statement}
 use Rattle.transfer.proofs.choice.rule_for.Tie as tie

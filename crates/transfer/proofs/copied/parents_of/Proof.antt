@@ -1,4 +1,5 @@
 -- Each place is filled with the parent of its stop.
+use Rattle.laws.proofs.Bounds.{getD-any}
 use borrow.Author.Needs.{needs}
 use mathlib.Core.Path.{_≡_, refl, ap}
 use Prim.Native.Nat.{ℕ, _-_, _≤_}
@@ -10,7 +11,6 @@ use Rattle.stops.specs.Sound.{stopAt}
 use Rattle.stops.specs.Taken.{blankStop}
 use Rattle.stops.proofs.Texts.{past}
 use Rattle.transfer.specs.Copied.{parentsOf}
-use Rattle.transfer.proofs.Laws.{getD-any}
 use Rattle.transfer.proofs.copied.parents_of.Statement.{statement}
 use Rattle.transfer.proofs.copied.parents_of.Tie as tie
 

@@ -1,6 +1,7 @@
 -- The parts of a transfer, put together.
+use Rattle.laws.specs.Bounds.{least}
 use borrow.Author.Needs.{needs}
-use Rattle.transfer.specs.Copied.{rulesOf, least}
+use Rattle.transfer.specs.Copied.{rulesOf}
 use Rattle.transfer.proofs.Laws.{transfer-parts}
 use Rattle.transfer.proofs.pair.transfer.Statement.{statement}
 use Rattle.transfer.proofs.pair.transfer.Tie as tie

@@ -1,9 +1,9 @@
 -- Inside the array, and past its end.
+use Rattle.laws.proofs.Bounds.{getD-any}
 use borrow.Author.Needs.{needs}
 use mathlib.Core.Path.{sym}
 use native.Mathlib.Omega.{arith}
 use lib.ListN.{List·getD-eq-default}
-use Rattle.transfer.proofs.Laws.{getD-any}
 use Rattle.transfer.proofs.reads.number_at.Statement.{statement}
 use Rattle.transfer.proofs.reads.number_at.Tie as tie
 

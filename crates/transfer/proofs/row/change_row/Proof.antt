@@ -1,6 +1,7 @@
 -- The three passes.
+use Rattle.laws.specs.Bounds.{least}
 use borrow.Author.Needs.{needs}
-use Rattle.transfer.specs.Copied.{rulesOf, least}
+use Rattle.transfer.specs.Copied.{rulesOf}
 use Rattle.transfer.proofs.Entries.{row-right}
 use Rattle.transfer.proofs.row.change_row.Statement.{statement}
 use Rattle.transfer.proofs.row.change_row.Tie as tie

@@ -1,4 +1,6 @@
 -- The rules read so far.
+use Rattle.laws.specs.Bounds.{least}
+use Rattle.laws.proofs.Bounds.{least-under}
 use borrow.Author.Needs.{needs}
 use mathlib.Core.Path.{_≡_, ap, ap₂, sym, _∙_}
 use Prim.Native.Nat.{ℕ, _-_, _≤_}
@@ -6,9 +8,9 @@ use native.Mathlib.Omega.{arith}
 use mathlib.Core.List.{List}
 use Rattle.laws.specs.Lists.{foldl}
 use Rattle.rules.specs.declared.Rule.{Rule}
-use Rattle.transfer.specs.Copied.{rulesOf, least}
+use Rattle.transfer.specs.Copied.{rulesOf}
 use Rattle.transfer.specs.Rows.{readRow}
-use Rattle.transfer.proofs.Laws.{rules-turn, rules-none, least-under}
+use Rattle.transfer.proofs.Laws.{rules-turn, rules-none}
 use Rattle.transfer.proofs.row.read_rules.Statement.{statement}
 use Rattle.transfer.proofs.row.read_rules.Tie as tie
 
