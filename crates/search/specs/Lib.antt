@@ -1,3 +1,3 @@
 pub mod Timetable
 pub mod Search
-pub mod Arrays
+pub mod Rows
