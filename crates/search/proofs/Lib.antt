@@ -1,1 +1,2 @@
 pub mod RowsLaws
+pub mod AnswerLaws

@@ -1,8 +1,8 @@
 -- The rows that the loops offer are those of the offers by places, loop by loop from the innermost.
-use mathlib.Core.Path.{_≡_, refl, sym, ap, _∙_}
-use mathlib.Core.Bool.{Bool, true, false, cond, _&&_}
+use mathlib.Core.Path.{_≡_, refl, ap, _∙_}
+use mathlib.Core.Bool.{Bool, cond, _&&_}
 use mathlib.Core.List.{List, [], _∷_, _++_, List·Memᴰ, List·Memᴰ·head, List·Memᴰ·tail}
-use Prim.Native.Nat.{ℕ, zero, suc, _+_, _-_, _*_, _≤_, _<_}
+use Prim.Native.Nat.{ℕ, _+_, _-_, _*_, _<_}
 use native.Mathlib.Omega.{arith}
 use lib.Dec.{eqb, leb}
 use Rattle.laws.specs.Lists.{concatMap, takeWhile, span}
@@ -13,9 +13,8 @@ use Rattle.laws.proofs.Bits.{bits-set}
 use Rattle.calls.specs.declared.Call.{Call}
 use Rattle.profile.specs.declared.Row.{Row}
 use Rattle.profile.specs.View.{row, rowOf}
-use Rattle.offers.specs.Offers.{Timetable, rideOf}
+use Rattle.offers.specs.Offers.{Timetable}
 use Rattle.offers.specs.Indexed as by
-use Rattle.rides.specs.declared.FirstRide.{FirstRide}
 use Rattle.rides.specs.Rows.{Sheet, Joins, overBits, overCalls, overRun, laterFrom, sameRun, leaveOf, arrivalOf, firstOf, directRow, changeRow, lastAt, lastAlightRows, lastBoardRows, changeRows, directAt, directRows, alightRows, originRows, boardRows, rows}
 use Rattle.search.specs.Rows.{Agrees, SameRows}
 

@@ -1,11 +1,9 @@
 -- What a search reads of a load: the calls taken, each stop's members, the walks, and which rides join.
 use mathlib.Core.Bool.{Bool, false, cond, _&&_}
-use mathlib.Core.List.{List}
 use Prim.Native.Nat.{ℕ}
 use lib.Dec.{eqb, ltb}
 use lib.ListN.{take, getD}
 use Rattle.settings.specs.Settings.{changeSeconds}
-use Rattle.stops.specs.declared.Stop.{Stop}
 use Rattle.stops.specs.Sound.{stopAt}
 use Rattle.calls.specs.declared.Call.{Call}
 use Rattle.profile.specs.declared.Ride.{Ride}
