@@ -1,5 +1,5 @@
 -- Calls, members and walks written as numbers are read back.
-use mathlib.Core.Path.{_≡_, refl, sym, ap, _∙_}
+use mathlib.Core.Path.{_≡_, refl, ap, _∙_}
 use mathlib.Core.Bool.{Bool, true, false}
 use mathlib.Core.List.{List, [], _∷_}
 use Prim.Native.Nat.{ℕ, zero, suc, _+_, _*_, _/_, _%_, _^_, min, _≤_, _<_}
@@ -82,25 +82,25 @@ module _ (calls : List Call) (stops : List Stop) (s : Settings) (l₀ l₁ l₂ 
     (os : Region (λ k. getD (s .«origin_walks») k 0) 3200 4 l₂ l₃)
     (ts : Region (λ k. getD (s .«target_walks») k 0) 3204 4 l₃ l₄)
   where
-  number : (i k : ℕ) → i < 512 → k < 6 → getD l₄ (i * 6 + k) 0 ≡ getD (sixOf (getD calls i blankCall)) k 0
-  number i k h b =
-      ts .low (i * 6 + k) (omega arith) ∙ os .low (i * 6 + k) (omega arith) ∙ ms .low (i * 6 + k) (omega arith) ∙ cs .here i k h b
+    number : (i k : ℕ) → i < 512 → k < 6 → getD l₄ (i * 6 + k) 0 ≡ getD (sixOf (getD calls i blankCall)) k 0
+    number i k h b =
+        ts .low (i * 6 + k) (omega arith) ∙ os .low (i * 6 + k) (omega arith) ∙ ms .low (i * 6 + k) (omega arith) ∙ cs .here i k h b
 
-  member : (k : ℕ) → k < 128 → getD l₄ (3072 + k) 0 ≡ maskedOf (s .origins) (s .targets) (stopAt stops k .members)
-  member k h = ts .low (3072 + k) (omega arith) ∙ os .low (3072 + k) (omega arith) ∙ ms .here k h
+    member : (k : ℕ) → k < 128 → getD l₄ (3072 + k) 0 ≡ maskedOf (s .origins) (s .targets) (stopAt stops k .members)
+    member k h = ts .low (3072 + k) (omega arith) ∙ os .low (3072 + k) (omega arith) ∙ ms .here k h
 
-  pub feeds : Feeds l₄ calls stops s
-  unfolding sixOf stopNumber
-  feeds = record {
-    trip = λ i h. let e : i * 6 ≡ i * 6 + 0 = omega arith in ap (λ (x : ℕ). getD l₄ x 0) e ∙ number i 0 h (omega arith);
-    day = λ i h. number i 1 h (omega arith);
-    stop = λ i h. number i 2 h (omega arith);
-    arrival = λ i h. number i 3 h (omega arith);
-    departure = λ i h. number i 4 h (omega arith);
-    board = λ i h. ap (λ (x : ℕ). eqb (x % 2) 1) (number i 5 h (omega arith)) ∙ board-flag (getD calls i blankCall .board) (getD calls i blankCall .alight);
-    alight = λ i h. ap (λ (x : ℕ). eqb (x / 2 % 2) 1) (number i 5 h (omega arith)) ∙ alight-flag (getD calls i blankCall .board) (getD calls i blankCall .alight);
-    origins = λ k h. ap (λ (x : ℕ). x % 16) (member k h) ∙ masked (s .origins) (s .targets) (stopAt stops k .members) .0;
-    targets = λ k h. ap (λ (x : ℕ). x / 16 % 16) (member k h) ∙ masked (s .origins) (s .targets) (stopAt stops k .members) .1;
-    origin-walk = λ o h. ts .low (3200 + o) (omega arith) ∙ os .here o h;
-    target-walk = λ x h. ts .here x h;
-  }
+    pub feeds : Feeds l₄ calls stops s
+    unfolding sixOf stopNumber
+    feeds = record {
+      trip = λ i h. let e : i * 6 ≡ i * 6 + 0 = omega arith in ap (λ (x : ℕ). getD l₄ x 0) e ∙ number i 0 h (omega arith);
+      day = λ i h. number i 1 h (omega arith);
+      stop = λ i h. number i 2 h (omega arith);
+      arrival = λ i h. number i 3 h (omega arith);
+      departure = λ i h. number i 4 h (omega arith);
+      board = λ i h. ap (λ (x : ℕ). eqb (x % 2) 1) (number i 5 h (omega arith)) ∙ board-flag (getD calls i blankCall .board) (getD calls i blankCall .alight);
+      alight = λ i h. ap (λ (x : ℕ). eqb (x / 2 % 2) 1) (number i 5 h (omega arith)) ∙ alight-flag (getD calls i blankCall .board) (getD calls i blankCall .alight);
+      origins = λ k h. ap (λ (x : ℕ). x % 16) (member k h) ∙ masked (s .origins) (s .targets) (stopAt stops k .members) .0;
+      targets = λ k h. ap (λ (x : ℕ). x / 16 % 16) (member k h) ∙ masked (s .origins) (s .targets) (stopAt stops k .members) .1;
+      origin-walk = λ o h. ts .low (3200 + o) (omega arith) ∙ os .here o h;
+      target-walk = λ x h. ts .here x h;
+    }

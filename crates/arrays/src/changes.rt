@@ -8,21 +8,16 @@ ghost use Rattle.transfer.specs.Rows.{entryOf};
 ghost use Rattle.arrays.specs.Regions.{Region};
 use transfer::row::change_row;
 
-// Arrays that are lent have their lengths.
+// A row that is lent has its length.
 fn known_row(row: [u32; 128])
     ensures { λ _. ⌜ length row ≡ 128 ⌝ }
 {}
 
-fn known_changes(changes: [u32; 16384])
-    ensures { λ _. ⌜ length changes ≡ 16384 ⌝ }
-{}
-
 // A row is copied into its place.
 fn put_row(changes: &mut [u32; 16384], from: usize, row: &[u32; 128])
-    requires { ⌜ from < 128 ⌝ }
+    requires { ⌜ (length (now changes) ≡ 16384) × (from < 128) ⌝ }
     ensures { λ _. ⌜ Region (λ k. getD (now (row .entry)) k 0) (from * 128) 128 (now (changes .entry)) (now (changes .exit)) ⌝ }
 {
-    known_changes(*changes);
     known_row(*row);
     let at = from * 128;
     let mut k: usize = 0;
@@ -42,7 +37,7 @@ fn put_changes(
     from: u16,
     change: u16,
 )
-    requires { ⌜ from < 128 ⌝ }
+    requires { ⌜ (length (now changes) ≡ 16384) × (from < 128) ⌝ }
     ensures { λ _. ⌜ Region (entryOf (rulesOf (now (rules .entry)) (least count 128)) (now (parents .entry)) (now (places .entry)) from change) (from * 128) 128 (now (changes .entry)) (now (changes .exit)) ⌝ }
 {
     let mut row = [0u32; 128];

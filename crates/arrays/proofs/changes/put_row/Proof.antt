@@ -1,7 +1,7 @@
 -- Each number of the row is put in its place.
 use borrow.Author.Needs.{needs}
 use mathlib.Core.Path.{_≡_, refl}
-use Prim.Native.Nat.{ℕ, _*_, _-_, _≤_, _<_}
+use Prim.Native.Nat.{ℕ, _*_, _-_, _≤_}
 use native.Mathlib.Omega.{arith}
 use lib.ListN.{length, getD}
 use Rattle.arrays.specs.Regions.{Region}
@@ -14,9 +14,6 @@ Inv-loop changes₀ from row at k₀ changes k = (k ≤ 128) × (at ≡ from * 1
 
 abbrev μ-loop : tie.MeasureT-loop
 μ-loop changes₀ from row at k₀ changes k = 128 - k
-
-known-changes-requires : tie.Need-known-changes-requires Inv-loop μ-loop
-known-changes-requires c κs = search needs
 
 known-row-requires : tie.Need-known-row-requires Inv-loop μ-loop
 known-row-requires c κs = search needs
@@ -49,7 +46,7 @@ loop-less : tie.Need-loop-less Inv-loop μ-loop
 loop-less c = search needs
 
 loop-again : tie.Need-loop-again Inv-loop μ-loop
-loop-again c = 
+loop-again c =
     let L = c .before .before in (
       omega arith,
       refl,
@@ -67,7 +64,6 @@ put-row-spec =
     (tie.spec
     Inv-loop
     μ-loop
-    known-changes-requires
     known-row-requires
     mul-at
     loop-holds

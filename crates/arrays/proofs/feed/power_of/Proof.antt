@@ -1,9 +1,8 @@
 -- The five counts.
-use mathlib.Core.Path.{_≡_, refl}
+use mathlib.Core.Path.{refl}
 use Prim.Native.Nat.{_≤_}
 use native.Mathlib.Nat.{min-eq-right}
 use native.Mathlib.Omega.{arith}
-use borrow.Author.Needs.{needs}
 use Rattle.arrays.proofs.feed.power_of.Statement.{statement}
 use Rattle.arrays.proofs.feed.power_of.Tie as tie
 
@@ -20,7 +19,7 @@ returns-4 : tie.Need-returns-4
 returns-4 c = (rw (c .if4 .taken) refl, omega arith, omega arith)
 
 returns-5 : tie.Need-returns-5
-returns-5 c = 
+returns-5 c =
     let a = c .before .before .before .before .args in
     let h : 4 ≤ a .count = omega arith in
     (rw (min-eq-right h) refl, omega arith, omega arith)

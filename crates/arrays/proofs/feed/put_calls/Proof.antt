@@ -1,5 +1,5 @@
 -- Call after call.
-use mathlib.Core.Path.{_≡_, refl, _∙_}
+use mathlib.Core.Path.{_≡_, _∙_}
 use Prim.Native.Nat.{ℕ, _-_, _≤_}
 use native.Mathlib.Omega.{arith}
 use lib.ListN.{length, getD}
@@ -41,7 +41,7 @@ loop-less : tie.Need-loop-less Inv-loop μ-loop
 loop-less c = search needs
 
 loop-again : tie.Need-loop-again Inv-loop μ-loop
-loop-again c = 
+loop-again c =
     let L = c .before .before .before .before in
     (omega arith, L .loop .inv .1, blocks-more 6 _ _ (L .loop .feed) _ (L .loop .i) (L .loop .inv .2) (c .put-call .ensures))
 

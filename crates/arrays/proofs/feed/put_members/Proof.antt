@@ -53,7 +53,7 @@ loop-less c = search needs
 
 loop-again : tie.Need-loop-again Inv-loop μ-loop
 unfolding stopAt
-loop-again c = 
+loop-again c =
     let L = c .before .before .before in
     let a = L .before .before .before .args in
     let n : length (a .t2) ≡ 128 = L .before .before .before .good .1 .0 .1 .0 .1 in

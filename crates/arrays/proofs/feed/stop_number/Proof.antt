@@ -3,7 +3,6 @@ use mathlib.Core.Path.{sym}
 use borrow.Author.Tests.{lt-ltb, le-ltb}
 use Rattle.laws.proofs.Bools.{cond-by, cond-not}
 use Rattle.arrays.specs.Feeds.{stopNumber}
-use borrow.Author.Needs.{needs}
 use Rattle.arrays.proofs.feed.stop_number.Statement.{statement}
 use Rattle.arrays.proofs.feed.stop_number.Tie as tie
 
