@@ -17,3 +17,4 @@ pub mod Maps
 pub mod Tails
 pub mod Bits
 pub mod Places
+pub mod Agree
