@@ -1,5 +1,5 @@
 -- Sheets that agree give the same rows: loop by loop, from the innermost.
-use mathlib.Core.Path.{_≡_, refl, ap, _∙_}
+use mathlib.Core.Path.{_≡_, ap, _∙_}
 use mathlib.Core.List.{List}
 use Prim.Native.Nat.{ℕ, _+_, _-_, _<_}
 use Rattle.laws.specs.Lists.{concatMap, span}

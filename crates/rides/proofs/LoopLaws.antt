@@ -1,11 +1,11 @@
 -- What every loop of the search cites. A loop goes through a list of numbers, and its invariant is that what is left of the list, offered to the
 -- present state, gives what the whole list gives from the first state.
 use mathlib.Core.Path.{_≡_, refl, sym, _∙_, ap}
-use mathlib.Core.Bool.{Bool, true, false, not, cond, _&&_}
+use mathlib.Core.Bool.{Bool, true, false, not}
 use mathlib.Core.List.{List, [], _∷_, _++_}
 use Prim.Native.Nat.{ℕ, _+_, _≤_, _<_}
 use native.Mathlib.Omega.{arith}
-use Rattle.laws.specs.Lists.{foldl, concatMap, takeWhile, span}
+use Rattle.laws.specs.Lists.{concatMap}
 use Rattle.laws.specs.Bits.{bitsOf, lowOf, cleared}
 use Rattle.laws.proofs.Folds.{foldl-append}
 use Rattle.laws.proofs.Bits.{bits-none, lowest-first}
