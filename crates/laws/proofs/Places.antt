@@ -5,7 +5,7 @@ use mathlib.Core.List.{List, [], _∷_, _++_, map, map-append}
 use Prim.Native.Nat.{ℕ, zero, suc, _+_, _-_, _≤_, _<_}
 use native.Mathlib.Omega.{arith}
 use native.Mathlib.Numerals.{add-one}
-use lib.ListN.{length, getD}
+use lib.ListN.{length, getD, take}
 use Rattle.laws.specs.Lists.{concatMap, takeWhile, span}
 use Rattle.laws.specs.Tails.{overTails}
 
@@ -52,16 +52,17 @@ module _ {A B : Type 0} where
       go false e = refl
 
 module _ {B : Type 0} where
-  -- a list by its places
-  pub map-places : (l : List B) (d : B) → l ≡ map (λ i. getD l i d) (span 0 (length l))
-  map-places l d = from l (λ i. getD l i d) 0 (λ i. ap (λ (k : ℕ). getD l k d) (omega arith))
+  -- the first n elements by their places
+  pub take-places : (l : List B) (d : B) (n : ℕ) → n ≤ length l → take n l ≡ map (λ i. getD l i d) (span 0 n)
+  take-places l d n h = from l n h (λ i. getD l i d) 0 (λ i. ap (λ (k : ℕ). getD l k d) (omega arith))
     where
-      from : (m : List B) (at : ℕ → B) (k : ℕ) → ((i : ℕ) → at (k + i) ≡ getD m i d) → m ≡ map at (span k (length m))
-      from [] at k h = refl
-      from (x ∷ m) at k h =
-          let e : x ≡ at k = sym (h 0) ∙ ap at (omega arith) in
-          let r : m ≡ map at (span (suc k) (length m)) = from m at (suc k) (λ i. ap at (omega arith) ∙ h (suc i)) in
-          ap (λ (y : B). y ∷ m) e ∙ ap {B = List B} (λ y. at k ∷ y) r
+      from : (m : List B) (n : ℕ) → n ≤ length m → (at : ℕ → B) (k : ℕ) → ((i : ℕ) → at (k + i) ≡ getD m i d) → take n m ≡ map at (span k n)
+      from m zero h at k e = refl
+      from [] (suc n) h at k e = absurd (omega arith)
+      from (x ∷ m) (suc n) h at k e =
+          let q : x ≡ at k = sym (e 0) ∙ ap at (omega arith) in
+          let r : take n m ≡ map at (span (suc k) n) = from m n (omega arith) at (suc k) (λ i. ap at (omega arith) ∙ e (suc i)) in
+          ap (λ (y : B). y ∷ take n m) q ∙ ap {B = List B} (λ y. at k ∷ y) r
 
 -- what is left of a count from i up to n
 pub span-cons : (i n : ℕ) → i < n → span i (n - i) ≡ i ∷ span (i + 1) (n - (i + 1))
