@@ -22,3 +22,4 @@ pub mod Tables
 pub mod Order
 pub mod Stores
 pub mod Bounds
+pub mod Agree

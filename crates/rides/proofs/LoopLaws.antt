@@ -1,11 +1,11 @@
 -- What every loop of the search cites. A loop goes through a list of numbers, and its invariant is that what is left of the list, offered to the
 -- present state, gives what the whole list gives from the first state.
 use mathlib.Core.Path.{_≡_, refl, sym, _∙_, ap}
-use mathlib.Core.Bool.{Bool, true, false, not, cond, _&&_}
+use mathlib.Core.Bool.{Bool, true, false, not}
 use mathlib.Core.List.{List, [], _∷_, _++_}
 use Prim.Native.Nat.{ℕ, _+_, _≤_, _<_}
 use native.Mathlib.Omega.{arith}
-use Rattle.laws.specs.Lists.{foldl, concatMap, takeWhile, span}
+use Rattle.laws.specs.Lists.{concatMap}
 use Rattle.laws.specs.Bits.{bitsOf, lowOf, cleared}
 use Rattle.laws.proofs.Folds.{foldl-append}
 use Rattle.laws.proofs.Bits.{bits-none, lowest-first}
@@ -17,7 +17,6 @@ use Rattle.profile.proofs.PassLaws.{refused-stays}
 use Rattle.profile.proofs.ViewLaws.{view-is-refused}
 use Rattle.rides.specs.declared.FeedCall.{FeedCall}
 use Rattle.rides.specs.Rows.{overBits, overCalls, overRun, laterFrom, sameRun}
-use Rattle.rides.specs.Feed.{originMask, targetMask}
 use Rattle.rides.specs.Offered.{offerAll, Offered}
 
 -- what is left to offer, from the present state, gives what all of it gives from the first
@@ -130,12 +129,3 @@ module _ {l₀ l : List ℕ} {all : List Row} (g : ℕ → List Row) (at : ℕ �
   pub run-done : n ≤ j → Left l₀ l all (overRun g at n i j) → Offered l₀ l all
   unfolding overRun
   run-done h = ends (ap (concatMap g) (later-nil at n i j h))
-
--- ---- masks have four digits
-pub origins-small : (f : List ℕ) (stop : ℕ) → originMask f stop < 16
-unfolding originMask
-origins-small f stop = omega arith
-
-pub targets-small : (f : List ℕ) (stop : ℕ) → targetMask f stop < 16
-unfolding targetMask
-targets-small f stop = omega arith

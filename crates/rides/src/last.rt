@@ -109,7 +109,7 @@ fn last_board(
 }
 
 // Every last ride. A refused search stays as it is, so the loop may end there.
-fn every_last(
+fn last_rides(
     st: &mut [u16; 654],
     feed: &[u16; 3208],
     changes: &[u32; 16384],
@@ -130,7 +130,7 @@ fn every_last(
 }
 
 // With depth 1, every last ride; else none.
-pub fn last_rides(
+pub fn change_rides(
     st: &mut [u16; 654],
     feed: &[u16; 3208],
     changes: &[u32; 16384],
@@ -142,6 +142,6 @@ pub fn last_rides(
     ensures { λ _. ⌜ Offered (now (st .entry)) (now (st .exit)) (changeRows (sheetOf (now (feed .entry))) (joinsOf (now (feed .entry)) (now (changes .entry))) depth n f) ⌝ }
 {
     if depth == 1 {
-        every_last(st, feed, changes, n, f);
+        last_rides(st, feed, changes, n, f);
     }
 }

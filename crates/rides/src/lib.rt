@@ -1,6 +1,6 @@
 // The nested loops of a search over lent arrays of numbers: each journey by one ride or two is offered to the running state, in order.
-pub mod bits;
-pub mod feed;
+mod bits;
+mod feed;
 mod last;
 pub mod paths;
 

@@ -26,7 +26,7 @@ use crate::feed::origins_of;
 use crate::feed::same_run;
 use crate::feed::target_walk;
 use crate::feed::targets_of;
-use crate::last::last_rides;
+use crate::last::change_rides;
 use profile::offer::candidate;
 use profile::state::is_refused;
 
@@ -80,7 +80,7 @@ fn alight_at(
     if a.alight {
         let f = first_of(feed, i, o, k);
         directs(st, feed, f);
-        last_rides(st, feed, changes, n, depth, f);
+        change_rides(st, feed, changes, n, depth, f);
     }
 }
 

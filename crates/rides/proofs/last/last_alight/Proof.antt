@@ -2,7 +2,8 @@
 use borrow.Author.Needs.{needs}
 use Rattle.rides.specs.Rows.{lastAlightRows}
 use Rattle.rides.specs.Feed.{sheetOf}
-use Rattle.rides.proofs.LoopLaws.{nothing, targets-small}
+use Rattle.rides.proofs.FeedLaws.{targets-small}
+use Rattle.rides.proofs.LoopLaws.{nothing}
 use Rattle.rides.proofs.last.last_alight.Statement.{statement}
 use Rattle.rides.proofs.last.last_alight.Tie as tie
 

@@ -1,5 +1,4 @@
 -- `last_targets` meets its contract: a loop over the set digits of the mask.
-use native.Mathlib.Omega.{arith}
 use borrow.Author.Needs.{needs}
 use Rattle.rides.specs.Rows.{overBits, lastAt}
 use Rattle.rides.specs.Feed.{sheetOf}

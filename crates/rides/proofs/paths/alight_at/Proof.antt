@@ -15,14 +15,14 @@ first-of-requires c κs = search needs
 directs-requires : tie.Need-directs-requires
 directs-requires c κs = search needs
 
-last-rides-requires : tie.Need-last-rides-requires
-last-rides-requires c κs = search needs
+change-rides-requires : tie.Need-change-rides-requires
+change-rides-requires c κs = search needs
 
 returns : tie.Need-returns
 unfolding alightRows sheetOf
 returns c =
     let p = c .before .before .before .before in
-    rw (← p .before .before .call-at .ensures, p .before .if1 .taken, ← p .first-of .ensures) (both (c .before .before .directs .ensures) (c .last-rides .ensures))
+    rw (← p .before .before .call-at .ensures, p .before .if1 .taken, ← p .first-of .ensures) (both (c .before .before .directs .ensures) (c .change-rides .ensures))
 
 returns-2 : tie.Need-returns-2
 unfolding alightRows sheetOf
@@ -35,6 +35,6 @@ alight-at-spec =
     call-at-requires
     first-of-requires
     directs-requires
-    last-rides-requires
+    change-rides-requires
     returns
     returns-2)

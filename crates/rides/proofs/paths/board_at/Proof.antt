@@ -2,7 +2,8 @@
 use borrow.Author.Needs.{needs}
 use Rattle.rides.specs.Rows.{boardRows}
 use Rattle.rides.specs.Feed.{sheetOf}
-use Rattle.rides.proofs.LoopLaws.{nothing, origins-small}
+use Rattle.rides.proofs.FeedLaws.{origins-small}
+use Rattle.rides.proofs.LoopLaws.{nothing}
 use Rattle.rides.proofs.paths.board_at.Statement.{statement}
 use Rattle.rides.proofs.paths.board_at.Tie as tie
 

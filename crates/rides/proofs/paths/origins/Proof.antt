@@ -1,5 +1,4 @@
 -- `origins` meets its contract: a loop over the set digits of the mask.
-use native.Mathlib.Omega.{arith}
 use borrow.Author.Needs.{needs}
 use Rattle.rides.specs.Rows.{overBits, originRows}
 use Rattle.rides.specs.Feed.{joinsOf, sheetOf}
