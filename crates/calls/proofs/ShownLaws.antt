@@ -25,6 +25,7 @@ use Rattle.refusal.specs.First.{firstAnswer, isRefused}
 use Rattle.calls.specs.Calls.{unTimed, reversed, known, callTests, callTime, window, callFit, callOn, ended, goesOn}
 use Rattle.calls.specs.Sound.{TableSound}
 use Rattle.calls.specs.Shown.{shown, windowed, Shows, StepShows}
+use Rattle.laws.proofs.Bools.{cond-by}
 use Rattle.laws.proofs.Pack.{gather-append}
 use Rattle.calls.proofs.Fits.{Ends, stands, enters, turned, Keeps, ends}
 use Rattle.calls.proofs.SoundLaws.{cut-calls, put-calls, sound-keeps, passed}
@@ -183,3 +184,13 @@ step-shows s b n t i is sound q = go (firstAnswer (callTests b n i)) refl
         (ends (Showing s is) (callTime s i (i .arrival)) (callTime s i (i .departure)) i
         (showing-keeps s is (callTime s i (i .arrival)) (callTime s i (i .departure)) i)
         t (record { sound = sound; shows = q }))
+
+-- a refused call leaves the table as it was given
+pub refused-same : (s : Settings) (b : Bool) (n : ℕ) (t : Table) (i : CallInput) → isRefused (callOn s b n t i .answer) ≡ true → callOn s b n t i .table ≡ t
+unfolding callOn
+refused-same s b n t i = go (firstAnswer (callTests b n i))
+  where
+    go : (a : Answer) → isRefused (goesOn s t i a .answer) ≡ true → goesOn s t i a .table ≡ t
+    go (Refused w) e = refl
+    go Outside e = refl
+    go Taken e = cond-by _ _ e

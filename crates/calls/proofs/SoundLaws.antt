@@ -23,7 +23,7 @@ use Rattle.calls.specs.Windows.{timeOf, timeAfter, before, after, within
 use Rattle.calls.specs.Tables.{blankCall, dueBy, trim, trimAll, cut, less, put}
 use Rattle.laws.specs.Lists.{gather}
 use Rattle.laws.proofs.Bools.{and-true-left}
-use Rattle.refusal.specs.First.{firstAnswer}
+use Rattle.refusal.specs.First.{firstAnswer, AllFail}
 use Rattle.refusal.proofs.FirstLaws.{taken-all-fail}
 use Rattle.settings.specs.Settings.{near}
 use Rattle.calls.specs.Calls.{unTimed, secondsOf, known, callTests, callTime, callFit, callOn, ended, goesOn}
@@ -212,10 +212,16 @@ pub record Passed (b : Bool) (n : ℕ) (i : CallInput) : Type 0 where
   pub present : unTimed i ≡ false
   pub ordered : secondsOf (i .arrival) ≤ secondsOf (i .departure)
 
+-- every test fails where the tests answer taken
+pub call-tests-fail : (b : Bool) (n : ℕ) (i : CallInput) → firstAnswer (callTests b n i) ≡ Taken → AllFail (callTests b n i)
+unfolding callTests
+call-tests-fail b n i e = taken-all-fail (callTests b n i)
+    ((λ q. let z : _≡_ {A = ℕ} 0 1 = cc in omega arith), ((λ q. let z : _≡_ {A = ℕ} 0 1 = cc in omega arith), ((λ q. let z : _≡_ {A = ℕ} 0 1 = cc in omega arith), ((λ q. let z : _≡_ {A = ℕ} 0 1 = cc in omega arith), tt)))) e
+
 pub passed : (b : Bool) (n : ℕ) (i : CallInput) → firstAnswer (callTests b n i) ≡ Taken → Passed b n i
 unfolding callTests
 passed b n i e =
-    let f = taken-all-fail (callTests b n i) ((λ q. let z : _≡_ {A = ℕ} 0 1 = cc in omega arith), ((λ q. let z : _≡_ {A = ℕ} 0 1 = cc in omega arith), ((λ q. let z : _≡_ {A = ℕ} 0 1 = cc in omega arith), ((λ q. let z : _≡_ {A = ℕ} 0 1 = cc in omega arith), tt)))) e in
+    let f = call-tests-fail b n i e in
     record { unsearched = f .0; present = f .1 .1 .0; ordered = ltb-false (secondsOf (i .departure)) (secondsOf (i .arrival)) (f .1 .1 .1 .0) }
 
 -- ---- the step

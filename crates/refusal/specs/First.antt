@@ -3,7 +3,6 @@ use mathlib.Core.Path.{_≡_}
 use mathlib.Core.Bool.{Bool, true, false, cond}
 use mathlib.Core.List.{List, [], _∷_}
 use Prim.Native.Nat.{ℕ}
-use Rattle.refusal.specs.declared.Refusal.{Refusal}
 use Rattle.refusal.specs.declared.Answer.{Answer}
 use Rattle.refusal.specs.declared.Answer.the-variants.{Taken, Outside, Refused}
 use Rattle.refusal.specs.Causes.{numberOf}
@@ -29,6 +28,11 @@ abbrev pub isRefused : Answer → Bool
 isRefused Taken = false
 isRefused Outside = false
 isRefused (Refused r) = true
+
+abbrev pub isTaken : Answer → Bool
+isTaken Taken = true
+isTaken Outside = false
+isTaken (Refused r) = false
 
 -- the number that an answer carries, 0 where the step is not sent back
 abbrev pub answerNumber : Answer → ℕ

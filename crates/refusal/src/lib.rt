@@ -1,7 +1,7 @@
 // Why a call is sent back: one case for each cause, with the scope's number for it, and the answer of a step.
 ghost use mathlib.Core.Path.{_≡_};
 ghost use Rattle.refusal.specs.Causes.{numberOf};
-ghost use Rattle.refusal.specs.First.{isRefused};
+ghost use Rattle.refusal.specs.First.{isRefused, isTaken};
 
 pub enum Refusal {
     // 1: an origin or target count above 4, or `max_transfers` above 1
@@ -77,5 +77,15 @@ pub fn is_refused(a: Answer) -> bool
         Answer::Taken => false,
         Answer::Outside => false,
         Answer::Refused(_) => true,
+    }
+}
+
+pub fn is_taken(a: Answer) -> bool
+    ensures { λ r. ⌜ r ≡ isTaken a ⌝ }
+{
+    match a {
+        Answer::Taken => true,
+        Answer::Outside => false,
+        Answer::Refused(_) => false,
     }
 }

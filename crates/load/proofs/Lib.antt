@@ -1,0 +1,4 @@
+pub mod StepLaws
+pub mod SoundLaws
+pub mod AnswerLaws
+pub mod TableLaws

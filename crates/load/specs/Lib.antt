@@ -1,0 +1,5 @@
+pub mod Load
+pub mod Steps
+pub mod Filling
+pub mod Sound
+pub mod Table

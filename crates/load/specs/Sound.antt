@@ -1,0 +1,37 @@
+-- A load that the steps make: settings that open, sound stops, calls and rules, no journey before the search, and one horizon until then.
+use Prim.Native.Nat.{_-_, _≤_}
+use mathlib.Core.Path.{_≡_}
+use mathlib.Core.Bool.{false}
+use lib.ListN.{length, drop, replicate}
+use Rattle.refusal.specs.declared.Answer.the-variants.{Taken}
+use Rattle.settings.specs.declared.Settings.{Settings}
+use Rattle.stops.specs.Sound.{StopsSound}
+use Rattle.calls.specs.Sound.{TableSound}
+use Rattle.rules.specs.Sound.{RulesSound}
+use Rattle.profile.specs.Journeys.{noJourney}
+use Rattle.load.specs.declared.Load.{Load}
+use Rattle.load.specs.Load.{tableOf}
+use Rattle.load.specs.Steps.{openAnswer, opened}
+use Rattle.load.specs.Filling.{Filling, filled}
+
+-- the settings are not sent back
+abbrev pub Opens : Settings → Type 0
+Opens s = openAnswer s ≡ Taken
+
+pub record Sound (l : Load) : Type 0 where
+  pub stops : StopsSound (l .stops) (l .«stop_count»)
+  pub table : TableSound (tableOf l)
+  pub rules : RulesSound (l .«stop_count») (l .rules) (l .«rule_count»)
+  pub few : l .«journey_count» ≤ 64
+  pub long : length (l .journeys) ≡ 64
+  pub blank : drop (l .«journey_count») (l .journeys) ≡ replicate (64 - l .«journey_count») noJourney
+  -- before the search
+  pub none-kept : l .searched ≡ false → l .«journey_count» ≡ 0
+  pub same-horizon : l .searched ≡ false → l .horizon ≡ l .«table_horizon»
+  pub same-limits : l .searched ≡ false → l .limits ≡ l .«table_limits»
+
+abbrev pub OpenSound : Type 0
+OpenSound = (s : Settings) → Sound (opened s)
+
+abbrev pub FillKeepsSound : Type 0
+FillKeepsSound = (l : Load) (x : Filling) → Sound l → Sound (filled l x .load)
