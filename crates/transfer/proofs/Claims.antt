@@ -66,9 +66,15 @@ pub only-halves : OnlyHalves
 only-halves stops rules count s e j k hj hk apart p q eq =
     halves (eqb (x .from) (e .from)) (eqb (x .to) (e .to)) (eqb (y .from) (e .from)) (eqb (y .to) (e .to)) eq
     (λ f t. apart (pair-once stops rules count s j k hj hk
-    (same-side (x .from) (y .from) (e .from) (e .«from_parent») (and-true-left _ _ p) (and-true-left _ _ q) f)
-    (same-side (x .to) (y .to) (e .to) (e .«to_parent») (and-true-right _ _ p) (and-true-right _ _ q) t)))
+    (same-side (x .from) (y .from) (e .from) (e .«from_parent») (and-true-left (ahead x) (back x) p) (and-true-left (ahead y) (back y) q) f)
+    (same-side (x .to) (y .to) (e .to) (e .«to_parent») (and-true-right (ahead x) (back x) p) (and-true-right (ahead y) (back y) q) t)))
   where
+    ahead : Rule → Bool
+    ahead r = side (r .from) (e .from) (e .«from_parent»)
+
+    back : Rule → Bool
+    back r = side (r .to) (e .to) (e .«to_parent»)
+
     x : Rule
     x = ruleAt rules j
 
