@@ -1,15 +1,16 @@
 -- What a chosen rule gives, what holds of the rules of a sound load, and what a row decides.
 use mathlib.Core.Path.{_≡_, refl, sym, ap, _∙_}
 use mathlib.Core.Logic.{_⊎_, inl, inr}
-use mathlib.Core.Bool.{true≢false}
+use mathlib.Core.Bool.{Bool, true, false, not, true≢false}
 use Prim.Native.Nat.{ℕ, _+_, _<_}
 use native.Mathlib.Omega.{arith}
-use lib.Dec.{leb}
+use lib.Dec.{leb, eqb}
 use lib.ListN.{getD}
-use borrow.Author.Tests.{eq-eqb, lt-leb}
-use Rattle.laws.proofs.Bools.{cond-by, and-true}
+use borrow.Author.Tests.{eq-eqb, eqb-true, lt-leb}
+use Rattle.laws.proofs.Bools.{cond-by, or-not, and-true, and-true-left, and-true-right}
 use Rattle.laws.proofs.Order.{tri}
 use Rattle.laws.proofs.Tables.{getD-table}
+use Rattle.rules.specs.declared.Rule.{Rule}
 use Rattle.rules.specs.Sound.{ruleAt}
 use Rattle.stops.specs.Sound.{stopAt}
 use Rattle.transfer.specs.declared.Chosen.{Chosen}
@@ -18,7 +19,9 @@ use Rattle.transfer.specs.declared.Change.the-variants.{Takes, Never}
 use Rattle.transfer.specs.Changes.{endsOf, near, changeOf, transferOf, joinsBy, changeNumber}
 use Rattle.transfer.specs.Copied.{parentsOf}
 use Rattle.transfer.specs.Rows.{entryOf, changeRow}
-use Rattle.transfer.specs.Promises.{TypeThreeForbids, PairOnce, NoneNotNamed, RowJoins, ParentRead}
+use Rattle.transfer.specs.Choice.{side, bit}
+use Rattle.transfer.proofs.Entries.{bit-small}
+use Rattle.transfer.specs.Promises.{TypeThreeForbids, PairOnce, OnlyHalves, NoneNotNamed, RowJoins, ParentRead}
 
 pub type-three-forbids : TypeThreeForbids
 unfolding transferOf
@@ -35,6 +38,48 @@ pair-once stops rules count s j k hj hk f t = go (tri j k)
     go (inl h) = absurd (twice j k h hk f t)
     go (inr (inl e)) = e
     go (inr (inr h)) = absurd (twice k j h hj (sym f) (sym t))
+
+-- ---- equal rules
+
+same-side : (x y stop parent : ℕ) → side x stop parent ≡ true → side y stop parent ≡ true → eqb x stop ≡ eqb y stop → x ≡ y
+same-side x y stop parent p q e = go (eqb x stop) refl
+  where
+    go : (b : Bool) → eqb x stop ≡ b → x ≡ y
+    go true t = eqb-true x stop t ∙ sym (eqb-true y stop (sym e ∙ t))
+    go false t = eqb-true x parent (sym (or-not _ t) ∙ p) ∙ sym (eqb-true y parent (sym (or-not _ (sym e ∙ t)) ∙ q))
+
+halves : (a b c d : Bool) → bit a + bit b ≡ bit c + bit d → (a ≡ c → b ≡ d → ⊥) → (bit a + bit b ≡ 1) × (a ≡ not c)
+halves true true true true s n = absurd (n refl refl)
+halves true true true false s n = absurd (omega arith)
+halves true true false d s n = absurd (omega (arith, bit-small d))
+halves true false true true s n = absurd (omega arith)
+halves true false true false s n = absurd (n refl refl)
+halves true false false d s n = (refl, refl)
+halves false true true d s n = (refl, refl)
+halves false true false true s n = absurd (n refl refl)
+halves false true false false s n = absurd (omega arith)
+halves false false true d s n = absurd (omega (arith, bit-small d))
+halves false false false true s n = absurd (omega arith)
+halves false false false false s n = absurd (n refl refl)
+
+pub only-halves : OnlyHalves
+only-halves stops rules count s e j k hj hk apart p q eq =
+    halves (eqb (x .from) (e .from)) (eqb (x .to) (e .to)) (eqb (y .from) (e .from)) (eqb (y .to) (e .to)) eq
+    (λ f t. apart (pair-once stops rules count s j k hj hk
+    (same-side (x .from) (y .from) (e .from) (e .«from_parent») (and-true-left (ahead x) (back x) p) (and-true-left (ahead y) (back y) q) f)
+    (same-side (x .to) (y .to) (e .to) (e .«to_parent») (and-true-right (ahead x) (back x) p) (and-true-right (ahead y) (back y) q) t)))
+  where
+    ahead : Rule → Bool
+    ahead r = side (r .from) (e .from) (e .«from_parent»)
+
+    back : Rule → Bool
+    back r = side (r .to) (e .to) (e .«to_parent»)
+
+    x : Rule
+    x = ruleAt rules j
+
+    y : Rule
+    y = ruleAt rules k
 
 pub none-not-named : NoneNotNamed
 none-not-named stops rules count few s k h = ((λ e. omega (arith, s .from-known k h)), (λ e. omega (arith, s .to-known k h)))

@@ -74,7 +74,7 @@ level-none x from parent h = go (eqb x from) (eqb x parent) h
     go false true e = absurd (true≢false e)
     go false false e = refl
 
-bit-small : (b : Bool) → bit b ≤ 1
+pub bit-small : (b : Bool) → bit b ≤ 1
 bit-small true = omega arith
 bit-small false = omega arith
 

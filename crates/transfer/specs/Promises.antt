@@ -1,9 +1,9 @@
 -- What is proved of changes: which rule is chosen, what it gives, and that a row decides joins.
 use mathlib.Core.Path.{_≡_}
-use mathlib.Core.Bool.{true, false}
+use mathlib.Core.Bool.{true, false, not}
 use mathlib.Core.List.{List, _++_, _∷_, List·Memᴰ}
 use Prim.Native.Nat.{ℕ, _+_, _≤_, _<_}
-use lib.Dec.{leb}
+use lib.Dec.{leb, eqb}
 use lib.ListN.{getD}
 use Rattle.rules.specs.declared.Rule.{Rule}
 use Rattle.rules.specs.Sound.{ruleAt, RulesSound}
@@ -13,7 +13,7 @@ use Rattle.transfer.specs.declared.Ends.{Ends}
 use Rattle.transfer.specs.declared.Chosen.{Chosen}
 use Rattle.transfer.specs.declared.Chosen.the-variants.{By, Open}
 use Rattle.transfer.specs.declared.Change.the-variants.{Never}
-use Rattle.transfer.specs.Choice.{applies, better, chosen}
+use Rattle.transfer.specs.Choice.{applies, better, chosen, exact}
 use Rattle.transfer.specs.Changes.{transferOf, endsOf, joinsBy}
 use Rattle.transfer.specs.Copied.{parentsOf}
 use Rattle.transfer.specs.Rows.{changeRow}
@@ -46,6 +46,14 @@ abbrev pub PairOnce : Type 0
 PairOnce =
     (stops : ℕ) (rules : List Rule) (count : ℕ) → RulesSound stops rules count
     → (j k : ℕ) → j < count → k < count → ruleAt rules j .from ≡ ruleAt rules k .from → ruleAt rules j .to ≡ ruleAt rules k .to → j ≡ k
+
+-- two rules of a sound load that apply and have equally many exact sides have one, and not on the same side
+abbrev pub OnlyHalves : Type 0
+OnlyHalves =
+    (stops : ℕ) (rules : List Rule) (count : ℕ) → RulesSound stops rules count
+    → (e : Ends) (j k : ℕ) → j < count → k < count → (j ≡ k → ⊥) → applies e (ruleAt rules j) ≡ true → applies e (ruleAt rules k) ≡ true
+    → exact e (ruleAt rules j) ≡ exact e (ruleAt rules k)
+    → (exact e (ruleAt rules j) ≡ 1) × (eqb (ruleAt rules j .from) (e .from) ≡ not (eqb (ruleAt rules k .from) (e .from)))
 
 -- no rule of a sound load names 65535, so a stop without a parent is matched by its own number alone
 abbrev pub NoneNotNamed : Type 0

@@ -27,7 +27,7 @@ abbrev pub packed : Ends → Bool → ℕ → Chosen → ℕ
 packed e close change Open = changeNumber (changeOf Open close change) * 4
 packed e close change (By r) = changeNumber (ruleChange r change) * 4 + (exact e r + 1)
 
--- one place
+-- the two stops are near
 abbrev pub closeTo : List ℕ → List ℕ → ℕ → ℕ → Bool
 closeTo parents places from to = near (endsOf parents from to) (getD places from 65535) (getD places to 65535)
 
