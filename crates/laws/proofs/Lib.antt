@@ -14,3 +14,12 @@ pub mod Tests
 pub mod Halves
 pub mod Arrays
 pub mod Maps
+pub mod Tails
+pub mod Bits
+pub mod Places
+pub mod Insertion
+pub mod Tables
+pub mod Order
+pub mod Stores
+pub mod Bounds
+pub mod Agree

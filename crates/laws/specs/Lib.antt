@@ -2,3 +2,8 @@ pub mod Lists
 pub mod Sort
 pub mod Floats
 pub mod Arrays
+pub mod Tails
+pub mod Bits
+pub mod Tables
+pub mod Order
+pub mod Bounds

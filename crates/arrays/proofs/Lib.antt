@@ -1,0 +1,4 @@
+pub mod RegionLaws
+pub mod ChangeLaws
+pub mod FeedLaws
+pub mod KeptLaws

@@ -1,0 +1,3 @@
+pub mod Regions
+pub mod Feeds
+pub mod Kept

@@ -1,0 +1,3 @@
+pub mod SearchSound
+pub mod StepLaws
+pub mod Demands

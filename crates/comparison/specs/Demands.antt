@@ -1,0 +1,84 @@
+-- The three demands.
+use mathlib.Core.Path.{_≡_}
+use mathlib.Core.Logic.{_↔_}
+use mathlib.Core.Bool.{true}
+use mathlib.Core.Option.{Option, none, some}
+use mathlib.Core.List.{List, [], _∷_, List·Memᴰ}
+use Prim.Native.Nat.{ℕ, _≤_, _<_, min}
+use lib.IntN.{ℤ, pos, negsuc}
+use Rattle.refusal.specs.First.{First, isRefused, answerNumber}
+use Rattle.settings.specs.declared.Settings.{Settings}
+use Rattle.settings.specs.Settings.{settingsTests}
+use Rattle.profile.specs.declared.Journey.{Journey}
+use Rattle.profile.specs.Figures.{Figures, covers, covᶠ, dueᶠ}
+use Rattle.profile.specs.Front.{front}
+use Rattle.profile.specs.Fall.{upTo, fall}
+use Rattle.profile.specs.Best.{readBy}
+use Rattle.profile.specs.Journeys.{journeyFigures}
+use Rattle.time.specs.Promises.{Taken, Answered as TextAnswered}
+use Rattle.calls.specs.Sound.{oneOf}
+use Rattle.load.specs.declared.Load.{Load}
+use Rattle.load.specs.Steps.{openAnswer}
+use Rattle.load.specs.Sound.{Opens}
+use Rattle.best.specs.declared.Found.{Found}
+use Rattle.best.specs.Best.{keptOf, bestSpec}
+use Rattle.comparison.specs.Steps.{Step, stepped, causes, numbers}
+use Rattle.comparison.specs.Lists.{endOf, startOf, Admitted, offersOf}
+
+-- ---- 1: a result, or one of the refusals for its stated cause alone; a refused load comes back unchanged
+
+-- of any load and any step
+pub record Answered (l : Load) (x : Step) : Type 0 where
+  -- the answer is that of the first of its causes that holds; taken where none does
+  pub first : First (stepped l x .answer) (causes l x)
+  -- its number is one of those that the scope lists for the step, or 0
+  pub listed : oneOf (answerNumber (stepped l x .answer)) (0 ∷ numbers x) ≡ true
+  pub unchanged : isRefused (stepped l x .answer) ≡ true → stepped l x .load ≡ l
+
+pub record Demand1 : Type 0 where
+  -- a time text has its seconds exactly if it is of the form, and every other is refused with 16
+  pub texts : Taken × TextAnswered
+  pub opening : (s : Settings) → First (openAnswer s) (settingsTests s)
+  pub steps : (l : Load) (x : Step) → Answered l x
+
+-- ---- 2: the list holds exactly the journeys due by its horizon that none other beats, the older of equals
+
+-- each journey of A due by g is equalled or beaten by one of B
+abbrev pub CoveredBy : ℕ → (Journey → Type 0) → (Journey → Type 0) → Type 0
+CoveredBy g A B = (j : Journey) → A j → j .arrival ≤ g → (j′ : Journey) × B j′ × (covers (journeyFigures j′) (journeyFigures j) ≡ true)
+
+pub record Holds (s : Settings) (xs : List Step) : Type 0 where
+  -- the list is the unbeaten offers due by the horizon, the older of equals, in offer order
+  pub unbeaten : keptOf (endOf s xs) ≡ front (covᶠ journeyFigures) (dueᶠ journeyFigures) (endOf s xs .horizon) (offersOf s xs)
+  -- what is offered is what is admitted
+  pub admitted : (j : Journey) → List·Memᴰ j (offersOf s xs) ↔ Admitted s xs j
+  -- each admitted journey due by the horizon is equalled or beaten by one of the list
+  pub complete : CoveredBy (endOf s xs .horizon) (Admitted s xs) (λ j. List·Memᴰ j (keptOf (endOf s xs)))
+  -- horizon and mark fall from the table's by the offers alone: at a 65th that none beats, to the latest arrival less 1
+  pub fell : fall (covᶠ journeyFigures) (dueᶠ journeyFigures) 64 3600 (startOf s xs .«table_horizon») (startOf s xs .«table_limits») [] (offersOf s xs)
+      ≡ upTo (endOf s xs .horizon) (endOf s xs .limits)
+
+abbrev pub Demand2 : Type 0
+Demand2 = (s : Settings) (xs : List Step) → Opens s → endOf s xs .searched ≡ true → Holds s xs
+
+-- ---- 3: one claim about two whole lists of steps handed to two fresh loads of one start
+
+-- the seconds that can be asked
+abbrev pub I64 : ℤ → Type 0
+I64 (pos n) = n < 9223372036854775808
+I64 (negsuc n) = n < 9223372036854775808
+
+abbrev pub answerOf : Found → Option Journey
+answerOf (Found.Best j) = some j
+answerOf Found.Nothing = none
+
+-- best's answer, read as none if it is due after g, by its leave, arrival, rides and walk
+abbrev pub read : ℕ → Load → ℤ → Option Figures
+read g l z = readBy journeyFigures g (answerOf (bestSpec l z))
+
+abbrev pub Demand3 : Type 0
+Demand3 = (s s′ : Settings) (xs xs′ : List Step) → s .now ≡ s′ .now → Opens s → Opens s′
+    → endOf s xs .searched ≡ true → endOf s′ xs′ .searched ≡ true
+    → let g = min (endOf s xs .horizon) (endOf s′ xs′ .horizon) in
+    ((z : ℤ) → I64 z → read g (endOf s xs) z ≡ read g (endOf s′ xs′) z)
+    ↔ (CoveredBy g (Admitted s xs) (Admitted s′ xs′) × CoveredBy g (Admitted s′ xs′) (Admitted s xs))

@@ -1,0 +1,7 @@
+pub mod Order
+pub mod Offers
+pub mod Admitted
+pub mod Indexed
+pub mod Search
+pub mod Machine
+pub mod Marked

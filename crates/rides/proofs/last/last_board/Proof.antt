@@ -1,0 +1,48 @@
+-- `last_board` meets its contract: the run's later calls, if the call is boardable and the first ride joins it.
+use borrow.Author.Needs.{needs}
+use Rattle.rides.specs.Rows.{lastBoardRows}
+use Rattle.rides.specs.Feed.{joined, joinsOf, sheetOf}
+use Rattle.rides.proofs.LoopLaws.{nothing}
+use Rattle.rides.proofs.last.last_board.Statement.{statement}
+use Rattle.rides.proofs.last.last_board.Tie as tie
+
+call-at-requires : tie.Need-call-at-requires
+call-at-requires c κs = search needs
+
+change-at-requires : tie.Need-change-at-requires
+change-at-requires c κs = search needs
+
+join-requires : tie.Need-join-requires
+join-requires c κs = search needs
+
+last-alightings-requires : tie.Need-last-alightings-requires
+last-alightings-requires c κs = search needs
+
+returns : tie.Need-returns
+unfolding lastBoardRows joinsOf joined sheetOf
+returns c =
+    let p = c .before .before .before in
+    let q = p .before .before in
+    rw (← q .before .call-at .ensures, q .if1 .taken, ← p .before .change-at .ensures, ← p .join .ensures, c .before .before .if2 .taken) (c .last-alightings .ensures)
+
+returns-2 : tie.Need-returns-2
+unfolding lastBoardRows joinsOf joined sheetOf
+returns-2 c =
+    let q = c .before .before .before in
+    rw (← q .before .call-at .ensures, q .if1 .taken, ← c .before .before .change-at .ensures, ← c .before .join .ensures, c .if2 .left) nothing
+
+returns-3 : tie.Need-returns-3
+unfolding lastBoardRows sheetOf
+returns-3 c = rw (← c .before .call-at .ensures, c .if1 .left) nothing
+
+pub last-board-spec : {M : Type 1} → statement M
+last-board-spec =
+    tie.close
+    (tie.spec
+    call-at-requires
+    change-at-requires
+    join-requires
+    last-alightings-requires
+    returns
+    returns-2
+    returns-3)

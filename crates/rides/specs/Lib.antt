@@ -1,0 +1,4 @@
+pub mod Rows
+pub mod Feed
+pub mod Offered
+pub mod Agree

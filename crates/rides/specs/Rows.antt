@@ -1,0 +1,115 @@
+-- The rows that a search offers, as a flat list by the places of the calls. "For each boarding call in order, then each origin of its stop (a stop's
+-- origins are taken lowest set bit first), then each alighting call: boarding needs departure at or above walk × 60. First the direct journeys by
+-- target; then, with `max_transfers` 1, each last ride by boarding call, alighting call and target, if it joins." The join is tested once for each
+-- boarding call of a last ride.
+use mathlib.Core.Bool.{Bool, cond, _&&_}
+use mathlib.Core.List.{List, [], _∷_, _++_}
+use Prim.Native.Nat.{ℕ, _+_, _-_, _*_}
+use lib.Dec.{eqb, leb}
+use Rattle.laws.specs.Lists.{concatMap, takeWhile, span}
+use Rattle.laws.specs.Bits.{bitsOf}
+use Rattle.profile.specs.declared.Row.{Row}
+use Rattle.profile.specs.View.{rowOf}
+use Rattle.rides.specs.declared.FeedCall.{FeedCall}
+use Rattle.rides.specs.declared.FirstRide.{FirstRide}
+
+-- what the loops read: the call at each place of the calls in order; the origins and the targets of a stop, each a mask of four digits; and the walk of
+-- each origin and each target, in minutes
+pub record Sheet : Type 0 where
+  pub at : ℕ → FeedCall
+  pub origins : ℕ → ℕ
+  pub targets : ℕ → ℕ
+  pub origin-walk : ℕ → ℕ
+  pub target-walk : ℕ → ℕ
+
+-- whether a first ride joins a ride that boards at a place
+abbrev pub Joins : Type 0
+Joins = FirstRide → ℕ → Bool
+
+-- ---- the three ways that a loop goes, each from where it stands
+
+-- the set digits of a mask
+unfoldable pub overBits : (ℕ → List Row) → ℕ → List Row
+overBits g m = concatMap g (bitsOf m)
+
+-- the places from i up to n, n left out
+unfoldable pub overCalls : (ℕ → List Row) → ℕ → ℕ → List Row
+overCalls g n i = concatMap g (span i (n - i))
+
+-- two calls are of one trip and day
+unfoldable pub sameRun : FeedCall → FeedCall → Bool
+sameRun b a = eqb (b .trip) (a .trip) && eqb (b .day) (a .day)
+
+-- the places from j up to n, as far as their calls are of the trip and day of the call at i
+unfoldable pub laterFrom : (ℕ → FeedCall) → ℕ → ℕ → ℕ → List ℕ
+laterFrom at n i j = takeWhile (λ k. sameRun (at i) (at k)) (span j (n - j))
+
+unfoldable pub overRun : (ℕ → List Row) → (ℕ → FeedCall) → ℕ → ℕ → ℕ → List Row
+overRun g at n i j = concatMap g (laterFrom at n i j)
+
+-- ---- rides and rows
+
+-- leave = departure − walk × 60, arrival = alighting + target walk × 60
+unfoldable pub leaveOf : ℕ → ℕ → ℕ
+leaveOf walk departure = departure - walk * 60
+
+unfoldable pub arrivalOf : ℕ → ℕ → ℕ
+arrivalOf walk alighting = alighting + walk * 60
+
+-- the first ride from origin o that boards at i and alights at k
+unfoldable pub firstOf : Sheet → ℕ → ℕ → ℕ → FirstRide
+firstOf s i o k =
+    record {
+      leave = leaveOf (s .origin-walk o) (s .at i .departure);
+      walk = s .origin-walk o;
+      origin = o;
+      board = i;
+      alight = k;
+      trip = s .at i .trip;
+      day = s .at i .day;
+      stop = s .at k .stop;
+      arrival = s .at k .arrival;
+    }
+
+-- one ride, to target x
+unfoldable pub directRow : Sheet → FirstRide → ℕ → Row
+directRow s f x = rowOf (f .leave) (arrivalOf (s .target-walk x) (f .arrival)) 1 (f .walk) (f .origin) x (f .board) (f .alight) 0 0
+
+-- and then a ride that boards at j and alights at m, to target x
+unfoldable pub changeRow : Sheet → FirstRide → ℕ → ℕ → ℕ → Row
+changeRow s f j m x = rowOf (f .leave) (arrivalOf (s .target-walk x) (s .at m .arrival)) 2 (f .walk) (f .origin) x (f .board) (f .alight) j m
+
+-- ---- the rows, from the innermost: each names what one turn of a loop offers. n: how many calls there are
+
+unfoldable pub lastAt : Sheet → FirstRide → ℕ → ℕ → ℕ → List Row
+lastAt s f j m x = changeRow s f j m x ∷ []
+
+unfoldable pub lastAlightRows : Sheet → FirstRide → ℕ → ℕ → List Row
+lastAlightRows s f j m = cond (s .at m .alight) (overBits (lastAt s f j m) (s .targets (s .at m .stop))) []
+
+unfoldable pub lastBoardRows : Sheet → Joins → ℕ → FirstRide → ℕ → List Row
+lastBoardRows s joins n f j = cond (s .at j .board) (cond (joins f j) (overRun (lastAlightRows s f j) (s .at) n j (j + 1)) []) []
+
+-- with max_transfers 1, each last ride
+unfoldable pub changeRows : Sheet → Joins → ℕ → ℕ → FirstRide → List Row
+changeRows s joins depth n f = cond (eqb depth 1) (overCalls (lastBoardRows s joins n f) n 0) []
+
+unfoldable pub directAt : Sheet → FirstRide → ℕ → List Row
+directAt s f x = directRow s f x ∷ []
+
+unfoldable pub directRows : Sheet → FirstRide → List Row
+directRows s f = overBits (directAt s f) (s .targets (f .stop))
+
+-- first the direct journeys, then those with a change
+unfoldable pub alightRows : Sheet → Joins → ℕ → ℕ → ℕ → ℕ → ℕ → List Row
+alightRows s joins depth n i o k = cond (s .at k .alight) (directRows s (firstOf s i o k) ++ changeRows s joins depth n (firstOf s i o k)) []
+
+unfoldable pub originRows : Sheet → Joins → ℕ → ℕ → ℕ → ℕ → List Row
+originRows s joins depth n i o = cond (leb (s .origin-walk o * 60) (s .at i .departure)) (overRun (alightRows s joins depth n i o) (s .at) n i (i + 1)) []
+
+unfoldable pub boardRows : Sheet → Joins → ℕ → ℕ → ℕ → List Row
+boardRows s joins depth n i = cond (s .at i .board) (overBits (originRows s joins depth n i) (s .origins (s .at i .stop))) []
+
+-- every row, in order
+unfoldable pub rows : Sheet → Joins → ℕ → ℕ → List Row
+rows s joins depth n = overCalls (boardRows s joins depth n) n 0

@@ -1,0 +1,191 @@
+// First rides, and the whole search.
+ghost use mathlib.Core.Path.{_≡_};
+ghost use Prim.Native.Nat.{_+_, _≤_, _<_};
+ghost use Rattle.profile.specs.View.{view};
+ghost use Rattle.rides.specs.Rows.{
+  overBits,
+  overRun,
+  directAt,
+  directRows,
+  alightRows,
+  originRows,
+  boardRows,
+};
+ghost use Rattle.rides.specs.Feed.{callAt, joinsOf, sheetOf, rowsOf};
+ghost use Rattle.rides.specs.Offered.{offerAll, Offered};
+use crate::FirstRide;
+use crate::bits::clear_lowest;
+use crate::bits::lowest;
+use crate::feed::arrival_of;
+use crate::feed::at_most_512;
+use crate::feed::call_at;
+use crate::feed::can_walk;
+use crate::feed::first_of;
+use crate::feed::origin_walk;
+use crate::feed::origins_of;
+use crate::feed::same_run;
+use crate::feed::target_walk;
+use crate::feed::targets_of;
+use crate::last::change_rides;
+use profile::offer::candidate;
+use profile::state::is_refused;
+
+// Offers the ride alone, to target x.
+fn direct_at(st: &mut [u16; 654], feed: &[u16; 3208], f: FirstRide, x: u8)
+    requires { ⌜ x < 4 ⌝ }
+    ensures { λ _. ⌜ Offered (now (st .entry)) (now (st .exit)) (directAt (sheetOf (now (feed .entry))) f x) ⌝ }
+{
+    let walk = target_walk(feed, x);
+    candidate(
+        st,
+        f.leave,
+        arrival_of(walk, f.arrival),
+        1,
+        f.walk,
+        f.origin,
+        x as u16,
+        f.board,
+        f.alight,
+        0,
+        0,
+    );
+}
+
+// The targets of the stop where the ride ends.
+fn directs(st: &mut [u16; 654], feed: &[u16; 3208], f: FirstRide)
+    ensures { λ _. ⌜ Offered (now (st .entry)) (now (st .exit)) (directRows (sheetOf (now (feed .entry))) f) ⌝ }
+{
+    let mut left = targets_of(feed, f.stop);
+    while left != 0 {
+        let x = lowest(left);
+        direct_at(st, feed, f, x);
+        left = clear_lowest(left);
+    }
+}
+
+fn alight_at(
+    st: &mut [u16; 654],
+    feed: &[u16; 3208],
+    changes: &[u32; 16384],
+    n: usize,
+    depth: u16,
+    i: usize,
+    o: u8,
+    k: usize,
+)
+    requires { ⌜ (n ≤ 512) × (i < 512) × (o < 4) × (k < 512) ⌝ }
+    ensures { λ _. ⌜ Offered (now (st .entry)) (now (st .exit)) (alightRows (sheetOf (now (feed .entry))) (joinsOf (now (feed .entry)) (now (changes .entry))) depth n i o k) ⌝ }
+{
+    let a = call_at(feed, k);
+    if a.alight {
+        let f = first_of(feed, i, o, k);
+        directs(st, feed, f);
+        change_rides(st, feed, changes, n, depth, f);
+    }
+}
+
+// The rides that board at i, from origin o: the later calls of the trip and day of the call at i.
+fn first_rides(
+    st: &mut [u16; 654],
+    feed: &[u16; 3208],
+    changes: &[u32; 16384],
+    n: usize,
+    depth: u16,
+    i: usize,
+    o: u8,
+)
+    requires { ⌜ (n ≤ 512) × (i < n) × (o < 4) ⌝ }
+    ensures { λ _. ⌜ Offered (now (st .entry)) (now (st .exit)) (overRun (alightRows (sheetOf (now (feed .entry))) (joinsOf (now (feed .entry)) (now (changes .entry))) depth n i o) (callAt (now (feed .entry))) n i (i + 1)) ⌝ }
+{
+    let b = call_at(feed, i);
+    let mut k = i + 1;
+    while k < n {
+        let a = call_at(feed, k);
+        if same_run(b, a) {
+            alight_at(st, feed, changes, n, depth, i, o, k);
+            k += 1;
+        } else {
+            return;
+        }
+    }
+}
+
+// Boarding at i from origin o needs departure at or above walk × 60.
+fn origin_at(
+    st: &mut [u16; 654],
+    feed: &[u16; 3208],
+    changes: &[u32; 16384],
+    n: usize,
+    depth: u16,
+    i: usize,
+    o: u8,
+)
+    requires { ⌜ (n ≤ 512) × (i < n) × (o < 4) ⌝ }
+    ensures { λ _. ⌜ Offered (now (st .entry)) (now (st .exit)) (originRows (sheetOf (now (feed .entry))) (joinsOf (now (feed .entry)) (now (changes .entry))) depth n i o) ⌝ }
+{
+    let b = call_at(feed, i);
+    let walk = origin_walk(feed, o);
+    if can_walk(walk, b.departure) {
+        first_rides(st, feed, changes, n, depth, i, o);
+    }
+}
+
+// The origins of a mask, lowest first.
+fn origins(
+    st: &mut [u16; 654],
+    feed: &[u16; 3208],
+    changes: &[u32; 16384],
+    n: usize,
+    depth: u16,
+    i: usize,
+    mask: u8,
+)
+    requires { ⌜ (n ≤ 512) × (i < n) × (mask < 16) ⌝ }
+    ensures { λ _. ⌜ Offered (now (st .entry)) (now (st .exit)) (overBits (originRows (sheetOf (now (feed .entry))) (joinsOf (now (feed .entry)) (now (changes .entry))) depth n i) mask) ⌝ }
+{
+    let mut left = mask;
+    while left != 0 {
+        let o = lowest(left);
+        origin_at(st, feed, changes, n, depth, i, o);
+        left = clear_lowest(left);
+    }
+}
+
+fn board_at(
+    st: &mut [u16; 654],
+    feed: &[u16; 3208],
+    changes: &[u32; 16384],
+    n: usize,
+    depth: u16,
+    i: usize,
+)
+    requires { ⌜ (n ≤ 512) × (i < n) ⌝ }
+    ensures { λ _. ⌜ Offered (now (st .entry)) (now (st .exit)) (boardRows (sheetOf (now (feed .entry))) (joinsOf (now (feed .entry)) (now (changes .entry))) depth n i) ⌝ }
+{
+    let b = call_at(feed, i);
+    if b.board {
+        origins(st, feed, changes, n, depth, i, origins_of(feed, b.stop));
+    }
+}
+
+// The state after every offer of a search over the first n calls, in order; with depth 1, journeys with a change too. A refused search stays as it
+// is, so the loop may end there.
+pub fn endpoint_paths(
+    st: &mut [u16; 654],
+    feed: &[u16; 3208],
+    changes: &[u32; 16384],
+    n: usize,
+    depth: u16,
+)
+    ensures { λ _. ⌜ view (now (st .exit)) ≡ offerAll (view (now (st .entry))) (rowsOf (now (feed .entry)) (now (changes .entry)) n depth) ⌝ }
+{
+    let count = at_most_512(n);
+    let mut i = 0;
+    while i < count {
+        if is_refused(st) {
+            return;
+        }
+        board_at(st, feed, changes, count, depth, i);
+        i += 1;
+    }
+}

@@ -1,0 +1,6 @@
+pub mod RowsLaws
+pub mod AnswerLaws
+pub mod OfferedLaws
+pub mod SmallLaws
+pub mod SearchLaws
+pub mod Known

@@ -1,0 +1,150 @@
+-- The search by its tests: what is returned is what the definition says, from the state after every offer.
+use Prim.Native.Nat.{ℕ, _+_, _-_, _≤_, _<_, min}
+use mathlib.Core.Path.{_≡_, refl, sym, ap, subst, _∙_}
+use mathlib.Core.Bool.{Bool, true, false, not, true≢false, false≢true}
+use mathlib.Core.List.{List, map, List·Memᴰ}
+use native.Mathlib.Omega.{arith}
+use borrow.Author.Tests.{leb-true, leb-false}
+use lib.Dec.{leb}
+use lib.ListN.{length, take, drop, getD, length-map, length-append, take-append-drop}
+use lib.Seq.{take-all}
+use Rattle.laws.specs.Lists.{padded}
+use Rattle.laws.specs.Sort.{sort}
+use Rattle.laws.proofs.Bools.{cond-by, cond-not}
+use Rattle.laws.proofs.Sort.{length-sort}
+use Rattle.refusal.specs.declared.Refusal.the-variants.{AlreadySearched, Neighbours, NoRoom}
+use Rattle.refusal.specs.declared.Answer.the-variants.{Taken, Refused}
+use Rattle.calls.specs.declared.Call.{Call}
+use Rattle.calls.specs.Tables.{blankCall}
+use Rattle.profile.specs.declared.Row.{Row}
+use Rattle.profile.specs.declared.Journey.{Journey}
+use Rattle.profile.specs.Journeys.{noJourney, rowFigures}
+use Rattle.profile.specs.Kept.{St, going, refused, searched, mapSt}
+use Rattle.profile.specs.View.{view, openOf, countOf, keptOf, horizonOf, limitsOf}
+use Rattle.profile.proofs.ViewLaws.{view-parts, view-is-refused}
+use Rattle.profile.proofs.ClaimLaws.{kept-is-front, front-unbeaten}
+use Rattle.offers.specs.Order.{earlier, sortFirst, clashes}
+use Rattle.offers.specs.Offers.{sorted}
+use Rattle.offers.specs.Indexed.{journeyAt, rowOffers, InPlaces}
+use Rattle.offers.specs.Search.{Outcome, clashing, falling, found, answerOf, foundBy, searchOf}
+use Rattle.offers.proofs.OrderLaws.{sorted-front}
+use Rattle.offers.proofs.IndexedLaws.{search-by-rows, array-in-places}
+use Rattle.arrays.specs.Kept.{Small, journeyOf}
+use Rattle.arrays.proofs.KeptLaws.{journeys-right}
+use Rattle.load.specs.declared.Load.{Load}
+use Rattle.load.specs.declared.Stepped.{Stepped}
+use Rattle.search.specs.Timetable.{timetableOf}
+use Rattle.search.specs.Offered.{placed, offeredOf}
+use Rattle.search.specs.Search.{outcomeOf, settled, searchSpec}
+use Rattle.search.proofs.SmallLaws.{rows-small}
+
+-- ---- what is returned, by the outcome
+
+abbrev again : Load → Stepped
+again l = record { answer = Refused AlreadySearched; load = l }
+
+abbrev ran : Load → Outcome → Stepped
+ran l o = record { answer = answerOf o; load = settled l o }
+
+pub returned-again : (l : Load) → l .searched ≡ true → again l ≡ searchSpec l
+unfolding searchSpec
+returned-again l e = sym (cond-by (again l) (ran l (outcomeOf l)) e)
+
+returned : (l : Load) (o : Outcome) → l .searched ≡ false → outcomeOf l ≡ o → ran l o ≡ searchSpec l
+unfolding searchSpec
+returned l o u e = ap (ran l) (sym e) ∙ sym (cond-not (again l) (ran l (outcomeOf l)) u)
+
+-- ---- the calls in order
+
+take-min : (xs : List Call) (m : ℕ) → length xs ≡ 512 → take (min m 512) xs ≡ take m xs
+take-min xs m h = go (leb m 512) refl
+  where
+    go : (b : Bool) → leb m 512 ≡ b → take (min m 512) xs ≡ take m xs
+    go true e = let k : m ≤ 512 = leb-true m 512 e in let q : min m 512 ≡ m = omega arith in ap (λ (j : ℕ). take j xs) q
+    go false e = let k : 512 < m = leb-false m 512 e in take-all (min m 512) xs (omega arith) ∙ sym (take-all m xs (omega arith))
+
+sorted-long : (n : ℕ) (l : List Call) → length (sortFirst n l) ≡ length l
+sorted-long n l =
+    length-append (sort earlier (take n l)) (drop n l) ∙ ap (λ (k : ℕ). k + length (drop n l)) (length-sort earlier (take n l))
+    ∙ sym (length-append (take n l) (drop n l)) ∙ ap length (take-append-drop n l)
+
+module _ (l : Load) (cs : List Call) (order : cs ≡ sortFirst (l .«call_count») (l .calls)) (long : length (l .calls) ≡ 512) (u : l .searched ≡ false) where
+  in-front : take (l .«call_count») cs ≡ sorted (timetableOf l)
+  unfolding timetableOf
+  in-front = ap (take (l .«call_count»)) order ∙ sorted-front (l .«call_count») (l .calls)
+
+  cs-long : length cs ≡ 512
+  cs-long = ap length order ∙ sorted-long (l .«call_count») (l .calls) ∙ long
+
+  in-places : InPlaces (timetableOf l) (placed cs) (min (l .«call_count») 512)
+  in-places = array-in-places (timetableOf l) cs (min (l .«call_count») 512) blankCall (omega (arith, cs-long)) (take-min cs (l .«call_count») cs-long ∙ in-front)
+
+  clash-outcome : clashes (take (l .«call_count») cs) ≡ true → outcomeOf l ≡ clashing
+  unfolding outcomeOf searchOf
+  clash-outcome e = cond-by _ _ (ap clashes (sym in-front) ∙ e)
+
+  -- 14
+  pub returned-clash : (b : Bool) → b ≡ clashes (take (l .«call_count») cs) → b ≡ true → _≡_ {A = Stepped} (record { answer = Refused Neighbours; load = l }) (searchSpec l)
+  returned-clash b e q = returned l clashing u (clash-outcome (sym e ∙ q))
+
+  -- no neighbours clash: the outcome is read off the state
+  module _ (b : Bool) (e : b ≡ clashes (take (l .«call_count») cs)) (q : b ≡ false) where
+    outcome-by : outcomeOf l ≡ foundBy (mapSt (journeyAt (placed cs)) (offeredOf l cs))
+    unfolding outcomeOf searchOf offeredOf
+    outcome-by =
+        cond-not _ _ (ap clashes (sym in-front) ∙ sym e ∙ q)
+        ∙ ap foundBy (search-by-rows (timetableOf l) (placed cs) (min (l .«call_count») 512) (l .«table_horizon») (l .«table_limits») in-places)
+
+    -- 11
+    pub returned-falling : (st : List ℕ) (r : Bool) → view st ≡ offeredOf l cs → r ≡ not (openOf st) → r ≡ true → _≡_ {A = Stepped} (record { answer = Refused NoRoom; load = l }) (searchSpec l)
+    returned-falling st r v er tr =
+        returned l falling u (outcome-by ∙ ap (λ (s : St Row). foundBy (mapSt (journeyAt (placed cs)) s)) (sym v ∙ view-is-refused st .1 (shut (openOf st) (sym er ∙ tr))))
+      where
+        shut : (o : Bool) → not o ≡ true → o ≡ false
+        shut true k = absurd (false≢true k)
+        shut false k = refl
+
+    -- the rows kept are rows offered, so their journeys hold their numbers as they are
+    kept-small : ((o : ℕ) → getD (l .settings .«origin_walks») o 0 < 256) → (ks : List Row) (h m : ℕ) → offeredOf l cs ≡ going ks h m → (r : Row) → List·Memᴰ r ks → Small r
+    unfolding offeredOf timetableOf
+    kept-small walks ks h m v r i =
+        rows-small (timetableOf l) (placed cs) (min (l .«call_count») 512) (λ o lo. walks o) r
+        (front-unbeaten rowFigures h (rowOffers (timetableOf l) (placed cs) (min (l .«call_count») 512)) r
+        (subst (List·Memᴰ r) (kept-is-front rowFigures (l .«table_horizon») (l .«table_limits») (rowOffers (timetableOf l) (placed cs) (min (l .«call_count») 512)) ks h m v .0) i) .0)
+
+    module _ (walks : (o : ℕ) → getD (l .settings .«origin_walks») o 0 < 256) (st : List ℕ) (js : List Journey) (n h′ m′ : ℕ) (v : view st ≡ offeredOf l cs)
+        (ej : js ≡ padded noJourney 64 (map (journeyOf cs) (keptOf st))) (en : n ≡ countOf st) (eh : h′ ≡ horizonOf st) (em : m′ ≡ limitsOf st) where
+      abbrev kept : List Call → List Journey → ℕ → ℕ → ℕ → Load
+      kept c j k h m = record {
+        settings = l .settings;
+        stops = l .stops;
+        «stop_count» = l .«stop_count»;
+        calls = c;
+        «call_count» = l .«call_count»;
+        rules = l .rules;
+        «rule_count» = l .«rule_count»;
+        journeys = j;
+        «journey_count» = k;
+        «table_horizon» = l .«table_horizon»;
+        «table_limits» = l .«table_limits»;
+        horizon = h;
+        limits = m;
+        searched = true;
+      }
+
+      -- the journeys of the rows kept
+      going-returned : (ks : List Row) (h m : ℕ) → view st ≡ going ks h m → _≡_ {A = Stepped} (record { answer = Taken; load = kept cs js n h′ m′ }) (searchSpec l)
+      going-returned ks h m g =
+          let (o, c, k, eh′, em′) = view-parts st ks h m g in
+          let right : map (journeyOf cs) (keptOf st) ≡ map (journeyAt (placed cs)) ks = ap (map (journeyOf cs)) k ∙ journeys-right cs ks (kept-small walks ks h m (sym v ∙ g)) in
+          let ej′ : js ≡ padded noJourney 64 (map (journeyAt (placed cs)) ks) = ej ∙ ap (padded noJourney 64) right in
+          let en′ : n ≡ length (map (journeyAt (placed cs)) ks) = en ∙ c ∙ sym (length-map ks (journeyAt (placed cs))) in
+          (λ i. record { answer = Taken; load = kept (order i) (ej′ i) (en′ i) ((eh ∙ eh′) i) ((em ∙ em′) i) })
+          ∙ returned l (found (map (journeyAt (placed cs)) ks) h m) u (outcome-by ∙ ap (λ (s : St Row). foundBy (mapSt (journeyAt (placed cs)) s)) (sym v ∙ g))
+
+      pub returned-found : (r : Bool) → r ≡ not (openOf st) → r ≡ false → _≡_ {A = Stepped} (record { answer = Taken; load = kept cs js n h′ m′ }) (searchSpec l)
+      returned-found r er fr = go (view st) refl
+        where
+          go : (s : St Row) → view st ≡ s → _≡_ {A = Stepped} (record { answer = Taken; load = kept cs js n h′ m′ }) (searchSpec l)
+          go refused e = absurd (true≢false (sym (ap not (view-is-refused st .0 e)) ∙ sym er ∙ fr))
+          go (going ks h m) e = going-returned ks h m e

@@ -1,0 +1,4 @@
+pub mod Timetable
+pub mod Offered
+pub mod Search
+pub mod Rows

@@ -1,0 +1,69 @@
+-- **Search**: 15, 14, 11; or the calls in order, the journeys kept in list order, horizon and limits by the scope's rule, searched.
+use mathlib.Core.Path.{_≡_}
+use mathlib.Core.Bool.{Bool, true, false, cond}
+use mathlib.Core.List.{List, [], _∷_}
+use Prim.Native.Nat.{ℕ}
+use lib.ListN.{length}
+use Rattle.laws.specs.Lists.{padded}
+use Rattle.refusal.specs.declared.Refusal.the-variants.{AlreadySearched, Neighbours, NoRoom}
+use Rattle.refusal.specs.declared.Answer.{Answer}
+use Rattle.refusal.specs.declared.Answer.the-variants.{Refused}
+use Rattle.refusal.specs.First.{First, isRefused}
+use Rattle.profile.specs.declared.Journey.{Journey}
+use Rattle.profile.specs.Journeys.{noJourney}
+use Rattle.offers.specs.Order.{sortFirst, clashes}
+use Rattle.offers.specs.Offers.{sorted}
+use Rattle.offers.specs.Search.{Outcome, clashing, falling, found, answerOf, searchOf}
+use Rattle.load.specs.declared.Load.{Load}
+use Rattle.load.specs.declared.Stepped.{Stepped}
+use Rattle.search.specs.Timetable.{timetableOf}
+
+-- every offer of the load in order, from the table's horizon and mark
+unfoldable pub outcomeOf : Load → Outcome
+outcomeOf l = searchOf (timetableOf l) (l .«table_horizon») (l .«table_limits»)
+
+-- the load, searched: its calls in order, these journeys, this horizon and mark
+abbrev pub withJourneys : Load → List Journey → ℕ → ℕ → Load
+withJourneys l ks h m = record {
+  settings = l .settings;
+  stops = l .stops;
+  «stop_count» = l .«stop_count»;
+  calls = sortFirst (l .«call_count») (l .calls);
+  «call_count» = l .«call_count»;
+  rules = l .rules;
+  «rule_count» = l .«rule_count»;
+  journeys = padded noJourney 64 ks;
+  «journey_count» = length ks;
+  «table_horizon» = l .«table_horizon»;
+  «table_limits» = l .«table_limits»;
+  horizon = h;
+  limits = m;
+  searched = true;
+}
+
+-- refused: the load as it was, unsorted
+abbrev pub settled : Load → Outcome → Load
+settled l clashing = l
+settled l falling = l
+settled l (found ks h m) = withJourneys l ks h m
+
+unfoldable pub searchSpec : Load → Stepped
+searchSpec l =
+    cond (l .searched) (record { answer = Refused AlreadySearched; load = l }) (record { answer = answerOf (outcomeOf l); load = settled l (outcomeOf l) })
+
+-- the tests in the scope's order: 15, 14, 11
+abbrev pub isFalling : Outcome → Bool
+isFalling clashing = false
+isFalling falling = true
+isFalling (found ks h m) = false
+
+abbrev pub searchCauses : Load → List (Bool × Answer)
+searchCauses l =
+    (l .searched, Refused AlreadySearched)
+    ∷ (clashes (sorted (timetableOf l)), Refused Neighbours)
+    ∷ (isFalling (outcomeOf l), Refused NoRoom)
+    ∷ []
+
+pub record SearchAnswered (l : Load) : Type 0 where
+  pub first : First (searchSpec l .answer) (searchCauses l)
+  pub unchanged : isRefused (searchSpec l .answer) ≡ true → searchSpec l .load ≡ l

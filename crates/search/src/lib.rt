@@ -1,0 +1,107 @@
+// The search step: the calls put in order, every offer made, and what is kept.
+ghost use mathlib.Core.Path.{_≡_};
+ghost use Prim.Native.Nat.{ℕ, _<_};
+ghost use lib.ListN.{getD};
+ghost use Rattle.profile.specs.View.{view};
+ghost use Rattle.search.specs.Search.{searchSpec};
+ghost use Rattle.search.specs.Offered.{offeredOf};
+use arrays::changes::changes_of;
+use arrays::feed::feed_of;
+use arrays::kept::journeys_of;
+use calls::Call;
+use load::Load;
+use load::Stepped;
+use order::neighbours_clash;
+use order::sorted;
+use places::group::group_places;
+use profile::state::count;
+use profile::state::fresh;
+use profile::state::horizon;
+use profile::state::is_refused;
+use profile::state::limits;
+use refusal::Answer;
+use refusal::Refusal;
+use rides::paths::endpoint_paths;
+use settings::change_seconds;
+use transfer::copied::flat_rules;
+use transfer::copied::parents_of;
+
+// What a lent array tells: each of its numbers is below 65536.
+fn numbers(a: &[u16])
+    ensures { λ _. ⌜ ((i : ℕ) → getD (now (a .entry)) i 0 < 65536) ⌝ }
+{
+    if 0 < a.len() {
+        let _first = a[0];
+    }
+}
+
+// Likewise of bytes.
+fn bytes(a: &[u8])
+    ensures { λ _. ⌜ ((i : ℕ) → getD (now (a .entry)) i 0 < 256) ⌝ }
+{
+    if 0 < a.len() {
+        let _first = a[0];
+    }
+}
+
+// The state of a search of the load over these calls, every offer made.
+fn offered(load: Load, calls: [Call; 512]) -> [u16; 654]
+    ensures { λ r. ⌜ view r ≡ offeredOf load calls ⌝ }
+{
+    let settings = load.settings;
+    let stops = load.stops;
+    let rules = load.rules;
+    let feed = feed_of(calls, stops, settings);
+    let flat = flat_rules(rules);
+    let parents = parents_of(stops);
+    let places = group_places(stops, load.stop_count);
+    let change = change_seconds(settings.transfer_minutes);
+    let changes = changes_of(&flat, load.rule_count, &parents, &places, change);
+    let depth = settings.max_transfers as u16;
+    let mut st = fresh(load.table_horizon, load.table_limits);
+    numbers(&feed);
+    endpoint_paths(&mut st, &feed, &changes, load.call_count, depth);
+    st
+}
+
+// The load searched, or why it is sent back: 15, 14, 11.
+pub fn search(load: Load) -> Stepped
+    ensures { λ r. ⌜ r ≡ searchSpec load ⌝ }
+{
+    if load.searched {
+        return Stepped {
+            answer: Answer::Refused(Refusal::AlreadySearched),
+            load,
+        };
+    }
+    let given = load.calls;
+    let calls = sorted(given, load.call_count);
+    if neighbours_clash(calls, load.call_count) {
+        return Stepped {
+            answer: Answer::Refused(Refusal::Neighbours),
+            load,
+        };
+    }
+    let settings = load.settings;
+    let walks = settings.origin_walks;
+    bytes(&walks);
+    let st = offered(load, calls);
+    if is_refused(&st) {
+        return Stepped {
+            answer: Answer::Refused(Refusal::NoRoom),
+            load,
+        };
+    }
+    let journeys = journeys_of(&st, calls);
+    let mut next = load;
+    next.calls = calls;
+    next.journeys = journeys;
+    next.journey_count = count(&st);
+    next.horizon = horizon(&st);
+    next.limits = limits(&st);
+    next.searched = true;
+    Stepped {
+        answer: Answer::Taken,
+        load: next,
+    }
+}

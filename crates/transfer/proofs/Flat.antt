@@ -1,0 +1,66 @@
+-- Rules written as numbers, five for each, are read back.
+use Prim.Native.Nat.{ℕ, zero, suc, _+_, _*_, _%_, _<_, _≤_}
+use mathlib.Core.Path.{_≡_, refl, ap, _∙_}
+use mathlib.Core.Logic.{_≢_}
+use mathlib.Core.Bool.{Bool, true, false}
+use mathlib.Core.List.{List, [], _∷_}
+use native.Mathlib.Nat.{mod-eq-of-lt}
+use native.Mathlib.Omega.{arith}
+use lib.Dec.{eqb}
+use lib.ListN.{length, getD, take, set, length-set}
+use lib.Seq.{take-suc, getD-set-same, getD-set-other}
+use Rattle.laws.proofs.Stores.{stores, stores-long, stores-low, stores-in}
+use Rattle.rules.specs.declared.Rule.{Rule}
+use Rattle.rules.specs.Rules.{blankRule}
+use Rattle.transfer.specs.Choice.{bit}
+use Rattle.transfer.specs.Copied.{ruleAt, rulesOf}
+
+-- five numbers from a place on
+abbrev pub five : List ℕ → ℕ → ℕ → ℕ → ℕ → ℕ → ℕ → List ℕ
+five l at p q r s t = stores (set l at p) at 1 (q ∷ r ∷ s ∷ t ∷ [])
+
+timed-bit : (b : Bool) → eqb (bit b) 1 ≡ b
+timed-bit true = refl
+timed-bit false = refl
+
+module _ (l : List ℕ) (i p q r s v : ℕ) where
+  pub five-long : length (five l (i * 5) p q r s v) ≡ length l
+  five-long = stores-long (q ∷ r ∷ s ∷ v ∷ []) (set l (i * 5) p) (i * 5) 1 ∙ length-set l (i * 5) p
+
+  low : (x : ℕ) → x < i * 5 → getD (five l (i * 5) p q r s v) x 0 ≡ getD l x 0
+  low x h =
+      let n : x ≢ i * 5 = λ e. omega arith in
+      stores-low (q ∷ r ∷ s ∷ v ∷ []) (set l (i * 5) p) (i * 5) 1 x (omega arith) ∙ getD-set-other l (i * 5) x p 0 n
+
+  -- the rules before it stay
+  pub rule-before : (k : ℕ) → k < i → ruleAt (five l (i * 5) p q r s v) k ≡ ruleAt l k
+  rule-before k h =
+      λ t. record {
+        from = low (k * 5) (omega arith) t;
+        to = low (k * 5 + 1) (omega arith) t;
+        «transfer_type» = ap (λ (z : ℕ). z % 256) (low (k * 5 + 2) (omega arith)) t;
+        seconds = low (k * 5 + 3) (omega arith) t;
+        timed = ap (λ (z : ℕ). eqb z 1) (low (k * 5 + 4) (omega arith)) t;
+      }
+
+-- a rule written at i is read back
+pub rule-here : (l : List ℕ) (i : ℕ) (x : Rule) (v : ℕ) → v ≡ bit (x .timed) → i * 5 + 5 ≤ length l → x .«transfer_type» < 256
+    → ruleAt (five l (i * 5) (x .from) (x .to) (x .«transfer_type») (x .seconds) v) i ≡ x
+rule-here l i x v e h k =
+    let vs = x .to ∷ x .«transfer_type» ∷ x .seconds ∷ v ∷ [] in
+    let m = set l (i * 5) (x .from) in
+    let long : length m ≡ length l = length-set l (i * 5) (x .from) in
+    let at : (j : ℕ) → j < 4 → getD (stores m (i * 5) 1 vs) (i * 5 + (1 + j)) 0 ≡ getD vs j 0 = λ j b. stores-in vs m (i * 5) 1 j b (omega arith) in
+    λ t. record {
+      from = (stores-low vs m (i * 5) 1 (i * 5) (omega arith) ∙ getD-set-same l (i * 5) (x .from) 0 (omega arith)) t;
+      to = at 0 (omega arith) t;
+      «transfer_type» = (ap (λ (z : ℕ). z % 256) (at 1 (omega arith)) ∙ mod-eq-of-lt k) t;
+      seconds = at 2 (omega arith) t;
+      timed = (ap (λ (z : ℕ). eqb z 1) (at 3 (omega arith) ∙ e) ∙ timed-bit (x .timed)) t;
+    }
+
+pub rules-all : (l : List ℕ) (rules : List Rule) (m : ℕ) → m ≤ length rules → ((k : ℕ) → k < m → ruleAt l k ≡ getD rules k blankRule)
+    → (n : ℕ) → n ≤ m → rulesOf l n ≡ take n rules
+unfolding rulesOf
+rules-all l rules m f h zero g = refl
+rules-all l rules m f h (suc n) g = rw (take-suc rules n blankRule (omega arith), ← (h n (omega arith)), rules-all l rules m f h n (omega arith))

@@ -1,0 +1,5 @@
+pub mod Laws
+pub mod Flat
+pub mod Entries
+pub mod Choosing
+pub mod Claims
