@@ -94,7 +94,7 @@ opened-new : (s : Settings) → opened s .searched ≡ false
 unfolding emptyLoad
 opened-new s = refl
 
-step-sound : (l : Load) (x : Step) → Sound l → Sound (stepped l x .load)
+pub step-sound : (l : Load) (x : Step) → Sound l → Sound (stepped l x .load)
 step-sound l (filling x) s = fill-keeps-sound l x s
 step-sound l search s = search-sound l s
 

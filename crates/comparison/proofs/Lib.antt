@@ -1,3 +1,5 @@
 pub mod SearchSound
 pub mod StepLaws
 pub mod Demands
+pub mod Marked
+pub mod HeardLaws

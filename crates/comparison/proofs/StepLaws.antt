@@ -131,7 +131,7 @@ either-searched : (m l : Load) (b : Bool) → m .searched ≡ l .searched → co
 either-searched m l true e = e
 either-searched m l false e = refl
 
-filled-searched : (l : Load) (x : Filling) → filled l x .load .searched ≡ l .searched
+pub filled-searched : (l : Load) (x : Filling) → filled l x .load .searched ≡ l .searched
 unfolding stopSpec callSpec ruleSpec
 filled-searched l (stop id name parent i) =
     either-searched (withStops l (set (l .stops) (l .«stop_count») (stopOf id name (stationIn l parent i) i)) (l .«stop_count» + 1)) l (isTaken (stopAnswer l id name parent i)) refl

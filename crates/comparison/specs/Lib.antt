@@ -2,3 +2,5 @@ pub mod Steps
 pub mod Lists
 pub mod Demands
 pub mod Machine
+pub mod Marked
+pub mod Heard

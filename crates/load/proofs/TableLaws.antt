@@ -60,7 +60,7 @@ abbrev settingsOf : Load → Settings
 settingsOf l = l .settings
 
 -- a step keeps the settings
-fill-settings : (l : Load) (x : Filling) → filled l x .load .settings ≡ l .settings
+pub fill-settings : (l : Load) (x : Filling) → filled l x .load .settings ≡ l .settings
 unfolding stopSpec callSpec ruleSpec
 fill-settings l (stop id name parent i) = either-same settingsOf (stopped l id name parent i) l (isTaken (stopAnswer l id name parent i)) refl
 fill-settings l (call i) = either-same settingsOf l (withTable l (callFitted l i .table)) (isRefused (callFitted l i .answer)) refl
@@ -102,7 +102,7 @@ filled-shows (x ∷ xs) l old s q =
     filled-shows xs (filled l x .load) (old ++ acceptedCall l x) (fill-keeps-sound l x s) (fill-shows l x old s q)
     ∙ ap (windowed (filledBy l (x ∷ xs) .settings) (filledBy l (x ∷ xs) .«table_horizon»)) (append-assoc old (acceptedCall l x) (acceptedCalls (filled l x .load) xs))
 
-opened-settings : (s : Settings) → opened s .settings ≡ canonicalOf s
+pub opened-settings : (s : Settings) → opened s .settings ≡ canonicalOf s
 unfolding emptyLoad
 opened-settings s = refl
 

@@ -1,0 +1,9 @@
+-- The starred instances, each by computation.
+use Rattle.time.proofs.Times.{marked}
+use Rattle.calls.proofs.Marks.{marked-windows}
+use Rattle.profile.proofs.InstanceLaws.{instances}
+use Rattle.offers.proofs.MarkedLaws.{marked-offers}
+use Rattle.comparison.specs.Marked.{Starred}
+
+pub starred : Starred
+starred = record { offers = marked-offers; lists = instances; windows = marked-windows; texts = marked }
