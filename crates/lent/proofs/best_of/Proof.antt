@@ -209,7 +209,7 @@ module _ {M : Type 1} (𝓤 : URA M) (H : Heap 𝓤) (A : Atoms 𝓤) (W : Given
           -- [the result; the row; _4; _5; …]
           peeks ! S.the-row (Is S.the-row) (shows 𝓤 H A S.the-row) r (u ∷ []) (λ is.
           land ! (from ! (stop !)) (store ! 2 refl (EL.lawful S.the-type S′.the-laws 𝓤 H A W tt .typed r _ is .0)) $
-          assigns-last ! (bin ! (load ! (from ! (stop !)) (look ! 3 refl)) (lit ! tt) (record { fits = next-fits l })) (from ! (stop !)) (store ! 3 refl (tt, record { fits = next-fits l })) $
+          assigns-last ! (bin ! (load ! (from ! (stop !)) (look ! 3 refl)) (lit ! tt) (record { fits = omega (arith, l, bytes) })) (from ! (stop !)) (store ! 3 refl (tt, record { fits = omega (arith, l, bytes) })) $
           forget ! 4 refl $ forget ! 5 refl $ forget ! 6 refl $ forget ! 7 refl $
           rewrite ! 0 (λ (us : List Val). ‵ (S.the-row .own r us)) (EL.tells S.the-type S′.the-laws r (u ∷ []) is) refl $
           rewrite ! 2 (λ (us : List Val). ‵ (fat fullShare S′.mir l₄ 0 (only us))) (EL.tells S.the-type S′.the-laws r (u ∷ []) is) refl $
@@ -237,9 +237,6 @@ module _ {M : Type 1} (𝓤 : URA M) (H : Heap 𝓤) (A : Atoms 𝓤) (W : Given
 
           scaled : {i : ℕ} → i < n → i * 36 < 2 ^ 64
           scaled l = omega arith
-
-          next-fits : {i : ℕ} → i < n → i + 1 < 2 ^ 64
-          next-fits l = omega (arith, gn .0)
 
       looped : ent 𝓤 (⋆ 𝓤 H A (At Found.Nothing 0)) (Wp 𝓤 H C Λ En (loop body.turn-1) Left)
       looped =
