@@ -36,6 +36,11 @@ fn show(f: Found) {
 
 fn ask(label: &[u8], js: [Journey; 64], count: usize, horizon: u16, second: i64) {
     text(label);
+    text(b", first ");
+    number(count as u64);
+    text(b", up to ");
+    number(horizon as u64);
+    text(b": ");
     show(best::best_over(js, count, horizon, second));
     text(b" | ");
     show(lent::best_lent(js, count, horizon, second));
@@ -44,9 +49,9 @@ fn ask(label: &[u8], js: [Journey; 64], count: usize, horizon: u16, second: i64)
 
 fn ask_none() {
     let js = lists::none();
-    ask(b"none, 0 of them, up to 21600, at 0: ", js, 0, 21600, 0);
+    ask(b"none at 0", js, 0, 21600, 0);
     ask(
-        b"none, 0 of them, up to 65535, at 9223372036854775807: ",
+        b"none at 9223372036854775807",
         js,
         0,
         65535,
@@ -56,30 +61,18 @@ fn ask_none() {
 
 fn ask_single() {
     let js = lists::single();
+    ask(b"single at 300", js, 1, 21600, 300);
+    ask(b"single at 301", js, 1, 21600, 301);
+    ask(b"single at 0", js, 1, 0, 0);
     ask(
-        b"single, 1 of them, up to 21600, at 300: ",
-        js,
-        1,
-        21600,
-        300,
-    );
-    ask(
-        b"single, 1 of them, up to 21600, at 301: ",
-        js,
-        1,
-        21600,
-        301,
-    );
-    ask(b"single, 1 of them, up to 0, at 0: ", js, 1, 0, 0);
-    ask(
-        b"single, 1 of them, up to 65535, at -9223372036854775808: ",
+        b"single at -9223372036854775808",
         js,
         1,
         65535,
         -9223372036854775808,
     );
     ask(
-        b"single, 1 of them, up to 65535, at 9223372036854775807: ",
+        b"single at 9223372036854775807",
         js,
         1,
         65535,
@@ -89,151 +82,79 @@ fn ask_single() {
 
 fn ask_pair() {
     let js = lists::pair();
-    ask(b"pair, 2 of them, up to 21600, at 0: ", js, 2, 21600, 0);
-    ask(b"pair, 2 of them, up to 65535, at 300: ", js, 2, 65535, 300);
+    ask(b"pair at 0", js, 2, 21600, 0);
+    ask(b"pair at 300", js, 2, 65535, 300);
 }
 
 fn ask_between() {
     let js = lists::between();
-    ask(
-        b"between, 5 of them, up to 21600, at 300: ",
-        js,
-        5,
-        21600,
-        300,
-    );
-    ask(
-        b"between, 5 of them, up to 21600, at 301: ",
-        js,
-        5,
-        21600,
-        301,
-    );
-    ask(b"between, 2 of them, up to 21600, at 0: ", js, 2, 21600, 0);
-    ask(b"between, 1 of them, up to 21600, at 0: ", js, 1, 21600, 0);
+    ask(b"between at 300", js, 5, 21600, 300);
+    ask(b"between at 301", js, 5, 21600, 301);
+    ask(b"between at 0", js, 2, 21600, 0);
+    ask(b"between at 0", js, 1, 21600, 0);
 }
 
 fn ask_falling() {
     let js = lists::falling();
-    ask(b"falling, 5 of them, up to 21600, at 0: ", js, 5, 21600, 0);
-    ask(b"falling, 4 of them, up to 21600, at 0: ", js, 4, 21600, 0);
-    ask(
-        b"falling, 5 of them, up to 21600, at 501: ",
-        js,
-        5,
-        21600,
-        501,
-    );
+    ask(b"falling at 0", js, 5, 21600, 0);
+    ask(b"falling at 0", js, 4, 21600, 0);
+    ask(b"falling at 501", js, 5, 21600, 501);
 }
 
 fn ask_mixed() {
     let js = lists::mixed();
-    ask(b"mixed, 5 of them, up to 21600, at 0: ", js, 5, 21600, 0);
-    ask(
-        b"mixed, 5 of them, up to 21600, at 401: ",
-        js,
-        5,
-        21600,
-        401,
-    );
-    ask(
-        b"mixed, 5 of them, up to 21600, at 651: ",
-        js,
-        5,
-        21600,
-        651,
-    );
-    ask(b"mixed, 5 of them, up to 650, at 651: ", js, 5, 650, 651);
-    ask(b"mixed, 5 of them, up to 650, at 650: ", js, 5, 650, 650);
+    ask(b"mixed at 0", js, 5, 21600, 0);
+    ask(b"mixed at 401", js, 5, 21600, 401);
+    ask(b"mixed at 651", js, 5, 21600, 651);
+    ask(b"mixed at 651", js, 5, 650, 651);
+    ask(b"mixed at 650", js, 5, 650, 650);
 }
 
 fn ask_fewer() {
     let js = lists::fewer();
-    ask(b"fewer, 3 of them, up to 21600, at 0: ", js, 3, 21600, 0);
-    ask(
-        b"fewer, 3 of them, up to 21600, at 101: ",
-        js,
-        3,
-        21600,
-        101,
-    );
+    ask(b"fewer at 0", js, 3, 21600, 0);
+    ask(b"fewer at 101", js, 3, 21600, 101);
 }
 
 fn ask_shorter() {
     let js = lists::shorter();
-    ask(b"shorter, 3 of them, up to 21600, at 0: ", js, 3, 21600, 0);
-    ask(
-        b"shorter, 3 of them, up to 21600, at 101: ",
-        js,
-        3,
-        21600,
-        101,
-    );
+    ask(b"shorter at 0", js, 3, 21600, 0);
+    ask(b"shorter at 101", js, 3, 21600, 101);
 }
 
 fn ask_later() {
     let js = lists::later();
-    ask(b"later, 4 of them, up to 21600, at 0: ", js, 4, 21600, 0);
-    ask(
-        b"later, 3 of them, up to 21600, at 600: ",
-        js,
-        3,
-        21600,
-        600,
-    );
-    ask(b"later, 4 of them, up to 699, at 700: ", js, 4, 699, 700);
+    ask(b"later at 0", js, 4, 21600, 0);
+    ask(b"later at 600", js, 3, 21600, 600);
+    ask(b"later at 700", js, 4, 699, 700);
 }
 
 fn ask_early() {
     let js = lists::early();
-    ask(b"early, 4 of them, up to 0, at 0: ", js, 4, 0, 0);
-    ask(b"early, 4 of them, up to 0, at 1: ", js, 4, 0, 1);
-    ask(b"early, 4 of them, up to 21600, at 11: ", js, 4, 21600, 11);
-    ask(b"early, 4 of them, up to 21600, at 40: ", js, 4, 21600, 40);
-    ask(b"early, 4 of them, up to 21600, at -1: ", js, 4, 21600, -1);
+    ask(b"early at 0", js, 4, 0, 0);
+    ask(b"early at 1", js, 4, 0, 1);
+    ask(b"early at 11", js, 4, 21600, 11);
+    ask(b"early at 40", js, 4, 21600, 40);
+    ask(b"early at -1", js, 4, 21600, -1);
 }
 
 fn ask_ends() {
     let js = lists::ends();
+    ask(b"ends at 65535", js, 5, 65535, 65535);
+    ask(b"ends at 65536", js, 5, 65535, 65536);
+    ask(b"ends at 0", js, 5, 65535, 0);
+    ask(b"ends at 1", js, 5, 65535, 1);
+    ask(b"ends at 65535", js, 5, 65534, 65535);
+    ask(b"ends at 65535", js, 1, 65535, 65535);
     ask(
-        b"ends, 5 of them, up to 65535, at 65535: ",
-        js,
-        5,
-        65535,
-        65535,
-    );
-    ask(
-        b"ends, 5 of them, up to 65535, at 65536: ",
-        js,
-        5,
-        65535,
-        65536,
-    );
-    ask(b"ends, 5 of them, up to 65535, at 0: ", js, 5, 65535, 0);
-    ask(b"ends, 5 of them, up to 65535, at 1: ", js, 5, 65535, 1);
-    ask(
-        b"ends, 5 of them, up to 65534, at 65535: ",
-        js,
-        5,
-        65534,
-        65535,
-    );
-    ask(
-        b"ends, 1 of them, up to 65535, at 65535: ",
-        js,
-        1,
-        65535,
-        65535,
-    );
-    ask(
-        b"ends, 5 of them, up to 65535, at -9223372036854775808: ",
+        b"ends at -9223372036854775808",
         js,
         5,
         65535,
         -9223372036854775808,
     );
     ask(
-        b"ends, 5 of them, up to 65535, at 9223372036854775807: ",
+        b"ends at 9223372036854775807",
         js,
         5,
         65535,
@@ -243,28 +164,16 @@ fn ask_ends() {
 
 fn ask_equal() {
     let js = lists::equal();
-    ask(b"equal, 64 of them, up to 21600, at 0: ", js, 64, 21600, 0);
-    ask(
-        b"equal, 65 of them, up to 21600, at 300: ",
-        js,
-        65,
-        21600,
-        300,
-    );
-    ask(
-        b"equal, 18446744073709551615 of them, up to 21600, at 300: ",
-        js,
-        18446744073709551615,
-        21600,
-        300,
-    );
+    ask(b"equal at 0", js, 64, 21600, 0);
+    ask(b"equal at 300", js, 65, 21600, 300);
+    ask(b"equal at 300", js, 18446744073709551615, 21600, 300);
 }
 
 fn ask_back() {
     let js = lists::back();
-    ask(b"back, 64 of them, up to 21600, at 0: ", js, 64, 21600, 0);
-    ask(b"back, 63 of them, up to 21600, at 0: ", js, 63, 21600, 0);
-    ask(b"back, 65 of them, up to 21600, at 0: ", js, 65, 21600, 0);
+    ask(b"back at 0", js, 64, 21600, 0);
+    ask(b"back at 0", js, 63, 21600, 0);
+    ask(b"back at 0", js, 65, 21600, 0);
 }
 
 fn main() {
