@@ -4,7 +4,7 @@ use super::*;
 use crate::config::JourneyStop;
 
 #[path = "timing.rs"]
-mod timing;
+pub mod timing;
 
 type List<T> = std::vec::Vec<T>;
 /// 512 calls, 128 stops; trips, middle calls, services and routes are not used.
