@@ -81,7 +81,7 @@ impl Load {
         test(location_type > 1 || location_type == 1 && parent.is_some(), Beyond(6))?;
         test(parent.is_some_and(|p| !self.stops.iter().any(|s| s.0 == p && s.1 == 1)), Beyond(7))?;
         test(name.is_some_and(|n| n.len() > 64), Beyond(8))?;
-        let usable = position.is_some_and(|p| harness::microdegrees(p.0, p.1).is_some());
+        let usable = harness::microdegrees(position).is_some();
         let needed = location_type == 0 && parent.is_none() && usable;
         let row =
             id_text.map(|id| StopRow { id, name: name.and_then(text), parent: parent.and_then(text), location_type, position });

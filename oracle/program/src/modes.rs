@@ -53,7 +53,7 @@ pub fn place(line: &str) -> Option<String> {
             Some(u8::from(same).to_string())
         }
         "micro" if words.len() == 3 => {
-            let micro = harness::microdegrees(degrees(words[1])?, degrees(words[2])?);
+            let micro = harness::microdegrees(Some((degrees(words[1])?, degrees(words[2])?)));
             Some(micro.map_or_else(|| "none".to_string(), |(lat, lon)| format!("{lat} {lon}")))
         }
         _ => None,

@@ -4,7 +4,7 @@ use super::*;
 use crate::config::JourneyStop;
 
 #[path = "timing.rs"]
-mod timing;
+pub mod timing;
 
 type List<T> = std::vec::Vec<T>;
 /// 512 calls, 128 stops; trips, middle calls, services and routes are not used.
@@ -274,8 +274,8 @@ pub fn same_place(a: Key, b: Key) -> bool {
     let key = |k: Key| PlaceKey { tag: k.0, hash: [k.1 as u32, (k.1 >> 32) as u32], lat: k.2, lon: k.3 };
     same_place_keys(key(a), key(b))
 }
-pub fn microdegrees(lat: f64, lon: f64) -> Option<(i32, i32)> {
-    let row = StopRow { id: "".into(), name: None, parent: None, location_type: 0, position: Some((lat, lon)) };
+pub fn microdegrees(position: Option<(f64, f64)>) -> Option<(i32, i32)> {
+    let row = StopRow { id: "".into(), name: None, parent: None, location_type: 0, position };
     coordinates(row.stop())
 }
 

@@ -51,3 +51,34 @@ impl Sized {
         start.elapsed()
     }
 }
+
+/// The kept list of a search, alone, for offers to `candidate`.
+#[derive(Clone)]
+pub struct Kept {
+    candidates: Vec<Candidate, MAX_PATHS>,
+    horizon: u16,
+    limits: u8,
+}
+#[derive(Clone, Copy)]
+pub struct Offer(Candidate);
+impl Offer {
+    /// A journey of one ride, or of two for `change`, from an origin and to a target by their numbers in the settings.
+    pub fn new(departure: u16, arrival: u16, change: bool, origin: u8, target: u8) -> Self {
+        let ride = Ride { trip: 0, from: 0, to: 0, departure, arrival, endpoint: origin, day: 0 };
+        Self(Candidate { first: ride, middle: None, last: change.then_some(ride), target })
+    }
+}
+impl Kept {
+    pub fn new(horizon: u16) -> Self {
+        Self { candidates: Vec::new(), horizon, limits: 0 }
+    }
+    #[inline(never)]
+    pub fn offer(&mut self, offer: &Offer, run: &Run) -> bool {
+        Sized::candidate(&mut self.candidates, &mut self.horizon, &mut self.limits, offer.0, &run.config).is_ok()
+    }
+    /// Departure, arrival and number of rides of each, then the horizon and limits.
+    pub fn shown(&self) -> (List<(u16, u16, u8)>, u16, u8) {
+        let row = |c: &Candidate| (c.first.departure, c.end().arrival, c.len());
+        (self.candidates.iter().map(row).collect(), self.horizon, self.limits)
+    }
+}

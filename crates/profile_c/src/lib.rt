@@ -1,0 +1,35 @@
+// The offer over plain numbers and a lent array, for programs in C and Rust to call.
+ghost use mathlib.Core.Path.{_≡_};
+ghost use Rattle.profile.specs.View.{rowOf, view, offerTo};
+
+// Offers a journey to the state (`candidate`); the state has 654 numbers.
+#[no_mangle]
+pub extern "C" fn profile_candidate(
+    st: &mut [u16; 654],
+    leave: u16,
+    arrival: u32,
+    rides: u16,
+    walk: u16,
+    origin: u16,
+    target: u16,
+    board: u16,
+    alight: u16,
+    board2: u16,
+    alight2: u16,
+)
+    ensures { λ _. ⌜ view (now (st .exit)) ≡ offerTo (view (now (st .entry))) (rowOf leave arrival rides walk origin target board alight board2 alight2) ⌝ }
+{
+    profile::offer::candidate(
+        st,
+        leave,
+        arrival,
+        rides,
+        walk,
+        origin,
+        target,
+        board,
+        alight,
+        board2,
+        alight2,
+    );
+}
