@@ -1,7 +1,7 @@
--- The sixteen causes of "Why a call is sent back", each with its number.
+-- The sixteen causes of "Why a call is sent back" and the three of request 01's load file, each with its number.
 use Prim.Native.Nat.{ℕ}
 use Rattle.refusal.specs.declared.Refusal.{Refusal}
-use Rattle.refusal.specs.declared.Refusal.the-variants.{SettingsRange, ClockRange, IdLength, StopsFull, IdTaken, LocationType, ParentUnknown, NameUnusable, FieldRange, TimesReversed, NoRoom, RuleType, PairTaken, Neighbours, AlreadySearched, TimeText}
+use Rattle.refusal.specs.declared.Refusal.the-variants.{SettingsRange, ClockRange, IdLength, StopsFull, IdTaken, LocationType, ParentUnknown, NameUnusable, FieldRange, TimesReversed, NoRoom, RuleType, PairTaken, Neighbours, AlreadySearched, TimeText, FileVersion, RecordLength, RecordKind}
 
 abbrev pub numberOf : Refusal → ℕ
 numberOf SettingsRange = 1
@@ -20,3 +20,6 @@ numberOf PairTaken = 13
 numberOf Neighbours = 14
 numberOf AlreadySearched = 15
 numberOf TimeText = 16
+numberOf FileVersion = 17
+numberOf RecordLength = 18
+numberOf RecordKind = 19

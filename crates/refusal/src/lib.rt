@@ -36,6 +36,12 @@ pub enum Refusal {
     AlreadySearched,
     // 16: a time text that is not digits:2 digits:2 digits, or out of range
     TimeText,
+    // 17: a load file of another or no version
+    FileVersion,
+    // 18: a record of length 0, past the end of the file, or not filled by its fields; an optional byte above 1
+    RecordLength,
+    // 19: a kind outside 1 to 5, a first record other than settings, a second settings, a file with no record
+    RecordKind,
 }
 
 // What a step answers. Only a call can lie outside the window.
@@ -45,7 +51,7 @@ pub enum Answer {
     Refused(Refusal),
 }
 
-// The scope's number of a cause.
+// The number of a cause: the scope's, and those of request 01.
 pub fn number(r: Refusal) -> u8
     ensures { λ n. ⌜ n ≡ numberOf r ⌝ }
 {
@@ -66,6 +72,9 @@ pub fn number(r: Refusal) -> u8
         Refusal::Neighbours => 14,
         Refusal::AlreadySearched => 15,
         Refusal::TimeText => 16,
+        Refusal::FileVersion => 17,
+        Refusal::RecordLength => 18,
+        Refusal::RecordKind => 19,
     }
 }
 
