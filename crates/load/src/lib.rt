@@ -96,6 +96,13 @@ fn empty(settings: Settings) -> Load
     }
 }
 
+// The empty load of blank settings, which stands where no load was opened.
+pub fn blank() -> Load
+    ensures { λ r. ⌜ r ≡ emptyLoad blankSettings ⌝ }
+{
+    empty(blank_settings())
+}
+
 impl Load {
     // An empty load, or why the settings are sent back: then the load is the empty one of blank settings.
     pub fn open(settings: Settings) -> Stepped
@@ -103,7 +110,7 @@ impl Load {
     {
         let answer = settings_answer(settings);
         if is_refused(answer) {
-            let load = empty(blank_settings());
+            let load = blank();
             return Stepped { answer, load };
         }
         let load = empty(canonical(settings));

@@ -1,0 +1,148 @@
+// One record, tested and taken.
+ghost use mathlib.Core.Path.{_≡_};
+ghost use mathlib.Core.Bool.{true};
+ghost use Rattle.refusal.specs.First.{firstAnswer};
+ghost use Rattle.fields.specs.Layout.{stopFilled, textAt, optionTextAt, nameAt, parentAt};
+ghost use Rattle.fields.specs.Records.{stopIn};
+ghost use Rattle.load.specs.Steps.{stopSpec};
+ghost use Rattle.fields.specs.Numbers.{byteAt};
+ghost use Rattle.file.specs.Record.{kindRight, filled, recordTests, steppedBy, settled, recordSpec};
+use crate::Reader;
+use crate::Took;
+use fields::layout::call_filled;
+use fields::layout::has_at;
+use fields::layout::kind_of;
+use fields::layout::name_at;
+use fields::layout::parent_at;
+use fields::layout::rule_filled;
+use fields::layout::search_filled;
+use fields::layout::settings_filled;
+use fields::layout::stop_filled;
+use fields::layout::type_at;
+use fields::records::call_in;
+use fields::records::rule_in;
+use fields::records::settings_in;
+use fields::records::stop_in;
+use load::Load;
+use load::Stepped;
+use refusal::Answer;
+use refusal::Refusal;
+use refusal::is_refused;
+use search::search;
+
+fn kind_right(opened: bool, kind: u8) -> bool
+    ensures { λ r. ⌜ r ≡ kindRight opened kind ⌝ }
+{
+    if opened {
+        if 2 <= kind {
+            return kind <= 5;
+        }
+        return false;
+    }
+    kind == 1
+}
+
+fn is_filled(b: &[u8]) -> bool
+    ensures { λ r. ⌜ r ≡ filled (now (b .entry)) ⌝ }
+{
+    let kind = kind_of(b);
+    if kind == 1 {
+        return settings_filled(b);
+    }
+    if kind == 2 {
+        return stop_filled(b);
+    }
+    if kind == 3 {
+        return call_filled(b);
+    }
+    if kind == 4 {
+        return rule_filled(b);
+    }
+    search_filled(b)
+}
+
+// Why a record is turned away before it is handed to the load: 18, 19, 18.
+fn record_answer(opened: bool, b: &[u8]) -> Answer
+    ensures { λ r. ⌜ r ≡ firstAnswer (recordTests opened (now (b .entry))) ⌝ }
+{
+    if b.len() == 0 {
+        return Answer::Refused(Refusal::RecordLength);
+    }
+    if kind_right(opened, kind_of(b)) {
+        if is_filled(b) {
+            return Answer::Taken;
+        }
+        return Answer::Refused(Refusal::RecordLength);
+    }
+    Answer::Refused(Refusal::RecordKind)
+}
+
+// Where an optional text starts: after its byte and its length; it ends where the next field begins.
+fn text_from(b: &[u8], at: usize) -> usize {
+    if has_at(b, at) { at + 2 } else { at + 1 }
+}
+
+fn stop_record(load: Load, b: &[u8]) -> Stepped
+    requires { ⌜ stopFilled (now (b .entry)) ≡ true ⌝ }
+    ensures { λ r. ⌜ r ≡ stopSpec load (textAt (now (b .entry)) 1) (optionTextAt (now (b .entry)) (nameAt (now (b .entry)))) (optionTextAt (now (b .entry)) (parentAt (now (b .entry)))) (stopIn (now (b .entry))) ⌝ }
+{
+    let name = name_at(b);
+    let parent = parent_at(b);
+    let end = type_at(b);
+    let name_from = text_from(b, name);
+    let parent_from = text_from(b, parent);
+    load.stop(
+        &b[2..name],
+        &b[name_from..parent],
+        &b[parent_from..end],
+        stop_in(b),
+    )
+}
+
+// A record that is filled is handed to the load, or opens it.
+fn stepped_by(reader: Reader, b: &[u8]) -> Stepped
+    requires { ⌜ (filled (now (b .entry)) ≡ true) × (kindRight (reader .opened) (byteAt (now (b .entry)) 0) ≡ true) ⌝ }
+    ensures { λ r. ⌜ r ≡ steppedBy reader (now (b .entry)) ⌝ }
+{
+    let load = reader.load;
+    if reader.opened {
+        let kind = kind_of(b);
+        if kind == 2 {
+            return stop_record(load, b);
+        }
+        if kind == 3 {
+            return load.call(call_in(b));
+        }
+        if kind == 4 {
+            return load.rule(rule_in(b));
+        }
+        return search(load);
+    }
+    Load::open(settings_in(b))
+}
+
+fn settle(reader: Reader, s: Stepped) -> Took
+    ensures { λ r. ⌜ r ≡ settled reader s ⌝ }
+{
+    let answer = s.answer;
+    if is_refused(answer) {
+        return Took { answer, reader };
+    }
+    let load = s.load;
+    Took {
+        answer,
+        reader: Reader { opened: true, load },
+    }
+}
+
+// The body of a record: what follows its length.
+pub fn record(reader: Reader, b: &[u8]) -> Took
+    ensures { λ r. ⌜ r ≡ recordSpec reader (now (b .entry)) ⌝ }
+{
+    let answer = record_answer(reader.opened, b);
+    if is_refused(answer) {
+        return Took { answer, reader };
+    }
+    let s = stepped_by(reader, b);
+    settle(reader, s)
+}
