@@ -110,7 +110,7 @@ impl Load {
     {
         let answer = settings_answer(settings);
         if is_refused(answer) {
-            let load = blank();
+            let load = empty(blank_settings());
             return Stepped { answer, load };
         }
         let load = empty(canonical(settings));
