@@ -1,0 +1,55 @@
+// Text is gathered in a buffer, and written out by lines. What doesn't fit is left out, which no line's length comes near.
+use libc::STDOUT_FILENO;
+
+// A buffer that is lent has its length.
+fn put(out: &mut [u8; 65536], at: usize, byte: u8) -> usize {
+    if at < 65536 {
+        out[at] = byte;
+        return at + 1;
+    }
+    at
+}
+
+pub fn text(out: &mut [u8; 65536], at: usize, word: &[u8]) -> usize {
+    let mut to = at;
+    for i in 0usize..word.len() {
+        to = put(out, to, word[i]);
+    }
+    to
+}
+
+pub fn number(out: &mut [u8; 65536], at: usize, n: u64) -> usize {
+    let mut digits = [0u8; 20];
+    let k = io::decimal(n, &mut digits);
+    text(out, at, &digits[..k])
+}
+
+// A space and a number.
+pub fn spaced(out: &mut [u8; 65536], at: usize, n: u64) -> usize {
+    let a = put(out, at, b' ');
+    number(out, a, n)
+}
+
+pub fn flag(out: &mut [u8; 65536], at: usize, b: bool) -> usize {
+    if b {
+        return text(out, at, b" 1");
+    }
+    text(out, at, b" 0")
+}
+
+// Writes the first n bytes.
+pub fn flush(out: &mut [u8; 65536], n: usize) {
+    if n <= 65536 {
+        io::write_all(STDOUT_FILENO, &out[..n]);
+    }
+}
+
+// Ends a line; writes what was gathered if it is much.
+pub fn line(out: &mut [u8; 65536], at: usize) -> usize {
+    let a = put(out, at, b'\n');
+    if a > 24576 {
+        flush(out, a);
+        return 0;
+    }
+    a
+}
