@@ -46,11 +46,12 @@ later n f = record { answer = f .answer; used = n + f .used; reader = f .reader 
 
 -- the whole records at the start of the bytes, up to the first that is refused; at most n of them
 unfoldable pub fedBy : ℕ → Reader → List ℕ → Fed
-unfolding nextSpec
 fedBy zero r xs = record { answer = Taken; used = 0; reader = r }
 fedBy (suc n) r xs =
-    cond (isRefused (nextSpec r xs .answer)) (record { answer = nextSpec r xs .answer; used = 0; reader = r })
-    (cond (startsWhole xs) (later (sizeOf xs) (fedBy n (nextSpec r xs .reader) (drop (sizeOf xs) xs))) (record { answer = Taken; used = 0; reader = r }))
+    cond (startsWhole xs) (cond (isRefused (recordSpec r (bodyOf xs) .answer))
+    (record { answer = recordSpec r (bodyOf xs) .answer; used = 0; reader = r })
+    (later (sizeOf xs) (fedBy n (recordSpec r (bodyOf xs) .reader) (drop (sizeOf xs) xs))))
+    (record { answer = Taken; used = 0; reader = r })
 
 -- each record takes two bytes or more, so there are no more turns than bytes
 unfoldable pub fedSpec : Reader → List ℕ → Fed
@@ -74,11 +75,9 @@ readSpec xs =
     cond (isRefused (versionAnswer xs)) (record { answer = versionAnswer xs; reader = freshReader })
     (endedBy (drop 1 xs) (fedSpec freshReader (drop 1 xs)))
 
--- a file may be read in parts: what is left of one part is put before the next
-abbrev pub FedInParts : Type 0
-FedInParts = (r : Reader) (xs ys : List ℕ) → isRefused (fedSpec r xs .answer) ≡ false
-    → fedSpec r (xs ++ ys) ≡ later (fedSpec r xs .used) (fedSpec (fedSpec r xs .reader) (drop (fedSpec r xs .used) xs ++ ys))
+-- a file may be read in parts: what is left of a part is put before the next, unless a record of the part was refused
+abbrev pub continued : Fed → List ℕ → List ℕ → Fed
+continued f xs ys = cond (isRefused (f .answer)) f (later (f .used) (fedSpec (f .reader) (drop (f .used) xs ++ ys)))
 
--- a record that is refused in a part is refused in the whole
-abbrev pub RefusedInPart : Type 0
-RefusedInPart = (r : Reader) (xs ys : List ℕ) → isRefused (fedSpec r xs .answer) ≡ true → fedSpec r (xs ++ ys) ≡ fedSpec r xs
+abbrev pub FedInParts : Type 0
+FedInParts = (r : Reader) (xs ys : List ℕ) → fedSpec r (xs ++ ys) ≡ continued (fedSpec r xs) xs ys

@@ -1,0 +1,3 @@
+pub mod FedLaws
+pub mod RecordLaws
+pub mod HandedLaws

@@ -1,0 +1,100 @@
+-- A record is answered for its first cause alone, a refused one changes nothing, and a taken one opens the load or is handed to it.
+use mathlib.Core.Path.{_≡_, refl, sym, ap, _∙_, subst}
+use mathlib.Core.Bool.{Bool, true, false, not, cond, true≢false, false≢true}
+use mathlib.Core.List.{List, _++_}
+use Prim.Native.Nat.{ℕ}
+use lib.Dec.{eqb}
+use lib.ListN.{length}
+use Rattle.refusal.specs.declared.Refusal.the-variants.{RecordLength, RecordKind}
+use Rattle.refusal.specs.declared.Answer.{Answer}
+use Rattle.refusal.specs.declared.Answer.the-variants.{Taken, Outside, Refused}
+use Rattle.refusal.specs.First.{First, AllFail, firstAnswer, isRefused}
+use Rattle.refusal.proofs.FirstLaws.{answer-is-first, first-append, first-past}
+use Rattle.settings.specs.declared.Settings.{Settings}
+use Rattle.settings.specs.Settings.{settingsTests}
+use Rattle.fields.specs.Numbers.{byteAt}
+use Rattle.fields.specs.Records.{settingsIn}
+use Rattle.load.specs.declared.Load.{Load}
+use Rattle.load.specs.declared.Stepped.{Stepped}
+use Rattle.load.specs.Steps.{openAnswer, opened, openSpec}
+use Rattle.load.specs.Sound.{Opens}
+use Rattle.comparison.specs.Steps.{stepped}
+use Rattle.comparison.proofs.Demands.{demand-1}
+use Rattle.file.specs.declared.Reader.{Reader}
+use Rattle.file.specs.declared.Took.{Took}
+use Rattle.file.specs.Record.{kindRight, filled, recordTests, stepIn, steppedBy, settled, recordSpec, causesBy, Answered, RecordAnswered}
+
+refused-not-taken : (a : Answer) → isRefused a ≡ true → a ≡ Taken → ⊥
+refused-not-taken Taken e q = false≢true e
+refused-not-taken Outside e q = false≢true e
+refused-not-taken (Refused r) e q = false≢true (sym (ap isRefused q) ∙ e)
+
+-- every test sends the record back, so one that is not sent back fails each
+all-fail : (opened : Bool) (b : List ℕ) → isRefused (firstAnswer (recordTests opened b)) ≡ false → AllFail (recordTests opened b)
+unfolding recordTests firstAnswer
+all-fail opened b e = go (eqb (length b) 0) (not (kindRight opened (byteAt b 0))) (not (filled b)) e
+  where
+    go : (x y z : Bool) → isRefused (cond x (Refused RecordLength) (cond y (Refused RecordKind) (cond z (Refused RecordLength) Taken))) ≡ false → (x ≡ false) × ((y ≡ false) × ((z ≡ false) × Unit {0}))
+    go true y z e = absurd (true≢false e)
+    go false true z e = absurd (true≢false e)
+    go false false true e = absurd (true≢false e)
+    go false false false e = (refl, (refl, (refl, tt)))
+
+-- what the load, or the opening, answers
+stepped-first : (r : Reader) (b : List ℕ) → First (steppedBy r b .answer) (causesBy r b)
+unfolding steppedBy openSpec
+stepped-first r b = go (r .opened)
+  where
+    go : (o : Bool) → First ((cond o (stepped (r .load) (stepIn b)) (openSpec (settingsIn b))) .answer) (causesBy (record { opened = o; load = r .load }) b)
+    go true = demand-1 .steps (r .load) (stepIn b) .first
+    go false = demand-1 .opening (settingsIn b)
+
+-- past the tests, what is answered is the step's
+tested : (r : Reader) (b : List ℕ) (c : Bool) → isRefused (firstAnswer (recordTests (r .opened) b)) ≡ c → recordSpec r b ≡ cond c (record { answer = firstAnswer (recordTests (r .opened) b); reader = r }) (settled r (steppedBy r b))
+unfolding recordSpec
+tested r b c e = rw e refl
+
+settled-refused : (r : Reader) (s : Stepped) → isRefused (s .answer) ≡ true → settled r s .reader ≡ r
+unfolding settled
+settled-refused r s e = rw e refl
+
+settled-answer : (r : Reader) (s : Stepped) → settled r s .answer ≡ s .answer
+unfolding settled
+settled-answer r s = refl
+
+pub settled-taken : (r : Reader) (s : Stepped) → isRefused (s .answer) ≡ false → settled r s .reader ≡ record { opened = true; load = s .load }
+unfolding settled
+settled-taken r s e = rw e refl
+
+abbrev Answers : Reader → List ℕ → Took → Type 0
+Answers r b t = First (t .answer) (recordTests (r .opened) b ++ causesBy r b) × (isRefused (t .answer) ≡ true → t .reader ≡ r)
+
+answers : (r : Reader) (b : List ℕ) → Answers r b (recordSpec r b)
+answers r b = go (isRefused (firstAnswer (recordTests (r .opened) b))) refl
+  where
+    go : (c : Bool) → isRefused (firstAnswer (recordTests (r .opened) b)) ≡ c → Answers r b (recordSpec r b)
+    go true e =
+        subst (Answers r b) (sym (tested r b true e))
+        (first-append _ (recordTests (r .opened) b) (causesBy r b) (answer-is-first (recordTests (r .opened) b)) (refused-not-taken _ e), λ k. refl)
+    go false e =
+        subst (Answers r b) (sym (tested r b false e)) (
+          subst (λ (a : Answer). First a (recordTests (r .opened) b ++ causesBy r b)) (sym (settled-answer r (steppedBy r b))) (first-past (steppedBy r b .answer) (recordTests (r .opened) b) (causesBy r b) (all-fail (r .opened) b e) (stepped-first r b)),
+          λ k. settled-refused r (steppedBy r b) (sym (ap isRefused (settled-answer r (steppedBy r b))) ∙ k),
+        )
+
+pub record-answered : RecordAnswered
+record-answered r b = record { first = answers r b .0; unchanged = answers r b .1 }
+
+-- ---- a record that is taken
+
+-- passed the tests, and was not sent back by the load
+pub taken-settled : (r : Reader) (b : List ℕ) → isRefused (recordSpec r b .answer) ≡ false
+    → (isRefused (steppedBy r b .answer) ≡ false) × (recordSpec r b .reader ≡ record { opened = true; load = steppedBy r b .load })
+taken-settled r b k = go (isRefused (firstAnswer (recordTests (r .opened) b))) refl
+  where
+    go : (c : Bool) → isRefused (firstAnswer (recordTests (r .opened) b)) ≡ c
+        → (isRefused (steppedBy r b .answer) ≡ false) × (recordSpec r b .reader ≡ record { opened = true; load = steppedBy r b .load })
+    go true e = absurd (true≢false (sym e ∙ sym (ap (λ (t : Took). isRefused (t .answer)) (tested r b true e)) ∙ k))
+    go false e =
+        let f : isRefused (steppedBy r b .answer) ≡ false = sym (ap isRefused (settled-answer r (steppedBy r b))) ∙ sym (ap (λ (t : Took). isRefused (t .answer)) (tested r b false e)) ∙ k in
+        (f, ap (λ (t : Took). t .reader) (tested r b false e) ∙ settled-taken r (steppedBy r b) f)
