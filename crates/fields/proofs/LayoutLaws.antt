@@ -1,0 +1,1 @@
+-- Where the fields of a stop's record stand.
