@@ -1,6 +1,7 @@
 -- Numbers of a record: two's complement by cases, and which patterns are the NaN.
 use mathlib.Core.Path.{_≡_, refl, sym, ap, subst, _∙_}
 use mathlib.Core.Bool.{Bool, true, false, not, true≢false}
+use mathlib.Core.List.{List}
 use Prim.Native.Nat.{ℕ, zero, suc, _+_, _-_, _<_, _≤_}
 use native.Mathlib.Omega.{arith}
 use native.Mathlib.Nat.{zero-add}
@@ -14,7 +15,7 @@ use mir.Val.{SFits, toZ, ofZ}
 use mir.Facts.{toZ-pos}
 use Rattle.laws.proofs.Bools.{cond-by, cond-not}
 use Rattle.laws.proofs.Ints.{again}
-use Rattle.fields.specs.Numbers.{signedOf}
+use Rattle.fields.specs.Numbers.{signedOf, i64At}
 
 -- ---- two's complement
 
@@ -40,6 +41,10 @@ module _ (n : ℕ) (h : 9223372036854775808 ≤ n) where
   pub signed-high : toZ w64 (ofZ w64 (negsuc 0 -ℤ toZ w64 (18446744073709551615 - n))) ≡ signedOf n
   unfolding signedOf
   signed-high = again high-fits ∙ taken-off ∙ sym (cond-not _ _ (le-ltb n 9223372036854775808 h))
+
+-- a signed number read k bytes after a place, as its width holds it
+pub i64-again : (b : List ℕ) (k : ℕ) {z : ℤ} {m n : ℕ} → SFits w64 z → z ≡ i64At b (m + k) → m ≡ n → toZ w64 (ofZ w64 z) ≡ i64At b (n + k)
+i64-again b k f e at = again f ∙ e ∙ ap (λ (n : ℕ). i64At b (n + k)) at
 
 -- ---- floats
 

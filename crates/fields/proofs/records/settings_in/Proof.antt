@@ -2,8 +2,8 @@
 use mathlib.Core.Path.{ap, _∙_}
 use Prim.Native.Nat.{ℕ, _+_}
 use mathlib.Core.List.{[], _∷_}
-use Rattle.laws.proofs.Ints.{again}
-use Rattle.fields.specs.Numbers.{byteAt, i64At}
+use Rattle.fields.proofs.NumberLaws.{i64-again}
+use Rattle.fields.specs.Numbers.{byteAt}
 use Rattle.fields.specs.Records.{walksAt, settingsIn}
 use borrow.Author.Needs.{needs}
 use Rattle.fields.proofs.records.settings_in.Statement.{statement}
@@ -71,11 +71,11 @@ returns c = let b = c .before .before .before .before .before .before .before .b
       «target_walks» = (c .before .before .before .before .before .before .before .before .walks-at2 .ensures ∙ ap (walksAt b) (c .before .before .before .before .before .before .before .before .before .target-walks-at .ensures)) t;
       «transfer_minutes» = (c .before .before .byte-at3 .ensures ∙ ap (byteAt b) at) t;
       «max_transfers» = (c .before .byte-at4 .ensures ∙ ap (λ (n : ℕ). byteAt b (n + 1)) at) t;
-      now = (again (record { sfits = c .i64-at4 .ok }) ∙ c .i64-at4 .ensures ∙ ap (λ (n : ℕ). i64At b (n + 2)) at) t;
+      now = i64-again b 2 (record { sfits = c .i64-at4 .ok }) (c .i64-at4 .ensures) at t;
       epochs =
-        (again (record { sfits = c .before .before .before .before .before .before .before .i64-at .ok }) ∙ c .before .before .before .before .before .before .before .i64-at .ensures ∙ ap (λ (n : ℕ). i64At b (n + 10)) at) t
-        ∷ (again (record { sfits = c .before .before .before .before .before .before .i64-at2 .ok }) ∙ c .before .before .before .before .before .before .i64-at2 .ensures ∙ ap (λ (n : ℕ). i64At b (n + 18)) at) t
-        ∷ (again (record { sfits = c .before .before .before .before .before .i64-at3 .ok }) ∙ c .before .before .before .before .before .i64-at3 .ensures ∙ ap (λ (n : ℕ). i64At b (n + 26)) at) t
+        i64-again b 10 (record { sfits = c .before .before .before .before .before .before .before .i64-at .ok }) (c .before .before .before .before .before .before .before .i64-at .ensures) at t
+        ∷ i64-again b 18 (record { sfits = c .before .before .before .before .before .before .i64-at2 .ok }) (c .before .before .before .before .before .before .i64-at2 .ensures) at t
+        ∷ i64-again b 26 (record { sfits = c .before .before .before .before .before .i64-at3 .ok }) (c .before .before .before .before .before .i64-at3 .ensures) at t
         ∷ [];
     }
 
