@@ -1,4 +1,5 @@
 // Big-endian numbers of a record. A byte past the record's end reads as 0.
+// A number is read only near a record's start, so the places of its bytes fit.
 ghost use mathlib.Core.Path.{_≡_};
 ghost use Prim.Native.Nat.{_≤_};
 ghost use lib.Ieee.{nan, binary64, nanBits};
@@ -18,14 +19,14 @@ pub fn u16_at(b: &[u8], at: usize) -> u16
 }
 
 pub fn u32_at(b: &[u8], at: usize) -> u32
-    requires { ⌜ at ≤ 4000 ⌝ }
+    requires { ⌜ at ≤ 4094 ⌝ }
     ensures { λ r. ⌜ r ≡ u32At (now (b .entry)) at ⌝ }
 {
     (u16_at(b, at) as u32) * 65536 + u16_at(b, at + 2) as u32
 }
 
 pub fn u64_at(b: &[u8], at: usize) -> u64
-    requires { ⌜ at ≤ 3000 ⌝ }
+    requires { ⌜ at ≤ 4090 ⌝ }
     ensures { λ r. ⌜ r ≡ u64At (now (b .entry)) at ⌝ }
 {
     (u32_at(b, at) as u64) * 4294967296 + u32_at(b, at + 4) as u64
@@ -43,7 +44,7 @@ fn signed(n: u64) -> i64
 }
 
 pub fn i64_at(b: &[u8], at: usize) -> i64
-    requires { ⌜ at ≤ 3000 ⌝ }
+    requires { ⌜ at ≤ 4090 ⌝ }
     ensures { λ r. ⌜ r ≡ i64At (now (b .entry)) at ⌝ }
 {
     signed(u64_at(b, at))
@@ -64,7 +65,7 @@ fn is_nan(bits: u64) -> bool
 
 // The float of a pattern; the one NaN for each of its patterns.
 pub fn f64_at(b: &[u8], at: usize) -> f64
-    requires { ⌜ at ≤ 3000 ⌝ }
+    requires { ⌜ at ≤ 4090 ⌝ }
     ensures { λ r. ⌜ r ≡ f64At (now (b .entry)) at ⌝ }
 {
     let bits = u64_at(b, at);

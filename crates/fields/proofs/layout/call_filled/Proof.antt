@@ -1,9 +1,7 @@
 -- The three tests, in their order.
-use mathlib.Core.Path.{_≡_, sym, ap, _∙_}
+use mathlib.Core.Path.{sym, ap, _∙_}
 use Prim.Native.Nat.{ℕ, _+_}
 use borrow.Author.Tests.{eq-eqb, ne-eqb}
-use lib.Dec.{eqb}
-use lib.ListN.{length}
 use Rattle.laws.proofs.Bools.{and-by, and-not}
 use Rattle.fields.specs.Layout.{markAt, callFilled}
 use borrow.Author.Needs.{needs}

@@ -1,7 +1,6 @@
 -- By the byte before both.
-use mathlib.Core.Path.{sym, ap, _∙_}
+use mathlib.Core.Path.{sym, _∙_}
 use Rattle.laws.proofs.Bools.{cond-by, cond-not}
-use Rattle.place.specs.declared.Degrees.{Degrees}
 use Rattle.fields.specs.Records.{degreesAt}
 use borrow.Author.Needs.{needs}
 use Rattle.fields.proofs.records.degrees_at.Statement.{statement}

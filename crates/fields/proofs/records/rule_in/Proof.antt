@@ -19,11 +19,11 @@ byte-at-requires c κs = search needs
 returns : tie.Need-returns
 unfolding ruleIn
 returns c = λ t. record {
-      from = c .before .before .u16-at .ensures t;
-      to = c .before .u16-at2 .ensures t;
-      «transfer_type» = c .byte-at .ensures t;
-      seconds = c .before .before .before .min-time-at .ensures t;
-    }
+  from = c .before .before .u16-at .ensures t;
+  to = c .before .u16-at2 .ensures t;
+  «transfer_type» = c .byte-at .ensures t;
+  seconds = c .before .before .before .min-time-at .ensures t;
+}
 
 pub rule-in-spec : {M : Type 1} → statement M
 rule-in-spec =

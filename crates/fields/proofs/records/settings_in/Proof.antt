@@ -73,10 +73,10 @@ returns c = let b = c .before .before .before .before .before .before .before .b
       «max_transfers» = (c .before .byte-at4 .ensures ∙ ap (λ (n : ℕ). byteAt b (n + 1)) at) t;
       now = i64-again b 2 (record { sfits = c .i64-at4 .ok }) (c .i64-at4 .ensures) at t;
       epochs =
-        i64-again b 10 (record { sfits = c .before .before .before .before .before .before .before .i64-at .ok }) (c .before .before .before .before .before .before .before .i64-at .ensures) at t
-        ∷ i64-again b 18 (record { sfits = c .before .before .before .before .before .before .i64-at2 .ok }) (c .before .before .before .before .before .before .i64-at2 .ensures) at t
-        ∷ i64-again b 26 (record { sfits = c .before .before .before .before .before .i64-at3 .ok }) (c .before .before .before .before .before .i64-at3 .ensures) at t
-        ∷ [];
+          i64-again b 10 (record { sfits = c .before .before .before .before .before .before .before .i64-at .ok }) (c .before .before .before .before .before .before .before .i64-at .ensures) at t
+          ∷ i64-again b 18 (record { sfits = c .before .before .before .before .before .before .i64-at2 .ok }) (c .before .before .before .before .before .before .i64-at2 .ensures) at t
+          ∷ i64-again b 26 (record { sfits = c .before .before .before .before .before .i64-at3 .ok }) (c .before .before .before .before .before .i64-at3 .ensures) at t
+          ∷ [];
     }
 
 pub settings-in-spec : {M : Type 1} → statement M
