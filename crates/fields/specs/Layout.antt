@@ -31,6 +31,10 @@ optionEnd b at size = cond (hasAt b at) (at + 1 + size) (at + 1)
 unfoldable pub optionTextEnd : List ℕ → ℕ → ℕ
 optionTextEnd b at = cond (hasAt b at) (textEnd b (at + 1)) (at + 1)
 
+-- where its bytes start: after its byte and its length
+abbrev pub optionTextFrom : List ℕ → ℕ → ℕ
+optionTextFrom b at = cond (hasAt b at) (at + 2) (at + 1)
+
 unfoldable pub optionTextAt : List ℕ → ℕ → List ℕ
 optionTextAt b at = cond (hasAt b at) (textAt b (at + 1)) []
 

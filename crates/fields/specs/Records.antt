@@ -2,7 +2,7 @@
 use Prim.Native.Nat.{ℕ, _+_}
 use mathlib.Core.Bool.{cond}
 use mathlib.Core.List.{List, [], _∷_}
-use lib.Ieee.{Float, binary64, ofBits}
+use lib.Ieee.{binary64, ofBits}
 use Rattle.place.specs.declared.Degrees.{Degrees}
 use Rattle.settings.specs.declared.Settings.{Settings}
 use Rattle.stops.specs.declared.StopInput.{StopInput}
