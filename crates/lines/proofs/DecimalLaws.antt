@@ -7,9 +7,10 @@ use native.Mathlib.Omega.{arith}
 use borrow.Author.Tests.{ltb-true, ltb-false, lt-ltb, le-ltb}
 use lib.Dec.{ltb}
 use lib.ListN.{length, getD, length-append}
-use Rattle.laws.specs.Lists.{foldl}
 use Rattle.laws.proofs.Folds.{foldl-append}
 use Rattle.calls.specs.Sound.{All}
+use Rattle.lines.specs.Buffer.{Put}
+use Rattle.lines.proofs.BufferLaws.{put-then, put-as, put-within}
 use Rattle.lines.specs.Decimal.{decimalBy, decimal, valueOf, IsDigit, Spells, DecimalRight}
 
 abbrev tens : ℕ → ℕ
@@ -67,7 +68,7 @@ then-right n ds h s =
       digits = all-then ds (48 + n % 10) (s .digits) (omega arith, omega arith);
       value = value-then ds (n % 10) ∙ omega (arith, s .value);
       first = λ p. first-then ds (48 + n % 10) (s .first (omega arith));
-      nought = λ e. absurd (omega arith)
+      nought = λ e. absurd (omega arith);
     }
 
 by-right : (k n : ℕ) → n < tens (suc k) → Spells n (decimalBy (suc k) n)
@@ -82,3 +83,15 @@ by-right (suc k) n h = go (ltb n 10) refl (by-right k (n / 10) (omega arith))
 pub decimal-right : DecimalRight
 unfolding decimal
 decimal-right n h = by-right 4 n (omega arith)
+
+-- ---- put into a buffer
+module _ {n : ℕ} (big : 10 ≤ n) (fits : n < 65536) where
+  pub shorter : length (decimal (n / 10)) ≤ 4
+  shorter = omega (arith, decimal-small n, ap length (decimal-more n big fits), length-append (decimal (n / 10)) ((48 + n % 10) ∷ []))
+
+  pub more-put : {a b r d : ℕ} {l₀ l₁ l₂ : List ℕ} → d ≡ 48 + n % 10 → Put 5 (decimal (n / 10)) a l₀ b l₁ → Put 1 (d ∷ []) b l₁ r l₂ → Put 5 (decimal n) a l₀ r l₂
+  more-put {d = d} e p q =
+      put-within 5 (decimal-small n) (put-as (ap (λ (x : ℕ). decimal (n / 10) ++ x ∷ []) e ∙ sym (decimal-more n big fits)) (put-then p q))
+
+pub one-put : {n a r d : ℕ} {l₀ l₁ : List ℕ} → n < 10 → d ≡ 48 + n → Put 1 (d ∷ []) a l₀ r l₁ → Put 5 (decimal n) a l₀ r l₁
+one-put {n} h e p = put-within 5 (decimal-small n) (put-as (ap (λ (x : ℕ). x ∷ []) e ∙ sym (decimal-one n h)) p)

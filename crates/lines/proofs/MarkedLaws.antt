@@ -1,8 +1,8 @@
 -- The first starred instance.
-use mathlib.Core.Path.{refl, _∙_, ap}
+use mathlib.Core.Path.{refl}
 use Rattle.lines.specs.Decimal.{decimalBy, decimal}
 use Rattle.lines.specs.Lines.{spaced, journeyLine, horizonLine, loadLines, linesOf}
-use Rattle.lines.specs.Marked.{firstJourney, FirstJourney, FirstHorizon, FirstLines}
+use Rattle.lines.specs.Marked.{FirstJourney, FirstHorizon, FirstLines}
 
 pub first-journey : FirstJourney
 unfolding decimalBy decimal spaced journeyLine

@@ -1,4 +1,8 @@
+-- The digits before the last, then the last; each call has fewer.
 use Prim.Native.Nat.{ℕ, _<_}
+use native.Mathlib.Omega.{arith}
+use borrow.Author.Needs.{needs}
+use Rattle.lines.proofs.DecimalLaws.{shorter, one-put, more-put}
 use borrow.Fn.Kinds.{In}
 use borrow.Fn.PlainCycle.{Measures, is, falls, and}
 use Rattle.lines.proofs.text.put_decimal.Reads as put-decimal
@@ -10,7 +14,7 @@ use Rattle.lines.proofs.text.+put_decimal.{statement}
 use Rattle.lines.proofs.text.+put_decimal.Tie.{close}
 
 abbrev μ-put-decimal : Measures 1 put-decimal-kinds.ps ℕ
-μ-put-decimal κs a = ?
+μ-put-decimal κs a = a .1 .1 .0
 
 abbrev put-decimal-at : ℕ → In 1 put-decimal-kinds.ps
 put-decimal-at t =
@@ -20,7 +24,6 @@ abbrev put-decimal-below : ℕ → In 1 put-decimal-kinds.ps
 put-decimal-below t =
     and 1 put-decimal-kinds.ps (falls 1 put-decimal-kinds.ps _<_ μ-put-decimal t) put-decimal.Pre
 
--- src/text.rt:39:34
 put-decimal-digit-requires : (t : ℕ) → put-decimal-lts.Need-digit-requires (
   digit-reads.Asked,
   digit-reads.Learnt,
@@ -29,9 +32,8 @@ put-decimal-digit-requires : (t : ℕ) → put-decimal-lts.Need-digit-requires (
   put-decimal-below t,
   put-decimal.Post,
 ) (put-decimal-at t) put-decimal.Post
-put-decimal-digit-requires t c κs = ?
+put-decimal-digit-requires t c κs = search needs
 
--- src/text.rt:39:9
 put-decimal-put-byte-requires : (t : ℕ) → put-decimal-lts.Need-put-byte-requires (
   digit-reads.Asked,
   digit-reads.Learnt,
@@ -40,9 +42,8 @@ put-decimal-put-byte-requires : (t : ℕ) → put-decimal-lts.Need-put-byte-requ
   put-decimal-below t,
   put-decimal.Post,
 ) (put-decimal-at t) put-decimal.Post
-put-decimal-put-byte-requires t c κs = ?
+put-decimal-put-byte-requires t c κs = search needs
 
--- src/text.rt:39:9
 put-decimal-returns : (t : ℕ) → put-decimal-lts.Need-returns (
   digit-reads.Asked,
   digit-reads.Learnt,
@@ -51,9 +52,8 @@ put-decimal-returns : (t : ℕ) → put-decimal-lts.Need-returns (
   put-decimal-below t,
   put-decimal.Post,
 ) (put-decimal-at t) put-decimal.Post
-put-decimal-returns t c = ?
+put-decimal-returns t c = one-put (c .before .before .before .if1 .taken) (c .before .digit .ensures) (c .put-byte .ensures)
 
--- src/text.rt:41:9
 put-decimal-put-decimal-requires : (t : ℕ) → put-decimal-lts.Need-put-decimal-requires (
   digit-reads.Asked,
   digit-reads.Learnt,
@@ -62,9 +62,8 @@ put-decimal-put-decimal-requires : (t : ℕ) → put-decimal-lts.Need-put-decima
   put-decimal-below t,
   put-decimal.Post,
 ) (put-decimal-at t) put-decimal.Post
-put-decimal-put-decimal-requires t c κs = ?
+put-decimal-put-decimal-requires t c κs = search needs
 
--- src/text.rt:42:25
 put-decimal-digit-requires-2 : (t : ℕ) → put-decimal-lts.Need-digit-requires-2 (
   digit-reads.Asked,
   digit-reads.Learnt,
@@ -73,9 +72,8 @@ put-decimal-digit-requires-2 : (t : ℕ) → put-decimal-lts.Need-digit-requires
   put-decimal-below t,
   put-decimal.Post,
 ) (put-decimal-at t) put-decimal.Post
-put-decimal-digit-requires-2 t c κs = ?
+put-decimal-digit-requires-2 t c κs = search needs
 
--- src/text.rt:42:5
 put-decimal-put-byte-requires-2 : (t : ℕ) → put-decimal-lts.Need-put-byte-requires-2 (
   digit-reads.Asked,
   digit-reads.Learnt,
@@ -84,9 +82,10 @@ put-decimal-put-byte-requires-2 : (t : ℕ) → put-decimal-lts.Need-put-byte-re
   put-decimal-below t,
   put-decimal.Post,
 ) (put-decimal-at t) put-decimal.Post
-put-decimal-put-byte-requires-2 t c κs = ?
+put-decimal-put-byte-requires-2 t c κs =
+    let s = c .before .before .before .before .before in
+    omega (arith, c .before .before .put-decimal .ensures .behind, shorter (c .before .before .before .before .if1 .left) (omega arith), s .pre .1)
 
--- src/text.rt:34:1
 put-decimal-returns-2 : (t : ℕ) → put-decimal-lts.Need-returns-2 (
   digit-reads.Asked,
   digit-reads.Learnt,
@@ -95,7 +94,9 @@ put-decimal-returns-2 : (t : ℕ) → put-decimal-lts.Need-returns-2 (
   put-decimal-below t,
   put-decimal.Post,
 ) (put-decimal-at t) put-decimal.Post
-put-decimal-returns-2 t c = ?
+put-decimal-returns-2 t c =
+    let e = c .before .before .before .before .before in
+    more-put (e .if1 .left) (omega arith) (c .before .digit2 .ensures) (c .before .before .before .put-decimal .ensures) (c .put-byte2 .ensures)
 
 pub +put-decimal-spec : {M : Type 1} → statement M
 +put-decimal-spec = close μ-put-decimal λ t. put-decimal-lts.spec (

@@ -1,42 +1,48 @@
+-- Byte after byte.
+use mathlib.Core.Path.{_≡_, _∙_}
+use mathlib.Core.List.{[], _∷_}
+use Prim.Native.Nat.{ℕ, _*_, _≤_, _-_}
+use native.Mathlib.Omega.{arith}
+use lib.ListN.{length, take}
+use lib.Seq.{take-all}
+use Rattle.laws.specs.Lists.{concatMap}
+use Rattle.lines.specs.Buffer.{Put}
+use Rattle.lines.proofs.BufferLaws.{put-none, put-turn, put-as, put-within, each-byte}
+use borrow.Author.Needs.{needs}
 use Rattle.lines.proofs.text.put_word.Statement.{statement}
 use Rattle.lines.proofs.text.put_word.Tie as tie
-use Rattle.lines.proofs.text.put_word.Reads as reads
-use Rattle.lines.proofs.text.put_word.Lts as lts
-use Rattle.lines.proofs.text.put_byte.Reads as put-byte-reads
 
 abbrev Inv-loop : tie.InvT-loop
-Inv-loop out₀ at word to₀ i₀ out to i = ?
+Inv-loop out₀ at word to₀ i₀ out to i = (i ≤ 7) × (length word ≡ 7) × Put (1 * i) (concatMap (λ (x : ℕ). x ∷ []) (take i word)) at out₀ to out
 
 abbrev μ-loop : tie.MeasureT-loop
-μ-loop out₀ at word to₀ i₀ out to i = ?
+μ-loop out₀ at word to₀ i₀ out to i = 7 - i
 
--- src/text.rt:61:5
 loop-holds : tie.Need-loop-holds Inv-loop μ-loop
-loop-holds c = ?
+loop-holds c = (search needs, search needs, put-none _ _)
 
--- src/text.rt:62:32
 array-read-put-byte : tie.Need-array-read-put-byte Inv-loop μ-loop
-array-read-put-byte c = ?
+array-read-put-byte c = search needs
 
--- src/text.rt:62:9
 put-byte-requires : tie.Need-put-byte-requires Inv-loop μ-loop
-put-byte-requires c κs = ?
+put-byte-requires c κs = search needs
 
--- src/text.rt:63:9
 add-i : tie.Need-add-i Inv-loop μ-loop
-add-i c = ?
+add-i c = search needs
 
--- src/text.rt:61:5
 loop-less : tie.Need-loop-less Inv-loop μ-loop
-loop-less c = ?
+loop-less c = search needs
 
--- src/text.rt:61:5
 loop-again : tie.Need-loop-again Inv-loop μ-loop
-loop-again c = ?
+loop-again c =
+    let L = c .before .before .before .loop in
+    (omega arith, L .inv .1, put-turn (λ (x : ℕ). x ∷ []) 1 0 _ (L .i) (omega arith) (L .inv .2) (c .put-byte .ensures))
 
--- src/text.rt:55:1
 returns : tie.Need-returns Inv-loop μ-loop
-returns c = ?
+returns c =
+    let L = c .before .loop in
+    let w = c .before .before .args .t3 in
+    put-within 7 (omega arith) (put-as (each-byte (take (L .i) w) ∙ take-all (L .i) w (omega arith)) (L .inv .2))
 
 pub put-word-spec : {M : Type 1} → statement M
 put-word-spec =
