@@ -2,7 +2,6 @@
 use Prim.Native.Nat.{ℕ}
 use mathlib.Core.List.{List, [], _∷_, _++_}
 use Rattle.laws.specs.Lists.{concatMap}
-use Rattle.refusal.specs.declared.Refusal.{Refusal}
 use Rattle.refusal.specs.declared.Answer.{Answer}
 use Rattle.refusal.specs.declared.Answer.the-variants.{Taken, Outside, Refused}
 use Rattle.refusal.specs.Causes.{numberOf}
@@ -25,9 +24,9 @@ unfoldable pub horizonLine : ℕ → ℕ → List ℕ
 horizonLine horizon limits =
     104 ∷ 111 ∷ 114 ∷ 105 ∷ 122 ∷ 111 ∷ 110 ∷ (spaced horizon ++ (32 ∷ 108 ∷ 105 ∷ 109 ∷ 105 ∷ 116 ∷ 115 ∷ (spaced limits ++ (10 ∷ []))))
 
--- "refused"
-unfoldable pub refusedLine : Refusal → List ℕ
-refusedLine r = 114 ∷ 101 ∷ 102 ∷ 117 ∷ 115 ∷ 101 ∷ 100 ∷ (spaced (numberOf r) ++ (10 ∷ []))
+-- "refused", and the number of the cause
+unfoldable pub refusedLine : ℕ → List ℕ
+refusedLine number = 114 ∷ 101 ∷ 102 ∷ 117 ∷ 115 ∷ 101 ∷ 100 ∷ (spaced number ++ (10 ∷ []))
 
 unfoldable pub loadLines : Load → List ℕ
 loadLines l = concatMap journeyLine (keptOf l) ++ horizonLine (l .horizon) (l .limits)
@@ -36,4 +35,4 @@ loadLines l = concatMap journeyLine (keptOf l) ++ horizonLine (l .horizon) (l .l
 unfoldable pub linesOf : Answer → Load → List ℕ
 linesOf Taken l = loadLines l
 linesOf Outside l = loadLines l
-linesOf (Refused r) l = refusedLine r
+linesOf (Refused r) l = refusedLine (numberOf r)

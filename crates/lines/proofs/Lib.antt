@@ -1,0 +1,4 @@
+pub mod DecimalLaws
+pub mod BufferLaws
+pub mod LineLaws
+pub mod MarkedLaws
