@@ -1,11 +1,11 @@
 // One record, tested and taken.
 ghost use mathlib.Core.Path.{_≡_};
 ghost use mathlib.Core.Bool.{true};
+ghost use Prim.Native.Nat.{_≤_};
 ghost use Rattle.refusal.specs.First.{firstAnswer};
-ghost use Rattle.fields.specs.Layout.{stopFilled, textAt, optionTextAt, nameAt, parentAt};
+ghost use Rattle.fields.specs.Layout.{stopFilled, textAt, optionTextFrom, optionTextAt, nameAt, parentAt};
 ghost use Rattle.fields.specs.Records.{stopIn};
 ghost use Rattle.load.specs.Steps.{stopSpec};
-ghost use Rattle.fields.specs.Numbers.{byteAt};
 ghost use Rattle.file.specs.Record.{kindRight, filled, recordTests, steppedBy, settled, recordSpec};
 use crate::Reader;
 use crate::Took;
@@ -78,12 +78,15 @@ fn record_answer(opened: bool, b: &[u8]) -> Answer
 }
 
 // Where an optional text starts: after its byte and its length; it ends where the next field begins.
-fn text_from(b: &[u8], at: usize) -> usize {
+fn text_from(b: &[u8], at: usize) -> usize
+    requires { ⌜ at ≤ 2048 ⌝ }
+    ensures { λ r. ⌜ r ≡ optionTextFrom (now (b .entry)) at ⌝ }
+{
     if has_at(b, at) { at + 2 } else { at + 1 }
 }
 
 fn stop_record(load: Load, b: &[u8]) -> Stepped
-    requires { ⌜ stopFilled (now (b .entry)) ≡ true ⌝ }
+    requires { ⌜ stopFilled (now b) ≡ true ⌝ }
     ensures { λ r. ⌜ r ≡ stopSpec load (textAt (now (b .entry)) 1) (optionTextAt (now (b .entry)) (nameAt (now (b .entry)))) (optionTextAt (now (b .entry)) (parentAt (now (b .entry)))) (stopIn (now (b .entry))) ⌝ }
 {
     let name = name_at(b);
@@ -101,7 +104,7 @@ fn stop_record(load: Load, b: &[u8]) -> Stepped
 
 // A record that is filled is handed to the load, or opens it.
 fn stepped_by(reader: Reader, b: &[u8]) -> Stepped
-    requires { ⌜ (filled (now (b .entry)) ≡ true) × (kindRight (reader .opened) (byteAt (now (b .entry)) 0) ≡ true) ⌝ }
+    requires { ⌜ filled (now b) ≡ true ⌝ }
     ensures { λ r. ⌜ r ≡ steppedBy reader (now (b .entry)) ⌝ }
 {
     let load = reader.load;
