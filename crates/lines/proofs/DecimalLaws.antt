@@ -85,13 +85,13 @@ unfolding decimal
 decimal-right n h = by-right 4 n (omega arith)
 
 -- ---- put into a buffer
-module _ {n : ℕ} (big : 10 ≤ n) (fits : n < 65536) where
+module _ (n : ℕ) (big : 10 ≤ n) (fits : n < 65536) where
   pub shorter : length (decimal (n / 10)) ≤ 4
   shorter = omega (arith, decimal-small n, ap length (decimal-more n big fits), length-append (decimal (n / 10)) ((48 + n % 10) ∷ []))
 
   pub more-put : {a b r d : ℕ} {l₀ l₁ l₂ : List ℕ} → d ≡ 48 + n % 10 → Put 5 (decimal (n / 10)) a l₀ b l₁ → Put 1 (d ∷ []) b l₁ r l₂ → Put 5 (decimal n) a l₀ r l₂
-  more-put {d = d} e p q =
+  more-put e p q =
       put-within 5 (decimal-small n) (put-as (ap (λ (x : ℕ). decimal (n / 10) ++ x ∷ []) e ∙ sym (decimal-more n big fits)) (put-then p q))
 
-pub one-put : {n a r d : ℕ} {l₀ l₁ : List ℕ} → n < 10 → d ≡ 48 + n → Put 1 (d ∷ []) a l₀ r l₁ → Put 5 (decimal n) a l₀ r l₁
-one-put {n} h e p = put-within 5 (decimal-small n) (put-as (ap (λ (x : ℕ). x ∷ []) e ∙ sym (decimal-one n h)) p)
+pub one-put : (n : ℕ) {a r d : ℕ} {l₀ l₁ : List ℕ} → n < 10 → d ≡ 48 + n → Put 1 (d ∷ []) a l₀ r l₁ → Put 5 (decimal n) a l₀ r l₁
+one-put n h e p = put-within 5 (decimal-small n) (put-as (ap (λ (x : ℕ). x ∷ []) e ∙ sym (decimal-one n h)) p)

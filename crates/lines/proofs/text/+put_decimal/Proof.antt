@@ -34,7 +34,7 @@ put-byte-requires : (t : ℕ) → lts.Need-put-byte-requires (claims t) (given t
 put-byte-requires t c κs = search needs
 
 returns : (t : ℕ) → lts.Need-returns (claims t) (given t) put-decimal.Post
-returns t c = one-put (c .before .before .before .if1 .taken) (c .before .digit .ensures) (c .put-byte .ensures)
+returns t c = one-put (c .before .before .before .before .args .n) (omega arith) (c .before .digit .ensures) (c .put-byte .ensures)
 
 put-decimal-requires : (t : ℕ) → lts.Need-put-decimal-requires (claims t) (given t) put-decimal.Post
 put-decimal-requires t c κs = search needs
@@ -45,12 +45,12 @@ digit-requires-2 t c κs = search needs
 put-byte-requires-2 : (t : ℕ) → lts.Need-put-byte-requires-2 (claims t) (given t) put-decimal.Post
 put-byte-requires-2 t c κs =
     let s = c .before .before .before .before .before in
-    omega (arith, c .before .before .put-decimal .ensures .behind, shorter (c .before .before .before .before .if1 .left) (omega arith), s .pre .1)
+    omega (arith, c .before .before .put-decimal .ensures .behind, shorter (s .args .n) (omega arith) (omega arith), s .pre .1)
 
 returns-2 : (t : ℕ) → lts.Need-returns-2 (claims t) (given t) put-decimal.Post
 returns-2 t c =
-    let e = c .before .before .before .before .before in
-    more-put (e .if1 .left) (omega arith) (c .before .digit2 .ensures) (c .before .before .before .put-decimal .ensures) (c .put-byte2 .ensures)
+    let s = c .before .before .before .before .before .before in
+    more-put (s .args .n) (omega arith) (omega arith) (c .before .digit2 .ensures) (c .before .before .before .put-decimal .ensures) (c .put-byte2 .ensures)
 
 pub +put-decimal-spec : {M : Type 1} → statement M
 +put-decimal-spec = close μ-put-decimal λ t. lts.spec (claims t)
