@@ -1,9 +1,10 @@
 // Reads a load file from standard input and prints its journeys in list order, then horizon and limits; or the refusal.
-// The file is read in parts: what a part leaves of a record that is not whole yet is put before the next.
-use file::read;
-use libc::STDIN_FILENO;
+// The file is read in parts, as long as the buffer: what a part leaves of a record that is not whole yet is put before the next.
+mod part;
+
 use libc::STDOUT_FILENO;
 use load::Load;
+use part::Reading;
 use refusal::Answer;
 
 fn print(answer: Answer, load: Load) {
@@ -12,11 +13,22 @@ fn print(answer: Answer, load: Load) {
     io::write_all(STDOUT_FILENO, &out[..n]);
 }
 
+fn print_end(r: Reading) {
+    let reader = r.reader;
+    print(r.answer, reader.load);
+}
+
 fn main() {
     let mut buf = [0u8; 131072];
-    let n = io::read_full(STDIN_FILENO, &mut buf);
-    let t = read::read(&buf[..n]);
-    let r = t.reader;
-    let load = r.load;
-    print(t.answer, load);
+    let mut reading = part::first(&mut buf);
+    let mut turns: u64 = 18446744073709551615;
+    while turns > 0 {
+        if reading.over {
+            print_end(reading);
+            return;
+        }
+        let next = part::turn(&mut buf, reading);
+        reading = next;
+        turns -= 1;
+    }
 }
