@@ -87,7 +87,7 @@ pub fn best(line: &str) -> Option<String> {
     if paths.len() > 64 {
         return Some("beyond".to_string());
     }
-    let found = harness::best_of(&paths, horizon, second);
+    let found = harness::Lent::new(&paths, horizon).best(second);
     Some(found.map_or_else(
         || "none".to_string(),
         |i| {

@@ -250,14 +250,20 @@ impl Run {
     }
 }
 
-/// `Cache::best` over a list that the caller lends: the index of the answer. The list has at most 64.
-pub fn best_of(paths: &[Path], horizon: u16, second: i64) -> Option<usize> {
-    let mut cache = Cache::default();
-    cache.until = i64::from(u16::MAX);
-    cache.windows[0] = horizon;
-    cache.paths.extend_from_slice(paths).expect("at most 64");
-    let best: *const Path = cache.best(0, second)?;
-    cache.paths.iter().position(|p| core::ptr::eq(p, best))
+/// `Cache::best` over a list that the caller lends, which has at most 64; the answer is its index.
+pub struct Lent(Cache);
+impl Lent {
+    pub fn new(paths: &[Path], horizon: u16) -> Self {
+        let mut cache = Cache::default();
+        cache.until = i64::from(u16::MAX);
+        cache.windows[0] = horizon;
+        cache.paths.extend_from_slice(paths).expect("at most 64");
+        Self(cache)
+    }
+    pub fn best(&self, second: i64) -> Option<usize> {
+        let best: *const Path = self.0.best(0, second)?;
+        self.0.paths.iter().position(|p| core::ptr::eq(p, best))
+    }
 }
 pub fn fnv(bytes: &[u8]) -> u64 {
     joined(key(bytes))
