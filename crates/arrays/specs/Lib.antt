@@ -1,3 +1,4 @@
 pub mod Regions
 pub mod Feeds
 pub mod Kept
+pub mod Named

@@ -11,7 +11,7 @@ use settings::Settings;
 use stops::Stop;
 
 // The array that is lent has its length.
-fn known_feed(feed: [u16; 3208])
+pub fn known_feed(feed: [u16; 3208])
     ensures { λ _. ⌜ length feed ≡ 3208 ⌝ }
 {}
 

@@ -33,6 +33,7 @@ use Rattle.rides.specs.Feed.{callAt, memberAt, originMask, targetMask, originWa
 use Rattle.rides.specs.Offered.{offerAll}
 use Rattle.rides.specs.Rows.{firstOf, rows}
 use Rattle.arrays.specs.Feeds.{Feeds}
+use Rattle.arrays.specs.Named.{stopIn, HoldsChanges}
 use Rattle.load.specs.declared.Load.{Load}
 use Rattle.search.specs.Timetable.{changeIn, joinsIn, timetableOf}
 use Rattle.search.specs.Offered.{placed, offeredOf}
@@ -85,34 +86,34 @@ never-later : (run : Bool) (a d : ℕ) → d < 65536 → (not run && leb (a + 65
 never-later true a d h = refl
 never-later false a d h = lt-leb (a + 65536) d (omega arith)
 
--- the change read between two stops, by the numbers that the feed has for them
-module _ (g : List ℕ) (entry : ℕ → ℕ → ℕ) (here : (p q : ℕ) → p < 128 → q < 128 → getD g (p * 128 + q) 0 ≡ entry p q) where
-  change-known : (p q r s : ℕ) → r ≡ cond (ltb p 128) p 65535 → s ≡ cond (ltb q 128) q 65535 → ltb p 128 ≡ true → ltb q 128 ≡ true → changeAt g r s ≡ entry p q
+-- the change read between two stops p and q, by the numbers r and s that the feed has for them
+module _ (g : List ℕ) (p q r s : ℕ) (er : r ≡ cond (ltb p 128) p 65535) (es : s ≡ cond (ltb q 128) q 65535) where
+  change-known : (entry : ℕ) → ltb p 128 ≡ true → ltb q 128 ≡ true → getD g (r * 128 + q) 0 ≡ entry → changeAt g r s ≡ entry
   unfolding changeAt
-  change-known p q r s er es ep eq =
+  change-known entry ep eq here =
       let lp : p < 128 = ltb-true p 128 ep in
       let lq : q < 128 = ltb-true q 128 eq in
       let sr : r ≡ p = er ∙ cond-by p 65535 ep in
       let ss : s ≡ q = es ∙ cond-by q 65535 eq in
-      (λ i. cond (ltb (sr i * 128 + ss i) 16384) (getD g (sr i * 128 + ss i) 0) 65536)
-      ∙ cond-by _ _ (lt-ltb (p * 128 + q) 16384 (omega arith)) ∙ here p q lp lq
+      (λ i. cond (ltb (r * 128 + ss i) 16384) (getD g (r * 128 + ss i) 0) 65536)
+      ∙ cond-by _ _ (lt-ltb (r * 128 + q) 16384 (omega arith)) ∙ here
 
-  change-far-from : (p r s : ℕ) → r ≡ cond (ltb p 128) p 65535 → ltb p 128 ≡ false → changeAt g r s ≡ 65536
+  change-far-from : ltb p 128 ≡ false → changeAt g r s ≡ 65536
   unfolding changeAt
-  change-far-from p r s er ep =
+  change-far-from ep =
       let sr : r ≡ 65535 = er ∙ cond-not p 65535 ep in
       cond-not _ _ (le-ltb (r * 128 + s) 16384 (omega arith))
 
-  change-far-to : (q r s : ℕ) → s ≡ cond (ltb q 128) q 65535 → ltb q 128 ≡ false → changeAt g r s ≡ 65536
+  change-far-to : ltb q 128 ≡ false → changeAt g r s ≡ 65536
   unfolding changeAt
-  change-far-to q r s es eq =
+  change-far-to eq =
       let ss : s ≡ 65535 = es ∙ cond-not q 65535 eq in
       cond-not _ _ (le-ltb (r * 128 + s) 16384 (omega arith))
 
 -- ---- the arrays hold the timetable
 
 module _ (l : Load) (calls : List Call) (f g : List ℕ) (w : Feeds f calls (l .stops) (l .settings)) (small : (i : ℕ) → getD f i 0 < 65536) (long : length (l .stops) ≡ 128)
-    (here : (p q : ℕ) → p < 128 → q < 128 → getD g (p * 128 + q) 0 ≡ changeNumber (changeIn l p q)) where
+    (n : ℕ) (few : n ≤ 512) (here : HoldsChanges g f n (l .settings .«max_transfers») (λ p q. changeNumber (changeIn l p q))) where
   below : (j : ℕ) → j < 512 → placed calls j .departure < 65536
   below j h = omega (arith, small (j * 6 + 4), w .departure j h)
 
@@ -127,29 +128,42 @@ module _ (l : Load) (calls : List Call) (f g : List ℕ) (w : Feeds f calls (l .
       λ p. not (eqb (w .trip i hi p) (w .trip j hj p) && eqb (w .day i hi p) (w .day j hj p))
       && leb (w .arrival k hk p + changeAt g (getD f (k * 6 + 2) 0) (getD f (j * 6 + 2) 0)) (w .departure j hj p)
 
-  joins-right : (i k j : ℕ) → k < 512 → j < 512
-      → (not (runs i j) && leb (placed calls k .arrival + changeAt g (getD f (k * 6 + 2) 0) (getD f (j * 6 + 2) 0)) (placed calls j .departure))
+  joins-right : l .settings .«max_transfers» ≡ 1 → (i k j : ℕ) → k < n → j < n
+      → (not (runs i j) && leb (placed calls k .arrival + changeAt g (stopIn f k) (stopIn f j)) (placed calls j .departure))
       ≡ joinsIn l (rideOf (placed calls i) (placed calls k)) (placed calls j)
-  joins-right i k j hk hj = go (ltb (placed calls k .stop) 128) refl (ltb (placed calls j .stop) 128) refl
+  joins-right one i k j hk hj = go (ltb (placed calls k .stop) 128) refl (ltb (placed calls j .stop) 128) refl
     where
-      far : changeAt g (getD f (k * 6 + 2) 0) (getD f (j * 6 + 2) 0) ≡ 65536
-          → (not (runs i j) && leb (placed calls k .arrival + changeAt g (getD f (k * 6 + 2) 0) (getD f (j * 6 + 2) 0)) (placed calls j .departure)) ≡ false
-      far e = ap (λ (x : ℕ). not (runs i j) && leb (placed calls k .arrival + x) (placed calls j .departure)) e ∙ never-later (runs i j) (placed calls k .arrival) (placed calls j .departure) (below j hj)
+      read : ℕ
+      read = changeAt g (stopIn f k) (stopIn f j)
+
+      stop-of : (m : ℕ) → m < n → stopIn f m ≡ cond (ltb (placed calls m .stop) 128) (placed calls m .stop) 65535
+      stop-of m h = w .stop m (omega arith)
+
+      known : ltb (placed calls k .stop) 128 ≡ true → ltb (placed calls j .stop) 128 ≡ true → read ≡ changeNumber (changeIn l (placed calls k .stop) (placed calls j .stop))
+      known e q =
+          let same : stopIn f k ≡ placed calls k .stop = stop-of k hk ∙ cond-by (placed calls k .stop) 65535 e in
+          let near : stopIn f k < 128 = omega (arith, ltb-true (placed calls k .stop) 128 e) in
+          change-known g (placed calls k .stop) (placed calls j .stop) (stopIn f k) (stopIn f j) (stop-of k hk) (stop-of j hj) _ e q
+          (here one k (placed calls j .stop) hk (omega arith) near (ltb-true (placed calls j .stop) 128 q) ∙ ap (λ (p : ℕ). changeNumber (changeIn l p (placed calls j .stop))) same)
+
+      far : read ≡ 65536 → (not (runs i j) && leb (placed calls k .arrival + read) (placed calls j .departure)) ≡ false
+      far e =
+          ap (λ (x : ℕ). not (runs i j) && leb (placed calls k .arrival + x) (placed calls j .departure)) e
+          ∙ never-later (runs i j) (placed calls k .arrival) (placed calls j .departure) (below j (omega arith))
 
       go : (b : Bool) → ltb (placed calls k .stop) 128 ≡ b → (c : Bool) → ltb (placed calls j .stop) 128 ≡ c
-          → (not (runs i j) && leb (placed calls k .arrival + changeAt g (getD f (k * 6 + 2) 0) (getD f (j * 6 + 2) 0)) (placed calls j .departure))
+          → (not (runs i j) && leb (placed calls k .arrival + read) (placed calls j .departure))
           ≡ cond (b && c) (joinOf (changeIn l (placed calls k .stop) (placed calls j .stop)) (runs i j) (placed calls k .arrival) (placed calls j .departure)) false
       go true e true q =
-          ap (λ (x : ℕ). not (runs i j) && leb (placed calls k .arrival + x) (placed calls j .departure))
-          (change-known g (λ a b. changeNumber (changeIn l a b)) here (placed calls k .stop) (placed calls j .stop) (getD f (k * 6 + 2) 0) (getD f (j * 6 + 2) 0) (w .stop k hk) (w .stop j hj) e q)
-          ∙ ap (λ (x : Bool). not (runs i j) && x) (number-joins (changeIn l (placed calls k .stop) (placed calls j .stop)) (placed calls k .arrival) (placed calls j .departure) (below j hj))
+          ap (λ (x : ℕ). not (runs i j) && leb (placed calls k .arrival + x) (placed calls j .departure)) (known e q)
+          ∙ ap (λ (x : Bool). not (runs i j) && x) (number-joins (changeIn l (placed calls k .stop) (placed calls j .stop)) (placed calls k .arrival) (placed calls j .departure) (below j (omega arith)))
           ∙ run-first (runs i j) (joinsBy (changeIn l (placed calls k .stop) (placed calls j .stop)) (placed calls k .arrival) (placed calls j .departure))
-      go true e false q = far (change-far-to g (λ a b. changeNumber (changeIn l a b)) here (placed calls j .stop) (getD f (k * 6 + 2) 0) (getD f (j * 6 + 2) 0) (w .stop j hj) q)
-      go false e c q = far (change-far-from g (λ a b. changeNumber (changeIn l a b)) here (placed calls k .stop) (getD f (k * 6 + 2) 0) (getD f (j * 6 + 2) 0) (w .stop k hk) e)
+      go true e false q = far (change-far-to g (placed calls k .stop) (placed calls j .stop) (stopIn f k) (stopIn f j) (stop-of k hk) (stop-of j hj) q)
+      go false e c q = far (change-far-from g (placed calls k .stop) (placed calls j .stop) (stopIn f k) (stopIn f j) (stop-of k hk) (stop-of j hj) e)
 
-  pub agrees : (n : ℕ) → n ≤ 512 → Agrees (sheetOf f) (joinsOf f g) (timetableOf l) (placed calls) n
+  pub agrees : Agrees (sheetOf f) (joinsOf f g) (timetableOf l) (placed calls) n
   unfolding sheetOf callAt originMask targetMask originWalk targetWalk timetableOf by.originMask by.targetMask by.maskOf
-  agrees n h = record {
+  agrees = record {
     trip = λ i k. w .trip i (omega arith);
     day = λ i k. w .day i (omega arith);
     arrival = λ i k. w .arrival i (omega arith);
@@ -160,7 +174,7 @@ module _ (l : Load) (calls : List Call) (f g : List ℕ) (w : Feeds f calls (l .
     targets = λ i k. member-of f (l .stops) long (λ x. x / 16) (zero-div 16) (l .settings .targets) (w .targets) (placed calls i .stop) (getD f (i * 6 + 2) 0) (w .stop i (omega arith));
     origin-walk = λ o k. w .origin-walk o k;
     target-walk = λ x k. w .target-walk x k;
-    joined = λ i o k j a b c. tested i o k j (omega arith) (omega arith) (omega arith) ∙ joins-right i k j (omega arith) (omega arith);
+    joined = λ one i o k j a b c. tested i o k j (omega arith) (omega arith) (omega arith) ∙ joins-right one i k j b c;
   }
 
 -- ---- the state after every offer
@@ -179,15 +193,16 @@ module _ (l : Load) (calls : List Call) (f g flat parents places st st′ : List
   pub offered-is : Feeds f calls (l .stops) (l .settings) → ((i : ℕ) → getD f i 0 < 65536) → length (l .stops) ≡ 128 → length (l .rules) ≡ 128
       → ((n : ℕ) → n ≤ 128 → rulesOf flat n ≡ take n (l .rules)) → parents ≡ parentsOf (l .stops) → places ≡ placesOf (take (l .«stop_count») (l .stops))
       → change ≡ changeSeconds (l .settings .«transfer_minutes»)
-      → ((p q : ℕ) → p < 128 → q < 128 → getD g (p * 128 + q) 0 ≡ entryOf (rulesOf flat (least (l .«rule_count») 128)) parents places p change q)
+      → HoldsChanges g f (l .«call_count») depth (λ p q. entryOf (rulesOf flat (least (l .«rule_count») 128)) parents places p change q)
       → depth ≡ l .settings .«max_transfers» → view st ≡ going [] (l .«table_horizon») (l .«table_limits») → view st′ ≡ offerAll (view st) (rowsOf f g (l .«call_count») depth)
       → view st′ ≡ offeredOf l calls
   unfolding offeredOf offerAll rowsOf
   offered-is w small long rules-long er ep el ec here ed e0 e1 =
       let rs : rulesOf flat (least (l .«rule_count») 128) ≡ take (l .«rule_count») (l .rules) =
       er (least (l .«rule_count») 128) (least-under (l .«rule_count») 128) ∙ take-least (l .rules) (l .«rule_count») 128 (least (l .«rule_count») 128) refl rules-long in
-      let numbered : (p q : ℕ) → p < 128 → q < 128 → getD g (p * 128 + q) 0 ≡ changeNumber (changeIn l p q) =
-      λ p q hp hq. here p q hp hq ∙ (λ i. entryOf (rulesOf flat (least (l .«rule_count») 128)) (ep i) (el i) p (ec i) q) ∙ entry-number l (rulesOf flat (least (l .«rule_count») 128)) p q rs in
+      let numbered : HoldsChanges g f (min (l .«call_count») 512) (l .settings .«max_transfers») (λ p q. changeNumber (changeIn l p q)) =
+      λ one k q hk few near hq. here (ed ∙ one) k q (omega arith) few near hq
+      ∙ (λ i. entryOf (rulesOf flat (least (l .«rule_count») 128)) (ep i) (el i) (stopIn f k) (ec i) q) ∙ entry-number l (rulesOf flat (least (l .«rule_count») 128)) (stopIn f k) q rs in
       let same : rows (sheetOf f) (joinsOf f g) depth (min (l .«call_count») 512) ≡ by.rowOffers (timetableOf l) (placed calls) (min (l .«call_count») 512) =
-      same-rows (sheetOf f) (joinsOf f g) (timetableOf l) (placed calls) (min (l .«call_count») 512) depth (agrees l calls f g w small long numbered (min (l .«call_count») 512) (omega arith)) (ed ∙ max-is l) in
+      same-rows (sheetOf f) (joinsOf f g) (timetableOf l) (placed calls) (min (l .«call_count») 512) depth (agrees l calls f g w small long (min (l .«call_count») 512) (omega arith) numbered) (ed ∙ max-is l) in
       e1 ∙ (λ i. foldl offerTo (e0 i) (same i)) ∙ offers-search (l .«table_horizon») (l .«table_limits») (by.rowOffers (timetableOf l) (placed calls) (min (l .«call_count») 512))

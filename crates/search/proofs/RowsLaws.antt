@@ -1,9 +1,10 @@
 -- The rows that the loops offer are those of the offers by places, loop by loop from the innermost.
 use mathlib.Core.Path.{_≡_, refl, ap, _∙_}
-use mathlib.Core.Bool.{Bool, cond, _&&_}
+use mathlib.Core.Bool.{Bool, true, false, cond, _&&_}
 use mathlib.Core.List.{List, [], _∷_, _++_, List·Memᴰ, List·Memᴰ·head, List·Memᴰ·tail}
 use Prim.Native.Nat.{ℕ, _+_, _-_, _*_, _<_}
 use native.Mathlib.Omega.{arith}
+use borrow.Author.Tests.{eqb-true}
 use lib.Dec.{eqb, leb}
 use Rattle.laws.specs.Lists.{concatMap, takeWhile, span}
 use Rattle.laws.specs.Bits.{bitsOf}
@@ -74,15 +75,19 @@ module _ (s : Sheet) (joins : Joins) (t : Timetable) (at : ℕ → Call) (n : �
     same-last-alight j m lm =
         λ p. cond (a .alight m lm p) (same-bits (lastAt s (firstOf s i o k) j m) (λ x. by.changeRow t at o i k j m x ∷ []) _ _ (a .targets m lm) (λ x lx. same-change j m x lm lx) p) []
 
-    same-last-board : (j : ℕ) → j < n → lastBoardRows s joins n (firstOf s i o k) j ≡ by.lastBoardRows t at n o i k j
+    same-last-board : t .max-transfers ≡ 1 → (j : ℕ) → j < n → lastBoardRows s joins n (firstOf s i o k) j ≡ by.lastBoardRows t at n o i k j
     unfolding lastBoardRows by.lastBoardRows
-    same-last-board j lj =
-        λ p. cond (a .board j lj p) (cond (a .joined i o k j li lk lj p) (same-run (lastAlightRows s (firstOf s i o k) j) (by.lastAlightRows t at o i k j) j (j + 1) lj (λ m lm. same-last-alight j m lm) p) []) []
+    same-last-board one j lj =
+        λ p. cond (a .board j lj p) (cond (a .joined one i o k j li lk lj p) (same-run (lastAlightRows s (firstOf s i o k) j) (by.lastAlightRows t at o i k j) j (j + 1) lj (λ m lm. same-last-alight j m lm) p) []) []
 
     same-changes : (depth : ℕ) → depth ≡ t .max-transfers → changeRows s joins depth n (firstOf s i o k) ≡ by.changeRows t at n o i k
     unfolding changeRows by.changeRows
-    same-changes depth e =
-        λ p. cond (eqb (e p) 1) (same-calls (lastBoardRows s joins n (firstOf s i o k)) (by.lastBoardRows t at n o i k) 0 (λ j lj. same-last-board j lj) p) []
+    same-changes depth e = ap (λ (d : ℕ). cond (eqb d 1) (overCalls (lastBoardRows s joins n (firstOf s i o k)) n 0) []) e ∙ go (eqb (t .max-transfers) 1) refl
+      where
+        go : (b : Bool) → eqb (t .max-transfers) 1 ≡ b
+            → cond b (overCalls (lastBoardRows s joins n (firstOf s i o k)) n 0) [] ≡ cond b (by.overCalls (by.lastBoardRows t at n o i k) n 0) []
+        go true q = same-calls (lastBoardRows s joins n (firstOf s i o k)) (by.lastBoardRows t at n o i k) 0 (λ j lj. same-last-board (eqb-true (t .max-transfers) 1 q) j lj)
+        go false q = refl
 
     target-stop : s .targets (firstOf s i o k .stop) ≡ by.targetMask t (at k .stop)
     unfolding firstOf

@@ -56,8 +56,17 @@ fn offered(load: Load, calls: [Call; 512]) -> [u16; 654]
     let parents = parents_of(stops);
     let places = group_places(stops, load.stop_count);
     let change = change_seconds(settings.transfer_minutes);
-    let changes = changes_of(&flat, load.rule_count, &parents, &places, change);
     let depth = settings.max_transfers as u16;
+    let changes = changes_of(
+        &feed,
+        load.call_count,
+        depth,
+        &flat,
+        load.rule_count,
+        &parents,
+        &places,
+        change,
+    );
     let mut st = fresh(load.table_horizon, load.table_limits);
     numbers(&feed);
     endpoint_paths(&mut st, &feed, &changes, load.call_count, depth);

@@ -1,209 +1,274 @@
--- An entry of a row while the rules are read, case by case, and that it keeps up with the rule chosen.
-use Prim.Native.Nat.{ℕ, _+_, _*_, _%_, _/_, _≤_, _<_}
-use mathlib.Core.Path.{_≡_, refl, sym, ap, ap₂, _∙_}
-use mathlib.Core.Bool.{Bool, true, false, cond, _||_, true≢false, false≢true}
-use mathlib.Core.List.{List, [], _∷_}
+-- The rule that holds between two stops is that of its rank, and its rank is found from the best rules for the stop and for its parent.
+use Prim.Native.Nat.{ℕ, zero, suc, _+_, _-_, _*_, _%_, _≤_, _<_, max}
+use mathlib.Core.Path.{_≡_, refl, sym, ap, ap₂, subst, _∙_}
+use mathlib.Core.Bool.{Bool, true, false, cond, not, _&&_, _||_}
+use mathlib.Core.List.{List}
 use native.Mathlib.Omega.{arith}
-use native.Mathlib.Nat.{mod-eq-of-lt, mul-add-mod-self-left}
-use lib.Dec.{leb, eqb}
-use lib.ListN.{getD}
-use borrow.Author.Tests.{eq-eqb, ne-eqb, le-leb, lt-leb, leb-true, leb-false}
-use Rattle.laws.specs.Lists.{foldl}
+use native.Mathlib.Numerals.{add-one}
+use lib.Dec.{leb, eqb, ltb}
+use lib.ListN.{length, getD, set, length-set, replicate, getD-replicate}
+use lib.Seq.{getD-set-same, getD-set-other, ext-getD}
+use borrow.Author.Tests.{eq-eqb, ne-eqb, eqb-true, eqb-false, leb-true, leb-false, ltb-true, ltb-false, not-false}
 use Rattle.laws.specs.Tables.{table}
-use Rattle.laws.proofs.Bools.{cond-by, cond-not, and-by, and-not, or-by, or-not}
-use Rattle.laws.proofs.Tables.{getD-table, table-same}
+use Rattle.laws.proofs.Bools.{cond-by, cond-not, and-by}
+use Rattle.laws.proofs.Slots.{below-cases}
+use Rattle.laws.proofs.Tables.{getD-table, length-table}
 use Rattle.rules.specs.declared.Rule.{Rule}
 use Rattle.transfer.specs.declared.Ends.{Ends}
 use Rattle.transfer.specs.declared.Chosen.{Chosen}
 use Rattle.transfer.specs.declared.Chosen.the-variants.{By, Open}
+use Rattle.transfer.specs.Choice.{bit, exact, better, applies, read, chosen}
+use Rattle.transfer.specs.Copied.{ruleAt, rulesOf}
 use Rattle.transfer.specs.declared.Change.{Change}
-use Rattle.transfer.specs.Choice.{side, bit, exact, better, read, chosen}
-use Rattle.transfer.specs.Changes.{endsOf, near, ruleChange, changeOf, transferOf, changeNumber}
-use Rattle.transfer.proofs.Laws.{read-none}
-use Rattle.transfer.specs.Rows.{packed, closeTo, openEntry, levelOf, entryTurn, readEntry, readRow, entryOf, changeRow}
-
--- ---- the code's cases
-
-module _ (level to number old t parent : ℕ) where
-  abbrev with-bit : ℕ → ℕ
-  with-bit b = cond (leb (old % 4) (level + b)) (number * 4 + (level + b)) old
-
-  pub turn-exact : to ≡ t → entryTurn level to number old t parent ≡ cond (leb (old % 4) (level + 1)) (number * 4 + (level + 1)) old
-  unfolding entryTurn
-  turn-exact e = let q : eqb to t ≡ true = eq-eqb to t e in cond-by _ _ (or-by _ q) ∙ ap (λ (b : Bool). with-bit (bit b)) q
-
-  pub turn-parent : (to ≡ t → ⊥) → to ≡ parent → entryTurn level to number old t parent ≡ cond (leb (old % 4) level) (number * 4 + level) old
-  unfolding entryTurn
-  turn-parent n e =
-      let q : eqb to t ≡ false = ne-eqb to t n in
-      let z : level + 0 ≡ level = omega arith in
-      cond-by _ _ (or-not _ q ∙ eq-eqb to parent e) ∙ ap (λ (b : Bool). with-bit (bit b)) q ∙ rw z
-
-  pub turn-none : (to ≡ t → ⊥) → (to ≡ parent → ⊥) → entryTurn level to number old t parent ≡ old
-  unfolding entryTurn
-  turn-none n m = cond-not _ _ (or-not _ (ne-eqb to t n) ∙ ne-eqb to parent m)
-
--- the parts of an open entry, as the code computes them
-pub open-parts : (parents places : List ℕ) (f t m : ℕ) {ends : Ends} {pf pt : ℕ} {close : Bool} {c : Change} {r : ℕ}
-    → ends ≡ endsOf parents f t → pf ≡ getD places f 65535 → pt ≡ getD places t 65535 → close ≡ near ends pf pt → c ≡ changeOf Open close m → r ≡ changeNumber c
-    → r * 4 ≡ openEntry parents places f m t
-unfolding openEntry
-open-parts parents places f t m e₁ e₂ e₃ e₄ e₅ e₆ = rw (e₆, e₅, e₄, e₂, e₃, e₁)
-
--- and of an entry once a rule is read
-pub turn-parts : (level to number : ℕ) (parents row₀ : List ℕ) (t : ℕ) {old parent r : ℕ}
-    → old ≡ getD row₀ t 0 → parent ≡ getD parents t 65535 → r ≡ entryTurn level to number old t parent → r ≡ readEntry level to number parents row₀ t
-unfolding readEntry
-turn-parts level to number parents row₀ t e f g = g ∙ rw (e, f)
-
--- ---- an entry keeps up with the rule chosen
-
-level-bits : (x from parent : ℕ) → side x from parent ≡ true → levelOf x from parent ≡ bit (eqb x from) + 1
-level-bits x from parent h = go (eqb x from) (eqb x parent) h
-  where
-    go : (p q : Bool) → (p || q) ≡ true → cond p 2 (cond q 1 0) ≡ bit p + 1
-    go true q e = refl
-    go false true e = refl
-    go false false e = absurd (false≢true e)
-
-level-none : (x from parent : ℕ) → side x from parent ≡ false → levelOf x from parent ≡ 0
-level-none x from parent h = go (eqb x from) (eqb x parent) h
-  where
-    go : (p q : Bool) → (p || q) ≡ false → _≡_ {A = ℕ} (cond p 2 (cond q 1 0)) 0
-    go true q e = absurd (true≢false e)
-    go false true e = absurd (true≢false e)
-    go false false e = refl
+use Rattle.transfer.specs.Changes.{endsOf, near, changeOf, changeNumber}
+use Rattle.transfer.specs.Rows.{entryOf, rankTo, ranked, rankFrom, slotOf, bestTo, raised, isShared}
+use Rattle.transfer.proofs.Laws.{rules-turn, rules-none, transfer-parts}
 
 pub bit-small : (b : Bool) → bit b ≤ 1
 bit-small true = omega arith
 bit-small false = omega arith
 
-exact-small : (e : Ends) (r : Rule) → exact e r + 1 < 4
-exact-small e r = omega (arith, bit-small (eqb (r .from) (e .from)), bit-small (eqb (r .to) (e .to)))
+-- ---- the rule of a rank
 
-low-part : (n l : ℕ) → l < 4 → (n * 4 + l) % 4 ≡ l
-low-part n l h = let c : n * 4 ≡ 4 * n = omega arith in rw c (mul-add-mod-self-left 4 n l ∙ mod-eq-of-lt h)
+module _ (e : Ends) (l : List ℕ) where
+  -- r is at some place below n, and k is its rank
+  record HeldBy (n k : ℕ) (r : Rule) : Type 0 where
+    pub place : ℕ
+    pub under : place < n
+    pub rule : r ≡ ruleAt l place
+    pub rank : k ≡ exact e r * 128 + suc place
 
-low-none : (n : ℕ) → n * 4 % 4 ≡ 0
-low-none n = let c : n * 4 ≡ n * 4 + 0 = omega arith in ap (λ (k : ℕ). k % 4) c ∙ low-part n 0 (omega arith)
+  abbrev Held : ℕ → ℕ → Chosen → Type 0
+  Held n k Open = k ≡ 0
+  Held n k (By r) = HeldBy n k r
 
-leb-suc : (a b : ℕ) → leb (a + 1) (b + 1) ≡ leb a b
-leb-suc a b = go (leb a b) refl
+  module _ (n : ℕ) (h : n < 128) where
+    abbrev new : ℕ
+    new = exact e (ruleAt l n) * 128 + suc n
+
+    held-open : (k : ℕ) (b : Bool) → k ≡ 0 → Held (suc n) (cond b (max k new) k) (cond b (By (ruleAt l n)) Open)
+    held-open k true z = record { place = n; under = omega arith; rule = refl; rank = omega arith }
+    held-open k false z = z
+
+    held-by : (k : ℕ) (r : Rule) (a b : Bool) → better e r (ruleAt l n) ≡ b → HeldBy n k r
+        → Held (suc n) (cond a (max k new) k) (cond a (cond b (By (ruleAt l n)) (By r)) (By r))
+    held-by k r true true q g = record { place = n; under = omega arith; rule = refl; rank = omega (arith, leb-true (exact e r) (exact e (ruleAt l n)) q, g .rank, g .under) }
+    held-by k r true false q g =
+        record { place = g .place; under = omega (arith, g .under); rule = g .rule; rank = omega (arith, leb-false (exact e r) (exact e (ruleAt l n)) q, g .rank, g .under) }
+    held-by k r false b q g = record { place = g .place; under = omega (arith, g .under); rule = g .rule; rank = g .rank }
+
+    held-read : (k : ℕ) (c : Chosen) → Held n k c → Held (suc n) (cond (applies e (ruleAt l n)) (max k new) k) (read e c (ruleAt l n))
+    held-read k Open g = held-open k (applies e (ruleAt l n)) g
+    held-read k (By r) g = held-by k r (applies e (ruleAt l n)) (better e r (ruleAt l n)) refl g
+
+  chosen-more : (n : ℕ) → chosen e (rulesOf l (suc n)) ≡ read e (chosen e (rulesOf l n)) (ruleAt l n)
+  chosen-more n = ap (λ (k : ℕ). chosen e (rulesOf l k)) (sym (add-one n)) ∙ rules-turn (read e) Open l n
+
+  held : (n : ℕ) → n ≤ 128 → Held n (rankTo e l n) (chosen e (rulesOf l n))
+  unfolding rankTo
+  held zero h = subst (λ (c : Chosen). Held 0 0 c) (rules-none (read e) Open l) refl
+  held (suc n) h =
+      subst (λ (c : Chosen). Held (suc n) (rankTo e l (suc n)) c) (sym (chosen-more n))
+      (held-read n (omega arith) (rankTo e l n) (chosen e (rulesOf l n)) (held n (omega arith)))
+
+  place-of : (x j : ℕ) → j < 128 → (x * 128 + suc j - 1) % 128 ≡ j
+  place-of x j h = omega arith
+
+  rank-rule : (n k : ℕ) (c : Chosen) → n ≤ 128 → Held n k c → c ≡ ranked l k
+  unfolding ranked
+  rank-rule n k Open h g = sym (cond-by _ _ (eq-eqb k 0 g))
+  rank-rule n k (By r) h g =
+      let at : (k - 1) % 128 ≡ g .place = ap (λ (x : ℕ). (x - 1) % 128) (g .rank) ∙ place-of (exact e r) (g .place) (omega (arith, g .under)) in
+      ap By (g .rule ∙ ap (ruleAt l) (sym at)) ∙ sym (cond-not _ _ (ne-eqb k 0 (λ z. omega (arith, g .rank))))
+
+  pub chosen-ranked : (n : ℕ) → n ≤ 128 → chosen e (rulesOf l n) ≡ ranked l (rankTo e l n)
+  chosen-ranked n h = rank-rule n (rankTo e l n) (chosen e (rulesOf l n)) h (held n h)
+
+-- ---- the rank from the best rules
+
+-- a stop's slot is its own
+slot-at : (to t : ℕ) → t < 128 → eqb (slotOf to) t ≡ eqb to t
+slot-at to t h = go (eqb to t) refl
   where
-    go : (t : Bool) → leb a b ≡ t → leb (a + 1) (b + 1) ≡ t
-    go true q = le-leb (a + 1) (b + 1) (omega (arith, leb-true a b q))
-    go false q = lt-leb (a + 1) (b + 1) (omega (arith, leb-false a b q))
+    go : (b : Bool) → eqb to t ≡ b → eqb (slotOf to) t ≡ b
+    go true q = eq-eqb (slotOf to) t (omega (arith, eqb-true to t q))
+    go false q = ne-eqb (slotOf to) t (λ z. eqb-false to t q (omega arith))
 
--- a rule whose from side applies
-module _ (e : Ends) (close : Bool) (change : ℕ) (r : Rule) (h : side (r .from) (e .from) (e .«from_parent») ≡ true) where
-  abbrev level : ℕ
-  level = levelOf (r .from) (e .from) (e .«from_parent»)
+-- the rule at place n, which is for the stop (x) or its parent (y) and from the stop (p) or its parent (q)
+abbrev fromRank : Bool → Bool → ℕ → ℕ
+fromRank p q n = cond p (129 + n) (cond q (1 + n) 0)
 
-  abbrev number : ℕ
-  number = changeNumber (ruleChange r change)
-
-  abbrev there : Bool
-  there = side (r .to) (e .to) (e .«to_parent»)
-
-  sum : level + bit (eqb (r .to) (e .to)) ≡ exact e r + 1
-  sum = let l = level-bits (r .from) (e .from) (e .«from_parent») h in omega arith
-
-  turn : (old : ℕ) → entryTurn level (r .to) number old (e .to) (e .«to_parent») ≡ cond there (cond (leb (old % 4) (exact e r + 1)) (number * 4 + (exact e r + 1)) old) old
-  unfolding entryTurn
-  turn old = ap (λ (k : ℕ). cond there (cond (leb (old % 4) k) (number * 4 + k) old) old) sum
-
-  pub entry-read : (c : Chosen) → entryTurn level (r .to) number (packed e close change c) (e .to) (e .«to_parent») ≡ packed e close change (read e c r)
-  entry-read Open =
-      turn _ ∙ ap (λ (b : Bool). cond there (cond b (number * 4 + (exact e r + 1)) (packed e close change Open)) (packed e close change Open)) (le-leb (packed e close change Open % 4) (exact e r + 1) (omega (arith, low-none (changeNumber (changeOf Open close change)))))
-      ∙ go there ∙ ap (λ (b : Bool). packed e close change (cond b (By r) Open)) (sym (and-by there h))
-    where
-      go : (b : Bool) → cond b (number * 4 + (exact e r + 1)) (packed e close change Open) ≡ packed e close change (cond b (By r) Open)
-      go true = refl
-      go false = refl
-  entry-read (By b) =
-      turn _ ∙ ap (λ (q : Bool). cond there (cond q (number * 4 + (exact e r + 1)) (packed e close change (By b))) (packed e close change (By b)))
-      (ap (λ (k : ℕ). leb k (exact e r + 1)) (low-part _ (exact e b + 1) (exact-small e b)) ∙ leb-suc (exact e b) (exact e r))
-      ∙ go there (better e b r) ∙ ap (λ (q : Bool). packed e close change (cond q (cond (better e b r) (By r) (By b)) (By b))) (sym (and-by there h))
-    where
-      go : (p q : Bool) → cond p (cond q (number * 4 + (exact e r + 1)) (packed e close change (By b))) (packed e close change (By b)) ≡ packed e close change (cond p (cond q (By r) (By b)) (By b))
-      go true true = refl
-      go true false = refl
-      go false q = refl
-
--- ---- a row
-
-high-part : (n l : ℕ) → l < 4 → (n * 4 + l) / 4 ≡ n
-high-part n l h = omega arith
-
-unpacked : (e : Ends) (close : Bool) (change : ℕ) (c : Chosen) → packed e close change c / 4 ≡ changeNumber (changeOf c close change)
-unpacked e close change Open = let n = changeNumber (changeOf Open close change) in omega (arith, high-part n 0 (omega arith))
-unpacked e close change (By b) = high-part _ (exact e b + 1) (exact-small e b)
-
-module _ (parents places : List ℕ) (from change : ℕ) where
-  -- each entry is of the rule chosen so far
-  abbrev Holds : List ℕ → (ℕ → Chosen) → Type 0
-  Holds row c = (t : ℕ) → t < 128 → getD row t 0 ≡ packed (endsOf parents from t) (closeTo parents places from t) change (c t)
-
-  holds-open : Holds (table 128 (openEntry parents places from change)) (λ t. Open)
-  unfolding openEntry
-  holds-open t h = getD-table _ 0 128 t h
-
-  holds-read : (row : List ℕ) (c : ℕ → Chosen) (r : Rule) → Holds row c → Holds (readRow parents from change row r) (λ t. read (endsOf parents from t) (c t) r)
-  unfolding readRow readEntry endsOf
-  holds-read row c r g t h = go (side (r .from) from (getD parents from 65535)) refl
-    where
-      go : (b : Bool) → side (r .from) from (getD parents from 65535) ≡ b
-          → getD (readRow parents from change row r) t 0 ≡ packed (endsOf parents from t) (closeTo parents places from t) change (read (endsOf parents from t) (c t) r)
-      go true q =
-          let e = endsOf parents from t in
-          let lev = level-bits (r .from) from (getD parents from 65535) q in
-          ap (λ (l : List ℕ). getD l t 0) (cond-not _ _ (ne-eqb (levelOf (r .from) from (getD parents from 65535)) 0 (λ z. omega arith))) ∙ getD-table _ 0 128 t h
-          ∙ ap (λ (old : ℕ). entryTurn (levelOf (r .from) from (getD parents from 65535)) (r .to) (changeNumber (ruleChange r change)) old t (getD parents t 65535)) (g t h)
-          ∙ entry-read e (closeTo parents places from t) change r q (c t)
-      go false q =
-          let e = endsOf parents from t in
-          ap (λ (l : List ℕ). getD l t 0) (cond-by _ _ (eq-eqb (levelOf (r .from) from (getD parents from 65535)) 0 (level-none (r .from) from (getD parents from 65535) q))) ∙ g t h
-          ∙ ap (packed e (closeTo parents places from t) change) (sym (read-none e (c t) r (and-not _ q)))
-
-  holds-all : (rules : List Rule) (row : List ℕ) (c : ℕ → Chosen) → Holds row c
-      → Holds (foldl (readRow parents from change) row rules) (λ t. foldl (read (endsOf parents from t)) (c t) rules)
-  holds-all [] row c g = g
-  holds-all (r ∷ rules) row c g = holds-all rules (readRow parents from change row r) (λ t. read (endsOf parents from t) (c t) r) (holds-read row c r g)
-
-  -- the row as the code makes it
-  pub row-right : (rules : List Rule) {a b d : List ℕ} → a ≡ table 128 (openEntry parents places from change) → b ≡ foldl (readRow parents from change) a rules
-      → d ≡ table 128 (λ t. getD b t 0 / 4) → d ≡ changeRow rules parents places from change
-  unfolding changeRow entryOf transferOf
-  row-right rules {a} {b} {d} e f g = g ∙ table-same 128 _ _ entry
-    where
-      entry : (t : ℕ) → t < 128 → getD b t 0 / 4 ≡ changeNumber (changeOf (chosen (endsOf parents from t) rules) (closeTo parents places from t) change)
-      entry t h =
-          let q : b ≡ foldl (readRow parents from change) (table 128 (openEntry parents places from change)) rules = f ∙ ap (λ (r : List ℕ). foldl (readRow parents from change) r rules) e in
-          ap (λ (l : List ℕ). getD l t 0 / 4) q
-          ∙ ap (λ (k : ℕ). k / 4) (holds-all rules (table 128 (openEntry parents places from change)) (λ i. Open) holds-open t h)
-          ∙ unpacked (endsOf parents from t) (closeTo parents places from t) change (chosen (endsOf parents from t) rules)
-
--- ---- a rule read, as the code does it
-
-pub level-small : (x from parent : ℕ) → levelOf x from parent ≤ 2
-level-small x from parent = go (eqb x from) (eqb x parent)
+rank-both : (b k m : ℕ) → 0 < k → m ≡ k + 128 → max (max (raised b) b) m ≡ max (raised (max b k)) (max b k)
+rank-both b k m h e = go (leb b k) refl
   where
-    go : (p q : Bool) → cond p 2 (cond q 1 0) ≤ 2
-    go true q = omega arith
-    go false true = omega arith
-    go false false = omega arith
+    go : (t : Bool) → leb b k ≡ t → max (max (raised b) b) m ≡ max (raised (max b k)) (max b k)
+    go true q = let c : max b k ≡ k = omega (arith, leb-true b k q) in rw c (omega (arith, leb-true b k q))
+    go false q = let c : max b k ≡ b = omega (arith, leb-false b k q) in rw c (omega (arith, leb-false b k q))
 
-module _ (parents : List ℕ) (from change : ℕ) (row : List ℕ) (r : Rule) {parent lev : ℕ} (e : parent ≡ getD parents from 65535) (f : lev ≡ levelOf (r .from) from parent) where
-  whole : lev ≡ levelOf (r .from) from (getD parents from 65535)
-  whole = f ∙ ap (levelOf (r .from) from) e
+rank-step : (p q x y : Bool) (a b n : ℕ) → (x ≡ true → y ≡ true → a ≡ b)
+    → cond ((p || q) && (x || y)) (max (max (raised a) b) ((bit p + bit x) * 128 + suc n)) (max (raised a) b)
+    ≡ max (raised (cond x (max a (fromRank p q n)) a)) (cond y (max b (fromRank p q n)) b)
+rank-step true q true true a b n e = rw (e refl refl) (rank-both b (129 + n) (2 * 128 + suc n) (omega arith) (omega arith))
+rank-step true q true false a b n e = omega arith
+rank-step true q false true a b n e = omega arith
+rank-step true q false false a b n e = refl
+rank-step false true true true a b n e = rw (e refl refl) (rank-both b (1 + n) (1 * 128 + suc n) (omega arith) (omega arith))
+rank-step false true true false a b n e = omega arith
+rank-step false true false true a b n e = omega arith
+rank-step false true false false a b n e = refl
+rank-step false false true true a b n e = omega arith
+rank-step false false true false a b n e = omega arith
+rank-step false false false true a b n e = omega arith
+rank-step false false false false a b n e = refl
 
-  pub rule-passed : lev ≡ 0 → row ≡ readRow parents from change row r
-  unfolding readRow
-  rule-passed z = sym (cond-by _ _ (eq-eqb (levelOf (r .from) from (getD parents from 65535)) 0 (sym whole ∙ z)))
+-- a rule from neither does not count
+from-counts : (p q x y z : Bool) (n u v : ℕ) → (0 < fromRank p q n → z ≡ y) → cond ((p || q) && (x || z)) u v ≡ cond ((p || q) && (x || y)) u v
+from-counts true q x y z n u v e = rw (e (omega arith))
+from-counts false true x y z n u v e = rw (e (omega arith))
+from-counts false false x y z n u v e = refl
 
-  pub rule-parts : {by : Change} {n : ℕ} {out : List ℕ} → (lev ≡ 0 → ⊥) → by ≡ ruleChange r change → n ≡ changeNumber by
-      → out ≡ table 128 (readEntry lev (r .to) n parents row) → out ≡ readRow parents from change row r
-  unfolding readRow
-  rule-parts {by} {n} {out} z g h o =
-      o ∙ ap₂ (λ (k m : ℕ). table 128 (readEntry k (r .to) m parents row)) whole (h ∙ ap changeNumber g)
-      ∙ sym (cond-not _ _ (ne-eqb (levelOf (r .from) from (getD parents from 65535)) 0 (λ q. z (whole ∙ q))))
+module _ (e : Ends) (l : List ℕ) where
+  abbrev best : ℕ → ℕ → ℕ
+  best n slot = bestTo l (e .from) (e .«from_parent») n slot
+
+  abbrev fromAt : ℕ → ℕ
+  fromAt n = rankFrom (ruleAt l n .from) (e .from) (e .«from_parent») n
+
+  -- the slot s holds the rules for the parent and no others
+  abbrev Alone : ℕ → ℕ → Type 0
+  Alone s n = (i : ℕ) → i < n → 0 < fromAt i → eqb (ruleAt l i .to) (e .«to_parent») ≡ eqb (slotOf (ruleAt l i .to)) s
+
+  rank-slots : (s n : ℕ) → e .to < 128 → Alone s n → rankTo e l n ≡ max (raised (best n (e .to))) (best n s)
+  unfolding rankTo bestTo rankFrom
+  rank-slots s zero h f = refl
+  rank-slots s (suc n) h f =
+      let r = ruleAt l n in
+      let p = eqb (r .from) (e .from) in
+      let q = eqb (r .from) (e .«from_parent») in
+      let x = eqb (r .to) (e .to) in
+      let y = eqb (slotOf (r .to)) s in
+      let a = best n (e .to) in
+      let b = best n s in
+      let new = exact e r * 128 + suc n in
+      ap (λ (k : ℕ). cond (applies e r) (max k new) k) (rank-slots s n h (λ i u. f i (omega arith)))
+      ∙ from-counts p q x y (eqb (r .to) (e .«to_parent»)) n (max (max (raised a) b) new) (max (raised a) b) (f n (omega arith))
+      ∙ rank-step p q x y a b n (λ c d. ap (best n) (sym (eqb-true (slotOf (r .to)) (e .to) (slot-at (r .to) (e .to) h ∙ c)) ∙ eqb-true (slotOf (r .to)) s d))
+      ∙ ap (λ (t : Bool). max (raised (cond t (max a (fromRank p q n)) a)) (cond y (max b (fromRank p q n)) b)) (sym (slot-at (r .to) (e .to) h))
+
+  -- the slot past the stops has no rule
+  none-past : (n : ℕ) → best n 128 ≡ 0 → (i : ℕ) → i < n → 0 < fromAt i → slotOf (ruleAt l i .to) ≡ 128 → ⊥
+  unfolding bestTo
+  none-past zero z i h f s = omega arith
+  none-past (suc n) z i h f s = below-cases (λ (j : ℕ). 0 < fromAt j → slotOf (ruleAt l j .to) ≡ 128 → ⊥) n i (omega arith) (λ u. none-past n less i u) last f s
+    where
+      less : best n 128 ≡ 0
+      less = go (eqb (slotOf (ruleAt l n .to)) 128) z
+        where
+          go : (b : Bool) → cond b (max (best n 128) (fromAt n)) (best n 128) ≡ 0 → best n 128 ≡ 0
+          go true w = omega arith
+          go false w = w
+
+      last : 0 < fromAt n → slotOf (ruleAt l n .to) ≡ 128 → ⊥
+      last u w = let v = sym (cond-by (max (best n 128) (fromAt n)) (best n 128) (eq-eqb (slotOf (ruleAt l n .to)) 128 w)) ∙ z in omega arith
+
+  alone : (n : ℕ) → isShared (slotOf (e .«to_parent»)) (best n (slotOf (e .«to_parent»))) ≡ false → Alone (slotOf (e .«to_parent»)) n
+  alone n g = go (ltb (e .«to_parent») 128) refl
+    where
+      go : (b : Bool) → ltb (e .«to_parent») 128 ≡ b → Alone (slotOf (e .«to_parent»)) n
+      go true q i h f =
+          let u = ltb-true (e .«to_parent») 128 q in
+          let same : slotOf (e .«to_parent») ≡ e .«to_parent» = omega arith in
+          sym (slot-at (ruleAt l i .to) (e .«to_parent») u) ∙ ap (eqb (slotOf (ruleAt l i .to))) (sym same)
+      go false q i h f =
+          let u = ltb-false (e .«to_parent») 128 q in
+          let past : slotOf (e .«to_parent») ≡ 128 = omega arith in
+          let none : best n 128 ≡ 0 = eqb-true (best n 128) 0 (not-false (eqb (best n 128) 0) (sym (and-by (not (eqb (best n 128) 0)) (eq-eqb 128 128 refl)) ∙ ap (λ (s : ℕ). isShared s (best n s)) (sym past) ∙ g)) in
+          let other : slotOf (ruleAt l i .to) ≡ 128 → ⊥ = none-past n none i h f in
+          ne-eqb (ruleAt l i .to) (e .«to_parent») (λ w. other (omega arith)) ∙ sym (ne-eqb (slotOf (ruleAt l i .to)) (slotOf (e .«to_parent»)) (λ w. other (w ∙ past)))
+
+  -- the rule that the code finds
+  pub rule-found : (n : ℕ) (b : List ℕ) {slot own k : ℕ} {r : Chosen} → n ≤ 128 → e .to < 128 → b ≡ table 129 (best n) → slot ≡ slotOf (e .«to_parent»)
+      → isShared slot (getD b slot 0) ≡ false → own ≡ raised (getD b (e .to) 0) → k ≡ max own (getD b slot 0) → r ≡ ranked l k → r ≡ chosen e (rulesOf l n)
+  rule-found n b {slot} {own} {k} few h eb es g eo ek er =
+      let q = slotOf (e .«to_parent») in
+      let here : getD b (e .to) 0 ≡ best n (e .to) = ap (λ (x : List ℕ). getD x (e .to) 0) eb ∙ getD-table (best n) 0 129 (e .to) (omega arith) in
+      let there : getD b slot 0 ≡ best n q = (λ i. getD (eb i) (es i) 0) ∙ getD-table (best n) 0 129 q (omega arith) in
+      let free : isShared q (best n q) ≡ false = sym (ap₂ isShared es there) ∙ g in
+      let rank : k ≡ rankTo e l n = ek ∙ ap₂ max (eo ∙ ap (λ (x : ℕ). raised x) here) there ∙ sym (rank-slots q n h (alone n free)) in
+      er ∙ ap (ranked l) rank ∙ sym (chosen-ranked e l n few)
+
+-- ---- the best rules, read one by one
+
+module _ (l : List ℕ) (from parent : ℕ) where
+  pub best-small : (n slot : ℕ) → bestTo l from parent n slot ≤ 128 + n
+  unfolding bestTo rankFrom
+  best-small zero slot = omega arith
+  best-small (suc n) slot =
+      go (eqb (slotOf (ruleAt l n .to)) slot) (eqb (ruleAt l n .from) from) (eqb (ruleAt l n .from) parent) (best-small n slot)
+    where
+      go : (b p q : Bool) → bestTo l from parent n slot ≤ 128 + n → cond b (max (bestTo l from parent n slot) (fromRank p q n)) (bestTo l from parent n slot) ≤ 128 + suc n
+      go true true q h = omega arith
+      go true false true h = omega arith
+      go true false false h = omega arith
+      go false p q h = omega arith
+
+  best-turn : (i s : ℕ) → cond (eqb (slotOf (ruleAt l i .to)) s) (max (bestTo l from parent i s) (rankFrom (ruleAt l i .from) from parent i)) (bestTo l from parent i s) ≡ bestTo l from parent (i + 1) s
+  unfolding bestTo
+  best-turn i s = ap (λ (k : ℕ). bestTo l from parent k s) (sym (add-one i))
+
+  -- the best of the first i rules, for each slot
+  pub record Slots (b : List ℕ) (i : ℕ) : Type 0 where
+    pub long : length b ≡ 129
+    pub best-of : (s : ℕ) → s < 129 → getD b s 0 ≡ bestTo l from parent i s
+
+  pub slots-none : Slots (replicate 129 0) 0
+  unfolding bestTo
+  slots-none = record { long = refl; best-of = λ s h. getD-replicate 129 s 0 0 h }
+
+  pub slots-more : (b : List ℕ) (i : ℕ) {c : List ℕ} → Slots b i
+      → c ≡ set b (slotOf (ruleAt l i .to)) (max (getD b (slotOf (ruleAt l i .to)) 0) (rankFrom (ruleAt l i .from) from parent i)) → Slots c (i + 1)
+  slots-more b i {c} w e = record { long = ap length e ∙ length-set b at new ∙ w .long; best-of = λ s h. ap (λ (x : List ℕ). getD x s 0) e ∙ go s h (eqb at s) refl ∙ turn s }
+    where
+      at : ℕ
+      at = slotOf (ruleAt l i .to)
+
+      rank : ℕ
+      rank = rankFrom (ruleAt l i .from) from parent i
+
+      new : ℕ
+      new = max (getD b at 0) rank
+
+      go : (s : ℕ) → s < 129 → (t : Bool) → eqb at s ≡ t → getD (set b at new) s 0 ≡ cond t (max (bestTo l from parent i s) rank) (bestTo l from parent i s)
+      go s h true q =
+          let same : at ≡ s = eqb-true at s q in
+          ap (λ (x : ℕ). getD (set b at new) x 0) (sym same) ∙ getD-set-same b at new 0 (omega (arith, w .long)) ∙ ap (λ (x : ℕ). max x rank) (ap (λ (x : ℕ). getD b x 0) same ∙ w .best-of s h)
+      go s h false q = getD-set-other b at s new 0 (λ z. eqb-false at s q (sym z)) ∙ w .best-of s h
+
+      turn : (s : ℕ) → cond (eqb at s) (max (bestTo l from parent i s) rank) (bestTo l from parent i s) ≡ bestTo l from parent (i + 1) s
+      turn s = best-turn i s
+
+  -- a place of the array holds no more than the highest rank by a from side
+  pub best-below : (b : List ℕ) (n s : ℕ) → n ≤ 128 → s < 129 → b ≡ table 129 (bestTo l from parent n) → getD b s 0 ≤ 256
+  best-below b n s h k e = omega (arith, ap (λ (x : List ℕ). getD x s 0) e ∙ getD-table (bestTo l from parent n) 0 129 s k, best-small n s)
+
+  pub slots-all : (b : List ℕ) (i n : ℕ) → Slots b i → i ≡ n → b ≡ table 129 (bestTo l from parent n)
+  slots-all b i n w e =
+      ext-getD 0 b (table 129 (bestTo l from parent n)) (w .long ∙ sym (length-table (bestTo l from parent n) 129))
+      (λ k h. w .best-of k (omega (arith, w .long)) ∙ ap (λ (m : ℕ). bestTo l from parent m k) e ∙ sym (getD-table (bestTo l from parent n) 0 129 k (omega (arith, w .long))))
+
+-- a rule is put in its slot, as the code does it
+pub slot-put : (b : List ℕ) {k s v rank x : ℕ} → k ≡ s → rank ≡ x → v ≡ max (getD b k 0) rank → set b k v ≡ set b s (max (getD b s 0) x)
+slot-put b ek er ev = ap₂ (set b) ek (ev ∙ ap₂ (λ (i j : ℕ). max (getD b i 0) j) ek er)
+
+-- the best rules for a stop and its parent, as the ends of a change name them
+pub ends-best : (l parents b : List ℕ) (from to n : ℕ) {ends : Ends} → ends ≡ endsOf parents from to → b ≡ table 129 (bestTo l from (getD parents from 65535) n) → to < 128
+    → (b ≡ table 129 (bestTo l (ends .from) (ends .«from_parent») n)) × (ends .to < 128)
+unfolding endsOf
+ends-best l parents b from to n e q h = subst (λ (x : Ends). (b ≡ table 129 (bestTo l (x .from) (x .«from_parent») n)) × (x .to < 128)) (sym e) (q, h)
+
+-- the parts of an entry, as the code computes them
+pub entry-parts : (rules : List Rule) (parents places : List ℕ) (f t m : ℕ) {ends : Ends} {pf pt : ℕ} {rule : Chosen} {close : Bool} {by : Change} {r : ℕ}
+    → ends ≡ endsOf parents f t → rule ≡ chosen ends rules → pf ≡ getD places f 65535 → pt ≡ getD places t 65535 → close ≡ near ends pf pt → by ≡ changeOf rule close m → r ≡ changeNumber by
+    → r ≡ entryOf rules parents places f m t
+unfolding entryOf
+entry-parts rules parents places f t m e₁ e₂ e₃ e₄ e₅ e₆ e₇ = e₇ ∙ ap (λ (x : Change). changeNumber x) (transfer-parts rules parents places f t m e₁ e₂ e₃ e₄ e₅ e₆)

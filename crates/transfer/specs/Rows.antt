@@ -1,16 +1,16 @@
--- The changes from one stop to each of 128, as numbers, and how an entry changes while the rules are read.
-use mathlib.Core.Bool.{Bool, cond}
+-- The changes from one stop to each of 128, as numbers, and how the rule of each is found: by the best rule for each `to`, and the ranks of rules.
+use mathlib.Core.Bool.{Bool, cond, not, _&&_}
 use mathlib.Core.List.{List}
-use Prim.Native.Nat.{ℕ, _+_, _*_, _%_}
-use lib.Dec.{leb, eqb}
-use lib.ListN.{getD}
+use Prim.Native.Nat.{ℕ, zero, suc, _+_, _-_, _*_, _%_, min, max}
+use lib.Dec.{eqb}
 use Rattle.laws.specs.Tables.{table}
 use Rattle.rules.specs.declared.Rule.{Rule}
 use Rattle.transfer.specs.declared.Ends.{Ends}
 use Rattle.transfer.specs.declared.Chosen.{Chosen}
 use Rattle.transfer.specs.declared.Chosen.the-variants.{By, Open}
-use Rattle.transfer.specs.Choice.{side, bit, exact}
-use Rattle.transfer.specs.Changes.{endsOf, near, ruleChange, changeOf, transferOf, changeNumber}
+use Rattle.transfer.specs.Choice.{applies, exact}
+use Rattle.transfer.specs.Changes.{transferOf, changeNumber}
+use Rattle.transfer.specs.Copied.{ruleAt}
 
 unfoldable pub entryOf : List Rule → List ℕ → List ℕ → ℕ → ℕ → ℕ → ℕ
 unfolding transferOf
@@ -20,37 +20,38 @@ unfoldable pub changeRow : List Rule → List ℕ → List ℕ → ℕ → ℕ �
 unfolding entryOf
 changeRow rules parents places from change = table 128 (entryOf rules parents places from change)
 
--- ---- while the rules are read: an entry is four times the number of the change, and its level
+-- ---- ranks: 128 for each exact side, then the place of the rule, from 1. So of equal sides the last taken ranks first, and 0 is no rule
 
--- one more than the exact sides of the rule that gives the change, 0 if none does
-abbrev pub packed : Ends → Bool → ℕ → Chosen → ℕ
-packed e close change Open = changeNumber (changeOf Open close change) * 4
-packed e close change (By r) = changeNumber (ruleChange r change) * 4 + (exact e r + 1)
+-- the rank, among the first n rules, of the one that holds between two stops
+unfoldable pub rankTo : Ends → List ℕ → ℕ → ℕ
+rankTo e l zero = 0
+rankTo e l (suc n) = cond (applies e (ruleAt l n)) (max (rankTo e l n) (exact e (ruleAt l n) * 128 + suc n)) (rankTo e l n)
 
--- the two stops are near
-abbrev pub closeTo : List ℕ → List ℕ → ℕ → ℕ → Bool
-closeTo parents places from to = near (endsOf parents from to) (getD places from 65535) (getD places to 65535)
+-- the rule of a rank
+unfoldable pub ranked : List ℕ → ℕ → Chosen
+ranked l k = cond (eqb k 0) Open (By (ruleAt l ((k - 1) % 128)))
 
--- no rule read
-unfoldable pub openEntry : List ℕ → List ℕ → ℕ → ℕ → ℕ → ℕ
-openEntry parents places from change to = changeNumber (changeOf Open (closeTo parents places from to) change) * 4
+-- ---- the rules of one `to`, ranked by their from side alone
 
--- of a rule's from side: the stop 2, its parent 1, else 0
-abbrev pub levelOf : ℕ → ℕ → ℕ → ℕ
-levelOf x from parent = cond (eqb x from) 2 (cond (eqb x parent) 1 0)
+-- the rule at place i: by its from side x
+unfoldable pub rankFrom : ℕ → ℕ → ℕ → ℕ → ℕ
+rankFrom x from parent i = cond (eqb x from) (129 + i) (cond (eqb x parent) (1 + i) 0)
 
--- a rule of that level is read, at the stop t
-unfoldable pub entryTurn : ℕ → ℕ → ℕ → ℕ → ℕ → ℕ → ℕ
-entryTurn level to number old t parent =
-    cond (side to t parent) (cond (leb (old % 4) (level + bit (eqb to t))) (number * 4 + (level + bit (eqb to t))) old) old
+-- each of 128 stops has a slot; any number past them has the slot 128
+abbrev pub slotOf : ℕ → ℕ
+slotOf to = min to 128
 
-unfoldable pub readEntry : ℕ → ℕ → ℕ → List ℕ → List ℕ → ℕ → ℕ
-unfolding entryTurn
-readEntry level to number parents row t = entryTurn level to number (getD row t 0) t (getD parents t 65535)
+-- the best of the first n rules whose `to` has the slot
+unfoldable pub bestTo : List ℕ → ℕ → ℕ → ℕ → ℕ → ℕ
+unfolding rankFrom
+bestTo l from parent zero slot = 0
+bestTo l from parent (suc n) slot =
+    cond (eqb (slotOf (ruleAt l n .to)) slot) (max (bestTo l from parent n slot) (rankFrom (ruleAt l n .from) from parent n)) (bestTo l from parent n slot)
 
--- a rule is read
-unfoldable pub readRow : List ℕ → ℕ → ℕ → List ℕ → Rule → List ℕ
-unfolding readEntry
-readRow parents from change row r =
-    cond (eqb (levelOf (r .from) from (getD parents from 65535)) 0) row
-    (table 128 (readEntry (levelOf (r .from) from (getD parents from 65535)) (r .to) (changeNumber (ruleChange r change)) parents row))
+-- a rule for the stop itself has one exact side more
+abbrev pub raised : ℕ → ℕ
+raised k = k + min k 1 * 128
+
+-- the slot of a parent is shared by all numbers past the stops, and has a rule
+abbrev pub isShared : ℕ → ℕ → Bool
+isShared slot k = eqb slot 128 && not (eqb k 0)

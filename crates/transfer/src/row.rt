@@ -1,144 +1,145 @@
-// The changes from one stop to each of 128, in one pass over the rules.
-// While the rules are read an entry is four times the number of the change, and one more than the exact sides of the
-// rule that gives it, or 0 if none does.
+// The changes from one stop to each of 128. One pass over the rules finds the best for each `to`; one pass over the stops takes the better
+// of the rules for a stop and for its parent.
 ghost use Rattle.laws.specs.Bounds.{least};
 ghost use mathlib.Core.Path.{_≡_};
-ghost use Prim.Native.Nat.{ℕ, _+_, _*_, _≤_, _/_};
-ghost use lib.ListN.{length, getD};
-ghost use Rattle.laws.specs.Lists.{foldl};
+ghost use Prim.Native.Nat.{_<_, _≤_, max};
+ghost use lib.ListN.{length, getD, set};
 ghost use Rattle.laws.specs.Tables.{table};
-ghost use Rattle.transfer.specs.Copied.{rulesOf};
-ghost use Rattle.transfer.specs.Rows.{changeRow, openEntry, levelOf, entryTurn, readEntry, readRow};
+ghost use Rattle.transfer.specs.Choice.{chosen};
+ghost use Rattle.transfer.specs.Copied.{rulesOf, ruleAt};
+ghost use Rattle.transfer.specs.Rows.{entryOf, changeRow, ranked, rankFrom, slotOf, bestTo, raised, isShared};
 use crate::Chosen;
+use crate::Ends;
+use crate::choice::rule_for;
 use crate::parts::are_near;
 use crate::parts::change_by;
 use crate::parts::change_number;
 use crate::parts::ends_of;
-use crate::parts::rule_change;
 use crate::reads::at_most;
 use crate::reads::number_at;
 use crate::reads::rule_at;
-use rules::Rule;
 
 // A row that is lent has its length.
 fn known_row(row: [u32; 128])
     ensures { λ _. ⌜ length row ≡ 128 ⌝ }
 {}
 
-// The entry of the stop `to` with no rule read.
-fn open_entry(parents: &[u16; 128], places: &[u16; 128], from: u16, to: u16, change: u16) -> u32
-    ensures { λ r. ⌜ r ≡ openEntry (now (parents .entry)) (now (places .entry)) from change to ⌝ }
+fn larger(a: u16, b: u16) -> u16
+    ensures { λ r. ⌜ r ≡ max a b ⌝ }
 {
-    let ends = ends_of(parents, from, to);
-    let from_place = number_at(places, from);
-    let to_place = number_at(places, to);
-    let near = are_near(ends, from_place, to_place);
-    let open = change_by(Chosen::Open, near, change);
-    change_number(open) * 4
+    if a <= b { b } else { a }
 }
 
-fn open_row(row: &mut [u32; 128], parents: &[u16; 128], places: &[u16; 128], from: u16, change: u16)
-    ensures { λ _. ⌜ now (row .exit) ≡ table 128 (openEntry (now (parents .entry)) (now (places .entry)) from change) ⌝ }
-{
-    known_row(*row);
-    let mut t: u16 = 0;
-    while t < 128 {
-        let k = t as usize;
-        row[k] = open_entry(parents, places, from, t, change);
-        t += 1;
-    }
-}
-
-// 0 if the rule's from side is neither the stop nor its parent; 2 for the stop, 1 for the parent.
-fn level_of(x: u16, from: u16, parent: u16) -> u32
-    ensures { λ r. ⌜ r ≡ levelOf x from parent ⌝ }
+// The rank of the rule at place i by its from side, 0 if that is neither the stop nor its parent.
+fn rank_from(x: u16, from: u16, parent: u16, i: usize) -> u16
+    requires { ⌜ i < 128 ⌝ }
+    ensures { λ r. ⌜ r ≡ rankFrom x from parent i ⌝ }
 {
     if x == from {
-        return 2;
+        return 129 + i as u16;
     }
     if x == parent {
-        return 1;
+        return 1 + i as u16;
     }
     0
 }
 
-// The entry of the stop `t` once a rule of that level is read.
-fn entry_turn(old: u32, t: u16, parent: u16, level: u32, to: u16, number: u32) -> u32
-    requires { ⌜ (level ≤ 2) × (number ≤ 65536) ⌝ }
-    ensures { λ r. ⌜ r ≡ entryTurn level to number old t parent ⌝ }
+fn slot_of(to: u16) -> usize
+    ensures { λ r. ⌜ (r ≡ slotOf to) × (r ≤ 128) ⌝ }
 {
-    if to == t {
-        if old % 4 <= level + 1 {
-            return number * 4 + (level + 1);
-        }
-        return old;
-    }
-    if to == parent {
-        if old % 4 <= level {
-            return number * 4 + level;
-        }
-        return old;
-    }
-    old
-}
-
-fn turn_row(row: &mut [u32; 128], parents: &[u16; 128], level: u32, to: u16, number: u32)
-    requires { ⌜ (level ≤ 2) × (number ≤ 65536) ⌝ }
-    ensures { λ _. ⌜ now (row .exit) ≡ table 128 (readEntry level to number (now (parents .entry)) (now (row .entry))) ⌝ }
-{
-    known_row(*row);
-    let mut t: u16 = 0;
-    while t < 128 {
-        let k = t as usize;
-        let parent = number_at(parents, t);
-        row[k] = entry_turn(row[k], t, parent, level, to, number);
-        t += 1;
-    }
+    if to < 128 { to as usize } else { 128 }
 }
 
 // One more rule.
-fn read_rule(row: &mut [u32; 128], parents: &[u16; 128], rule: Rule, from: u16, change: u16)
-    ensures { λ _. ⌜ now (row .exit) ≡ readRow (now (parents .entry)) from change (now (row .entry)) rule ⌝ }
+fn read_rule(best: &mut [u16; 129], rules: &[u16; 640], i: usize, from: u16, parent: u16)
+    requires { ⌜ (length (now best) ≡ 129) × (i < 128) ⌝ }
+    ensures { λ _. ⌜ now (best .exit) ≡ set (now (best .entry)) (slotOf (ruleAt (now (rules .entry)) i .to)) (max (getD (now (best .entry)) (slotOf (ruleAt (now (rules .entry)) i .to)) 0) (rankFrom (ruleAt (now (rules .entry)) i .from) from parent i)) ⌝ }
 {
-    let parent = number_at(parents, from);
-    let level = level_of(rule.from, from, parent);
-    if level == 0 {
-        return;
-    }
-    let by = rule_change(rule, change);
-    let number = change_number(by);
-    turn_row(row, parents, level, rule.to, number);
+    let at = i * 5;
+    let rank = rank_from(rules[at], from, parent, i);
+    let k = slot_of(rules[at + 1]);
+    best[k] = larger(best[k], rank);
 }
 
-fn read_rules(
-    row: &mut [u32; 128],
+// The best rule for each slot, among the first `count`.
+fn best_rules(rules: &[u16; 640], count: usize, from: u16, parent: u16) -> [u16; 129]
+    ensures { λ r. ⌜ r ≡ table 129 (bestTo (now (rules .entry)) from parent (least count 128)) ⌝ }
+{
+    let n = at_most(count, 128);
+    let mut best = [0u16; 129];
+    let mut i: usize = 0;
+    while i < n {
+        read_rule(&mut best, rules, i, from, parent);
+        i += 1;
+    }
+    best
+}
+
+// One exact side more, if there is a rule.
+fn raised_of(k: u16) -> u16
+    requires { ⌜ k ≤ 256 ⌝ }
+    ensures { λ r. ⌜ r ≡ raised k ⌝ }
+{
+    if k == 0 { 0 } else { k + 128 }
+}
+
+fn is_shared(slot: usize, k: u16) -> bool
+    ensures { λ r. ⌜ r ≡ isShared slot k ⌝ }
+{
+    if slot == 128 {
+        return k != 0;
+    }
+    false
+}
+
+// The rule of a rank.
+fn rule_ranked(rules: &[u16; 640], k: u16) -> Chosen
+    ensures { λ r. ⌜ r ≡ ranked (now (rules .entry)) k ⌝ }
+{
+    if k == 0 {
+        return Chosen::Open;
+    }
+    let i = ((k - 1) % 128) as usize;
+    Chosen::By(rule_at(rules, i))
+}
+
+// The rule that holds between two stops, by the best for each slot. Where a parent is no stop's number, and some rule names such a number,
+// the rules are read again.
+fn rule_by(best: &[u16; 129], rules: &[u16; 640], count: usize, ends: Ends) -> Chosen
+    requires { ⌜ (now best ≡ table 129 (bestTo (now rules) (ends .from) (ends .«from_parent») (least count 128))) × (ends .to < 128) ⌝ }
+    ensures { λ r. ⌜ r ≡ chosen ends (rulesOf (now (rules .entry)) (least count 128)) ⌝ }
+{
+    let slot = slot_of(ends.to_parent);
+    let other = best[slot];
+    if is_shared(slot, other) {
+        return rule_for(rules, count, ends);
+    }
+    let at = ends.to as usize;
+    let own = raised_of(best[at]);
+    rule_ranked(rules, larger(own, other))
+}
+
+// The change to the stop `to`.
+fn entry_by(
+    best: &[u16; 129],
     rules: &[u16; 640],
     count: usize,
     parents: &[u16; 128],
+    places: &[u16; 128],
     from: u16,
+    to: u16,
     change: u16,
-)
-    ensures { λ _. ⌜ now (row .exit) ≡ foldl (readRow (now (parents .entry)) from change) (now (row .entry)) (rulesOf (now (rules .entry)) (least count 128)) ⌝ }
+) -> u32
+    requires { ⌜ (now best ≡ table 129 (bestTo (now rules) from (getD (now parents) from 65535) (least count 128))) × (to < 128) ⌝ }
+    ensures { λ r. ⌜ r ≡ entryOf (rulesOf (now (rules .entry)) (least count 128)) (now (parents .entry)) (now (places .entry)) from change to ⌝ }
 {
-    let n = at_most(count, 128);
-    let mut i: usize = 0;
-    while i < n {
-        let rule = rule_at(rules, i);
-        read_rule(row, parents, rule, from, change);
-        i += 1;
-    }
-}
-
-// The numbers of the changes alone.
-fn close_row(row: &mut [u32; 128])
-    ensures { λ _. ⌜ now (row .exit) ≡ table 128 (λ t. getD (now (row .entry)) t 0 / 4) ⌝ }
-{
-    known_row(*row);
-    let mut k: usize = 0;
-    while k < 128 {
-        row[k] = row[k] / 4;
-        k += 1;
-    }
+    let ends = ends_of(parents, from, to);
+    let rule = rule_by(best, rules, count, ends);
+    let from_place = number_at(places, from);
+    let to_place = number_at(places, to);
+    let near = are_near(ends, from_place, to_place);
+    let by = change_by(rule, near, change);
+    change_number(by)
 }
 
 // The changes from a stop: the seconds for each of 128 stops, 65536 for never.
@@ -153,7 +154,13 @@ pub fn change_row(
 )
     ensures { λ _. ⌜ now (row .exit) ≡ changeRow (rulesOf (now (rules .entry)) (least count 128)) (now (parents .entry)) (now (places .entry)) from change ⌝ }
 {
-    open_row(row, parents, places, from, change);
-    read_rules(row, rules, count, parents, from, change);
-    close_row(row);
+    known_row(*row);
+    let parent = number_at(parents, from);
+    let best = best_rules(rules, count, from, parent);
+    let mut t: u16 = 0;
+    while t < 128 {
+        let k = t as usize;
+        row[k] = entry_by(&best, rules, count, parents, places, from, t, change);
+        t += 1;
+    }
 }

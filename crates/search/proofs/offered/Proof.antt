@@ -41,10 +41,13 @@ endpoint-paths-requires c κs = search needs
 
 returns : tie.Need-returns
 returns c =
-    let s = c .before .before .before .before .before .before .before .before .before .before .before .before .before .before .before .before .before .before .before .before in
+    let made = c .before .before .before .before .before .before .before in
+    let grouped = made .before .before .before .before .before .before .before in
+    let fed = grouped .before .before .before in
+    let s = fed .before .before .before .before in
     let l = s .args .load in
-    offered-is l (s .args .calls) _ _ _ _ _ _ _ _ _ (c .before .before .before .before .before .before .before .before .before .before .before .before .before .before .before .before .feed-of .ensures) (c .before .before .before .before .numbers .ensures) (stops-long l _ (s .good .0)) (rules-long l _ (s .good .0))
-    (c .before .before .before .before .before .before .before .before .before .before .before .before .before .before .before .flat-rules .ensures) (c .before .before .before .before .before .before .before .before .before .before .before .before .before .before .parents-of .ensures) (c .before .before .before .before .before .before .before .before .before .before .before .before .before .group-places .ensures) (c .before .before .before .before .before .before .before .before .before .before .before .before .change-seconds .ensures) (c .before .before .before .before .before .before .before .before .changes-of .ensures) refl
+    offered-is l (s .args .calls) _ _ _ _ _ _ _ _ _ (fed .feed-of .ensures) (c .before .before .before .before .numbers .ensures) (stops-long l _ (s .good .0)) (rules-long l _ (s .good .0))
+    (grouped .before .before .flat-rules .ensures) (grouped .before .parents-of .ensures) (grouped .group-places .ensures) (made .before .before .before .before .before .before .change-seconds .ensures) (made .changes-of .ensures) refl
     (c .before .before .before .before .before .before .fresh .ensures) (c .endpoint-paths .ensures)
 
 pub offered-spec : {M : Type 1} → statement M
@@ -56,8 +59,8 @@ offered-spec =
     parents-of-requires
     group-places-requires
     change-seconds-requires
-    changes-of-requires
     cast-depth
+    changes-of-requires
     fresh-requires
     slice-aggregate-numbers
     numbers-requires

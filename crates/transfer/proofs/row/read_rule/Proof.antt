@@ -1,47 +1,68 @@
--- A rule that does not apply on the from side leaves the row.
+-- The rule is put in its slot.
+use Rattle.transfer.proofs.Entries.{slot-put}
 use borrow.Author.Needs.{needs}
-use native.Mathlib.Omega.{arith}
-use Rattle.transfer.proofs.Entries.{level-small, rule-passed, rule-parts}
 use Rattle.transfer.proofs.row.read_rule.Statement.{statement}
 use Rattle.transfer.proofs.row.read_rule.Tie as tie
 
-number-at-requires : tie.Need-number-at-requires
-number-at-requires c κs = search needs
+mul-at : tie.Need-mul-at
+mul-at c = search needs
 
-level-of-requires : tie.Need-level-of-requires
-level-of-requires c κs = search needs
+mul-rank-from : tie.Need-mul-rank-from
+mul-rank-from c = search needs
+
+element-copy-out-rank-from : tie.Need-element-copy-out-rank-from
+element-copy-out-rank-from c = search needs
+
+rank-from-requires : tie.Need-rank-from-requires
+rank-from-requires c κs = search needs
+
+add-slot-of : tie.Need-add-slot-of
+add-slot-of c = search needs
+
+mul-slot-of : tie.Need-mul-slot-of
+mul-slot-of c = search needs
+
+element-copy-out-slot-of : tie.Need-element-copy-out-slot-of
+element-copy-out-slot-of c = search needs
+
+slot-of-requires : tie.Need-slot-of-requires
+slot-of-requires c κs = search needs
+
+mul-larger : tie.Need-mul-larger
+mul-larger c = search needs
+
+element-copy-out-larger : tie.Need-element-copy-out-larger
+element-copy-out-larger c = search needs
+
+larger-requires : tie.Need-larger-requires
+larger-requires c κs = search needs
+
+mul-best : tie.Need-mul-best
+mul-best c = search needs
+
+element-write-best : tie.Need-element-write-best
+element-write-best c = search needs
 
 returns : tie.Need-returns
 returns c =
-    let a = c .before .before .before .args in
-    rule-passed (a .parents .now) (a .from) (a .change) (a .row .now) (a .rule) (c .before .before .number-at .ensures) (c .before .level-of .ensures) (c .if1 .taken)
-
-rule-change-requires : tie.Need-rule-change-requires
-rule-change-requires c κs = search needs
-
-change-number-requires : tie.Need-change-number-requires
-change-number-requires c κs = search needs
-
-turn-row-requires : tie.Need-turn-row-requires
-turn-row-requires c κs =
-    let a = c .before .before .before .before .before .before .args in
-    let l = level-small (a .rule .from) (a .from) (c .before .before .before .before .before .number-at .result) in
-    (omega (arith, c .before .before .before .before .level-of .ensures, l), c .before .change-number .ensures .1)
-
-returns-2 : tie.Need-returns-2
-returns-2 c =
-    let a = c .before .before .before .before .before .before .before .args in
-    rule-parts (a .parents .now) (a .from) (a .change) (a .row .now) (a .rule) (c .before .before .before .before .before .before .number-at .ensures) (c .before .before .before .before .before .level-of .ensures)
-    (c .before .before .before .before .if1 .left) (c .before .before .before .rule-change .ensures) (c .before .before .change-number .ensures .0) (c .turn-row .ensures)
+    let s = c .before .before .before .before .before .before in
+    slot-put (s .args .best .now) (c .before .before .slot-of .ensures .0) (c .before .before .before .before .rank-from .ensures) (c .larger .ensures)
 
 pub read-rule-spec : {M : Type 1} → statement M
 read-rule-spec =
     tie.close
     (tie.spec
-    number-at-requires
-    level-of-requires
-    returns
-    rule-change-requires
-    change-number-requires
-    turn-row-requires
-    returns-2)
+    mul-at
+    mul-rank-from
+    element-copy-out-rank-from
+    rank-from-requires
+    add-slot-of
+    mul-slot-of
+    element-copy-out-slot-of
+    slot-of-requires
+    mul-larger
+    element-copy-out-larger
+    larger-requires
+    mul-best
+    element-write-best
+    returns)
