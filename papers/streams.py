@@ -1,0 +1,23 @@
+"""The input and the output that the command line names."""
+import sys
+
+
+def name(number):
+    return sys.argv[number] if number < len(sys.argv) else "-"
+
+
+def opened(path, mode, standard):
+    try:
+        return standard if path == "-" else open(path, mode)
+    except OSError as error:
+        sys.exit(f"{sys.argv[0]}: {path}: {error.strerror}")
+
+
+def read():
+    with opened(name(1), "rb", sys.stdin.buffer) as stream:
+        return stream.read()
+
+
+def write(data):
+    with opened(name(2), "wb", sys.stdout.buffer) as stream:
+        stream.write(data)
