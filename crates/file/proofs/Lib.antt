@@ -1,3 +1,4 @@
+pub mod KindLaws
 pub mod FedLaws
 pub mod RecordLaws
 pub mod HandedLaws
