@@ -1,9 +1,13 @@
 -- What a record's kind decides: which fields fill it, and what it hands in.
-use mathlib.Core.Path.{_≡_, refl}
+use mathlib.Core.Path.{_≡_, refl, _∙_}
 use mathlib.Core.Bool.{true, false}
 use mathlib.Core.List.{List}
 use Prim.Native.Nat.{ℕ}
 use borrow.Author.Tests.{ne-eqb}
+use Rattle.settings.specs.declared.Settings.{Settings}
+use Rattle.calls.specs.declared.CallInput.{CallInput}
+use Rattle.rules.specs.declared.RuleInput.{RuleInput}
+use Rattle.load.specs.declared.Stepped.{Stepped}
 use Rattle.fields.specs.Numbers.{byteAt}
 use Rattle.fields.specs.Layout.{textAt, optionTextAt, nameAt, parentAt, settingsFilled, stopFilled, callFilled, ruleFilled, searchFilled}
 use Rattle.fields.specs.Records.{settingsIn, stopIn, callIn, ruleIn}
@@ -33,23 +37,25 @@ module _ (b : List ℕ) where
   unfolding filled
   filled-search n1 n2 n3 n4 = rw (ne-eqb _ _ n1, ne-eqb _ _ n2, ne-eqb _ _ n3, ne-eqb _ _ n4) refl
 
+-- a step of the load, by the kind of the record that hands it in
 module _ (r : Reader) (b : List ℕ) where
-  pub stepped-settings : r .opened ≡ false → steppedBy r b ≡ openSpec (settingsIn b)
+  pub stepped-settings : {s : Stepped} {i : Settings} → r .opened ≡ false → i ≡ settingsIn b → s ≡ openSpec i → s ≡ steppedBy r b
   unfolding steppedBy
-  stepped-settings o = rw o refl
+  stepped-settings o q e = e ∙ rw (o, q) refl
 
-  pub stepped-stop : r .opened ≡ true → byteAt b 0 ≡ 2 → steppedBy r b ≡ stopSpec (r .load) (textAt b 1) (optionTextAt b (nameAt b)) (optionTextAt b (parentAt b)) (stopIn b)
+  pub stepped-stop : {s : Stepped} → r .opened ≡ true → byteAt b 0 ≡ 2
+      → s ≡ stopSpec (r .load) (textAt b 1) (optionTextAt b (nameAt b)) (optionTextAt b (parentAt b)) (stopIn b) → s ≡ steppedBy r b
   unfolding steppedBy stepIn
-  stepped-stop o e = rw (o, e) refl
+  stepped-stop o k e = e ∙ rw (o, k) refl
 
-  pub stepped-call : r .opened ≡ true → byteAt b 0 ≡ 3 → steppedBy r b ≡ callSpec (r .load) (callIn b)
+  pub stepped-call : {s : Stepped} {i : CallInput} → r .opened ≡ true → byteAt b 0 ≡ 3 → i ≡ callIn b → s ≡ callSpec (r .load) i → s ≡ steppedBy r b
   unfolding steppedBy stepIn
-  stepped-call o e = rw (o, e) refl
+  stepped-call o k q e = e ∙ rw (o, k, q) refl
 
-  pub stepped-rule : r .opened ≡ true → byteAt b 0 ≡ 4 → steppedBy r b ≡ ruleSpec (r .load) (ruleIn b)
+  pub stepped-rule : {s : Stepped} {i : RuleInput} → r .opened ≡ true → byteAt b 0 ≡ 4 → i ≡ ruleIn b → s ≡ ruleSpec (r .load) i → s ≡ steppedBy r b
   unfolding steppedBy stepIn
-  stepped-rule o e = rw (o, e) refl
+  stepped-rule o k q e = e ∙ rw (o, k, q) refl
 
-  pub stepped-search : r .opened ≡ true → (byteAt b 0 ≡ 2 → ⊥) → (byteAt b 0 ≡ 3 → ⊥) → (byteAt b 0 ≡ 4 → ⊥) → steppedBy r b ≡ searchSpec (r .load)
+  pub stepped-search : {s : Stepped} → r .opened ≡ true → (byteAt b 0 ≡ 2 → ⊥) → (byteAt b 0 ≡ 3 → ⊥) → (byteAt b 0 ≡ 4 → ⊥) → s ≡ searchSpec (r .load) → s ≡ steppedBy r b
   unfolding steppedBy stepIn
-  stepped-search o n2 n3 n4 = rw (o, ne-eqb _ _ n2, ne-eqb _ _ n3, ne-eqb _ _ n4) refl
+  stepped-search o n2 n3 n4 e = e ∙ rw (o, ne-eqb _ _ n2, ne-eqb _ _ n3, ne-eqb _ _ n4) refl

@@ -1,6 +1,6 @@
 -- By whether the load is open.
 use mathlib.Core.Path.{refl}
-use borrow.Author.Tests.{le-leb, lt-leb, eq-eqb, ne-eqb}
+use borrow.Author.Tests.{le-leb, lt-leb}
 use Rattle.file.specs.Record.{kindRight}
 use Rattle.file.proofs.record.kind_right.Statement.{statement}
 use Rattle.file.proofs.record.kind_right.Tie as tie
