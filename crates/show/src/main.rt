@@ -15,7 +15,9 @@ fn print(answer: Answer, load: Load) {
 
 fn print_end(r: Reading) {
     let reader = r.reader;
-    print(r.answer, reader.load);
+    let load = reader.load;
+    let answer = r.answer;
+    print(answer, load);
 }
 
 fn main() {

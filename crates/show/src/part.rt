@@ -1,4 +1,7 @@
 // A file read in parts.
+ghost use mathlib.Core.Path.{_≡_};
+ghost use Prim.Native.Nat.{_≤_};
+ghost use lib.ListN.{length};
 use file::Reader;
 use file::read::ended;
 use file::read::fed;
@@ -18,13 +21,24 @@ pub struct Reading {
 }
 
 // How many bytes the buffer holds once it is filled from `held` on: all of them, or the file has ended.
-fn fill(buf: &mut [u8; 131072], held: usize) -> usize {
-    let n = io::read_full(STDIN_FILENO, &mut buf[held..]);
-    held + n
+fn fill(buf: &mut [u8], held: usize) -> usize
+    requires { ⌜ held ≤ length (now buf) ⌝ }
+    ensures { λ r. ⌜ r ≤ length (now (buf .exit)) ⌝ }
+    ensures same { λ _. ⌜ length (now (buf .exit)) ≡ length (now (buf .entry)) ⌝ }
+{
+    if held < buf.len() {
+        let n = io::read_full(STDIN_FILENO, &mut buf[held..]);
+        return held + n;
+    }
+    held
 }
 
-// The bytes from `from` up to `end` are moved to the start.
-fn move_down(buf: &mut [u8; 131072], from: usize, end: usize) -> usize {
+// The bytes from `from` up to `end` are moved to the start; how many they are.
+fn move_down(buf: &mut [u8], from: usize, end: usize) -> usize
+    requires { ⌜ end ≤ length (now buf) ⌝ }
+    ensures { λ r. ⌜ r ≤ length (now (buf .exit)) ⌝ }
+    ensures same { λ _. ⌜ length (now (buf .exit)) ≡ length (now (buf .entry)) ⌝ }
+{
     let mut k: usize = 0;
     let mut i = from;
     while i < end {
@@ -36,23 +50,33 @@ fn move_down(buf: &mut [u8; 131072], from: usize, end: usize) -> usize {
 }
 
 // The version; the records begin after it.
-pub fn first(buf: &mut [u8; 131072]) -> Reading {
+pub fn first(buf: &mut [u8]) -> Reading {
     let held = fill(buf, 0);
     let answer = version(&buf[..held]);
+    let over = is_refused(answer);
+    let reader = fresh();
     Reading {
-        over: is_refused(answer),
+        over,
         at: 1,
         held,
         answer,
-        reader: fresh(),
+        reader,
     }
 }
 
+// The smaller of two; it is taken so that every value of a `Reading` stays within the buffer.
+fn smaller(a: usize, b: usize) -> usize
+    ensures { λ r. ⌜ r ≤ b ⌝ }
+{
+    if a < b { a } else { b }
+}
+
 // The whole records that the buffer holds; then the end, or more bytes.
-pub fn turn(buf: &mut [u8; 131072], r: Reading) -> Reading {
-    let at = r.at;
-    let held = r.held;
-    let f = fed(r.reader, &buf[at..held]);
+pub fn turn(buf: &mut [u8], r: Reading) -> Reading {
+    let held = smaller(r.held, buf.len());
+    let at = smaller(r.at, held);
+    let before = r.reader;
+    let f = fed(before, &buf[at..held]);
     let answer = f.answer;
     let reader = f.reader;
     if is_refused(answer) {
@@ -64,8 +88,8 @@ pub fn turn(buf: &mut [u8; 131072], r: Reading) -> Reading {
             reader,
         };
     }
-    let from = at + f.used;
-    if held < 131072 {
+    let from = at + smaller(f.used, held - at);
+    if held < buf.len() {
         let end = ended(reader.opened, held - from);
         return Reading {
             over: true,
