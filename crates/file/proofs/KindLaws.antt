@@ -1,9 +1,10 @@
 -- What a record's kind decides: which fields fill it, and what it hands in.
 use mathlib.Core.Path.{_≡_, refl, _∙_}
-use mathlib.Core.Bool.{true, false}
+use mathlib.Core.Bool.{Bool, true, false, cond}
 use mathlib.Core.List.{List}
 use Prim.Native.Nat.{ℕ}
 use borrow.Author.Tests.{ne-eqb}
+use lib.Dec.{eqb}
 use Rattle.settings.specs.declared.Settings.{Settings}
 use Rattle.calls.specs.declared.CallInput.{CallInput}
 use Rattle.rules.specs.declared.RuleInput.{RuleInput}
@@ -16,26 +17,17 @@ use Rattle.search.specs.Search.{searchSpec}
 use Rattle.file.specs.declared.Reader.{Reader}
 use Rattle.file.specs.Record.{filled, stepIn, steppedBy}
 
-module _ (b : List ℕ) where
-  pub filled-settings : byteAt b 0 ≡ 1 → filled b ≡ settingsFilled b
-  unfolding filled
-  filled-settings e = rw e refl
+-- the fields that fill a record of kind k
+abbrev pub filledAs : ℕ → List ℕ → Bool
+filledAs k b = cond (eqb k 1) (settingsFilled b) (cond (eqb k 2) (stopFilled b) (cond (eqb k 3) (callFilled b) (cond (eqb k 4) (ruleFilled b) (searchFilled b))))
 
-  pub filled-stop : byteAt b 0 ≡ 2 → filled b ≡ stopFilled b
-  unfolding filled
-  filled-stop e = rw e refl
+pub filled-as : (b : List ℕ) (k : ℕ) → byteAt b 0 ≡ k → filled b ≡ filledAs k b
+unfolding filled
+filled-as b k e = rw e refl
 
-  pub filled-call : byteAt b 0 ≡ 3 → filled b ≡ callFilled b
-  unfolding filled
-  filled-call e = rw e refl
-
-  pub filled-rule : byteAt b 0 ≡ 4 → filled b ≡ ruleFilled b
-  unfolding filled
-  filled-rule e = rw e refl
-
-  pub filled-search : (byteAt b 0 ≡ 1 → ⊥) → (byteAt b 0 ≡ 2 → ⊥) → (byteAt b 0 ≡ 3 → ⊥) → (byteAt b 0 ≡ 4 → ⊥) → filled b ≡ searchFilled b
-  unfolding filled
-  filled-search n1 n2 n3 n4 = rw (ne-eqb _ _ n1, ne-eqb _ _ n2, ne-eqb _ _ n3, ne-eqb _ _ n4) refl
+pub filled-search : (b : List ℕ) → (byteAt b 0 ≡ 1 → ⊥) → (byteAt b 0 ≡ 2 → ⊥) → (byteAt b 0 ≡ 3 → ⊥) → (byteAt b 0 ≡ 4 → ⊥) → filled b ≡ searchFilled b
+unfolding filled
+filled-search b n1 n2 n3 n4 = rw (ne-eqb _ _ n1, ne-eqb _ _ n2, ne-eqb _ _ n3, ne-eqb _ _ n4) refl
 
 -- a step of the load, by the kind of the record that hands it in
 module _ (r : Reader) (b : List ℕ) where

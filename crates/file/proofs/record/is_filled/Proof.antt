@@ -1,6 +1,6 @@
 -- By the kind.
 use mathlib.Core.Path.{sym, _∙_}
-use Rattle.file.proofs.KindLaws.{filled-settings, filled-stop, filled-call, filled-rule, filled-search}
+use Rattle.file.proofs.KindLaws.{filled-as, filled-search}
 use borrow.Author.Needs.{needs}
 use Rattle.file.proofs.record.is_filled.Statement.{statement}
 use Rattle.file.proofs.record.is_filled.Tie as tie
@@ -12,25 +12,25 @@ settings-filled-requires : tie.Need-settings-filled-requires
 settings-filled-requires c κs = search needs
 
 returns : tie.Need-returns
-returns c = c .settings-filled .ensures ∙ sym (filled-settings _ (sym (c .before .before .kind-of .ensures) ∙ c .before .if1 .taken))
+returns c = c .settings-filled .ensures ∙ sym (filled-as _ 1 (sym (c .before .before .kind-of .ensures) ∙ c .before .if1 .taken))
 
 stop-filled-requires : tie.Need-stop-filled-requires
 stop-filled-requires c κs = search needs
 
 returns-2 : tie.Need-returns-2
-returns-2 c = c .stop-filled .ensures ∙ sym (filled-stop _ (sym (c .before .before .before .kind-of .ensures) ∙ c .before .if2 .taken))
+returns-2 c = c .stop-filled .ensures ∙ sym (filled-as _ 2 (sym (c .before .before .before .kind-of .ensures) ∙ c .before .if2 .taken))
 
 call-filled-requires : tie.Need-call-filled-requires
 call-filled-requires c κs = search needs
 
 returns-3 : tie.Need-returns-3
-returns-3 c = c .call-filled .ensures ∙ sym (filled-call _ (sym (c .before .before .before .before .kind-of .ensures) ∙ c .before .if3 .taken))
+returns-3 c = c .call-filled .ensures ∙ sym (filled-as _ 3 (sym (c .before .before .before .before .kind-of .ensures) ∙ c .before .if3 .taken))
 
 rule-filled-requires : tie.Need-rule-filled-requires
 rule-filled-requires c κs = search needs
 
 returns-4 : tie.Need-returns-4
-returns-4 c = c .rule-filled .ensures ∙ sym (filled-rule _ (sym (c .before .before .before .before .before .kind-of .ensures) ∙ c .before .if4 .taken))
+returns-4 c = c .rule-filled .ensures ∙ sym (filled-as _ 4 (sym (c .before .before .before .before .before .kind-of .ensures) ∙ c .before .if4 .taken))
 
 search-filled-requires : tie.Need-search-filled-requires
 search-filled-requires c κs = search needs
