@@ -1,56 +1,45 @@
+-- The loop ends: it counts up to `n`.
+use Prim.Native.Nat.{_≤_, _-_}
+use native.Mathlib.Omega.{arith}
+use borrow.Author.Needs.{needs}
 use Rattle.replay.proofs.load_lines.table.Statement.{statement}
 use Rattle.replay.proofs.load_lines.table.Tie as tie
-use Rattle.replay.proofs.load_lines.table.Reads as reads
-use Rattle.replay.proofs.load_lines.table.Lts as lts
-use Rattle.order.proofs.sorted.Reads as sorted-reads
-use Rattle.replay.proofs.load_lines.call.Reads as call-reads
-use Rattle.replay.proofs.load_lines.least.Reads as least-reads
 
 abbrev Inv-loop : tie.InvT-loop
-Inv-loop out₀ at count calls n to₀ i₀ out to i = ?
+Inv-loop out₀ at count calls n to₀ i₀ out to i = i ≤ n
 
 abbrev μ-loop : tie.MeasureT-loop
-μ-loop out₀ at count calls n to₀ i₀ out to i = ?
+μ-loop out₀ at count calls n to₀ i₀ out to i = n - i
 
--- src/load_lines.rt:37:17
 sorted-requires : tie.Need-sorted-requires Inv-loop μ-loop
-sorted-requires c κs = ?
+sorted-requires c κs = search needs
 
--- src/load_lines.rt:38:9
 least-requires : tie.Need-least-requires Inv-loop μ-loop
-least-requires c κs = ?
+least-requires c κs = search needs
 
--- src/load_lines.rt:40:5
 loop-holds : tie.Need-loop-holds Inv-loop μ-loop
-loop-holds c = ?
+loop-holds c = omega arith
 
--- src/load_lines.rt:41:17
 mul-c : tie.Need-mul-c Inv-loop μ-loop
-mul-c c = ?
+mul-c c = omega arith
 
--- src/load_lines.rt:41:17
 array-copy-out-c : tie.Need-array-copy-out-c Inv-loop μ-loop
-array-copy-out-c c = ?
+array-copy-out-c c = omega arith
 
--- src/load_lines.rt:42:9
 call-requires : tie.Need-call-requires Inv-loop μ-loop
-call-requires c κs = ?
+call-requires c κs = search needs
 
--- src/load_lines.rt:40:9
 add-i : tie.Need-add-i Inv-loop μ-loop
-add-i c = ?
+add-i c = omega arith
 
--- src/load_lines.rt:40:5
 loop-less : tie.Need-loop-less Inv-loop μ-loop
-loop-less c = ?
+loop-less c = omega arith
 
--- src/load_lines.rt:40:5
 loop-again : tie.Need-loop-again Inv-loop μ-loop
-loop-again c = ?
+loop-again c = omega arith
 
--- src/load_lines.rt:36:1
 returns : tie.Need-returns Inv-loop μ-loop
-returns c = ?
+returns c = search needs
 
 pub table-spec : {M : Type 1} → statement M
 table-spec =
