@@ -9,6 +9,11 @@ mod queries;
 
 use libc::STDIN_FILENO;
 
+// As long as the longest file.
+fn buffer() -> [u8; 1048576] {
+    [0u8; 1048576]
+}
+
 fn wide(x: u8) -> u32
     ensures { λ r. ⌜ r < 256 ⌝ }
 {
@@ -60,7 +65,7 @@ fn turn(out: &mut [u8; 65536], buf: &mut [u8]) -> bool {
 
 fn main() {
     let mut out = [0u8; 65536];
-    let mut bytes = [0u8; 1048576];
+    let mut bytes = buffer();
     let buf: &mut [u8] = &mut bytes;
     let mut turns: u64 = 18446744073709551615;
     while turns > 0 {
