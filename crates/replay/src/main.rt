@@ -2,6 +2,7 @@
 // `.` after each: the calls' answers, the table, the places, the journeys, horizon and limits, best and next after. A file
 // that is longer than the buffer, or is not there whole, ends the run.
 ghost use Prim.Native.Nat.{_<_};
+
 mod answers;
 mod load_lines;
 mod out;
