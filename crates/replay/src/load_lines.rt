@@ -1,4 +1,5 @@
 // The lines of a load: table, places, journeys, horizon and limits; then the queries.
+ghost use Prim.Native.Nat.{_≤_};
 use crate::out;
 use crate::queries;
 use calls::Call;
@@ -7,6 +8,14 @@ use order::sorted;
 use places::group::group_places;
 use profile::Journey;
 use profile::Ride;
+use stops::Stop;
+
+// A count, and at most `most`.
+pub fn least(count: usize, most: usize) -> usize
+    ensures { λ r. ⌜ r ≤ most ⌝ }
+{
+    if count < most { count } else { most }
+}
 
 fn call(out: &mut [u8; 65536], at: usize, c: Call) -> usize {
     let a = out::text(out, at, b"call");
@@ -24,14 +33,9 @@ fn call(out: &mut [u8; 65536], at: usize, c: Call) -> usize {
 }
 
 // The table by trip, day, sequence, equals as taken.
-fn table(out: &mut [u8; 65536], at: usize, load: Load) -> usize {
-    let given = load.calls;
-    let calls = sorted(given, load.call_count);
-    let n: usize = if load.call_count < 512 {
-        load.call_count
-    } else {
-        512
-    };
+fn table(out: &mut [u8; 65536], at: usize, given: [Call; 512], count: usize) -> usize {
+    let calls = sorted(given, count);
+    let n = least(count, 512);
     let mut to = at;
     for i in 0usize..n {
         let c = calls[i];
@@ -48,19 +52,22 @@ fn place(out: &mut [u8; 65536], at: usize, p: u16) -> usize {
 }
 
 // Each stop's place.
-fn places(out: &mut [u8; 65536], at: usize, load: Load) -> usize {
-    let stops = load.stops;
-    let given = group_places(stops, load.stop_count);
-    let n: usize = if load.stop_count < 128 {
-        load.stop_count
-    } else {
-        128
-    };
+fn places(out: &mut [u8; 65536], at: usize, stops: [Stop; 128], count: usize) -> usize {
+    let given = group_places(stops, count);
+    let n = least(count, 128);
     let mut to = out::text(out, at, b"places");
     for i in 0usize..n {
         to = place(out, to, given[i]);
     }
     out::line(out, to)
+}
+
+fn searched_places(out: &mut [u8; 65536], at: usize, load: Load) -> usize {
+    if load.searched {
+        let stops = load.stops;
+        return places(out, at, stops, load.stop_count);
+    }
+    at
 }
 
 fn ride(out: &mut [u8; 65536], at: usize, r: Ride) -> usize {
@@ -92,13 +99,8 @@ fn journey(out: &mut [u8; 65536], at: usize, j: Journey) -> usize {
     out::line(out, d)
 }
 
-fn journeys(out: &mut [u8; 65536], at: usize, load: Load) -> usize {
-    let kept = load.journeys;
-    let n: usize = if load.journey_count < 64 {
-        load.journey_count
-    } else {
-        64
-    };
+fn journeys(out: &mut [u8; 65536], at: usize, kept: [Journey; 64], count: usize) -> usize {
+    let n = least(count, 64);
     let mut to = at;
     for i in 0usize..n {
         let j = kept[i];
@@ -107,26 +109,21 @@ fn journeys(out: &mut [u8; 65536], at: usize, load: Load) -> usize {
     to
 }
 
-fn horizon(out: &mut [u8; 65536], at: usize, load: Load) -> usize {
+fn horizon(out: &mut [u8; 65536], at: usize, horizon: u16, limits: u8) -> usize {
     let a = out::text(out, at, b"horizon");
-    let b = out::spaced(out, a, load.horizon as u64);
+    let b = out::spaced(out, a, horizon as u64);
     let c = out::text(out, b, b" limits");
-    let d = out::spaced(out, c, load.limits as u64);
+    let d = out::spaced(out, c, limits as u64);
     out::line(out, d)
 }
 
-fn searched_places(out: &mut [u8; 65536], at: usize, load: Load) -> usize {
-    if load.searched {
-        return places(out, at, load);
-    }
-    at
-}
-
 pub fn lines(out: &mut [u8; 65536], at: usize, load: Load) -> usize {
-    let a = table(out, at, load);
+    let calls = load.calls;
+    let kept = load.journeys;
+    let a = table(out, at, calls, load.call_count);
     let b = searched_places(out, a, load);
-    let c = journeys(out, b, load);
-    let d = horizon(out, c, load);
+    let c = journeys(out, b, kept, load.journey_count);
+    let d = horizon(out, c, load.horizon, load.limits);
     let e = queries::bests(out, d, load);
     queries::nexts(out, e, load)
 }

@@ -1,5 +1,8 @@
 // Reads load files from standard input, each after its length as a big-endian u32, and prints what each was answered, a line
-// `.` after each: the calls' answers, the table, the places, the journeys, horizon and limits, best and next after.
+// `.` after each: the calls' answers, the table, the places, the journeys, horizon and limits, best and next after. A file
+// that is longer than the buffer, or is not there whole, ends the run.
+ghost use Prim.Native.Nat.{_<_};
+
 mod answers;
 mod load_lines;
 mod out;
@@ -7,46 +10,67 @@ mod queries;
 
 use libc::STDIN_FILENO;
 
-// The longest file that is read; a longer one ends the run.
-const LONGEST: u32 = 1048576;
+// As long as the longest file.
+fn buffer() -> [u8; 1048576] {
+    [0u8; 1048576]
+}
+
+fn wide(x: u8) -> u32
+    ensures { λ r. ⌜ r < 256 ⌝ }
+{
+    x as u32
+}
 
 fn u32_of(b: [u8; 4]) -> u32 {
-    let high = (b[0] as u32) * 256 + b[1] as u32;
-    let low = (b[2] as u32) * 256 + b[3] as u32;
+    let high = wide(b[0]) * 256 + wide(b[1]);
+    let low = wide(b[2]) * 256 + wide(b[3]);
     high * 65536 + low
 }
 
-// The length of the next file; one more than the longest at the end of the input.
-fn next_length() -> u32 {
+// The length of the next file; longer than any buffer at the end of the input.
+fn next_length() -> usize {
     let mut head = [0u8; 4];
     let n = io::read_full(STDIN_FILENO, &mut head);
-    if n == 4 { u32_of(head) } else { LONGEST + 1 }
+    if n == 4 {
+        return u32_of(head) as usize;
+    }
+    18446744073709551615
 }
 
-// One file; whether there may be another.
-fn turn(out: &mut [u8; 65536], buf: &mut [u8; 1048576]) -> bool {
-    let n = next_length();
-    if n > LONGEST {
-        return false;
-    }
-    let size = n as usize;
-    let got = io::read_full(STDIN_FILENO, &mut buf[..size]);
-    if got != size {
-        return false;
-    }
-    let at = answers::file(out, &buf[..size]);
+// Whether the buffer could be filled.
+fn filled(buf: &mut [u8]) -> bool {
+    let got = io::read_full(STDIN_FILENO, buf);
+    got == buf.len()
+}
+
+// What a file is answered.
+fn answer(out: &mut [u8; 65536], bytes: &[u8]) {
+    let at = answers::file(out, bytes);
     let a = out::text(out, at, b".");
     let b = out::line(out, a);
     out::flush(out, b);
-    true
+}
+
+// One file; whether there may be another.
+fn turn(out: &mut [u8; 65536], buf: &mut [u8]) -> bool {
+    let size = next_length();
+    if size > buf.len() {
+        return false;
+    }
+    if filled(&mut buf[..size]) {
+        answer(out, &buf[..size]);
+        return true;
+    }
+    false
 }
 
 fn main() {
     let mut out = [0u8; 65536];
-    let mut buf = [0u8; 1048576];
+    let mut bytes = buffer();
+    let buf: &mut [u8] = &mut bytes;
     let mut turns: u64 = 18446744073709551615;
     while turns > 0 {
-        if turn(&mut out, &mut buf) {
+        if turn(&mut out, buf) {
             turns -= 1;
         } else {
             return;

@@ -1,8 +1,7 @@
 // Text is gathered in a buffer, and written out by lines. What doesn't fit is left out, which no line's length comes near.
 use libc::STDOUT_FILENO;
 
-// A buffer that is lent has its length.
-fn put(out: &mut [u8; 65536], at: usize, byte: u8) -> usize {
+pub fn put(out: &mut [u8; 65536], at: usize, byte: u8) -> usize {
     if at < 65536 {
         out[at] = byte;
         return at + 1;
@@ -18,7 +17,7 @@ pub fn text(out: &mut [u8; 65536], at: usize, word: &[u8]) -> usize {
     to
 }
 
-pub fn number(out: &mut [u8; 65536], at: usize, n: u64) -> usize {
+fn number(out: &mut [u8; 65536], at: usize, n: u64) -> usize {
     let mut digits = [0u8; 20];
     let k = io::decimal(n, &mut digits);
     text(out, at, &digits[..k])
@@ -30,6 +29,7 @@ pub fn spaced(out: &mut [u8; 65536], at: usize, n: u64) -> usize {
     number(out, a, n)
 }
 
+// A space, and 1 or 0.
 pub fn flag(out: &mut [u8; 65536], at: usize, b: bool) -> usize {
     if b {
         return text(out, at, b" 1");
@@ -38,10 +38,14 @@ pub fn flag(out: &mut [u8; 65536], at: usize, b: bool) -> usize {
 }
 
 // Writes the first n bytes.
-pub fn flush(out: &mut [u8; 65536], n: usize) {
-    if n <= 65536 {
-        io::write_all(STDOUT_FILENO, &out[..n]);
+fn write(bytes: &[u8], n: usize) {
+    if n <= bytes.len() {
+        io::write_all(STDOUT_FILENO, &bytes[..n]);
     }
+}
+
+pub fn flush(out: &mut [u8; 65536], n: usize) {
+    write(out, n);
 }
 
 // Ends a line; writes what was gathered if it is much.

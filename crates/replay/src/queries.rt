@@ -1,5 +1,7 @@
 // Best at -1, 0, each leave, each leave + 1, the horizon and the horizon + 1, in rising order and once each; then next
 // after each kept journey, at second 0.
+ghost use Prim.Native.Nat.{_≤_};
+use crate::load_lines::least;
 use crate::out;
 use best::Found;
 use load::Load;
@@ -19,41 +21,51 @@ pub fn figures(out: &mut [u8; 65536], at: usize, j: Journey) -> usize {
 }
 
 fn found(out: &mut [u8; 65536], at: usize, f: Found) -> usize {
-    let a = match f {
-        Found::Best(j) => figures(out, at, j),
-        Found::Nothing => out::text(out, at, b" none"),
-    };
-    out::line(out, a)
-}
-
-// The smaller of `least` and `x`, if x is `from` or more.
-fn nearer(least: u32, from: u32, x: u32) -> u32 {
-    if x < from {
-        return least;
+    match f {
+        Found::Best(j) => {
+            let a = figures(out, at, j);
+            out::line(out, a)
+        }
+        Found::Nothing => {
+            let a = out::text(out, at, b" none");
+            out::line(out, a)
+        }
     }
-    if x < least { x } else { least }
 }
 
-// `x` and the second after it.
-fn nearer_both(least: u32, from: u32, x: u16) -> u32 {
-    let a = nearer(least, from, x as u32);
+// The smaller of `soonest` and `x`, if x is `from` or more.
+fn nearer(soonest: u32, from: u32, x: u32) -> u32
+    requires { ⌜ from ≤ soonest ⌝ }
+    ensures { λ r. ⌜ from ≤ r ⌝ }
+{
+    if x < from {
+        return soonest;
+    }
+    if x < soonest { x } else { soonest }
+}
+
+// The same of `x` and the second after it.
+fn nearer_both(soonest: u32, from: u32, x: u16) -> u32
+    requires { ⌜ from ≤ soonest ⌝ }
+    ensures { λ r. ⌜ from ≤ r ⌝ }
+{
+    let a = nearer(soonest, from, x as u32);
     nearer(a, from, x as u32 + 1)
 }
 
 // The first second from `from` on that is asked.
-fn asked(load: Load, from: u32) -> u32 {
-    let kept = load.journeys;
-    let n: usize = if load.journey_count < 64 {
-        load.journey_count
-    } else {
-        64
-    };
-    let mut least = nearer_both(NONE, from, load.horizon);
-    least = nearer(least, from, 0);
+fn asked(kept: [Journey; 64], count: usize, horizon: u16, from: u32) -> u32
+    requires { ⌜ from ≤ 65537 ⌝ }
+    ensures { λ r. ⌜ from ≤ r ⌝ }
+{
+    let n = least(count, 64);
+    let ends = nearer_both(NONE, from, horizon);
+    let mut soonest = nearer(ends, from, 0);
     for i in 0usize..n {
-        least = nearer_both(least, from, kept[i].leave);
+        let j = kept[i];
+        soonest = nearer_both(soonest, from, j.leave);
     }
-    least
+    soonest
 }
 
 fn best_at(out: &mut [u8; 65536], at: usize, load: Load, second: u32) -> usize {
@@ -63,12 +75,13 @@ fn best_at(out: &mut [u8; 65536], at: usize, load: Load, second: u32) -> usize {
 }
 
 pub fn bests(out: &mut [u8; 65536], at: usize, load: Load) -> usize {
+    let kept = load.journeys;
     let a = out::text(out, at, b"best -1");
     let mut to = found(out, a, best::best(load, -1));
-    let mut second = asked(load, 0);
+    let mut second = asked(kept, load.journey_count, load.horizon, 0);
     while second < NONE {
         to = best_at(out, to, load, second);
-        second = asked(load, second + 1);
+        second = asked(kept, load.journey_count, load.horizon, second + 1);
     }
     to
 }
@@ -81,11 +94,7 @@ fn next_of(out: &mut [u8; 65536], at: usize, load: Load, j: Journey) -> usize {
 
 pub fn nexts(out: &mut [u8; 65536], at: usize, load: Load) -> usize {
     let kept = load.journeys;
-    let n: usize = if load.journey_count < 64 {
-        load.journey_count
-    } else {
-        64
-    };
+    let n = least(load.journey_count, 64);
     let mut to = at;
     for i in 0usize..n {
         let j = kept[i];

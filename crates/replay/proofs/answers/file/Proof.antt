@@ -1,0 +1,47 @@
+-- A file that has version 1 has a byte.
+use Rattle.file.proofs.ReadLaws.{version-room}
+use native.Mathlib.Omega.{arith}
+use borrow.Author.Needs.{needs}
+use Rattle.replay.proofs.answers.file.Statement.{statement}
+use Rattle.replay.proofs.answers.file.Tie as tie
+
+version-requires : tie.Need-version-requires
+version-requires c κs = search needs
+
+is-refused-requires : tie.Need-is-refused-requires
+is-refused-requires c κs = search needs
+
+refused-requires : tie.Need-refused-requires
+refused-requires c κs = search needs
+
+returns : tie.Need-returns
+returns c = search needs
+
+sub-records : tie.Need-sub-records
+sub-records c = version-room _ (c .before .before .before .version .ensures) (c .before .before .is-refused .ensures) (c .before .if1 .left)
+
+part-records-start : tie.Need-part-records-start
+part-records-start c = version-room _ (c .before .before .before .version .ensures) (c .before .before .is-refused .ensures) (c .before .if1 .left)
+
+part-records-end : tie.Need-part-records-end
+part-records-end c = search needs
+
+records-requires : tie.Need-records-requires
+records-requires c κs = search needs
+
+returns-2 : tie.Need-returns-2
+returns-2 c = search needs
+
+pub file-spec : {M : Type 1} → statement M
+file-spec =
+    tie.close
+    (tie.spec
+    version-requires
+    is-refused-requires
+    refused-requires
+    returns
+    sub-records
+    part-records-start
+    part-records-end
+    records-requires
+    returns-2)

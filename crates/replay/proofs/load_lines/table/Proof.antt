@@ -1,0 +1,59 @@
+-- The loop ends: it counts up to `n`.
+use Prim.Native.Nat.{_≤_, _-_}
+use native.Mathlib.Omega.{arith}
+use borrow.Author.Needs.{needs}
+use Rattle.replay.proofs.load_lines.table.Statement.{statement}
+use Rattle.replay.proofs.load_lines.table.Tie as tie
+
+abbrev Inv-loop : tie.InvT-loop
+Inv-loop out₀ at count calls n to₀ i₀ out to i = i ≤ n
+
+abbrev μ-loop : tie.MeasureT-loop
+μ-loop out₀ at count calls n to₀ i₀ out to i = n - i
+
+sorted-requires : tie.Need-sorted-requires Inv-loop μ-loop
+sorted-requires c κs = search needs
+
+least-requires : tie.Need-least-requires Inv-loop μ-loop
+least-requires c κs = search needs
+
+loop-holds : tie.Need-loop-holds Inv-loop μ-loop
+loop-holds c = omega arith
+
+mul-c : tie.Need-mul-c Inv-loop μ-loop
+mul-c c = omega arith
+
+array-copy-out-c : tie.Need-array-copy-out-c Inv-loop μ-loop
+array-copy-out-c c = omega arith
+
+call-requires : tie.Need-call-requires Inv-loop μ-loop
+call-requires c κs = search needs
+
+add-i : tie.Need-add-i Inv-loop μ-loop
+add-i c = omega arith
+
+loop-less : tie.Need-loop-less Inv-loop μ-loop
+loop-less c = omega arith
+
+loop-again : tie.Need-loop-again Inv-loop μ-loop
+loop-again c = omega arith
+
+returns : tie.Need-returns Inv-loop μ-loop
+returns c = search needs
+
+pub table-spec : {M : Type 1} → statement M
+table-spec =
+    tie.close
+    (tie.spec
+    Inv-loop
+    μ-loop
+    sorted-requires
+    least-requires
+    loop-holds
+    mul-c
+    array-copy-out-c
+    call-requires
+    add-i
+    loop-less
+    loop-again
+    returns)
