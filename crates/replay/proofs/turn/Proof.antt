@@ -1,7 +1,6 @@
 -- A part is as long as its bounds say.
 use mathlib.Core.Path.{sym}
 use lib.Seq.{length-take-le}
-use native.Mathlib.Omega.{arith}
 use borrow.Author.Needs.{needs}
 use Rattle.replay.proofs.turn.Statement.{statement}
 use Rattle.replay.proofs.turn.Tie as tie
