@@ -1,22 +1,20 @@
 -- Whole records at the start of bytes: enough turns are enough, and bytes may be read in parts.
 use mathlib.Core.Path.{_≡_, refl, sym, ap, _∙_, subst}
-use mathlib.Core.Bool.{Bool, true, false, cond, true≢false, false≢true}
+use mathlib.Core.Bool.{Bool, true, false, cond, false≢true}
 use mathlib.Core.List.{List, [], _∷_, _++_}
-use Prim.Native.Nat.{ℕ, zero, suc, _+_, _-_, _*_, _≤_, _<_}
+use Prim.Native.Nat.{ℕ, zero, suc, _+_, _-_, _≤_}
 use native.Mathlib.Nat.{zero-add, add-assoc}
 use native.Mathlib.Omega.{arith}
-use lib.Dec.{leb}
-use lib.ListN.{length, take, drop, length-append, length-drop}
+use lib.ListN.{length, drop, length-append, length-drop}
 use lib.Seq.{take-append-le, drop-append-le, drop-drop}
 use borrow.Author.Tests.{leb-true, le-leb}
 use Rattle.refusal.specs.declared.Answer.the-variants.{Taken}
 use Rattle.refusal.specs.First.{isRefused}
-use Rattle.fields.specs.Numbers.{byteAt, u16At}
+use Rattle.fields.specs.Numbers.{u16At}
 use Rattle.file.specs.declared.Reader.{Reader}
-use Rattle.file.specs.declared.Took.{Took}
 use Rattle.file.specs.declared.Fed.{Fed}
 use Rattle.file.specs.Record.{recordSpec}
-use Rattle.file.specs.File.{startsWhole, sizeOf, bodyOf, nextSpec, later, fedBy, fedSpec, continued, FedInParts}
+use Rattle.file.specs.File.{startsWhole, sizeOf, bodyOf, later, fedBy, fedSpec, continued, FedInParts}
 
 -- ---- a whole record
 
@@ -59,6 +57,24 @@ fed-turned : (n : ℕ) (r : Reader) (xs : List ℕ)
     → fedBy (suc n) r xs ≡ turned (startsWhole xs) (isRefused (recordSpec r (bodyOf xs) .answer)) r xs (fedBy n (recordSpec r (bodyOf xs) .reader) (drop (sizeOf xs) xs))
 unfolding fedBy turned
 fed-turned n r xs = refl
+
+-- no more than all bytes are used
+fed-by-room : (n : ℕ) (r : Reader) (xs : List ℕ) → fedBy n r xs .used ≤ length xs
+unfolding fedBy turned
+fed-by-room zero r xs = omega arith
+fed-by-room (suc n) r xs = go (startsWhole xs) refl (isRefused (recordSpec r (bodyOf xs) .answer)) (fed-by-room n (recordSpec r (bodyOf xs) .reader) (drop (sizeOf xs) xs))
+  where
+    rest : Fed
+    rest = fedBy n (recordSpec r (bodyOf xs) .reader) (drop (sizeOf xs) xs)
+
+    go : (b : Bool) → startsWhole xs ≡ b → (c : Bool) → rest .used ≤ length (drop (sizeOf xs) xs) → turned b c r xs rest .used ≤ length xs
+    go false e c ih = omega arith
+    go true e true ih = omega arith
+    go true e false ih = let room = whole-room xs e in omega (arith, room, ih, length-drop (sizeOf xs) xs)
+
+pub fed-room : (r : Reader) (xs : List ℕ) → fedSpec r xs .used ≤ length xs
+unfolding fedSpec
+fed-room r xs = fed-by-room (length xs) r xs
 
 -- more turns than bytes make no difference
 fed-enough : (n m : ℕ) (r : Reader) (xs : List ℕ) → length xs ≤ n → length xs ≤ m → fedBy n r xs ≡ fedBy m r xs
@@ -106,10 +122,10 @@ fed-goes-on r (x ∷ xs) e f =
 
 -- ---- in parts
 
-later-zero : (f : Fed) → later 0 f ≡ f
+pub later-zero : (f : Fed) → later 0 f ≡ f
 later-zero f = λ t. record { answer = f .answer; used = zero-add (f .used) t; reader = f .reader }
 
-later-later : (a b : ℕ) (f : Fed) → later a (later b f) ≡ later (a + b) f
+pub later-later : (a b : ℕ) (f : Fed) → later a (later b f) ≡ later (a + b) f
 later-later a b f = λ t. record { answer = f .answer; used = sym (add-assoc a b (f .used)) t; reader = f .reader }
 
 -- the first turn of the whole is that of the part

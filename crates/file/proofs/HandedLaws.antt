@@ -7,13 +7,11 @@ use native.Mathlib.Omega.{arith}
 use lib.Dec.{eqb}
 use lib.ListN.{length, drop, length-drop}
 use Rattle.refusal.specs.declared.Refusal.the-variants.{SettingsRange, ClockRange, RecordLength, RecordKind}
-use Rattle.refusal.specs.declared.Answer.{Answer}
 use Rattle.refusal.specs.declared.Answer.the-variants.{Taken, Refused}
 use Rattle.refusal.specs.First.{firstAnswer, isRefused}
 use Rattle.settings.specs.declared.Settings.{Settings}
 use Rattle.settings.specs.Settings.{overCounts, allNear, settingsTests}
 use Rattle.fields.specs.Records.{settingsIn}
-use Rattle.load.specs.declared.Load.{Load}
 use Rattle.load.specs.Steps.{openAnswer, opened, openSpec}
 use Rattle.load.specs.Sound.{Opens}
 use Rattle.comparison.specs.Steps.{stepped}
@@ -23,7 +21,7 @@ use Rattle.file.specs.declared.Took.{Took}
 use Rattle.file.specs.declared.Fed.{Fed}
 use Rattle.file.specs.Record.{freshReader, stepIn, steppedBy, recordSpec}
 use Rattle.file.specs.File.{startsWhole, sizeOf, bodyOf, versionAnswer, fedSpec, endAnswer, endedBy, readSpec}
-use Rattle.file.specs.Handed.{bodiesBy, bodiesOf, Handed, ReadHands}
+use Rattle.file.specs.Handed.{bodiesBy, ReadHands}
 use Rattle.file.proofs.FedLaws.{none-whole, whole-room, fed-stops, fed-refuses, fed-goes-on}
 use Rattle.file.proofs.RecordLaws.{taken-settled}
 

@@ -3,6 +3,7 @@ use mathlib.Core.Path.{_≡_, refl, sym, ap, _∙_, subst}
 use mathlib.Core.Bool.{Bool, true, false, not, cond, true≢false, false≢true}
 use mathlib.Core.List.{List, _++_}
 use Prim.Native.Nat.{ℕ}
+use borrow.Author.Tests.{not-false}
 use lib.Dec.{eqb}
 use lib.ListN.{length}
 use Rattle.refusal.specs.declared.Refusal.the-variants.{RecordLength, RecordKind}
@@ -10,19 +11,15 @@ use Rattle.refusal.specs.declared.Answer.{Answer}
 use Rattle.refusal.specs.declared.Answer.the-variants.{Taken, Outside, Refused}
 use Rattle.refusal.specs.First.{First, AllFail, firstAnswer, isRefused}
 use Rattle.refusal.proofs.FirstLaws.{answer-is-first, first-append, first-past}
-use Rattle.settings.specs.declared.Settings.{Settings}
-use Rattle.settings.specs.Settings.{settingsTests}
 use Rattle.fields.specs.Numbers.{byteAt}
 use Rattle.fields.specs.Records.{settingsIn}
-use Rattle.load.specs.declared.Load.{Load}
 use Rattle.load.specs.declared.Stepped.{Stepped}
-use Rattle.load.specs.Steps.{openAnswer, opened, openSpec}
-use Rattle.load.specs.Sound.{Opens}
+use Rattle.load.specs.Steps.{opened, openSpec}
 use Rattle.comparison.specs.Steps.{stepped}
 use Rattle.comparison.proofs.Demands.{demand-1}
 use Rattle.file.specs.declared.Reader.{Reader}
 use Rattle.file.specs.declared.Took.{Took}
-use Rattle.file.specs.Record.{kindRight, filled, recordTests, stepIn, steppedBy, settled, recordSpec, causesBy, Answered, RecordAnswered}
+use Rattle.file.specs.Record.{kindRight, filled, recordTests, stepIn, steppedBy, settled, recordSpec, causesBy, RecordAnswered}
 
 refused-not-taken : (a : Answer) → isRefused a ≡ true → a ≡ Taken → ⊥
 refused-not-taken Taken e q = false≢true e
@@ -98,3 +95,25 @@ taken-settled r b k = go (isRefused (firstAnswer (recordTests (r .opened) b))) r
     go false e =
         let f : isRefused (steppedBy r b .answer) ≡ false = sym (ap isRefused (settled-answer r (steppedBy r b))) ∙ sym (ap (λ (t : Took). isRefused (t .answer)) (tested r b false e)) ∙ k in
         (f, ap (λ (t : Took). t .reader) (tested r b false e) ∙ settled-taken r (steppedBy r b) f)
+
+-- ---- one test after another
+
+module _ (r : Reader) (b : List ℕ) {a : Answer} {t : Bool} (a-is : a ≡ firstAnswer (recordTests (r .opened) b)) (t-is : t ≡ isRefused a) where
+  refused-by : {c : Bool} → t ≡ c → isRefused (firstAnswer (recordTests (r .opened) b)) ≡ c
+  refused-by e = ap isRefused (sym a-is) ∙ sym t-is ∙ e
+
+  pub turned-away : t ≡ true → record { answer = a; reader = r } ≡ recordSpec r b
+  turned-away e = ap (λ (x : Answer). record { answer = x; reader = r }) a-is ∙ sym (tested r b true (refused-by e))
+
+  pub is-filled : t ≡ false → filled b ≡ true
+  unfolding recordTests
+  is-filled e = not-false _ (all-fail (r .opened) b (refused-by e) .1 .1 .0)
+
+  module _ {s : Stepped} {u : Bool} (s-is : s ≡ steppedBy r b) (u-is : u ≡ isRefused (s .answer)) (e : t ≡ false) where
+    pub sent-back : u ≡ true → record { answer = s .answer; reader = r } ≡ recordSpec r b
+    unfolding settled
+    sent-back f = sym (tested r b false (refused-by e) ∙ rw (sym s-is, sym u-is ∙ f) refl)
+
+    pub taken : u ≡ false → record { answer = s .answer; reader = record { opened = true; load = s .load } } ≡ recordSpec r b
+    unfolding settled
+    taken f = sym (tested r b false (refused-by e) ∙ rw (sym s-is, sym u-is ∙ f) refl)

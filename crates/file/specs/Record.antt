@@ -13,7 +13,6 @@ use Rattle.fields.specs.Numbers.{byteAt}
 use Rattle.fields.specs.Layout.{textAt, optionTextAt, nameAt, parentAt, settingsFilled, stopFilled, callFilled, ruleFilled, searchFilled}
 use Rattle.fields.specs.Records.{settingsIn, stopIn, callIn, ruleIn}
 use Rattle.settings.specs.Settings.{settingsTests}
-use Rattle.load.specs.declared.Load.{Load}
 use Rattle.load.specs.declared.Stepped.{Stepped}
 use Rattle.load.specs.Load.{emptyLoad, blankSettings}
 use Rattle.load.specs.Steps.{openSpec}

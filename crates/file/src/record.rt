@@ -6,7 +6,7 @@ ghost use Rattle.refusal.specs.First.{firstAnswer};
 ghost use Rattle.fields.specs.Layout.{stopFilled, textAt, optionTextFrom, optionTextAt, nameAt, parentAt};
 ghost use Rattle.fields.specs.Records.{stopIn};
 ghost use Rattle.load.specs.Steps.{stopSpec};
-ghost use Rattle.file.specs.Record.{kindRight, filled, recordTests, steppedBy, settled, recordSpec};
+ghost use Rattle.file.specs.Record.{kindRight, filled, recordTests, steppedBy, recordSpec};
 use crate::Reader;
 use crate::Took;
 use fields::layout::call_filled;
@@ -124,20 +124,6 @@ fn stepped_by(reader: Reader, b: &[u8]) -> Stepped
     Load::open(settings_in(b))
 }
 
-fn settle(reader: Reader, s: Stepped) -> Took
-    ensures { λ r. ⌜ r ≡ settled reader s ⌝ }
-{
-    let answer = s.answer;
-    if is_refused(answer) {
-        return Took { answer, reader };
-    }
-    let load = s.load;
-    Took {
-        answer,
-        reader: Reader { opened: true, load },
-    }
-}
-
 // The body of a record: what follows its length.
 pub fn record(reader: Reader, b: &[u8]) -> Took
     ensures { λ r. ⌜ r ≡ recordSpec reader (now (b .entry)) ⌝ }
@@ -147,5 +133,16 @@ pub fn record(reader: Reader, b: &[u8]) -> Took
         return Took { answer, reader };
     }
     let s = stepped_by(reader, b);
-    settle(reader, s)
+    let told = s.answer;
+    if is_refused(told) {
+        return Took {
+            answer: told,
+            reader,
+        };
+    }
+    let load = s.load;
+    Took {
+        answer: told,
+        reader: Reader { opened: true, load },
+    }
 }

@@ -1,19 +1,22 @@
+-- Bytes that are left, then a file with no record.
+use mathlib.Core.Path.{refl}
+use borrow.Author.Tests.{eq-eqb, ne-eqb}
+use Rattle.refusal.specs.First.{firstAnswer}
+use Rattle.file.specs.File.{endAnswer}
 use Rattle.file.proofs.read.ended.Statement.{statement}
 use Rattle.file.proofs.read.ended.Tie as tie
-use Rattle.file.proofs.read.ended.Reads as reads
-use Rattle.file.proofs.read.ended.Lts as lts
 
--- src/read.rt:101:13
 returns : tie.Need-returns
-returns c = ?
+unfolding endAnswer firstAnswer
+returns c = rw (eq-eqb _ _ (c .before .if1 .taken), c .if2 .taken) refl
 
--- src/read.rt:103:9
 returns-2 : tie.Need-returns-2
-returns-2 c = ?
+unfolding endAnswer firstAnswer
+returns-2 c = rw (eq-eqb _ _ (c .before .if1 .taken), c .if2 .left) refl
 
--- src/read.rt:96:1
 returns-3 : tie.Need-returns-3
-returns-3 c = ?
+unfolding endAnswer firstAnswer
+returns-3 c = rw (ne-eqb _ _ (c .if1 .left)) refl
 
 pub ended-spec : {M : Type 1} → statement M
 ended-spec = tie.close (tie.spec returns returns-2 returns-3)

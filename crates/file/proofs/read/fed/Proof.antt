@@ -1,63 +1,53 @@
+-- What is left of the bytes gives what all of them give; each turn takes two of them or more.
+use Prim.Native.Nat.{_-_}
+use native.Mathlib.Omega.{arith}
+use borrow.Author.Needs.{needs}
+use lib.ListN.{length}
+use Rattle.file.proofs.ReadLaws.{Left, left-first, left-none, left-refused, left-stops, left-on}
 use Rattle.file.proofs.read.fed.Statement.{statement}
 use Rattle.file.proofs.read.fed.Tie as tie
-use Rattle.file.proofs.read.fed.Reads as reads
-use Rattle.file.proofs.read.fed.Lts as lts
-use Rattle.file.proofs.read.next.Reads as next-reads
-use Rattle.refusal.proofs.is_refused.Reads as is-refused-reads
 
 abbrev Inv-loop : tie.InvT-loop
-Inv-loop bytes after₀ at₀ after at = ?
+Inv-loop bytes after₀ at₀ after at = Left after₀ bytes after at
 
 abbrev μ-loop : tie.MeasureT-loop
-μ-loop bytes after₀ at₀ after at = ?
+μ-loop bytes after₀ at₀ after at = length bytes - at
 
--- src/read.rt:66:5
 loop-holds : tie.Need-loop-holds Inv-loop μ-loop
-loop-holds c = ?
+loop-holds c = left-first _ _
 
--- src/read.rt:67:29
 sub-next : tie.Need-sub-next Inv-loop μ-loop
-sub-next c = ?
+sub-next c = omega arith
 
--- src/read.rt:67:29
 part-next-start : tie.Need-part-next-start Inv-loop μ-loop
-part-next-start c = ?
+part-next-start c = omega arith
 
--- src/read.rt:67:29
 part-next-end : tie.Need-part-next-end Inv-loop μ-loop
-part-next-end c = ?
+part-next-end c = search needs
 
--- src/read.rt:67:13
 next-requires : tie.Need-next-requires Inv-loop μ-loop
-next-requires c κs = ?
+next-requires c κs = search needs
 
--- src/read.rt:69:12
 is-refused-requires : tie.Need-is-refused-requires Inv-loop μ-loop
-is-refused-requires c κs = ?
+is-refused-requires c κs = search needs
 
--- src/read.rt:70:13
 returns : tie.Need-returns Inv-loop μ-loop
-returns c = ?
+returns c = left-refused (c .before .before .before .before .before .loop .inv) (c .before .before .next .ensures) (c .before .is-refused .ensures) (c .if1 .taken)
 
--- src/read.rt:78:13
 returns-2 : tie.Need-returns-2 Inv-loop μ-loop
-returns-2 c = ?
+returns-2 c = left-stops (c .before .before .before .before .before .before .loop .inv) (c .before .before .before .next .ensures) (c .before .before .is-refused .ensures) (c .if2 .taken)
 
--- src/read.rt:86:9
 add-at : tie.Need-add-at Inv-loop μ-loop
-add-at c = ?
+add-at c = let room = left-on (c .before .before .before .before .before .before .before .loop .inv) (c .before .before .before .before .next .ensures) (c .before .before .before .is-refused .ensures) (c .before .before .if1 .left) (c .before .if2 .left) .room in omega arith
 
--- src/read.rt:66:5
 loop-less : tie.Need-loop-less Inv-loop μ-loop
-loop-less c = ?
+loop-less c = let room = left-on (c .before .before .before .before .before .before .before .loop .inv) (c .before .before .before .before .next .ensures) (c .before .before .before .is-refused .ensures) (c .before .before .if1 .left) (c .before .if2 .left) .room in omega arith
 
--- src/read.rt:66:5
 loop-again : tie.Need-loop-again Inv-loop μ-loop
-loop-again c = ?
+loop-again c = left-on (c .before .before .before .before .before .before .before .loop .inv) (c .before .before .before .before .next .ensures) (c .before .before .before .is-refused .ensures) (c .before .before .if1 .left) (c .before .if2 .left)
 
--- src/read.rt:61:1
 returns-3 : tie.Need-returns-3 Inv-loop μ-loop
-returns-3 c = ?
+returns-3 c = left-none (c .before .loop .inv) (omega arith)
 
 pub fed-spec : {M : Type 1} → statement M
 fed-spec =

@@ -1,17 +1,22 @@
+-- The empty load of blank settings, not open.
+use mathlib.Core.Path.{ap}
+use mathlib.Core.Bool.{false}
 use borrow.Author.Needs.{needs}
+use Rattle.load.specs.declared.Load.{Load}
+use Rattle.file.specs.declared.Reader.{Reader}
+use Rattle.file.specs.Record.{freshReader}
 use Rattle.file.proofs.read.fresh.Statement.{statement}
 use Rattle.file.proofs.read.fresh.Tie as tie
-use Rattle.file.proofs.read.fresh.Reads as reads
-use Rattle.file.proofs.read.fresh.Lts as lts
-use Rattle.load.proofs.blank.Reads as blank-reads
 
--- src/read.rt:21:9
 blank-requires : tie.Need-blank-requires
 blank-requires c κs = search needs
 
--- src/read.rt:18:1
+closed : Load → Reader
+closed l = record { opened = false; load = l }
+
 returns : tie.Need-returns
-returns c = ?
+unfolding freshReader closed
+returns c = ap closed (c .blank .ensures)
 
 pub fresh-spec : {M : Type 1} → statement M
 fresh-spec = tie.close (tie.spec blank-requires returns)

@@ -1,46 +1,35 @@
+-- By whether the record is there whole.
+use Rattle.file.proofs.ReadLaws.{next-whole, next-none}
 use borrow.Author.Needs.{needs}
 use Rattle.file.proofs.read.next.Statement.{statement}
 use Rattle.file.proofs.read.next.Tie as tie
-use Rattle.file.proofs.read.next.Reads as reads
-use Rattle.file.proofs.read.next.Lts as lts
-use Rattle.fields.proofs.layout.length_of.Reads as length-of-reads
-use Rattle.file.proofs.record.record.Reads as record-reads
 
--- src/read.rt:42:19
 length-of-requires : tie.Need-length-of-requires
 length-of-requires c κs = search needs
 
--- src/read.rt:42:19
 cast-end : tie.Need-cast-end
 cast-end c = search needs
 
--- src/read.rt:42:15
 add-end : tie.Need-add-end
 add-end c = search needs
 
--- src/read.rt:44:32
 sub-record : tie.Need-sub-record
 sub-record c = search needs
 
--- src/read.rt:44:32
 part-record-start : tie.Need-part-record-start
 part-record-start c = search needs
 
--- src/read.rt:44:32
 part-record-end : tie.Need-part-record-end
 part-record-end c = search needs
 
--- src/read.rt:44:13
 record-requires : tie.Need-record-requires
 record-requires c κs = search needs
 
--- src/read.rt:47:9
 returns : tie.Need-returns
-returns c = ?
+returns c = next-whole _ _ (c .before .before .before .before .length-of .ensures) (c .before .before .before .if1 .taken) (c .before .«record» .ensures)
 
--- src/read.rt:39:1
 returns-2 : tie.Need-returns-2
-returns-2 c = ?
+returns-2 c = next-none _ _ (c .before .length-of .ensures) (c .if1 .left)
 
 pub next-spec : {M : Type 1} → statement M
 next-spec =

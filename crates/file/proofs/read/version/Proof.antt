@@ -1,21 +1,21 @@
+-- By byte 0.
+use mathlib.Core.Path.{refl, sym, _∙_}
+use borrow.Author.Tests.{eq-eqb, ne-eqb}
 use borrow.Author.Needs.{needs}
+use Rattle.file.specs.File.{versionAnswer}
 use Rattle.file.proofs.read.version.Statement.{statement}
 use Rattle.file.proofs.read.version.Tie as tie
-use Rattle.file.proofs.read.version.Reads as reads
-use Rattle.file.proofs.read.version.Lts as lts
-use Rattle.fields.proofs.layout.kind_of.Reads as kind-of-reads
 
--- src/read.rt:32:8
 kind-of-requires : tie.Need-kind-of-requires
 kind-of-requires c κs = search needs
 
--- src/read.rt:33:9
 returns : tie.Need-returns
-returns c = ?
+unfolding versionAnswer
+returns c = rw (eq-eqb _ _ (sym (c .before .kind-of .ensures) ∙ c .if1 .taken)) refl
 
--- src/read.rt:29:1
 returns-2 : tie.Need-returns-2
-returns-2 c = ?
+unfolding versionAnswer
+returns-2 c = rw (ne-eqb _ _ (λ e. c .if1 .left (c .before .kind-of .ensures ∙ e))) refl
 
 pub version-spec : {M : Type 1} → statement M
 version-spec = tie.close (tie.spec kind-of-requires returns returns-2)

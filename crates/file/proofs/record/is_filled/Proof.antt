@@ -1,58 +1,43 @@
+-- By the kind.
+use mathlib.Core.Path.{sym, _∙_}
+use Rattle.file.proofs.KindLaws.{filled-settings, filled-stop, filled-call, filled-rule, filled-search}
 use borrow.Author.Needs.{needs}
 use Rattle.file.proofs.record.is_filled.Statement.{statement}
 use Rattle.file.proofs.record.is_filled.Tie as tie
-use Rattle.file.proofs.record.is_filled.Reads as reads
-use Rattle.file.proofs.record.is_filled.Lts as lts
-use Rattle.fields.proofs.layout.call_filled.Reads as call-filled-reads
-use Rattle.fields.proofs.layout.kind_of.Reads as kind-of-reads
-use Rattle.fields.proofs.layout.rule_filled.Reads as rule-filled-reads
-use Rattle.fields.proofs.layout.search_filled.Reads as search-filled-reads
-use Rattle.fields.proofs.layout.settings_filled.Reads as settings-filled-reads
-use Rattle.fields.proofs.layout.stop_filled.Reads as stop-filled-reads
 
--- src/record.rt:48:9
 kind-of-requires : tie.Need-kind-of-requires
 kind-of-requires c κs = search needs
 
--- src/record.rt:50:9
 settings-filled-requires : tie.Need-settings-filled-requires
 settings-filled-requires c κs = search needs
 
--- src/record.rt:50:9
 returns : tie.Need-returns
-returns c = ?
+returns c = c .settings-filled .ensures ∙ sym (filled-settings _ (sym (c .before .before .kind-of .ensures) ∙ c .before .if1 .taken))
 
--- src/record.rt:53:9
 stop-filled-requires : tie.Need-stop-filled-requires
 stop-filled-requires c κs = search needs
 
--- src/record.rt:53:9
 returns-2 : tie.Need-returns-2
-returns-2 c = ?
+returns-2 c = c .stop-filled .ensures ∙ sym (filled-stop _ (sym (c .before .before .before .kind-of .ensures) ∙ c .before .if2 .taken))
 
--- src/record.rt:56:9
 call-filled-requires : tie.Need-call-filled-requires
 call-filled-requires c κs = search needs
 
--- src/record.rt:56:9
 returns-3 : tie.Need-returns-3
-returns-3 c = ?
+returns-3 c = c .call-filled .ensures ∙ sym (filled-call _ (sym (c .before .before .before .before .kind-of .ensures) ∙ c .before .if3 .taken))
 
--- src/record.rt:59:9
 rule-filled-requires : tie.Need-rule-filled-requires
 rule-filled-requires c κs = search needs
 
--- src/record.rt:59:9
 returns-4 : tie.Need-returns-4
-returns-4 c = ?
+returns-4 c = c .rule-filled .ensures ∙ sym (filled-rule _ (sym (c .before .before .before .before .before .kind-of .ensures) ∙ c .before .if4 .taken))
 
--- src/record.rt:61:5
 search-filled-requires : tie.Need-search-filled-requires
 search-filled-requires c κs = search needs
 
--- src/record.rt:45:1
 returns-5 : tie.Need-returns-5
-returns-5 c = ?
+returns-5 c = let kind = c .before .before .before .before .before .kind-of .ensures in
+    c .search-filled .ensures ∙ sym (filled-search _ (λ e. c .before .before .before .before .if1 .left (kind ∙ e)) (λ e. c .before .before .before .if2 .left (kind ∙ e)) (λ e. c .before .before .if3 .left (kind ∙ e)) (λ e. c .before .if4 .left (kind ∙ e)))
 
 pub is-filled-spec : {M : Type 1} → statement M
 is-filled-spec =

@@ -1,36 +1,29 @@
+-- The record's tests, then the load's answer.
 use borrow.Author.Needs.{needs}
+use Rattle.file.proofs.RecordLaws.{turned-away, is-filled, sent-back, taken}
 use Rattle.file.proofs.record.record.Statement.{statement}
 use Rattle.file.proofs.record.record.Tie as tie
-use Rattle.file.proofs.record.record.Reads as reads
-use Rattle.file.proofs.record.record.Lts as lts
-use Rattle.file.proofs.record.record_answer.Reads as record-answer-reads
-use Rattle.file.proofs.record.settle.Reads as settle-reads
-use Rattle.file.proofs.record.stepped_by.Reads as stepped-by-reads
-use Rattle.refusal.proofs.is_refused.Reads as is-refused-reads
 
--- src/record.rt:145:9
 record-answer-requires : tie.Need-record-answer-requires
 record-answer-requires c κs = search needs
 
--- src/record.rt:146:8
 is-refused-requires : tie.Need-is-refused-requires
 is-refused-requires c κs = search needs
 
--- src/record.rt:147:9
 returns : tie.Need-returns
-returns c = ?
+returns c = turned-away _ _ (c .before .before .record-answer .ensures) (c .before .is-refused .ensures) (c .if1 .taken)
 
--- src/record.rt:149:9
 stepped-by-requires : tie.Need-stepped-by-requires
-stepped-by-requires c κs = ?
+stepped-by-requires c κs = is-filled (c .before .before .before .before .args .reader) _ (c .before .before .record-answer .ensures) (c .before .is-refused .ensures) (c .if1 .left)
 
--- src/record.rt:150:5
-settle-requires : tie.Need-settle-requires
-settle-requires c κs = search needs
+is-refused-requires-2 : tie.Need-is-refused-requires-2
+is-refused-requires-2 c κs = search needs
 
--- src/record.rt:142:1
 returns-2 : tie.Need-returns-2
-returns-2 c = ?
+returns-2 c = sent-back _ _ (c .before .before .before .before .before .record-answer .ensures) (c .before .before .before .before .is-refused .ensures) (c .before .before .stepped-by .ensures) (c .before .is-refused2 .ensures) (c .before .before .before .if1 .left) (c .if2 .taken)
+
+returns-3 : tie.Need-returns-3
+returns-3 c = taken _ _ (c .before .before .before .before .before .before .record-answer .ensures) (c .before .before .before .before .before .is-refused .ensures) (c .before .before .before .stepped-by .ensures) (c .before .before .is-refused2 .ensures) (c .before .before .before .before .if1 .left) (c .before .if2 .left)
 
 pub record-spec : {M : Type 1} → statement M
 record-spec =
@@ -40,5 +33,6 @@ record-spec =
     is-refused-requires
     returns
     stepped-by-requires
-    settle-requires
-    returns-2)
+    is-refused-requires-2
+    returns-2
+    returns-3)

@@ -1,73 +1,52 @@
+-- By the kind, once a load is open.
+use mathlib.Core.Path.{sym, _∙_}
+use Rattle.file.proofs.KindLaws.{filled-stop, stepped-settings, stepped-stop, stepped-call, stepped-rule, stepped-search}
 use borrow.Author.Needs.{needs}
 use Rattle.file.proofs.record.stepped_by.Statement.{statement}
 use Rattle.file.proofs.record.stepped_by.Tie as tie
-use Rattle.file.proofs.record.stepped_by.Reads as reads
-use Rattle.file.proofs.record.stepped_by.Lts as lts
-use Rattle.fields.proofs.layout.kind_of.Reads as kind-of-reads
-use Rattle.fields.proofs.records.call_in.Reads as call-in-reads
-use Rattle.fields.proofs.records.rule_in.Reads as rule-in-reads
-use Rattle.fields.proofs.records.settings_in.Reads as settings-in-reads
-use Rattle.file.proofs.record.stop_record.Reads as stop-record-reads
-use Rattle.load.proofs.Load.call.Reads as call-reads
-use Rattle.load.proofs.Load.open.Reads as open-reads
-use Rattle.load.proofs.Load.rule.Reads as rule-reads
-use Rattle.search.proofs.search.Reads as search-reads
 
--- src/record.rt:112:13
 kind-of-requires : tie.Need-kind-of-requires
 kind-of-requires c κs = search needs
 
--- src/record.rt:114:13
 stop-record-requires : tie.Need-stop-record-requires
-stop-record-requires c κs = ?
+stop-record-requires c κs = sym (filled-stop _ (sym (c .before .kind-of .ensures) ∙ c .if2 .taken)) ∙ c .before .before .before .before .before .pre
 
--- src/record.rt:114:13
 returns : tie.Need-returns
-returns c = ?
+returns c = stepped-stop _ _ (c .before .before .before .if1 .taken) (sym (c .before .before .kind-of .ensures) ∙ c .before .if2 .taken) (c .stop-record .ensures)
 
--- src/record.rt:117:30
 call-in-requires : tie.Need-call-in-requires
 call-in-requires c κs = search needs
 
--- src/record.rt:117:13
 call-requires : tie.Need-call-requires
 call-requires c κs = search needs
 
--- src/record.rt:117:13
 returns-2 : tie.Need-returns-2
-returns-2 c = ?
+returns-2 c = stepped-call _ _ (c .before .before .before .before .before .if1 .taken) (sym (c .before .before .before .before .kind-of .ensures) ∙ c .before .before .if3 .taken) (c .before .call-in .ensures) (c .call .ensures)
 
--- src/record.rt:120:30
 rule-in-requires : tie.Need-rule-in-requires
 rule-in-requires c κs = search needs
 
--- src/record.rt:120:13
 rule-requires : tie.Need-rule-requires
 rule-requires c κs = search needs
 
--- src/record.rt:120:13
 returns-3 : tie.Need-returns-3
-returns-3 c = ?
+returns-3 c = stepped-rule _ _ (c .before .before .before .before .before .before .if1 .taken) (sym (c .before .before .before .before .before .kind-of .ensures) ∙ c .before .before .if4 .taken) (c .before .rule-in .ensures) (c .rule .ensures)
 
--- src/record.rt:122:9
 search-requires : tie.Need-search-requires
 search-requires c κs = search needs
 
--- src/record.rt:122:9
 returns-4 : tie.Need-returns-4
-returns-4 c = ?
+returns-4 c = let kind = c .before .before .before .before .kind-of .ensures in
+    stepped-search _ _ (c .before .before .before .before .before .if1 .taken) (λ e. c .before .before .before .if2 .left (kind ∙ e)) (λ e. c .before .before .if3 .left (kind ∙ e)) (λ e. c .before .if4 .left (kind ∙ e)) (c .search .ensures)
 
--- src/record.rt:124:16
 settings-in-requires : tie.Need-settings-in-requires
 settings-in-requires c κs = search needs
 
--- src/record.rt:124:5
 open-requires : tie.Need-open-requires
 open-requires c κs = search needs
 
--- src/record.rt:106:1
 returns-5 : tie.Need-returns-5
-returns-5 c = ?
+returns-5 c = stepped-settings _ _ (c .before .before .if1 .left) (c .before .settings-in .ensures) (c .«open» .ensures)
 
 pub stepped-by-spec : {M : Type 1} → statement M
 stepped-by-spec =

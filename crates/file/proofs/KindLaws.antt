@@ -1,0 +1,61 @@
+-- What a record's kind decides: which fields fill it, and what it hands in.
+use mathlib.Core.Path.{_≡_, refl, _∙_}
+use mathlib.Core.Bool.{true, false}
+use mathlib.Core.List.{List}
+use Prim.Native.Nat.{ℕ}
+use borrow.Author.Tests.{ne-eqb}
+use Rattle.settings.specs.declared.Settings.{Settings}
+use Rattle.calls.specs.declared.CallInput.{CallInput}
+use Rattle.rules.specs.declared.RuleInput.{RuleInput}
+use Rattle.load.specs.declared.Stepped.{Stepped}
+use Rattle.fields.specs.Numbers.{byteAt}
+use Rattle.fields.specs.Layout.{textAt, optionTextAt, nameAt, parentAt, settingsFilled, stopFilled, callFilled, ruleFilled, searchFilled}
+use Rattle.fields.specs.Records.{settingsIn, stopIn, callIn, ruleIn}
+use Rattle.load.specs.Steps.{openSpec, stopSpec, callSpec, ruleSpec}
+use Rattle.search.specs.Search.{searchSpec}
+use Rattle.file.specs.declared.Reader.{Reader}
+use Rattle.file.specs.Record.{filled, stepIn, steppedBy}
+
+module _ (b : List ℕ) where
+  pub filled-settings : byteAt b 0 ≡ 1 → filled b ≡ settingsFilled b
+  unfolding filled
+  filled-settings e = rw e refl
+
+  pub filled-stop : byteAt b 0 ≡ 2 → filled b ≡ stopFilled b
+  unfolding filled
+  filled-stop e = rw e refl
+
+  pub filled-call : byteAt b 0 ≡ 3 → filled b ≡ callFilled b
+  unfolding filled
+  filled-call e = rw e refl
+
+  pub filled-rule : byteAt b 0 ≡ 4 → filled b ≡ ruleFilled b
+  unfolding filled
+  filled-rule e = rw e refl
+
+  pub filled-search : (byteAt b 0 ≡ 1 → ⊥) → (byteAt b 0 ≡ 2 → ⊥) → (byteAt b 0 ≡ 3 → ⊥) → (byteAt b 0 ≡ 4 → ⊥) → filled b ≡ searchFilled b
+  unfolding filled
+  filled-search n1 n2 n3 n4 = rw (ne-eqb _ _ n1, ne-eqb _ _ n2, ne-eqb _ _ n3, ne-eqb _ _ n4) refl
+
+-- a step of the load, by the kind of the record that hands it in
+module _ (r : Reader) (b : List ℕ) where
+  pub stepped-settings : {s : Stepped} {i : Settings} → r .opened ≡ false → i ≡ settingsIn b → s ≡ openSpec i → s ≡ steppedBy r b
+  unfolding steppedBy
+  stepped-settings o q e = e ∙ rw (o, q) refl
+
+  pub stepped-stop : {s : Stepped} → r .opened ≡ true → byteAt b 0 ≡ 2
+      → s ≡ stopSpec (r .load) (textAt b 1) (optionTextAt b (nameAt b)) (optionTextAt b (parentAt b)) (stopIn b) → s ≡ steppedBy r b
+  unfolding steppedBy stepIn
+  stepped-stop o k e = e ∙ rw (o, k) refl
+
+  pub stepped-call : {s : Stepped} {i : CallInput} → r .opened ≡ true → byteAt b 0 ≡ 3 → i ≡ callIn b → s ≡ callSpec (r .load) i → s ≡ steppedBy r b
+  unfolding steppedBy stepIn
+  stepped-call o k q e = e ∙ rw (o, k, q) refl
+
+  pub stepped-rule : {s : Stepped} {i : RuleInput} → r .opened ≡ true → byteAt b 0 ≡ 4 → i ≡ ruleIn b → s ≡ ruleSpec (r .load) i → s ≡ steppedBy r b
+  unfolding steppedBy stepIn
+  stepped-rule o k q e = e ∙ rw (o, k, q) refl
+
+  pub stepped-search : {s : Stepped} → r .opened ≡ true → (byteAt b 0 ≡ 2 → ⊥) → (byteAt b 0 ≡ 3 → ⊥) → (byteAt b 0 ≡ 4 → ⊥) → s ≡ searchSpec (r .load) → s ≡ steppedBy r b
+  unfolding steppedBy stepIn
+  stepped-search o n2 n3 n4 e = e ∙ rw (o, ne-eqb _ _ n2, ne-eqb _ _ n3, ne-eqb _ _ n4) refl
