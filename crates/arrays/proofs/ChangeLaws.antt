@@ -2,8 +2,7 @@
 use mathlib.Core.Path.{_≡_, refl, sym, ap, _∙_}
 use mathlib.Core.Bool.{Bool, true, false}
 use mathlib.Core.List.{List}
-use Prim.Native.Nat.{ℕ, suc, _+_, _*_, _≤_, _<_}
-use native.Mathlib.Nat.{mul-le-mul-right}
+use Prim.Native.Nat.{ℕ, _+_, _*_, _<_}
 use native.Mathlib.Omega.{arith}
 use borrow.Author.Tests.{eqb-true, eqb-false}
 use lib.Dec.{eqb}
@@ -15,7 +14,7 @@ use Rattle.rules.specs.declared.Rule.{Rule}
 use Rattle.transfer.specs.Rows.{entryOf, changeRow}
 use Rattle.arrays.specs.Regions.{Region}
 use Rattle.arrays.specs.Named.{stopIn, Marked}
-use Rattle.arrays.proofs.RegionLaws.{region-as}
+use Rattle.arrays.proofs.RegionLaws.{region-as, block-below}
 
 pub row-region : (rules : List Rule) (parents places : List ℕ) (from change a : ℕ) (row first last : List ℕ) → row ≡ changeRow rules parents places from change
     → Region (λ k. getD row k 0) a 128 first last → Region (entryOf rules parents places from change) a 128 first last
@@ -51,10 +50,4 @@ RowsTo w f marks n l = (i k : ℕ) → i < n → getD marks i 0 ≡ 1 → k < w 
 
 pub rows-more : (w : ℕ) (f : ℕ → ℕ → ℕ) (marks l m : List ℕ) (n : ℕ) → RowsTo w f marks n l → Marked (getD marks n 0) (f n) (n * w) w l m → RowsTo w f marks (n + 1) m
 rows-more w f marks l m n g r =
-    λ i k h. below-cases (λ (j : ℕ). getD marks j 0 ≡ 1 → k < w → getD m (j * w + k) 0 ≡ f j k) n i h (λ u on b. r .low (i * w + k) (under i k u b) ∙ g i k u on b) (λ on b. r .here on k b)
-  where
-    under : (i k : ℕ) → i < n → k < w → i * w + k < n * w
-    under i k u b =
-        let e : suc i * w ≤ n * w = mul-le-mul-right w u in
-        let q : suc i * w ≡ i * w + w = omega arith in
-        omega arith
+    λ i k h. below-cases (λ (j : ℕ). getD marks j 0 ≡ 1 → k < w → getD m (j * w + k) 0 ≡ f j k) n i h (λ u on b. r .low (i * w + k) (block-below w i k n u b) ∙ g i k u on b) (λ on b. r .here on k b)

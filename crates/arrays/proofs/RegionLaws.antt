@@ -56,6 +56,13 @@ region-puts l a v vs h = record {
         let e : a + suc k ≡ a + (1 + k) = omega arith in
         rw e (puts-in vs (set l a v) a 1 k (omega arith) (omega (arith, length-set l a v)))
 
+-- a place of a block is before the later blocks
+pub block-below : (w i k n : ℕ) → i < n → k < w → i * w + k < n * w
+block-below w i k n u b =
+    let e : suc i * w ≤ n * w = mul-le-mul-right w u in
+    let q : suc i * w ≡ i * w + w = omega arith in
+    omega arith
+
 module _ (w : ℕ) (f : ℕ → ℕ → ℕ) (first : List ℕ) where
   pub blocks-none : Blocks w f 0 first first
   blocks-none = record { long = refl; here = λ i k h b. absurd (omega arith); high = λ x h. refl }
@@ -68,15 +75,9 @@ module _ (w : ℕ) (f : ℕ → ℕ → ℕ) (first : List ℕ) where
   pub blocks-more : (l m : List ℕ) (n : ℕ) → Blocks w f n first l → Region (f n) (n * w) w l m → Blocks w f (n + 1) first m
   blocks-more l m n s r = record {
     long = r .long ∙ s .long;
-    here = λ i k h b. below-cases (λ (j : ℕ). getD m (j * w + k) 0 ≡ f j k) n i h (λ u. r .low (i * w + k) (under i k u b) ∙ s .here i k u b) (r .here k b);
+    here = λ i k h b. below-cases (λ (j : ℕ). getD m (j * w + k) 0 ≡ f j k) n i h (λ u. r .low (i * w + k) (block-below w i k n u b) ∙ s .here i k u b) (r .here k b);
     high = λ x h. r .high x (omega (arith, next)) ∙ s .high x (omega (arith, next));
   }
     where
       next : (n + 1) * w ≡ n * w + w
       next = omega arith
-
-      under : (i k : ℕ) → i < n → k < w → i * w + k < n * w
-      under i k u b =
-          let e : suc i * w ≤ n * w = mul-le-mul-right w u in
-          let q : suc i * w ≡ i * w + w = omega arith in
-          omega arith

@@ -52,7 +52,7 @@ fn trimmed(call: Call, h: u16) -> Call
         departure: h,
         board: false,
         alight: call.alight,
-        board_request: false,
+        board_request: false, // the mark goes with it
         alight_request: call.alight_request,
     }
 }

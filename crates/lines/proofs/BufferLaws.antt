@@ -1,6 +1,6 @@
 -- Puts one after the other; what stands at the start of the buffer after a put from its start.
 use mathlib.Core.Path.{_≡_, refl, sym, ap, _∙_}
-use mathlib.Core.List.{List, [], _∷_, _++_, append-nil}
+use mathlib.Core.List.{List, [], _∷_, _++_, append-nil, append-assoc}
 use Prim.Native.Nat.{ℕ, suc, _+_, _*_, _≤_, _<_}
 use native.Mathlib.Nat.{mul-suc}
 use native.Mathlib.Numerals.{add-one}
@@ -29,26 +29,25 @@ module _ {m k a b c : ℕ} {xs ys l₀ l₁ l₂ : List ℕ} where
 pub put-none : (l : List ℕ) (at : ℕ) → Put 0 [] at l at l
 put-none l at = record { stored = refl; behind = omega arith; small = omega arith }
 
--- the place behind is at most so far
-pub put-end : {m a b : ℕ} {xs l₀ l₁ : List ℕ} → Put m xs a l₀ b l₁ → b ≤ a + m
-put-end p = omega (arith, p .behind, p .small)
-
 -- the same bytes, written otherwise
 pub put-as : {m a b : ℕ} {xs ys l₀ l₁ : List ℕ} → xs ≡ ys → Put m xs a l₀ b l₁ → Put m ys a l₀ b l₁
 put-as e p = rw e at p
+
+-- three pieces in one put, and what follows
+pub put-three-then : {m k a b c : ℕ} (xs ys zs : List ℕ) {ws l₀ l₁ l₂ : List ℕ} → Put m (xs ++ (ys ++ zs)) a l₀ b l₁ → Put k ws b l₁ c l₂ → Put (m + k) (xs ++ (ys ++ (zs ++ ws))) a l₀ c l₂
+put-three-then xs ys zs p q = put-as (simp append-assoc) (put-then p q)
 
 -- another bound
 pub put-within : {m a b : ℕ} {xs l₀ l₁ : List ℕ} (k : ℕ) → length xs ≤ k → Put m xs a l₀ b l₁ → Put k xs a l₀ b l₁
 put-within k h p = record { stored = p .stored; behind = p .behind; small = h }
 
--- the pieces of one element more, at most k bytes each
-pub put-turn : {A : Type 0} (f : A → List ℕ) (k : ℕ) (d : A) {a b c : ℕ} {l₀ l₁ l₂ : List ℕ} (xs : List A) (i : ℕ) → i < length xs
-    → Put (k * i) (concatMap f (take i xs)) a l₀ b l₁ → Put k (f (getD xs i d)) b l₁ c l₂
-    → Put (k * (i + 1)) (concatMap f (take (i + 1) xs)) a l₀ c l₂
-put-turn f k d xs i h p q =
-    let e : concatMap f (take (suc i) xs) ≡ concatMap f (take i xs) ++ f (getD xs i d) =
-    rw (take-suc xs i d h) (concatMap-append f (take i xs) (getD xs i d ∷ []) ∙ ap (λ (r : List ℕ). concatMap f (take i xs) ++ r) (append-nil (f (getD xs i d)))) in
-    rw (add-one i, mul-suc k i, e) (put-then p q)
+module _ {A : Type 0} (f : A → List ℕ) (xs : List A) (i : ℕ) (d : A) (h : i < length xs) where
+  pieces-more : concatMap f (take (suc i) xs) ≡ concatMap f (take i xs) ++ f (getD xs i d)
+  pieces-more = rw (take-suc xs i d h) (concatMap-append f (take i xs) (getD xs i d ∷ []) ∙ ap (λ (r : List ℕ). concatMap f (take i xs) ++ r) (append-nil (f (getD xs i d))))
+
+  -- the pieces of one element more, at most k bytes each
+  pub put-turn : {k a b c : ℕ} {l₀ l₁ l₂ : List ℕ} → Put (k * i) (concatMap f (take i xs)) a l₀ b l₁ → Put k (f (getD xs i d)) b l₁ c l₂ → Put (k * (i + 1)) (concatMap f (take (i + 1) xs)) a l₀ c l₂
+  put-turn {k} p q = rw (add-one i, mul-suc k i, pieces-more) (put-then p q)
 
 -- the pieces are the bytes themselves
 pub each-byte : (xs : List ℕ) → concatMap (λ (x : ℕ). x ∷ []) xs ≡ xs

@@ -1,6 +1,6 @@
 // Bytes put into a buffer, one after the other. These functions are the crate's own: each asks for the room that it needs.
 ghost use mathlib.Core.Path.{_≡_};
-ghost use mathlib.Core.List.{[], _∷_};
+ghost use mathlib.Core.List.{[], _∷_, _++_};
 ghost use Prim.Native.Nat.{_+_, _<_, _≤_};
 ghost use lib.ListN.{length, take};
 ghost use Rattle.laws.specs.Lists.{concatMap};
@@ -51,7 +51,7 @@ fn put_spaced(out: &mut [u8; 4096], at: usize, n: u16) -> usize
     put_decimal(out, from, n)
 }
 
-// A word of seven bytes, as they all are.
+// A word. Each of them has seven bytes.
 fn put_word(out: &mut [u8; 4096], at: usize, word: [u8; 7]) -> usize
     requires { ⌜ at + 7 ≤ 4096 ⌝ }
     ensures { λ r. ⌜ Put 7 word at (now (out .entry)) r (now (out .exit)) ⌝ }
@@ -65,18 +65,24 @@ fn put_word(out: &mut [u8; 4096], at: usize, word: [u8; 7]) -> usize
     to
 }
 
+// Three such.
+fn put_three(out: &mut [u8; 4096], at: usize, x: u16, y: u16, z: u16) -> usize
+    requires { ⌜ at + 18 ≤ 4096 ⌝ }
+    ensures { λ r. ⌜ Put 18 (spaced x ++ (spaced y ++ spaced z)) at (now (out .entry)) r (now (out .exit)) ⌝ }
+{
+    let a = put_spaced(out, at, x);
+    let b = put_spaced(out, a, y);
+    put_spaced(out, b, z)
+}
+
 fn journey_line(out: &mut [u8; 4096], at: usize, j: Journey) -> usize
     requires { ⌜ at + 44 ≤ 4096 ⌝ }
     ensures { λ r. ⌜ Put 44 (journeyLine j) at (now (out .entry)) r (now (out .exit)) ⌝ }
 {
     let a = put_word(out, at, *b"journey");
-    let b = put_spaced(out, a, j.leave);
-    let c = put_spaced(out, b, j.arrival);
-    let d = put_spaced(out, c, j.rides as u16);
-    let e = put_spaced(out, d, j.walk as u16);
-    let f = put_spaced(out, e, j.origin as u16);
-    let g = put_spaced(out, f, j.target as u16);
-    put_byte(out, g, b'\n')
+    let b = put_three(out, a, j.leave, j.arrival, j.rides as u16);
+    let c = put_three(out, b, j.walk as u16, j.origin as u16, j.target as u16);
+    put_byte(out, c, b'\n')
 }
 
 // A line for each of the first `count` journeys, from the start of the buffer.

@@ -1,12 +1,18 @@
 -- The three tests, in their order.
-use mathlib.Core.Path.{sym, ap, _∙_}
+use mathlib.Core.Path.{_≡_, sym, ap, _∙_}
+use mathlib.Core.Bool.{true}
 use Prim.Native.Nat.{ℕ, _+_}
 use borrow.Author.Tests.{eq-eqb, ne-eqb}
+use lib.Dec.{eqb}
+use lib.ListN.{length}
 use Rattle.laws.proofs.Bools.{and-by, and-not}
-use Rattle.fields.specs.Layout.{markAt, callFilled}
+use Rattle.fields.specs.Layout.{markAt, pickupAt, callFilled}
 use borrow.Author.Needs.{needs}
 use Rattle.fields.proofs.layout.call_filled.Statement.{statement}
 use Rattle.fields.proofs.layout.call_filled.Tie as tie
+
+ends : (c : tie.Then1) → eqb (pickupAt (c .before .before .before .args .b .now) + 2) (length (c .before .before .before .args .b .now)) ≡ true
+ends c = eq-eqb _ _ (ap (λ (n : ℕ). n + 2) (sym (c .before .pickup-at .ensures .0)) ∙ c .if1 .taken)
 
 pickup-at-requires : tie.Need-pickup-at-requires
 pickup-at-requires c κs = search needs
@@ -25,16 +31,15 @@ mark-at-requires-2 c κs = search needs
 
 returns : tie.Need-returns
 unfolding callFilled
-returns c = let b = c .before .before .before .before .before .before .before .args .b .now in
+returns c =
     c .mark-at2 .ensures
-    ∙ ap (markAt b) (c .before .departure-at .ensures .0)
+    ∙ ap (markAt (c .before .before .before .before .before .before .before .args .b .now)) (c .before .departure-at .ensures .0)
     ∙ sym (and-by _ (sym (c .before .before .before .mark-at .ensures) ∙ c .before .before .if2 .taken))
-    ∙ sym (and-by _ (eq-eqb _ _ (ap (λ (n : ℕ). n + 2) (sym (c .before .before .before .before .before .pickup-at .ensures .0)) ∙ c .before .before .before .before .if1 .taken)))
+    ∙ sym (and-by _ (ends (c .before .before .before .before)))
 
 returns-2 : tie.Need-returns-2
 unfolding callFilled
-returns-2 c = sym (and-not _ (sym (c .before .mark-at .ensures) ∙ c .if2 .left))
-    ∙ sym (and-by _ (eq-eqb _ _ (ap (λ (n : ℕ). n + 2) (sym (c .before .before .before .pickup-at .ensures .0)) ∙ c .before .before .if1 .taken)))
+returns-2 c = sym (and-not _ (sym (c .before .mark-at .ensures) ∙ c .if2 .left)) ∙ sym (and-by _ (ends (c .before .before)))
 
 returns-3 : tie.Need-returns-3
 unfolding callFilled

@@ -40,7 +40,7 @@ loop-less c = search needs
 loop-again : tie.Need-loop-again Inv-loop μ-loop
 loop-again c =
     let L = c .before .before .before .before .loop in
-    (omega arith, L .inv .1, L .inv .2, put-turn journeyLine 44 _ _ (L .i) (omega arith) (L .inv .3) (c .journey-line .ensures))
+    (omega arith, L .inv .1, L .inv .2, put-turn journeyLine _ (L .i) _ (omega arith) (L .inv .3) (c .journey-line .ensures))
 
 returns : tie.Need-returns Inv-loop μ-loop
 returns c =

@@ -36,7 +36,7 @@ loop-less c = search needs
 loop-again : tie.Need-loop-again Inv-loop μ-loop
 loop-again c =
     let L = c .before .before .before .loop in
-    (omega arith, L .inv .1, put-turn (λ (x : ℕ). x ∷ []) 1 0 _ (L .i) (omega arith) (L .inv .2) (c .put-byte .ensures))
+    (omega arith, L .inv .1, put-turn (λ (x : ℕ). x ∷ []) _ (L .i) 0 (omega arith) (L .inv .2) (c .put-byte .ensures))
 
 returns : tie.Need-returns Inv-loop μ-loop
 returns c =
