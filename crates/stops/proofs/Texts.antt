@@ -1,53 +1,61 @@
 -- A text filled in byte by byte; two texts compared byte by byte; the search for a stop.
-use Prim.Native.Nat.{ℕ, suc, _+_, _-_, _<_, _≤_}
+use Prim.Native.Nat.{ℕ, zero, suc, _+_, _-_, _<_, _≤_}
 use mathlib.Core.Path.{_≡_, refl, sym, ap, _∙_}
+use mathlib.Core.Logic.{_⊎_, inl, inr}
 use mathlib.Core.List.{List, [], _∷_, _++_, append-assoc}
 use mathlib.Core.Bool.{Bool, true, false, cond, _&&_}
 use native.Mathlib.Numerals.{add-one}
 use native.Mathlib.Omega.{arith}
 use borrow.Author.Tests.{leb-true, leb-false}
 use lib.Dec.{eqb, leb}
-use lib.ListN.{length, getD, take, drop, set, replicate, length-append, length-take, drop-of-length-le}
-use lib.Seq.{drop-cons, getD-take, take-suc, take-all, take-at, set-at}
+use lib.ListN.{length, getD, take, drop, set, replicate, length-take, drop-of-length-le, length-replicate}
+use lib.Seq.{drop-cons, getD-take, take-suc, take-all, take-at, take-nil, set-at}
 use lib.Ieee
 use Rattle.stops.specs.declared.Stop.{Stop}
 use Rattle.stops.specs.declared.Found.the-variants.{At, Nothing}
-use Rattle.stops.specs.Texts.{heldText, sameBytes}
+use Rattle.stops.specs.Texts.{overlaid, heldText, sameBytes}
 use Rattle.stops.specs.Stops.{findStop}
-use Rattle.laws.specs.Lists.{padded}
 use Rattle.laws.proofs.Turns.{drop-take-cons}
 
--- a text of which i bytes stand
-pub pad-none : (k : ℕ) (s : List ℕ) → replicate k 0 ≡ padded 0 k (take 0 s)
-pad-none k s =
+-- the first i bytes of s over those of out
+module _ (s out : List ℕ) where
+  pub over-turn : (now : List ℕ) (i : ℕ) → i < length s → i < length out → now ≡ take i s ++ drop i out → set now i (getD s i 0) ≡ take (i + 1) s ++ drop (i + 1) out
+  over-turn now i h g e =
+      let n : length (take i s) ≡ i = simp length-take (omega arith) in
+      ap (λ (l : List ℕ). set l i (getD s i 0)) (e ∙ ap (λ (l : List ℕ). take i s ++ l) (drop-cons out i 0 g))
+      ∙ set-at (take i s) (getD out i 0) (drop (suc i) out) (getD s i 0) i n
+      ∙ rw (add-one, take-suc s i 0 h) (sym (append-assoc (take i s) (getD s i 0 ∷ []) (drop (suc i) out)))
+
+  -- the text has ended, or the room
+  pub over-end : (i : ℕ) → i ≤ length s → i ≤ length out → (length s ≤ i) ⊎ (length out ≤ i) → take i s ++ drop i out ≡ overlaid s out
+  unfolding overlaid
+  over-end i h g (inl k) = let e : i ≡ length s = omega arith in rw (take-all (length out) s (omega arith), e, take-all (length s) s (omega arith))
+  over-end i h g (inr k) = let e : i ≡ length out = omega arith in rw (drop-of-length-le out {i = length s} (omega arith), e, drop-of-length-le out {i = length out} (omega arith))
+
+drop-blank : {A : Type 0} (b : A) (m k : ℕ) → drop m (replicate k b) ≡ replicate (k - m) b
+drop-blank b zero k =
     let e : k - 0 ≡ k = omega arith in
-    rw e refl
+    rw e
+drop-blank b (suc m) zero =
+    let e : 0 - suc m ≡ 0 = omega arith in
+    rw e
+drop-blank b (suc m) (suc k) =
+    let e : suc k - suc m ≡ k - m = omega arith in
+    rw e (drop-blank b m k)
 
-pub pad-turn : (k : ℕ) (s out : List ℕ) (i : ℕ) → i < length s → i < k → out ≡ padded 0 k (take i s) → set out i (getD s i 0) ≡ padded 0 k (take (i + 1) s)
-pad-turn k s out i h g e =
-    let n : length (take i s) ≡ i = simp length-take (omega arith) in
-    let more : k - i ≡ suc (k - suc i) = omega arith in
-    let gap : k - length (take i s) ≡ suc (k - suc i) = rw n more in
-    let fill : length (take i s ++ (getD s i 0 ∷ [])) ≡ suc i = simp (length-append, n) (omega arith) in
-    let one : set out i (getD s i 0) ≡ take i s ++ getD s i 0 ∷ replicate (k - suc i) 0 =
-    ap (λ (l : List ℕ). set l i (getD s i 0)) (e ∙ ap (λ (m : ℕ). take i s ++ replicate m 0) gap) ∙ set-at (take i s) 0 (replicate (k - suc i) 0) (getD s i 0) i n in
-    let two : padded 0 k (take (i + 1) s) ≡ take i s ++ getD s i 0 ∷ replicate (k - suc i) 0 =
-    rw (add-one, take-suc s i 0, fill) (append-assoc (take i s) (getD s i 0 ∷ []) (replicate (k - suc i) 0)) in
-    one ∙ sym two
+-- a text over zeros
+pub over-blank : (k : ℕ) (s : List ℕ) → overlaid s (replicate k 0) ≡ heldText k s
+unfolding overlaid heldText
+over-blank k s =
+    let e : k - length s ≡ k - length (take k s) = simp length-take (omega arith) in
+    rw (length-replicate {A = ℕ} k 0, drop-blank {A = ℕ} 0 (length s) k, e)
 
--- the text has ended, or the array is full
-pub held-all : (k : ℕ) (s : List ℕ) (i : ℕ) → length s ≤ i → i ≤ k → padded 0 k (take i s) ≡ heldText k s
-unfolding heldText
-held-all k s i h g = rw (take-all i s h, take-all k s (omega arith))
-
-pub held-full : (k : ℕ) (s : List ℕ) (i : ℕ) → k ≤ i → i ≤ k → padded 0 k (take i s) ≡ heldText k s
-unfolding heldText
-held-full k s i h g = let e : i ≡ k = omega arith in rw e
-
--- no text is held as no bytes
+-- no text is held as zeros
 pub held-none : (k : ℕ) → replicate k 0 ≡ heldText k []
 unfolding heldText
-held-none k = pad-none k [] ∙ held-all k [] 0 (omega arith) (omega arith)
+held-none k =
+    let e : k - 0 ≡ k = omega arith in
+    rw (take-nil {A = ℕ} k, e)
 
 -- a text that fits is held whole, and read back
 pub held-read : (k : ℕ) (s : List ℕ) → length s ≤ k → take (length (take k s)) (heldText k s) ≡ s

@@ -1,7 +1,7 @@
 // The record of a stop that is taken.
 ghost use mathlib.Core.Path.{_≡_};
 ghost use lib.ListN.{length, take};
-ghost use Rattle.stops.specs.Texts.{heldText, shown};
+ghost use Rattle.stops.specs.Texts.{overlaid, heldText, shown};
 ghost use Rattle.stops.specs.Taken.{blankStop, stopOf};
 use crate::Found;
 use crate::Stop;
@@ -9,19 +9,26 @@ use crate::StopInput;
 use crate::find::number;
 use place::Degrees;
 
+// The bytes of s over those of `out`, as many as there is room for.
+fn fill(out: &mut [u8], s: &[u8])
+    ensures { λ _. ⌜ now (out .exit) ≡ overlaid (now (s .entry)) (now (out .entry)) ⌝ }
+{
+    let mut i: usize = 0;
+    while i < out.len() {
+        if s.len() <= i {
+            return;
+        }
+        out[i] = s[i];
+        i += 1;
+    }
+}
+
 // The first 32 bytes, and 0 after them.
 fn text32(s: &[u8]) -> [u8; 32]
     ensures { λ r. ⌜ r ≡ heldText 32 (now (s .entry)) ⌝ }
 {
     let mut out = [0u8; 32];
-    let mut i: usize = 0;
-    while i < 32 {
-        if s.len() <= i {
-            return out;
-        }
-        out[i] = s[i];
-        i += 1;
-    }
+    fill(&mut out, s);
     out
 }
 
@@ -29,14 +36,7 @@ fn text64(s: &[u8]) -> [u8; 64]
     ensures { λ r. ⌜ r ≡ heldText 64 (now (s .entry)) ⌝ }
 {
     let mut out = [0u8; 64];
-    let mut i: usize = 0;
-    while i < 64 {
-        if s.len() <= i {
-            return out;
-        }
-        out[i] = s[i];
-        i += 1;
-    }
+    fill(&mut out, s);
     out
 }
 
