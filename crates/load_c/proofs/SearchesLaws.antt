@@ -21,7 +21,7 @@ pub next-turn :
 next-turn left l sum h all some is so =
     let one : left ≡ suc (left - 1) = omega arith in
     let step : searchesOf left l ≡ horizonAfter (withMark l ((left - 1) % 2)) + searchesOf (left - 1) (withMark l ((left - 1) % 2)) =
-          ap (λ (k : ℕ). searchesOf k l) one ∙ turn (left - 1) l in
+    ap (λ (k : ℕ). searchesOf k l) one ∙ turn (left - 1) l in
     omega arith
 
 pub last-turn : (left : ℕ) (l : Load) (sum all : ℕ) → left ≡ 0 → sum + searchesOf left l ≡ all → sum ≡ all

@@ -37,10 +37,11 @@ loop-less c = search needs
 
 loop-again : tie.Need-loop-again Inv-loop μ-loop
 loop-again c =
-    let L = c .before .before .before .loop in
-    (omega arith,
-    omega arith,
-    next-turn (L .left) (L .next) (L .sum) (c .wide .result) _ (omega arith) (c .wide .ensures ∙ c .before .horizon-after .ensures) (L .inv .2))
+    let L = c .before .before .before .loop in (
+      omega arith,
+      omega arith,
+      next-turn (L .left) (L .next) (L .sum) (c .wide .result) _ (omega arith) (c .wide .ensures ∙ c .before .horizon-after .ensures) (L .inv .2),
+    )
 
 returns : tie.Need-returns Inv-loop μ-loop
 returns c = last-turn (c .before .loop .left) (c .before .loop .next) (c .before .loop .sum) _ (omega arith) (c .before .loop .inv .2)
