@@ -1,6 +1,6 @@
 //! Times for the benchmark. It sits in this folder because the harness does.
 use super::super::*;
-use super::{Feed, List, Run, Sized, block_on};
+use super::{Feed, List, Run, Settings, Sized, StopTimes, block_on};
 use std::time::{Duration, Instant};
 
 /// Each repetition starts from the same filled load.
@@ -30,14 +30,18 @@ impl Run {
         }
         self.places()?;
         let places = self.search.places;
-        let spent = (0..times).map(|_| self.search.closing_loop(&keys)).collect();
+        let once = |_| {
+            let start = Instant::now();
+            self.search.closing_loop(&keys);
+            start.elapsed()
+        };
+        let spent = (0..times).map(once).collect();
         assert!(self.search.places == places, "the copied loop differs");
         Ok(spent)
     }
 }
 impl Sized {
-    fn closing_loop(&mut self, keys: &Vec<PlaceKey, 128>) -> Duration {
-        let start = Instant::now();
+    fn closing_loop(&mut self, keys: &Vec<PlaceKey, 128>) {
         self.places.fill(NONE);
         while let Some(i) = (0..self.stops.len())
             .filter(|&i| keys[i] != NO_PLACE && self.places[i] == NONE)
@@ -48,7 +52,80 @@ impl Sized {
                 .min_by(|&a, &b| self.stops[a].cmp(&self.stops[b]));
             self.places[i] = representative.unwrap_or(i) as u16;
         }
-        start.elapsed()
+    }
+}
+
+/// A load filled record by record with what the published functions ask for and no more: `Search::stop` and `place_key` for
+/// a stop, `push` for a call. The keys are kept, so its search is the closing loop and `endpoint_paths`.
+pub struct Filled {
+    run: Run,
+    keys: Vec<PlaceKey, 128>,
+}
+/// Times go in as text, the only way to make one; below 100 hours without an allocation.
+fn time(seconds: u32) -> gtfs::Time {
+    let [h, m, s] = [seconds / 3600, seconds / 60 % 60, seconds % 60];
+    if h > 99 {
+        return format!("{h}:{m:02}:{s:02}").parse().expect("a time");
+    }
+    let digit = |n: u32| b'0' + n as u8;
+    let two = |n: u32| (digit(n / 10), digit(n % 10));
+    let ((a, b), (c, d), (e, f)) = (two(h), two(m), two(s));
+    let text = [a, b, b':', c, d, b':', e, f];
+    core::str::from_utf8(&text).expect("digits").parse().expect("a time")
+}
+impl Filled {
+    pub fn open(settings: &Settings<'_>) -> Self {
+        Self { run: Run::open(settings), keys: Vec::new() }
+    }
+    pub fn stop(&mut self, stop: gtfs::Stop<'_>, members: u8) -> Result<(), Error> {
+        let search = &mut self.run.search;
+        let i = usize::from(search.stop(stop.id)?);
+        search.endpoints[i] = members;
+        if let Some(parent) = stop.parent_station {
+            search.parents[i] = search.stop(parent)?;
+        }
+        let key = if stop.location_type == 0 { place_key(stop)? } else { NO_PLACE };
+        self.keys.push(key).map_err(|_| Error::IndexFull)
+    }
+    pub fn call(&mut self, row: &StopTimes) -> Result<(), Error> {
+        let call = StopTime {
+            trip_id: "",
+            stop_id: "",
+            sequence: row.sequence,
+            arrival: row.arrival.map(time),
+            departure: row.departure.map(time),
+            headsign: None,
+            pickup_type: row.pickup_type,
+            drop_off_type: row.drop_off_type,
+        };
+        let run = &mut self.run;
+        run.search.push(&mut run.calls, &call, row.trip, row.stop, usize::from(row.day))
+    }
+    pub fn rule(&mut self, from: u16, to: u16, transfer_type: u8, seconds: u16) -> Result<(), Error> {
+        self.run.rule(from, to, transfer_type, seconds)
+    }
+    pub fn search(&mut self) -> Result<(), Error> {
+        let run = &mut self.run;
+        run.search.closing_loop(&self.keys);
+        run.search.endpoint_paths(&mut run.calls, &run.config, run.config.max_transfers)
+    }
+    /// So many searches of a load that is filled, and what they start from put back after each; or that alone.
+    pub fn searches(&mut self, times: usize, searched: bool) -> Result<(), Error> {
+        let (horizon, limits) = (self.run.search.horizon, self.run.search.limits);
+        let taken = self.run.calls.clone();
+        for _ in 0..times {
+            if core::hint::black_box(searched) {
+                self.search()?;
+            }
+            self.run.calls.clone_from(&taken);
+            self.run.search.candidates.clear();
+            (self.run.search.horizon, self.run.search.limits) = (horizon, limits);
+        }
+        Ok(())
+    }
+    pub fn kept(&mut self) -> &Run {
+        self.run.publish();
+        &self.run
     }
 }
 

@@ -1,0 +1,89 @@
+//! Times the port (the static library of crate load_c) beside the published Rust on load files, in turns: the search alone, and
+//! the whole load from the file's bytes to the kept list. Both print the same lines of each file, or it stops.
+mod port;
+mod published;
+mod rounds;
+mod tables;
+
+use rounds::Times;
+
+fn check(name: &str, bytes: &[u8]) {
+    let port = port::lines(bytes);
+    for lines in published::lines(bytes) {
+        assert!(port == lines, "{name}: the port prints\n{port}and the Rust\n{lines}");
+    }
+}
+/// Milliseconds with three digits.
+fn ms(seconds: f64) -> String {
+    let ms = seconds * 1e3;
+    let digits = (2.0 - ms.abs().max(1e-9).log10().floor()).clamp(0.0, 4.0) as usize;
+    format!("{ms:.digits$}")
+}
+fn side(times: &Times) -> String {
+    let [low, high] = times.quartiles().map(ms);
+    format!("{}, {}, {low} to {high}", ms(times.least()), ms(times.median()))
+}
+fn row(name: &str, [port, published]: &[Times; 2]) {
+    let ratio = port.median() / published.median();
+    println!("| {name} | {} | {} | {ratio:.2} | {} |", side(port), side(published), port.rounds());
+}
+fn head(what: &str) {
+    println!("\n| {what} | port, ms: least, median, quartiles | Rust | ratio of the medians | rounds |\n|---|---|---|---|---|");
+}
+fn read(path: &str) -> (String, Vec<u8>) {
+    let name = path.rsplit('/').next().unwrap_or(path).trim_end_matches(".load");
+    (name.to_string(), std::fs::read(path).unwrap_or_else(|e| panic!("{path}: {e}")))
+}
+
+fn compare(paths: &[String]) {
+    let files: Vec<_> = paths.iter().map(|path| read(path)).collect();
+    files.iter().for_each(|(name, bytes)| check(name, bytes));
+    head("search");
+    files.iter().for_each(|(name, bytes)| row(name, &rounds::searches(bytes)));
+    head("filling: the load without its search");
+    files.iter().for_each(|(name, bytes)| row(name, &rounds::loads(&tables::unsearched(bytes))));
+    head("whole load");
+    files.iter().for_each(|(name, bytes)| row(name, &rounds::loads(bytes)));
+}
+/// The search over the first 4, 8, 16 and 32 trips of tables of 32 trips with 16 calls.
+fn growth(paths: &[String]) {
+    head("search by number of calls");
+    for path in paths {
+        let (name, bytes) = read(path);
+        for trips in [4, 8, 16, 32] {
+            let name = format!("{name}, {} calls", 16 * trips);
+            let cut = tables::first_trips(&bytes, trips);
+            check(&name, &cut);
+            row(&name, &rounds::searches(&cut));
+        }
+    }
+}
+/// A load of 128 stops, 128 rules and 512 calls, in a thread with 1 MB of stack.
+fn steps() {
+    let full = tables::full();
+    check("full", &full);
+    let small = std::thread::Builder::new().stack_size(1 << 20);
+    let thread = small.spawn(move || {
+        let [port, published] = rounds::loads(&tables::unsearched(&full));
+        head("128 stops, 128 rules, 512 calls");
+        let times = [port, published];
+        row("filled", &times);
+        println!(
+            "a step: {:.2} us (768 steps); {:.2} us in the Rust",
+            times[0].median() * 1e6 / 768.0,
+            times[1].median() * 1e6 / 768.0
+        );
+        row("filled and searched", &rounds::loads(&full));
+    });
+    thread.and_then(|thread| thread.join().map_err(|_| std::io::Error::other("it needs more"))).expect("1 MB of stack");
+}
+
+fn main() {
+    let words: Vec<String> = std::env::args().skip(1).collect();
+    match words.split_first() {
+        Some((mode, paths)) if mode == "--growth" => growth(paths),
+        Some((mode, [])) if mode == "--steps" => steps(),
+        Some(_) => compare(&words),
+        None => eprintln!("usage: speed FILE ..   speed --growth FILE ..   speed --steps"),
+    }
+}

@@ -1,0 +1,28 @@
+//! The port's side: the static library of crate load_c.
+use std::hint::black_box;
+
+// A slice of the port's is a pointer and a length.
+#[link(name = "load_c", kind = "static")]
+unsafe extern "C" {
+    fn load_lines(bytes: *const u8, len: usize, out: &mut [u8; 4096]) -> usize;
+    fn load_searches(bytes: *const u8, len: usize, times: u16) -> u64;
+}
+
+/// What is printed of a load file: a line for each kept journey, then horizon and limits; or the refusal.
+pub fn lines(bytes: &[u8]) -> String {
+    let mut out = [0; 4096];
+    // SAFETY: the pointer and the length are those of a slice, which is only read.
+    let n = unsafe { load_lines(bytes.as_ptr(), bytes.len(), &mut out) };
+    String::from_utf8_lossy(&out[..n]).into_owned()
+}
+/// A file read whole, searched where it says so, and its lines printed.
+pub fn load(bytes: &[u8]) {
+    let mut out = [0; 4096];
+    // SAFETY: as above.
+    black_box(unsafe { load_lines(bytes.as_ptr(), bytes.len(), &mut out) });
+}
+/// A file without a search read, then searched so many times.
+pub fn searches(bytes: &[u8], times: u16) {
+    // SAFETY: as above.
+    black_box(unsafe { load_searches(bytes.as_ptr(), bytes.len(), times) });
+}

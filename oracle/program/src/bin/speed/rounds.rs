@@ -1,0 +1,88 @@
+//! Both sides timed in turns.
+use crate::{port, published, tables};
+use std::hint::black_box;
+
+/// What the rounds of one side took, sorted.
+pub struct Times(Vec<f64>);
+impl Times {
+    fn of(mut seconds: Vec<f64>) -> Self {
+        seconds.sort_unstable_by(f64::total_cmp);
+        Self(seconds)
+    }
+    pub fn least(&self) -> f64 {
+        self.0[0]
+    }
+    pub fn median(&self) -> f64 {
+        self.0[self.0.len() / 2]
+    }
+    pub fn quartiles(&self) -> [f64; 2] {
+        let last = self.0.len() - 1;
+        [self.0[last / 4], self.0[last - last / 4]]
+    }
+    pub fn rounds(&self) -> usize {
+        self.0.len()
+    }
+}
+
+/// The thread's processor time in seconds, which leaves out what other processes take.
+fn now() -> f64 {
+    #[repr(C)]
+    struct Timespec {
+        seconds: i64,
+        nanoseconds: i64,
+    }
+    unsafe extern "C" {
+        safe fn clock_gettime(clock: i32, time: &mut Timespec) -> i32;
+    }
+    const THREAD: i32 = 3;
+    let mut time = Timespec { seconds: 0, nanoseconds: 0 };
+    assert!(clock_gettime(THREAD, &mut time) == 0, "a processor clock");
+    time.seconds as f64 + time.nanoseconds as f64 * 1e-9
+}
+fn timed(work: impl FnOnce()) -> f64 {
+    let start = now();
+    work();
+    now() - start
+}
+fn least(times: usize, mut work: impl FnMut()) -> f64 {
+    (0..times).map(|_| timed(&mut work)).fold(f64::INFINITY, f64::min)
+}
+/// The port's and the Rust's times, a round of one after a round of the other: about half a second each, at least 5 rounds and at
+/// most 1001.
+fn in_turns(mut sides: [&mut dyn FnMut() -> f64; 2]) -> [Times; 2] {
+    let once = sides.iter_mut().map(|side| timed(|| _ = black_box(side()))).fold(1e-9, f64::max);
+    let rounds = ((0.5 / once) as usize).clamp(5, 1001);
+    let mut seconds = [Vec::new(), Vec::new()];
+    for _ in 0..rounds {
+        for (side, seconds) in sides.iter_mut().zip(&mut seconds) {
+            seconds.push(side());
+        }
+    }
+    seconds.map(Times::of)
+}
+
+/// From the file's bytes to the kept list, of a file with a search or without.
+pub fn loads(bytes: &[u8]) -> [Times; 2] {
+    let mut port = || timed(|| port::load(bytes));
+    let mut published = || timed(|| _ = black_box(published::load(bytes)));
+    in_turns([&mut port, &mut published])
+}
+/// The search alone: of each side the difference between what does it many times and the same without it. On the port's side that
+/// is a file read, so there are enough searches in a round to outweigh the reading.
+pub fn searches(searched: &[u8]) -> [Times; 2] {
+    let bytes = tables::unsearched(searched);
+    let read = least(5, || port::searches(&bytes, 0));
+    let one = (least(3, || port::searches(&bytes, 1)) - read).max(1e-6);
+    let times = (4.0 * read / one).ceil().clamp(1.0, 2000.0) as u16;
+    let mut port = || {
+        let read = timed(|| port::searches(&bytes, 0));
+        (timed(|| port::searches(&bytes, times)) - read) / f64::from(times)
+    };
+    let mut filled = published::load(&bytes);
+    let mut published = || {
+        let mut turns = |searched| timed(|| filled.searches(usize::from(times), searched).expect("an accepted search"));
+        let put_back = turns(false);
+        (turns(true) - put_back) / f64::from(times)
+    };
+    in_turns([&mut port, &mut published])
+}

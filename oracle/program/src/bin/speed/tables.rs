@@ -1,0 +1,56 @@
+//! Load files cut and made for the benchmark. A file is its version and then records, each after its length.
+use program::generate::writer::{Call, Rule, Settings, Step, Stop, file};
+
+/// The file's records that are wanted; each is handed over from its kind byte on.
+fn only(bytes: &[u8], wanted: impl Fn(&[u8]) -> bool) -> Vec<u8> {
+    let mut out = bytes[..1].to_vec();
+    let mut rest = &bytes[1..];
+    while let [high, low, ..] = rest {
+        let (record, after) = rest.split_at(2 + usize::from(u16::from_be_bytes([*high, *low])));
+        if wanted(&record[2..]) {
+            out.extend(record);
+        }
+        rest = after;
+    }
+    out
+}
+const CALL: u8 = 3;
+const SEARCH: u8 = 5;
+pub fn unsearched(bytes: &[u8]) -> Vec<u8> {
+    only(bytes, |record| record[0] != SEARCH)
+}
+/// Only the calls of the first trips.
+pub fn first_trips(bytes: &[u8], trips: u16) -> Vec<u8> {
+    only(bytes, |record| record[0] != CALL || u16::from_be_bytes([record[1], record[2]]) < trips)
+}
+
+/// 128 stops, every second one in a station; 128 rules; 512 calls of 32 trips. Ids have 32 bytes and differ in the last three,
+/// names have 64, so that tests which read every earlier record read much of it.
+pub fn full() -> Vec<u8> {
+    let settings = Settings {
+        origin_walks: vec![2, 5],
+        target_walks: vec![1, 4],
+        transfer_minutes: 3,
+        max_transfers: 1,
+        ..Settings::default()
+    };
+    let id = |i: u16| format!("{:a<29}{i:03}", "").into_bytes();
+    let stop = |i: u16| Stop {
+        id: id(i),
+        name: Some(format!("{:b<61}{:03}", "", i / 2).into_bytes()),
+        parent: (i % 2 == 1).then(|| id(i - 1)),
+        location_type: u8::from(i % 2 == 0),
+        position: Some((52.0 + f64::from(i) * 0.0005, 16.9)),
+        members: [0, 0x01, 0, 0x10][usize::from(i % 4)],
+    };
+    let rule = |i: u16| Rule { from: i, to: (i * 7 + 3) % 128, transfer_type: 2, seconds: Some(90) };
+    let call = |i: u16| {
+        let at = Some(u32::from(600 + i % 16 * 900 + i / 16 * 60));
+        Call { trip: i / 16, sequence: u32::from(i % 16), stop: i * 5 % 128, arrival: at, departure: at, ..Call::default() }
+    };
+    let stops = (0..128).map(|i| Step::Stop(stop(i)));
+    let rules = (0..128).map(|i| Step::Rule(rule(i)));
+    let calls = (0..512).map(|i| Step::Call(call(i)));
+    let steps: Vec<Step> = stops.chain(rules).chain(calls).chain([Step::Search]).collect();
+    file(&settings, &steps)
+}
