@@ -45,18 +45,27 @@ fn compare(paths: &[String]) {
     head("whole load");
     files.iter().for_each(|(name, bytes)| row(name, &rounds::loads(bytes)));
 }
-/// The search over the first 4, 8, 16 and 32 trips of tables of 32 trips with 16 calls.
+/// The search by number of calls: the first 4, 8, 16 and 32 trips of tables of 32 trips with 16 calls, then the worst case.
 fn growth(paths: &[String]) {
     head("search by number of calls");
+    let search = |name: String, bytes: &[u8]| {
+        check(&name, bytes);
+        row(&name, &rounds::searches(bytes));
+    };
     for path in paths {
         let (name, bytes) = read(path);
         for trips in [4, 8, 16, 32] {
-            let name = format!("{name}, {} calls", 16 * trips);
-            let cut = tables::first_trips(&bytes, trips);
-            check(&name, &cut);
-            row(&name, &rounds::searches(&cut));
+            search(format!("{name}, {} calls", 16 * trips), &tables::first_trips(&bytes, trips));
         }
     }
+    for calls in [16, 32, 64, 128] {
+        search(format!("two trips, {calls} calls"), &tables::two_trips(calls));
+    }
+}
+/// The worst case with as many calls as a load holds, once, without the Rust.
+fn worst() {
+    let bytes = tables::two_trips(512);
+    println!("two trips, 512 calls: {:.1} s", rounds::timed(|| port::load(&bytes)));
 }
 /// A load of 128 stops, 128 rules and 512 calls, in a thread with 1 MB of stack.
 fn steps() {
@@ -83,7 +92,8 @@ fn main() {
     match words.split_first() {
         Some((mode, paths)) if mode == "--growth" => growth(paths),
         Some((mode, [])) if mode == "--steps" => steps(),
+        Some((mode, [])) if mode == "--worst" => worst(),
         Some(_) => compare(&words),
-        None => eprintln!("usage: speed FILE ..   speed --growth FILE ..   speed --steps"),
+        None => eprintln!("usage: speed FILE ..   speed --growth FILE ..   speed --steps   speed --worst"),
     }
 }

@@ -39,7 +39,7 @@ fn now() -> f64 {
     assert!(clock_gettime(THREAD, &mut time) == 0, "a processor clock");
     time.seconds as f64 + time.nanoseconds as f64 * 1e-9
 }
-fn timed(work: impl FnOnce()) -> f64 {
+pub fn timed(work: impl FnOnce()) -> f64 {
     let start = now();
     work();
     now() - start
@@ -68,21 +68,23 @@ pub fn loads(bytes: &[u8]) -> [Times; 2] {
     in_turns([&mut port, &mut published])
 }
 /// The search alone: of each side the difference between what does it many times and the same without it. On the port's side that
-/// is a file read, so there are enough searches in a round to outweigh the reading.
+/// is a file read, so there are enough searches in a round to outweigh the reading; on the Rust's enough for a millisecond.
 pub fn searches(searched: &[u8]) -> [Times; 2] {
     let bytes = tables::unsearched(searched);
     let read = least(5, || port::searches(&bytes, 0));
-    let one = (least(3, || port::searches(&bytes, 1)) - read).max(1e-6);
-    let times = (4.0 * read / one).ceil().clamp(1.0, 2000.0) as u16;
+    let enough = |one: f64| (4.0 * read / one.max(1e-6)).ceil().clamp(1.0, 2000.0) as u16;
+    let some = enough(least(3, || port::searches(&bytes, 1)) - read);
+    let times = enough((least(3, || port::searches(&bytes, some)) - read) / f64::from(some));
     let mut port = || {
         let read = timed(|| port::searches(&bytes, 0));
         (timed(|| port::searches(&bytes, times)) - read) / f64::from(times)
     };
     let mut filled = published::load(&bytes);
+    let mut turns = |times, searched| timed(|| filled.searches(times, searched).expect("an accepted search"));
+    let times = (1e-3 / turns(1, true)).ceil().clamp(1.0, 2000.0) as usize;
     let mut published = || {
-        let mut turns = |searched| timed(|| filled.searches(usize::from(times), searched).expect("an accepted search"));
-        let put_back = turns(false);
-        (turns(true) - put_back) / f64::from(times)
+        let put_back = turns(times, false);
+        (turns(times, true) - put_back) / times as f64
     };
     in_turns([&mut port, &mut published])
 }

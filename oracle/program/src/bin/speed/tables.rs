@@ -24,16 +24,32 @@ pub fn first_trips(bytes: &[u8], trips: u16) -> Vec<u8> {
     only(bytes, |record| record[0] != CALL || u16::from_be_bytes([record[1], record[2]]) < trips)
 }
 
+fn settings(walks: &[u8]) -> Settings {
+    let (origin_walks, target_walks) = (walks.to_vec(), walks.to_vec());
+    Settings { origin_walks, target_walks, transfer_minutes: 3, max_transfers: 1, ..Settings::default() }
+}
+/// The most offers that so many calls can make: two trips, one after the other, from stops of four origins to stops of four
+/// targets, which are one place. So each ride of the first is followed by each of the second.
+pub fn two_trips(calls: u16) -> Vec<u8> {
+    let stop = |i: u8| Stop {
+        id: vec![b'a' + i],
+        name: Some(b"Stop".to_vec()),
+        position: Some((52.0, 16.9)),
+        members: if i == 0 { 0x0f } else { 0xf0 },
+        ..Stop::default()
+    };
+    let call = |i: u16| {
+        let trip = i / (calls / 2);
+        let at = Some(u32::from(300 + 40 * i + 300 * trip));
+        Step::Call(Call { trip, sequence: u32::from(i), stop: trip, arrival: at, departure: at, ..Call::default() })
+    };
+    let stops = (0..2).map(|i| Step::Stop(stop(i)));
+    let steps: Vec<Step> = stops.chain((0..calls).map(call)).chain([Step::Search]).collect();
+    file(&settings(&[0, 1, 2, 3]), &steps)
+}
 /// 128 stops, every second one in a station; 128 rules; 512 calls of 32 trips. Ids have 32 bytes and differ in the last three,
 /// names have 64, so that tests which read every earlier record read much of it.
 pub fn full() -> Vec<u8> {
-    let settings = Settings {
-        origin_walks: vec![2, 5],
-        target_walks: vec![1, 4],
-        transfer_minutes: 3,
-        max_transfers: 1,
-        ..Settings::default()
-    };
     let id = |i: u16| format!("{:a<29}{i:03}", "").into_bytes();
     let stop = |i: u16| Stop {
         id: id(i),
@@ -52,5 +68,5 @@ pub fn full() -> Vec<u8> {
     let rules = (0..128).map(|i| Step::Rule(rule(i)));
     let calls = (0..512).map(|i| Step::Call(call(i)));
     let steps: Vec<Step> = stops.chain(rules).chain(calls).chain([Step::Search]).collect();
-    file(&settings, &steps)
+    file(&settings(&[2, 5]), &steps)
 }
