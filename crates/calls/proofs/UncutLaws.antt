@@ -55,22 +55,22 @@ module _ (s : Settings) (b : Bool) (n : ℕ) (t : Table) (i : CallInput) where
   told-outside : callOn s b n t i ≡ record { answer = Outside; table = t } → Told s b n t i Beyond
   told-outside x = record {
     room = λ c e. let z : _≡_ {A = ℕ} 0 1 = cc in absurd (omega arith);
-    goes-in = λ c e. let z : _≡_ {A = ℕ} 0 1 = cc in absurd (omega arith);
+    goes-in = λ c e. cc;
     outside = λ e. x;
   }
 
   told-in : (c : Call) → t .count < 512 → callOn s b n t i ≡ record { answer = Taken; table = put t c } → Told s b n t i (In c)
   told-in c h x = record {
     room = λ d e. h;
-    goes-in = λ d e. x ∙ (let y : c ≡ d = cc in ap (λ (k : Call). record { answer = Taken; table = put t k }) y);
-    outside = λ e. let z : _≡_ {A = ℕ} 0 1 = cc in absurd (omega arith);
+    goes-in = λ d e. let same : c ≡ d = cc in x ∙ ap (λ (y : Call). record { answer = Taken; table = put t y }) same;
+    outside = λ e. cc;
   }
 
   told-other : Told s b n t i Other
   told-other = record {
     room = λ c e. let z : _≡_ {A = ℕ} 0 1 = cc in absurd (omega arith);
-    goes-in = λ c e. let z : _≡_ {A = ℕ} 0 1 = cc in absurd (omega arith);
-    outside = λ e. let z : _≡_ {A = ℕ} 0 1 = cc in absurd (omega arith);
+    goes-in = λ c e. cc;
+    outside = λ e. cc;
   }
 
   -- a call that no test sends back
