@@ -67,7 +67,7 @@ fn worst() {
     let bytes = tables::two_trips(512);
     println!("two trips, 512 calls: {:.1} s", rounds::timed(|| port::load(&bytes)));
 }
-/// A load of 128 stops, 128 rules and 512 calls, in a thread with 1 MB of stack.
+/// A load of 128 stops, 128 rules and 512 calls, as a file and step by step, in a thread with 1 MB of stack.
 fn steps() {
     let full = tables::full();
     check("full", &full);
@@ -83,6 +83,14 @@ fn steps() {
             times[1].median() * 1e6 / 768.0
         );
         row("filled and searched", &rounds::loads(&full));
+        let [stop, rule, call, all] = rounds::one_by_one();
+        println!(
+            "one by one, by the steps themselves: a stop {:.2} us, a rule {:.2}, a call {:.2}; all 768 with the opening {:.2} ms",
+            stop.median() * 1e6,
+            rule.median() * 1e6,
+            call.median() * 1e6,
+            all.median() * 1e3
+        );
     });
     thread.and_then(|thread| thread.join().map_err(|_| std::io::Error::other("it needs more"))).expect("1 MB of stack");
 }

@@ -1,4 +1,4 @@
-//! The port's side: the static library of crate load_c.
+//! The port's side: the static libraries of crates load_c and steps_c.
 use std::hint::black_box;
 
 // A slice of the port's is a pointer and a length.
@@ -6,6 +6,10 @@ use std::hint::black_box;
 unsafe extern "C" {
     fn load_lines(bytes: *const u8, len: usize, out: &mut [u8; 4096]) -> usize;
     fn load_searches(bytes: *const u8, len: usize, times: u16) -> u64;
+}
+#[link(name = "steps_c", kind = "static")]
+unsafe extern "C" {
+    safe fn load_steps(stops: u8, rules: u8, calls: u16) -> usize;
 }
 
 /// What is printed of a load file: a line for each kept journey, then horizon and limits; or the refusal.
@@ -25,4 +29,8 @@ pub fn load(bytes: &[u8]) {
 pub fn searches(bytes: &[u8], times: u16) {
     // SAFETY: as above.
     black_box(unsafe { load_searches(bytes.as_ptr(), bytes.len(), times) });
+}
+/// A load opened, and so many stops, rules and calls handed to it one by one: how many calls it then holds.
+pub fn steps(stops: u8, rules: u8, calls: u16) -> usize {
+    load_steps(black_box(stops), rules, calls)
 }

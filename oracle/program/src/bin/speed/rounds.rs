@@ -88,3 +88,19 @@ pub fn searches(searched: &[u8]) -> [Times; 2] {
     };
     in_turns([&mut port, &mut published])
 }
+/// Stops, rules and calls handed to the port's load one by one: a step of each kind, and all of them with the opening.
+pub fn one_by_one() -> [Times; 4] {
+    let (stops, rules, calls) = (128, 128, 512);
+    assert!(port::steps(stops, rules, calls) == usize::from(calls), "every call taken");
+    let mut seconds = [const { Vec::new() }; 4];
+    for _ in 0..1001 {
+        let time = |rules, calls| timed(|| _ = black_box(port::steps(stops, rules, calls)));
+        let opened = timed(|| _ = black_box(port::steps(0, 0, 0)));
+        let [with_stops, with_rules, all] = [time(0, 0), time(rules, 0), time(rules, calls)];
+        seconds[0].push((with_stops - opened) / f64::from(stops));
+        seconds[1].push((with_rules - with_stops) / f64::from(rules));
+        seconds[2].push((all - with_rules) / f64::from(calls));
+        seconds[3].push(all);
+    }
+    seconds.map(Times::of)
+}
