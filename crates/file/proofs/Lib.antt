@@ -1,6 +1,9 @@
 pub mod KindLaws
 pub mod StopLaws
 pub mod FedLaws
+pub mod LeftLaws
+pub mod FitLaws
 pub mod RecordLaws
 pub mod HandedLaws
+pub mod RunLaws
 pub mod ReadLaws
