@@ -7,7 +7,7 @@ use native.Mathlib.Omega.{arith}
 use borrow.Author.Tests.{le-leb, lt-leb, eqb-true}
 use lib.Dec.{eqb}
 use lib.ListN.{length, take, drop}
-use Rattle.laws.proofs.Bools.{and-by, and-not, and-true-left, and-true-right}
+use Rattle.laws.proofs.Bools.{and-by, and-not, and-true-left}
 use Rattle.refusal.specs.declared.Answer.{Answer}
 use Rattle.refusal.specs.First.{firstAnswer, isTaken}
 use Rattle.stops.specs.declared.Stop.{Stop}

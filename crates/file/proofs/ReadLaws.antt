@@ -6,19 +6,19 @@ use Prim.Native.Nat.{ℕ, _+_, _-_, _≤_, _<_}
 use native.Mathlib.Omega.{arith}
 use borrow.Author.Tests.{le-leb, lt-leb}
 use borrow.Rule.Slice.PartAt.{part-to-end}
-use lib.ListN.{length, take, drop, length-drop, drop-of-length-le}
-use lib.Seq.{drop-drop}
+use lib.ListN.{length, take, drop, length-drop}
 use Rattle.refusal.specs.declared.Answer.{Answer}
 use Rattle.refusal.specs.declared.Answer.the-variants.{Taken}
 use Rattle.refusal.specs.First.{isRefused}
 use Rattle.fields.specs.Numbers.{u16At}
+use Rattle.load.specs.declared.Load.{Load}
 use Rattle.file.specs.declared.Reader.{Reader}
 use Rattle.file.specs.declared.Took.{Took}
 use Rattle.file.specs.declared.Fed.{Fed}
 use Rattle.file.specs.Record.{freshReader, recordSpec}
-use Rattle.file.specs.File.{versionAnswer, startsWhole, sizeOf, bodyOf, nextSpec, later, fedSpec, endAnswer, endedBy, readSpec}
-use Rattle.file.specs.Runs.{Left, Turned}
-use Rattle.file.proofs.FedLaws.{whole-room, fed-stops, fed-refuses, fed-room}
+use Rattle.file.specs.File.{versionAnswer, startsWhole, sizeOf, bodyOf, nextSpec, fedSpec, endAnswer, endedBy, readSpec}
+use Rattle.file.specs.Runs.{openReader, Left, Turned}
+use Rattle.file.proofs.FedLaws.{fed-stops, fed-refuses, fed-room}
 use Rattle.file.proofs.LeftLaws.{left-first, left-one, left-trans, left-ends}
 
 -- ---- the next record
@@ -76,6 +76,15 @@ module _ (r : Reader) (xs : List ℕ) where
 -- the next record is a turn
 pub next-turned : (r : Reader) (xs : List ℕ) {f : Fed} → f ≡ nextSpec r xs → Turned r xs f
 next-turned r xs f-is = rw f-is (record { refused = next-refused r xs; stops = λ e. next-stops r xs; goes-on = next-on r xs })
+
+-- and so is a run of an opened reader that used bytes
+pub run-turned : (r : Reader) {xs : List ℕ} {l : Load} {n : ℕ} → r .opened ≡ true → Left (openReader (r .load)) xs (openReader l) n → (n ≡ 0 → ⊥)
+    → Turned r xs (record { answer = Taken; used = n; reader = openReader l })
+run-turned r {xs} {l} {n} o left some = record {
+  refused = λ e. absurd (false≢true e);
+  stops = λ e z. absurd (some z);
+  goes-on = λ e. subst (λ (q : Reader). Left q xs (openReader l) n) (λ k. record { opened = sym o k; load = r .load }) left;
+}
 
 -- ---- the turns
 

@@ -1,17 +1,16 @@
 -- A record that fits is taken by the load as it is stored in place; so a run moves on.
 use mathlib.Core.Path.{_≡_, refl, sym, ap, _∙_}
-use mathlib.Core.Bool.{Bool, true, false, not, _&&_}
+use mathlib.Core.Bool.{Bool, true, false}
 use mathlib.Core.List.{List, [], _∷_}
 use Prim.Native.Nat.{ℕ, _+_, _-_, _≤_, _<_}
 use native.Mathlib.Omega.{arith}
 use borrow.Author.Tests.{ne-eqb}
 use borrow.Rule.Slice.PartAt.{part-to-end}
-use lib.Dec.{eqb, leb}
+use lib.Dec.{eqb}
 use lib.ListN.{length, take, drop, set}
 use Rattle.laws.proofs.Bools.{and-true-left, and-true-right}
-use Rattle.refusal.specs.declared.Answer.{Answer}
 use Rattle.refusal.specs.declared.Answer.the-variants.{Taken}
-use Rattle.refusal.specs.First.{firstAnswer, isRefused, isTaken}
+use Rattle.refusal.specs.First.{firstAnswer, isRefused}
 use Rattle.refusal.proofs.FirstLaws.{taken-is}
 use Rattle.stops.specs.declared.Stop.{Stop}
 use Rattle.rules.specs.declared.Rule.{Rule}
@@ -22,12 +21,10 @@ use Rattle.fields.specs.Records.{stopIn, ruleIn}
 use Rattle.load.specs.declared.Load.{Load}
 use Rattle.load.specs.declared.Stepped.{Stepped}
 use Rattle.load.specs.Load.{withStops, withRules}
-use Rattle.load.specs.Steps.{stopAnswer, stopSpec, ruleAnswer, ruleSpec}
+use Rattle.load.specs.Steps.{stopAnswer, ruleAnswer}
 use Rattle.load.proofs.StepLaws.{stop-room, stop-taken, rule-room, rule-taken}
-use Rattle.file.specs.declared.Reader.{Reader}
-use Rattle.file.specs.declared.Took.{Took}
-use Rattle.file.specs.Record.{kindRight, filled, recordTests, steppedBy, recordSpec}
-use Rattle.file.specs.File.{startsWhole, sizeOf, bodyOf}
+use Rattle.file.specs.Record.{kindRight, recordTests, steppedBy, recordSpec}
+use Rattle.file.specs.File.{startsWhole, bodyOf}
 use Rattle.file.specs.Runs.{openReader, sizeIf, ruleFits, stationAt, stopFits, stopAt, Left}
 use Rattle.file.proofs.KindLaws.{filledAs, filled-as, stepped-stop, stepped-rule}
 use Rattle.file.proofs.RecordLaws.{taken}

@@ -65,7 +65,13 @@ fn rule_fits(searched: bool, stops: usize, rules: [Rule; 128], count: usize, b: 
     false
 }
 
-pub fn rule_size(searched: bool, stops: usize, rules: [Rule; 128], count: usize, bytes: &[u8]) -> usize
+pub fn rule_size(
+    searched: bool,
+    stops: usize,
+    rules: [Rule; 128],
+    count: usize,
+    bytes: &[u8],
+) -> usize
     ensures { λ r. ⌜ r ≡ sizeIf 4 (ruleFits searched stops rules count) (now (bytes .entry)) ⌝ }
 {
     if whole_as(4, bytes) {
