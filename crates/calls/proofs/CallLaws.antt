@@ -14,12 +14,14 @@ use lib.ListN.{getD}
 use lib.IntN.{ℤ, pos}
 use Rattle.calls.specs.declared.Table.{Table}
 use Rattle.calls.specs.declared.Offset.{Offset}
+use Rattle.calls.specs.declared.Seconds.{Seconds}
+use Rattle.calls.specs.declared.View.{View}
 use Rattle.settings.specs.declared.Settings.{Settings}
 use Rattle.calls.specs.Tables.{fitted}
-use Rattle.calls.specs.Windows.{timeAfter}
+use Rattle.calls.specs.Windows.{timeAfter, seen}
 use Rattle.refusal.specs.First.{firstAnswer, none, hit, miss, isRefused}
 use Rattle.refusal.proofs.FirstLaws.{first-is-answer}
-use Rattle.calls.specs.Calls.{known, absent, secondsOf, callTests, goesOn, ended, callFit, callOn, callTime}
+use Rattle.calls.specs.Calls.{known, absent, secondsOf, callTests, goesOn, ended, callFit, callOn, callTime, callSeen}
 
 module _ (stops : ℕ) (i : CallInput) where
   pub no-stop : stops ≤ i .stop → false ≡ known stops i
@@ -93,11 +95,15 @@ module _ (s : Settings) (b : Bool) (n : ℕ) (t : Table) (i : CallInput) where
       let x : f ≡ ended t f = λ k. record { answer = f .answer; table = cond (sym r k) t (f .table) } in
       x ∙ ap (ended t) q ∙ ap (goesOn s t i) e
 
-module _ (s : Settings) (t : Table) (i : CallInput) where
-  pub fits-call : (e n : ℤ) (sa sd : ℕ) (a d : Offset) (f : Fitted) → e ≡ getD (s .epochs) (i .day) (pos 0) → n ≡ s .now
-      → sa ≡ secondsOf (i .arrival) → sd ≡ secondsOf (i .departure) → a ≡ timeAfter e n sa → d ≡ timeAfter e n sd → f ≡ fitted t a d i → f ≡ callFit s t i
-  unfolding callFit
-  fits-call e n sa sd a d f ee en esa esd ea ed ef =
-      let xa : a ≡ callTime s i (i .arrival) = ea ∙ (λ k. timeAfter (ee k) (en k) (esa k)) in
-      let xd : d ≡ callTime s i (i .departure) = ed ∙ (λ k. timeAfter (ee k) (en k) (esd k)) in
-      ef ∙ (λ k. fitted t (xa k) (xd k) i)
+-- the call's two times, and what is made of them
+module _ (s : Settings) (i : CallInput) where
+  pub time-made : (t : Seconds) (e n : ℤ) (x : ℕ) (r : Offset) → e ≡ getD (s .epochs) (i .day) (pos 0) → n ≡ s .now → x ≡ secondsOf t → r ≡ timeAfter e n x → r ≡ callTime s i t
+  time-made t e n x r ee en ex er = er ∙ (λ k. timeAfter (ee k) (en k) (ex k))
+
+  module _ (a d : Offset) (ea : a ≡ callTime s i (i .arrival)) (ed : d ≡ callTime s i (i .departure)) where
+    pub fits-call : (t : Table) (f : Fitted) → f ≡ fitted t a d i → f ≡ callFit s t i
+    unfolding callFit
+    fits-call t f ef = ef ∙ (λ k. fitted t (ea k) (ed k) i)
+
+    pub seen-call : (h : ℕ) (v : View) → v ≡ seen h a d i → v ≡ callSeen s h i
+    seen-call h v ev = ev ∙ (λ k. seen h (ea k) (ed k) i)

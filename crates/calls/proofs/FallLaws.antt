@@ -17,7 +17,7 @@ use Rattle.refusal.specs.declared.Answer.the-variants.{Taken, Outside, Refused}
 use Rattle.calls.specs.Windows.{seen}
 use Rattle.calls.specs.Tables.{cut, less}
 use Rattle.refusal.specs.First.{firstAnswer}
-use Rattle.calls.specs.Calls.{unTimed, reversed, known, callTests, callTime, callFit, callOn, ended, goesOn}
+use Rattle.calls.specs.Calls.{unTimed, reversed, known, callTests, callTime, callSeen, callFit, callOn, ended, goesOn}
 use Rattle.calls.specs.Shown.{Meets, FallsOnlyFull, NeverRises, FullOnlyFull, OutsideSame}
 use Rattle.calls.proofs.Fits.{Ends, stands, enters, turned, Keeps, ends}
 use Rattle.calls.proofs.FitLaws.{outside}
@@ -138,5 +138,5 @@ outside-same s b n t i o = go (firstAnswer (callTests b n i)) refl
     go (Refused w) e = refl
     go Outside e = refl
     go Taken e =
-        let v : seen (t .horizon) (callTime s i (i .arrival)) (callTime s i (i .departure)) i ≡ Out = sym (window-seen s (t .horizon) i (passed b n i e .present)) ∙ o in
+        let v : callSeen s (t .horizon) i ≡ Out = sym (window-seen s (t .horizon) i (passed b n i e .present)) ∙ o in
         ap (λ (f : Fitted). ended t f .table) (sym (outside (callTime s i (i .arrival)) (callTime s i (i .departure)) i t v))

@@ -2,6 +2,7 @@ pub mod Ints
 pub mod WindowLaws
 pub mod CallLaws
 pub mod FitLaws
+pub mod UncutLaws
 pub mod Fits
 pub mod SoundLaws
 pub mod ShownLaws

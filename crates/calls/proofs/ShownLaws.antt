@@ -22,7 +22,7 @@ use Rattle.refusal.specs.declared.Answer.the-variants.{Taken, Outside, Refused}
 use Rattle.calls.specs.Windows.{within, held, allowed, asked, seenCall, seen}
 use Rattle.calls.specs.Tables.{dueBy, trim, trimAll, cut, less}
 use Rattle.refusal.specs.First.{firstAnswer, isRefused}
-use Rattle.calls.specs.Calls.{unTimed, reversed, known, callTests, callTime, window, callFit, callOn, ended, goesOn}
+use Rattle.calls.specs.Calls.{unTimed, reversed, known, callTests, callTime, callSeen, window, callFit, callOn, ended, goesOn}
 use Rattle.calls.specs.Sound.{TableSound}
 use Rattle.calls.specs.Shown.{shown, windowed, Shows, StepShows}
 use Rattle.laws.proofs.Bools.{cond-by}
@@ -97,13 +97,7 @@ module _ (g h : ℕ) (le : g ≤ h) (i : CallInput) where
   unfolding window
   rewindow s = go (unTimed i)
     where
-      a : Offset
-      a = callTime s i (i .arrival)
-
-      d : Offset
-      d = callTime s i (i .departure)
-
-      go : (b : Bool) → trimAll g (shown (cond b Out (seen h (callTime s i (i .arrival)) (callTime s i (i .departure)) i))) ≡ shown (cond b Out (seen g (callTime s i (i .arrival)) (callTime s i (i .departure)) i))
+      go : (b : Bool) → trimAll g (shown (cond b Out (callSeen s h i))) ≡ shown (cond b Out (callSeen s g i))
       go true = refl
       go false = reseen (callTime s i (i .arrival)) (callTime s i (i .departure))
 
@@ -129,13 +123,13 @@ module _ (s : Settings) (h : ℕ) where
   windowed-out : (xs : List CallInput) (i : CallInput) → window s h i ≡ Out → windowed s h (xs ++ (i ∷ [])) ≡ windowed s h xs
   windowed-out xs i e = windowed-one xs i Out e ∙ append-nil (windowed s h xs)
 
-  pub window-seen : (i : CallInput) → unTimed i ≡ false → window s h i ≡ seen h (callTime s i (i .arrival)) (callTime s i (i .departure)) i
+  pub window-seen : (i : CallInput) → unTimed i ≡ false → window s h i ≡ callSeen s h i
   unfolding window
-  window-seen i e = ap (λ (b : Bool). cond b Out (seen h (callTime s i (i .arrival)) (callTime s i (i .departure)) i)) e
+  window-seen i e = ap (λ (b : Bool). cond b Out (callSeen s h i)) e
 
   pub window-absent : (i : CallInput) → unTimed i ≡ true → window s h i ≡ Out
   unfolding window
-  window-absent i e = ap (λ (b : Bool). cond b Out (seen h (callTime s i (i .arrival)) (callTime s i (i .departure)) i)) e
+  window-absent i e = ap (λ (b : Bool). cond b Out (callSeen s h i)) e
 
 -- ---- the step
 pub record Showing (s : Settings) (is : List CallInput) (t : Table) : Type 0 where

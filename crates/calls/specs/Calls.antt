@@ -54,9 +54,13 @@ callTests searched stops i =
 abbrev pub callTime : Settings → CallInput → Seconds → Offset
 callTime s i t = timeAfter (getD (s .epochs) (i .day) (pos 0)) (s .now) (secondsOf t)
 
--- a call as it is seen up to a horizon: outside if a time is absent
+-- a call with both times, as it is seen up to a horizon
+abbrev pub callSeen : Settings → ℕ → CallInput → View
+callSeen s h i = seen h (callTime s i (i .arrival)) (callTime s i (i .departure)) i
+
+-- outside if a time is absent
 unfoldable pub window : Settings → ℕ → CallInput → View
-window s h i = cond (unTimed i) Out (seen h (callTime s i (i .arrival)) (callTime s i (i .departure)) i)
+window s h i = cond (unTimed i) Out (callSeen s h i)
 
 -- outside, 11, or taken, with the table that the cuts leave
 unfoldable pub callFit : Settings → Table → CallInput → Fitted

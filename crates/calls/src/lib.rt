@@ -46,6 +46,13 @@ pub enum View {
     Out,
 }
 
+// What becomes of a call for which nothing is cut: it goes in, or lies outside. `Other`: it is sent back, or the table is full.
+pub enum Uncut {
+    In(Call),
+    Outside,
+    Other,
+}
+
 pub struct Table {
     pub calls: [Call; 512],
     pub count: usize,

@@ -3,13 +3,18 @@ ghost use mathlib.Core.Path.{_≡_};
 ghost use lib.ListN.{getD};
 ghost use lib.IntN.{pos};
 ghost use Rattle.refusal.specs.First.{firstAnswer};
-ghost use Rattle.calls.specs.Calls.{secondsOf, absent, known, callTests, callFit, callOn};
+ghost use Rattle.calls.specs.Calls.{secondsOf, absent, known, callTests, callTime, callSeen, callFit, callOn};
+ghost use Rattle.calls.specs.Uncut.{uncutView, uncutOn};
 use crate::CallInput;
 use crate::Fitted;
+use crate::Offset;
 use crate::Seconds;
 use crate::Table;
+use crate::Uncut;
+use crate::View;
 use crate::cuts::fit;
 use crate::window::offset;
+use crate::window::view_of;
 use refusal::Answer;
 use refusal::Refusal;
 use refusal::is_refused;
@@ -86,17 +91,60 @@ fn epoch_of(epochs: [i64; 3], day: u8) -> i64
     0
 }
 
-fn call_fit(settings: Settings, table: Table, input: CallInput) -> Fitted
-    ensures { λ r. ⌜ r ≡ callFit settings table input ⌝ }
+// A time of the call, from the start.
+fn time_of(settings: Settings, input: CallInput, time: Seconds) -> Offset
+    ensures { λ r. ⌜ r ≡ callTime settings input time ⌝ }
 {
     let epochs = settings.epochs;
     let epoch = epoch_of(epochs, input.day);
-    let now = settings.now;
+    offset(epoch, settings.now, seconds_of(time))
+}
+
+fn call_fit(settings: Settings, table: Table, input: CallInput) -> Fitted
+    ensures { λ r. ⌜ r ≡ callFit settings table input ⌝ }
+{
     let arrival = input.arrival;
     let departure = input.departure;
-    let a = offset(epoch, now, seconds_of(arrival));
-    let d = offset(epoch, now, seconds_of(departure));
+    let a = time_of(settings, input, arrival);
+    let d = time_of(settings, input, departure);
     fit(table, a, d, input)
+}
+
+// A call that no test sends back, at the table's horizon.
+fn uncut_view(settings: Settings, count: usize, h: u16, input: CallInput) -> Uncut
+    ensures { λ r. ⌜ r ≡ uncutView count (callSeen settings h input) ⌝ }
+{
+    let arrival = input.arrival;
+    let departure = input.departure;
+    let a = time_of(settings, input, arrival);
+    let d = time_of(settings, input, departure);
+    let view = view_of(h, a, d, input);
+    let View::In(call) = view else {
+        return Uncut::Outside;
+    };
+    if count < 512 {
+        return Uncut::In(call);
+    }
+    Uncut::Other
+}
+
+// A call step that cuts nothing, told without the table: of that only the count and the horizon are read.
+pub fn uncut(
+    settings: Settings,
+    searched: bool,
+    stops: usize,
+    count: usize,
+    h: u16,
+    input: CallInput,
+) -> Uncut
+    ensures { λ r. ⌜ r ≡ uncutOn settings searched stops count h input ⌝ }
+{
+    let first = call_check(searched, stops, input);
+    match first {
+        Answer::Taken => uncut_view(settings, count, h, input),
+        Answer::Outside => Uncut::Outside,
+        Answer::Refused(_) => Uncut::Other,
+    }
 }
 
 // A call is taken, lies outside the window, or is sent back; `searched` and `stops` are the load's.

@@ -1,11 +1,12 @@
 -- The load that a step returns, by its answer: laws that the steps' proofs cite.
 use Prim.Native.Nat.{ℕ, _+_, _<_}
-use mathlib.Core.Path.{_≡_, sym, ap, _∙_}
+use mathlib.Core.Path.{_≡_, refl, sym, ap, _∙_}
 use mathlib.Core.Bool.{true, false, cond}
 use mathlib.Core.List.{List}
 use lib.ListN.{set, replicate}
 use Rattle.laws.proofs.Bools.{cond-by, cond-not}
 use Rattle.refusal.specs.declared.Answer.{Answer}
+use Rattle.refusal.specs.declared.Answer.the-variants.{Taken, Outside}
 use Rattle.refusal.specs.First.{isRefused, isTaken}
 use Rattle.refusal.proofs.FirstLaws.{taken-is}
 use Rattle.settings.specs.declared.Settings.{Settings}
@@ -16,7 +17,11 @@ use Rattle.stops.proofs.Laws as stops
 use Rattle.calls.specs.declared.Call.{Call}
 use Rattle.calls.specs.declared.CallInput.{CallInput}
 use Rattle.calls.specs.declared.Fitted.{Fitted}
-use Rattle.calls.specs.Tables.{blankCall}
+use Rattle.calls.specs.declared.Uncut.{Uncut}
+use Rattle.calls.specs.declared.Uncut.the-variants.{In, Outside as Beyond}
+use Rattle.calls.specs.Tables.{blankCall, put}
+use Rattle.calls.specs.Uncut.{uncutOn, Told}
+use Rattle.calls.proofs.UncutLaws.{uncut-tells}
 use Rattle.rules.specs.declared.Rule.{Rule}
 use Rattle.rules.specs.declared.RuleInput.{RuleInput}
 use Rattle.rules.specs.Rules.{blankRule, ruleOf}
@@ -25,7 +30,7 @@ use Rattle.profile.specs.declared.Journey.{Journey}
 use Rattle.profile.specs.Journeys.{noJourney}
 use Rattle.load.specs.declared.Load.{Load}
 use Rattle.load.specs.declared.Stepped.{Stepped}
-use Rattle.load.specs.Load.{emptyLoad, blankSettings, withTable, withStops, withRules}
+use Rattle.load.specs.Load.{emptyLoad, blankSettings, tableOf, withTable, withStops, withRules}
 use Rattle.load.specs.Steps.{openAnswer, opened, openSpec, stationIn, stopAnswer, stopLoad, stopSpec, callFitted, callLoad, callSpec, ruleAnswer, ruleLoad, ruleSpec}
 
 -- ---- opening
@@ -85,6 +90,11 @@ module _ (l : Load) (id name parent : List ℕ) (i : StopInput) (a : Answer) (h 
       let same : l ≡ stopLoad l (stopOf id name (stationIn l parent i) i) (stopAnswer l id name parent i) = sym (cond-not _ _ (ap isTaken (sym h) ∙ e)) in
       λ k. record { answer = h k; load = same k }
 
+-- a stop that no test sends back
+pub stop-goes-in : (l : Load) (id name parent : List ℕ) (i : StopInput) → stopAnswer l id name parent i ≡ Taken
+    → stopSpec l id name parent i ≡ record { answer = Taken; load = withStops l (set (l .stops) (l .«stop_count») (stopOf id name (stationIn l parent i) i)) (l .«stop_count» + 1) }
+stop-goes-in l id name parent i e = sym (stop-taken l id name parent i Taken (sym e) (stopOf id name (stationIn l parent i) i) refl refl)
+
 -- ---- call
 
 module _ (l : Load) (i : CallInput) (f : Fitted) (h : f ≡ callFitted l i) where
@@ -99,6 +109,23 @@ module _ (l : Load) (i : CallInput) (f : Fitted) (h : f ≡ callFitted l i) wher
   call-taken e =
       let same : withTable l (f .table) ≡ callLoad l f = sym (cond-not _ _ e) in
       λ k. record { answer = h k .answer; load = (same ∙ ap (callLoad l) h) k }
+
+-- where nothing is cut
+module _ (l : Load) (i : CallInput) where
+  abbrev uncutCall : Uncut
+  uncutCall = uncutOn (l .settings) (l .searched) (l .«stop_count») (l .«call_count») (l .«table_horizon») i
+
+  told : Told (l .settings) (l .searched) (l .«stop_count») (tableOf l) i uncutCall
+  told = uncut-tells (l .settings) (l .searched) (l .«stop_count») (tableOf l) i
+
+  pub call-room : (c : Call) → uncutCall ≡ In c → l .«call_count» < 512
+  call-room c e = told .room c e
+
+  pub call-goes-in : (c : Call) → uncutCall ≡ In c → callSpec l i ≡ record { answer = Taken; load = withTable l (put (tableOf l) c) }
+  call-goes-in c e = sym (call-taken l i _ (sym (told .goes-in c e)) refl)
+
+  pub call-outside : uncutCall ≡ Beyond → callSpec l i ≡ record { answer = Outside; load = withTable l (tableOf l) }
+  call-outside e = sym (call-taken l i _ (sym (told .outside e)) refl)
 
 -- ---- rule
 
@@ -119,3 +146,7 @@ module _ (l : Load) (i : RuleInput) (a : Answer) (h : a ≡ ruleAnswer l i) wher
   rule-refused e =
       let same : l ≡ ruleLoad l i (ruleAnswer l i) = sym (cond-not _ _ (ap isTaken (sym h) ∙ e)) in
       λ k. record { answer = h k; load = same k }
+
+-- a rule that no test sends back
+pub rule-goes-in : (l : Load) (i : RuleInput) → ruleAnswer l i ≡ Taken → ruleSpec l i ≡ record { answer = Taken; load = withRules l (set (l .rules) (l .«rule_count») (ruleOf i)) (l .«rule_count» + 1) }
+rule-goes-in l i e = sym (rule-taken l i Taken (sym e) (ruleOf i) refl refl)

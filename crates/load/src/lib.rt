@@ -5,8 +5,10 @@ ghost use Rattle.load.specs.Steps.{openSpec, stopSpec, callSpec, ruleSpe
 use calls::Call;
 use calls::CallInput;
 use calls::Table;
+use calls::Uncut;
 use calls::cuts::blank_call;
 use calls::step::call_on;
+use calls::step::uncut;
 use profile::Journey;
 use profile::no_journey;
 use refusal::Answer;
@@ -134,8 +136,47 @@ impl Load {
         Stepped { answer, load: self }
     }
 
-    // A call is taken, lies outside the window, or is sent back.
+    // A call is taken, lies outside the window, or is sent back. Where nothing is cut, the table is not copied apart.
     pub fn call(self, input: CallInput) -> Stepped
+        ensures { λ r. ⌜ r ≡ callSpec self input ⌝ }
+    {
+        let settings = self.settings;
+        let at = self.call_count;
+        let told = uncut(
+            settings,
+            self.searched,
+            self.stop_count,
+            at,
+            self.table_horizon,
+            input,
+        );
+        match told {
+            Uncut::In(call) => {
+                let mut next = self;
+                next.calls[at] = call;
+                next.call_count = at + 1;
+                next.horizon = self.table_horizon;
+                next.limits = self.table_limits;
+                Stepped {
+                    answer: Answer::Taken,
+                    load: next,
+                }
+            }
+            Uncut::Outside => {
+                let mut next = self;
+                next.horizon = self.table_horizon;
+                next.limits = self.table_limits;
+                Stepped {
+                    answer: Answer::Outside,
+                    load: next,
+                }
+            }
+            Uncut::Other => self.call_by_cuts(input),
+        }
+    }
+
+    // The same, through the table: what is sent back, and what a full table does.
+    fn call_by_cuts(self, input: CallInput) -> Stepped
         ensures { λ r. ⌜ r ≡ callSpec self input ⌝ }
     {
         let settings = self.settings;

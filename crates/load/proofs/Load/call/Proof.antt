@@ -1,21 +1,61 @@
--- The table that the call leaves, or the load as it was.
+-- The short way where nothing is cut; else the way by the table.
+use Prim.Native.Nat.{_<_}
 use mathlib.Core.Path.{sym, _∙_}
-use Rattle.load.proofs.StepLaws.{call-refused, call-taken}
+use native.Mathlib.Omega.{arith}
+use Rattle.load.proofs.StepLaws.{call-room, call-goes-in, call-outside}
 use borrow.Author.Needs.{needs}
 use Rattle.load.proofs.Load.call.Statement.{statement}
 use Rattle.load.proofs.Load.call.Tie as tie
 
-call-on-requires : tie.Need-call-on-requires
-call-on-requires c κs = search needs
+-- a call that goes in has room
+fits : (c : tie.After-known-told) → c .before .before .before .before .before .args .self .«call_count» < 512
+fits c = call-room (c .before .before .before .before .before .args .self) _ _ (sym (c .before .before .before .uncut .ensures) ∙ c .before .told .given .1)
 
-is-refused-requires : tie.Need-is-refused-requires
-is-refused-requires c κs = search needs
+uncut-requires : tie.Need-uncut-requires
+uncut-requires c κs = search needs
+
+enum-known-told : tie.Need-enum-known-told
+enum-known-told c = search needs
+
+mul-call : tie.Need-mul-call
+mul-call c = omega (arith, fits c)
+
+element-set-from-call : tie.Need-element-set-from-call
+element-set-from-call c = fits c
+
+add-next : tie.Need-add-next
+add-next c = omega (arith, fits c)
+
+enum-told : tie.Need-enum-told
+enum-told c = search needs
+
+enum-told-2 : tie.Need-enum-told-2
+enum-told-2 c = search needs
+
+call-by-cuts-requires : tie.Need-call-by-cuts-requires
+call-by-cuts-requires c κs = search needs
 
 returns : tie.Need-returns
-returns c = call-refused (c .before .before .before .before .before .args .self) _ _ (c .before .before .call-on .ensures) (sym (c .before .is-refused .ensures) ∙ c .if1 .taken)
+returns c = sym (call-goes-in (c .before .before .before .before .before .args .self) _ _ (sym (c .before .before .before .uncut .ensures) ∙ c .before .told .given .1))
 
 returns-2 : tie.Need-returns-2
-returns-2 c = call-taken (c .before .before .before .before .before .before .before .args .self) _ _ (c .before .before .before .before .call-on .ensures) (sym (c .before .before .before .is-refused .ensures) ∙ c .before .before .if1 .left)
+returns-2 c = sym (call-outside (c .before .before .before .before .args .self) _ (sym (c .before .before .uncut .ensures) ∙ c .enum-told .given .1))
+
+returns-3 : tie.Need-returns-3
+returns-3 c = search needs
 
 pub call-spec : {M : Type 1} → statement M
-call-spec = tie.close (tie.spec call-on-requires is-refused-requires returns returns-2)
+call-spec =
+    tie.close
+    (tie.spec
+    uncut-requires
+    enum-known-told
+    mul-call
+    element-set-from-call
+    add-next
+    enum-told
+    enum-told-2
+    call-by-cuts-requires
+    returns
+    returns-2
+    returns-3)
