@@ -15,14 +15,18 @@ use Rattle.stops.specs.declared.StopInput.{StopInput}
 use Rattle.stops.specs.declared.Found.{Found}
 use Rattle.stops.specs.Answer.{stationOf, stopTests}
 use Rattle.stops.specs.Taken.{stopOf}
+use Rattle.settings.specs.declared.Settings.{Settings}
+use Rattle.calls.specs.declared.CallInput.{CallInput}
+use Rattle.calls.specs.declared.Uncut.{Uncut}
+use Rattle.calls.specs.Uncut.{uncutOn}
 use Rattle.rules.specs.declared.Rule.{Rule}
 use Rattle.rules.specs.declared.RuleInput.{RuleInput}
 use Rattle.rules.specs.Rules.{ruleTests}
 use Rattle.fields.specs.Numbers.{byteAt, u16At}
 use Rattle.fields.specs.Layout.{hasAt, textAt, optionTextAt, nameAt, parentAt, stopFilled, ruleFilled}
-use Rattle.fields.specs.Records.{stopIn, ruleIn}
+use Rattle.fields.specs.Records.{stopIn, callIn, ruleIn}
 use Rattle.file.specs.File.{startsWhole, sizeOf, bodyOf}
-use Rattle.file.specs.Runs.{wholeAs, sizeIf, ruleFits, stationAt, stopFits, stopAt}
+use Rattle.file.specs.Runs.{wholeAs, whereFits, ruleFits, stationAt, stopFits, stopAt}
 use Rattle.file.proofs.FedLaws.{whole-room}
 
 -- ---- a whole record
@@ -49,38 +53,38 @@ pub whole-starts : (k : ℕ) (xs : List ℕ) {w : Bool} → w ≡ wholeAs k xs �
 unfolding wholeAs
 whole-starts k xs w-is e = and-true-left _ _ (sym w-is ∙ e)
 
--- ---- its size, if it fits
+-- ---- one of two values, by whether it fits
 
-module _ (k : ℕ) (fits : List ℕ → Bool) (xs : List ℕ) {w : Bool} (w-is : w ≡ wholeAs k xs) where
-  pub size-other : w ≡ false → 0 ≡ sizeIf k fits xs
-  unfolding sizeIf
-  size-other e = rw (sym w-is ∙ e) refl
+module _ {A : Type 0} (k : ℕ) (fits : List ℕ → Bool) (xs : List ℕ) (y z : A) {w : Bool} (w-is : w ≡ wholeAs k xs) where
+  pub where-other : w ≡ false → z ≡ whereFits k fits xs y z
+  unfolding whereFits
+  where-other e = rw (sym w-is ∙ e) refl
 
   module _ {b : List ℕ} {f : Bool} (e : w ≡ true) (b-is : b ≡ bodyOf xs) (f-is : f ≡ fits b) where
-    pub size-unfit : f ≡ false → 0 ≡ sizeIf k fits xs
-    unfolding sizeIf
-    size-unfit g = rw (sym w-is ∙ e, sym (f-is ∙ ap fits b-is) ∙ g) refl
+    pub where-unfit : f ≡ false → z ≡ whereFits k fits xs y z
+    unfolding whereFits
+    where-unfit g = rw (sym w-is ∙ e, sym (f-is ∙ ap fits b-is) ∙ g) refl
 
-    pub size-fits : {n : ℕ} → f ≡ true → n ≡ sizeOf xs → n ≡ sizeIf k fits xs
-    unfolding sizeIf
-    size-fits g n-is = n-is ∙ rw (sym w-is ∙ e, sym (f-is ∙ ap fits b-is) ∙ g) refl
+    pub where-fits : {x : A} → f ≡ true → x ≡ y → x ≡ whereFits k fits xs y z
+    unfolding whereFits
+    where-fits g x-is = x-is ∙ rw (sym w-is ∙ e, sym (f-is ∙ ap fits b-is) ∙ g) refl
 
--- what a size tells that is not 0
-pub record Fits (k : ℕ) (fits : List ℕ → Bool) (xs : List ℕ) (n : ℕ) : Type 0 where
+-- what a value tells that is not the second
+pub record Fits {A : Type 0} (k : ℕ) (fits : List ℕ → Bool) (xs : List ℕ) (x y : A) : Type 0 where
   pub whole : startsWhole xs ≡ true
   pub kind : byteAt (bodyOf xs) 0 ≡ k
   pub taken : fits (bodyOf xs) ≡ true
-  pub size : n ≡ sizeOf xs
+  pub is : x ≡ y
 
-pub size-tells : (k : ℕ) (fits : List ℕ → Bool) (xs : List ℕ) {n : ℕ} → n ≡ sizeIf k fits xs → (n ≡ 0 → ⊥) → Fits k fits xs n
-unfolding sizeIf wholeAs
-size-tells k fits xs {n} n-is some = go (startsWhole xs) refl (eqb (byteAt (bodyOf xs) 0) k) refl (fits (bodyOf xs)) refl n-is
+pub where-tells : {A : Type 0} (k : ℕ) (fits : List ℕ → Bool) (xs : List ℕ) {x y z : A} → x ≡ whereFits k fits xs y z → (x ≡ z → ⊥) → Fits k fits xs x y
+unfolding whereFits wholeAs
+where-tells k fits xs {x} {y} {z} x-is other = go (startsWhole xs) refl (eqb (byteAt (bodyOf xs) 0) k) refl (fits (bodyOf xs)) refl x-is
   where
-    go : (w : Bool) → startsWhole xs ≡ w → (q : Bool) → eqb (byteAt (bodyOf xs) 0) k ≡ q → (f : Bool) → fits (bodyOf xs) ≡ f → n ≡ cond ((w && q) && f) (sizeOf xs) 0 → Fits k fits xs n
-    go false ew q eq f ef h = absurd (some h)
-    go true ew false eq f ef h = absurd (some h)
-    go true ew true eq false ef h = absurd (some h)
-    go true ew true eq true ef h = record { whole = ew; kind = eqb-true _ _ eq; taken = ef; size = h }
+    go : (w : Bool) → startsWhole xs ≡ w → (q : Bool) → eqb (byteAt (bodyOf xs) 0) k ≡ q → (f : Bool) → fits (bodyOf xs) ≡ f → x ≡ cond ((w && q) && f) y z → Fits k fits xs x y
+    go false ew q eq f ef h = absurd (other h)
+    go true ew false eq f ef h = absurd (other h)
+    go true ew true eq false ef h = absurd (other h)
+    go true ew true eq true ef h = record { whole = ew; kind = eqb-true _ _ eq; taken = ef; is = h }
 
 -- ---- rule
 
@@ -93,6 +97,12 @@ module _ (searched : Bool) (stops : ℕ) (rules : List Rule) (count : ℕ) (b : 
       → t ≡ ruleFits searched stops rules count b
   unfolding ruleFits
   rule-answered e i-is a-is t-is = t-is ∙ ap isTaken (a-is ∙ ap (λ (i : RuleInput). firstAnswer (ruleTests searched stops rules count i)) i-is) ∙ sym (and-by _ (sym f-is ∙ e))
+
+-- ---- call
+
+pub told-is : (settings : Settings) (searched : Bool) (stops count h : ℕ) (xs : List ℕ) {b : List ℕ} {i : CallInput} {u : Uncut} → b ≡ bodyOf xs → i ≡ callIn b
+    → u ≡ uncutOn settings searched stops count h i → u ≡ uncutOn settings searched stops count h (callIn (bodyOf xs))
+told-is settings searched stops count h xs b-is i-is u-is = u-is ∙ ap (uncutOn settings searched stops count h) (i-is ∙ ap callIn b-is)
 
 -- ---- stop
 

@@ -11,11 +11,15 @@ use Rattle.stops.specs.declared.Stop.{Stop}
 use Rattle.stops.specs.declared.Found.{Found}
 use Rattle.stops.specs.Answer.{stationOf, stopTests}
 use Rattle.stops.specs.Taken.{stopOf}
+use Rattle.settings.specs.declared.Settings.{Settings}
+use Rattle.calls.specs.declared.Uncut.{Uncut}
+use Rattle.calls.specs.declared.Uncut.the-variants.{Other}
+use Rattle.calls.specs.Uncut.{uncutOn}
 use Rattle.rules.specs.declared.Rule.{Rule}
 use Rattle.rules.specs.Rules.{ruleTests}
 use Rattle.fields.specs.Numbers.{byteAt}
-use Rattle.fields.specs.Layout.{hasAt, textAt, optionTextAt, nameAt, parentAt, stopFilled, ruleFilled}
-use Rattle.fields.specs.Records.{stopIn, ruleIn}
+use Rattle.fields.specs.Layout.{hasAt, textAt, optionTextAt, nameAt, parentAt, stopFilled, callFilled, ruleFilled}
+use Rattle.fields.specs.Records.{stopIn, callIn, ruleIn}
 use Rattle.load.specs.declared.Load.{Load}
 use Rattle.file.specs.declared.Reader.{Reader}
 use Rattle.file.specs.declared.Fed.{Fed}
@@ -29,9 +33,13 @@ openReader l = record { opened = true; load = l }
 unfoldable pub wholeAs : ℕ → List ℕ → Bool
 wholeAs k xs = startsWhole xs && eqb (byteAt (bodyOf xs) 0) k
 
--- how many bytes the record at the start of the bytes takes, if it is whole, of kind k and fits; else 0
-unfoldable pub sizeIf : ℕ → (List ℕ → Bool) → List ℕ → ℕ
-sizeIf k fits xs = cond (wholeAs k xs && fits (bodyOf xs)) (sizeOf xs) 0
+-- one of two values, by whether the bytes start with a whole record of kind k that fits
+unfoldable pub whereFits : {A : Type 0} → ℕ → (List ℕ → Bool) → List ℕ → A → A → A
+whereFits k fits xs a b = cond (wholeAs k xs && fits (bodyOf xs)) a b
+
+-- how many bytes the record takes if it fits, else 0
+abbrev pub sizeIf : ℕ → (List ℕ → Bool) → List ℕ → ℕ
+sizeIf k fits xs = whereFits k fits xs (sizeOf xs) 0
 
 -- ---- which records fit: they are filled, and the load takes them
 
@@ -49,6 +57,10 @@ stopFits searched stops count b =
 -- the record of the stop that is taken
 unfoldable pub stopAt : List Stop → ℕ → List ℕ → Stop
 stopAt stops count b = stopOf (textAt b 1) (optionTextAt b (nameAt b)) (stationAt stops count b) (stopIn b)
+
+-- what a filled call's record tells of its step, by the settings and the table's count and horizon; `Other` where there is none
+abbrev pub callTold : Settings → Bool → ℕ → ℕ → ℕ → List ℕ → Uncut
+callTold settings searched stops count h xs = whereFits 3 callFilled xs (uncutOn settings searched stops count h (callIn (bodyOf xs))) Other
 
 -- ---- runs and turns
 

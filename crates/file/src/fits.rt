@@ -5,22 +5,27 @@ ghost use Rattle.fields.specs.Layout.{stopFilled};
 ghost use Rattle.fields.specs.Records.{ruleIn};
 ghost use Rattle.rules.specs.Rules.{ruleOf};
 ghost use Rattle.file.specs.File.{startsWhole, sizeOf, bodyOf};
-ghost use Rattle.file.specs.Runs.{wholeAs, sizeIf, ruleFits, stationAt, stopFits, stopAt};
+ghost use Rattle.file.specs.Runs.{wholeAs, sizeIf, ruleFits, stationAt, stopFits, stopAt, callTold};
 use crate::record::id_text;
 use crate::record::name_text;
 use crate::record::parent_text;
+use calls::Uncut;
+use calls::step::uncut;
+use fields::layout::call_filled;
 use fields::layout::has_at;
 use fields::layout::kind_of;
 use fields::layout::length_of;
 use fields::layout::parent_at;
 use fields::layout::rule_filled;
 use fields::layout::stop_filled;
+use fields::records::call_in;
 use fields::records::rule_in;
 use fields::records::stop_in;
 use refusal::is_taken;
 use rules::Rule;
 use rules::rule_answer;
 use rules::rule_of;
+use settings::Settings;
 use stops::Found;
 use stops::Stop;
 use stops::answer::parent_of;
@@ -134,4 +139,26 @@ pub fn stop_at(stops: [Stop; 128], count: usize, bytes: &[u8]) -> Stop
     let b = body_of(bytes);
     let station = station_at(stops, count, b);
     stop_of(id_text(b), name_text(b), station, stop_in(b))
+}
+
+// ---- call
+
+// What a call's record tells of its step, if it is whole and filled.
+pub fn call_told(
+    settings: Settings,
+    searched: bool,
+    stops: usize,
+    count: usize,
+    h: u16,
+    bytes: &[u8],
+) -> Uncut
+    ensures { λ r. ⌜ r ≡ callTold settings searched stops count h (now (bytes .entry)) ⌝ }
+{
+    if whole_as(3, bytes) {
+        let b = body_of(bytes);
+        if call_filled(b) {
+            return uncut(settings, searched, stops, count, h, call_in(b));
+        }
+    }
+    Uncut::Other
 }
