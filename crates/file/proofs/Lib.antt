@@ -4,6 +4,7 @@ pub mod FedLaws
 pub mod LeftLaws
 pub mod FitLaws
 pub mod RecordLaws
+pub mod AnsweredLaws
 pub mod HandedLaws
 pub mod RunLaws
 pub mod ReadLaws
