@@ -78,11 +78,11 @@ pub next-turned : (r : Reader) (xs : List ℕ) {f : Fed} → f ≡ nextSpec r xs
 next-turned r xs f-is = rw f-is (record { refused = next-refused r xs; stops = λ e. next-stops r xs; goes-on = next-on r xs })
 
 -- and so is a run of an opened reader that used bytes
-pub run-turned : (r : Reader) {xs : List ℕ} {l : Load} {n : ℕ} → r .opened ≡ true → Left (openReader (r .load)) xs (openReader l) n → (n ≡ 0 → ⊥)
+pub run-turned : (r : Reader) {xs : List ℕ} {l : Load} {n : ℕ} → r .opened ≡ true → Left (openReader (r .load)) xs (openReader l) n → 0 < n
     → Turned r xs (record { answer = Taken; used = n; reader = openReader l })
 run-turned r {xs} {l} {n} o left some = record {
   refused = λ e. absurd (false≢true e);
-  stops = λ e z. absurd (some z);
+  stops = λ e z. absurd (omega (arith, some, z));
   goes-on = λ e. subst (λ (q : Reader). Left q xs (openReader l) n) (λ k. record { opened = sym o k; load = r .load }) left;
 }
 

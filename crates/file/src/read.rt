@@ -68,18 +68,18 @@ fn run_or_next(reader: Reader, bytes: &[u8]) -> Fed
     let load = reader.load;
     let run = run(load, bytes);
     let used = run.used;
-    if used == 0 {
-        return next(reader, bytes);
+    if 0 < used {
+        let after = run.load;
+        return Fed {
+            answer: Answer::Taken,
+            used,
+            reader: Reader {
+                opened: true,
+                load: after,
+            },
+        };
     }
-    let after = run.load;
-    Fed {
-        answer: Answer::Taken,
-        used,
-        reader: Reader {
-            opened: true,
-            load: after,
-        },
-    }
+    next(reader, bytes)
 }
 
 fn turn(reader: Reader, bytes: &[u8]) -> Fed
