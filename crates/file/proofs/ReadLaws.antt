@@ -6,18 +6,20 @@ use Prim.Native.Nat.{ℕ, _+_, _-_, _≤_, _<_}
 use native.Mathlib.Omega.{arith}
 use borrow.Author.Tests.{le-leb, lt-leb}
 use borrow.Rule.Slice.PartAt.{part-to-end}
-use lib.ListN.{length, take, drop, length-drop, drop-of-length-le}
-use lib.Seq.{drop-drop}
+use lib.ListN.{length, take, drop, length-drop}
 use Rattle.refusal.specs.declared.Answer.{Answer}
 use Rattle.refusal.specs.declared.Answer.the-variants.{Taken}
 use Rattle.refusal.specs.First.{isRefused}
 use Rattle.fields.specs.Numbers.{u16At}
+use Rattle.load.specs.declared.Load.{Load}
 use Rattle.file.specs.declared.Reader.{Reader}
 use Rattle.file.specs.declared.Took.{Took}
 use Rattle.file.specs.declared.Fed.{Fed}
 use Rattle.file.specs.Record.{freshReader, recordSpec}
-use Rattle.file.specs.File.{versionAnswer, startsWhole, sizeOf, bodyOf, nextSpec, later, fedSpec, endAnswer, endedBy, readSpec}
-use Rattle.file.proofs.FedLaws.{whole-room, none-whole, fed-stops, fed-refuses, fed-goes-on, fed-room, later-later, later-zero}
+use Rattle.file.specs.File.{versionAnswer, startsWhole, sizeOf, bodyOf, nextSpec, fedSpec, endAnswer, endedBy, readSpec}
+use Rattle.file.specs.Runs.{openReader, Left, Turned}
+use Rattle.file.proofs.FedLaws.{fed-stops, fed-refuses, fed-room}
+use Rattle.file.proofs.LeftLaws.{left-first, left-one, left-trans, left-ends}
 
 -- ---- the next record
 
@@ -62,66 +64,42 @@ module _ (r : Reader) (xs : List ℕ) where
       go false w = fed-stops r xs w
       go true w = let q : sizeOf xs ≡ 0 = sym (ap (λ (f : Fed). f .used) (next-one r xs w)) ∙ e in absurd (omega (arith, q))
 
-  next-goes-on : isRefused (nextSpec r xs .answer) ≡ false → (nextSpec r xs .used ≡ 0 → ⊥)
-      → fedSpec r xs ≡ later (nextSpec r xs .used) (fedSpec (nextSpec r xs .reader) (drop (nextSpec r xs .used) xs))
-  next-goes-on e n = go (startsWhole xs) refl
+  next-on : isRefused (nextSpec r xs .answer) ≡ false → Left r xs (nextSpec r xs .reader) (nextSpec r xs .used)
+  next-on e = go (startsWhole xs) refl
     where
-      go : (b : Bool) → startsWhole xs ≡ b → fedSpec r xs ≡ later (nextSpec r xs .used) (fedSpec (nextSpec r xs .reader) (drop (nextSpec r xs .used) xs))
-      go false w = absurd (n (ap (λ (f : Fed). f .used) (next-no r xs w)))
+      go : (b : Bool) → startsWhole xs ≡ b → Left r xs (nextSpec r xs .reader) (nextSpec r xs .used)
+      go false w = subst (λ (f : Fed). Left r xs (f .reader) (f .used)) (sym (next-no r xs w)) (left-first r xs)
       go true w =
           let q = next-one r xs w in
-          fed-goes-on r xs w (sym (ap (λ (f : Fed). isRefused (f .answer)) q) ∙ e) ∙ ap (λ (f : Fed). later (f .used) (fedSpec (f .reader) (drop (f .used) xs))) (sym q)
+          subst (λ (f : Fed). Left r xs (f .reader) (f .used)) (sym q) (left-one r _ xs w refl (sym (ap (λ (f : Fed). isRefused (f .answer)) q) ∙ e))
 
-  next-room : nextSpec r xs .used ≤ length xs
-  next-room = go (startsWhole xs) refl
-    where
-      go : (b : Bool) → startsWhole xs ≡ b → nextSpec r xs .used ≤ length xs
-      go false w = subst (λ (f : Fed). f .used ≤ length xs) (sym (next-no r xs w)) (omega arith)
-      go true w = subst (λ (f : Fed). f .used ≤ length xs) (sym (next-one r xs w)) (whole-room xs w)
+-- the next record is a turn
+pub next-turned : (r : Reader) (xs : List ℕ) {f : Fed} → f ≡ nextSpec r xs → Turned r xs f
+next-turned r xs f-is = rw f-is (record { refused = next-refused r xs; stops = λ e. next-stops r xs; goes-on = next-on r xs })
+
+-- and so is a run of an opened reader that used bytes
+pub run-turned : (r : Reader) {xs : List ℕ} {l : Load} {n : ℕ} → r .opened ≡ true → Left (openReader (r .load)) xs (openReader l) n → 0 < n
+    → Turned r xs (record { answer = Taken; used = n; reader = openReader l })
+run-turned r {xs} {l} {n} o left some = record {
+  refused = λ e. absurd (false≢true e);
+  stops = λ e z. absurd (omega (arith, some, z));
+  goes-on = λ e. subst (λ (q : Reader). Left q xs (openReader l) n) (λ k. record { opened = sym o k; load = r .load }) left;
+}
 
 -- ---- the turns
 
--- at a place of the bytes, what is still to be fed gives what all of them give
-pub record Left (r₀ : Reader) (bytes : List ℕ) (r : Reader) (at : ℕ) : Type 0 where
-  pub room : at ≤ length bytes
-  pub rest : later at (fedSpec r (drop at bytes)) ≡ fedSpec r₀ bytes
-
-pub left-first : (r : Reader) (bytes : List ℕ) → Left r bytes r 0
-left-first r bytes = record { room = omega arith; rest = later-zero (fedSpec r bytes) }
-
--- where no more is fed
-left-ends : {r₀ r : Reader} {bytes : List ℕ} {at : ℕ} (a : Answer) → Left r₀ bytes r at → fedSpec r (drop at bytes) ≡ record { answer = a; used = 0; reader = r }
-    → record { answer = a; used = at; reader = r } ≡ fedSpec r₀ bytes
-left-ends {r₀} {r} {bytes} {at} a l e = (λ t. record { answer = a; used = more at t; reader = r }) ∙ ap (later at) (sym e) ∙ l .rest
-  where
-    more : (n : ℕ) → n ≡ n + 0
-    more n = omega arith
-
-pub left-none : {r₀ r : Reader} {bytes : List ℕ} {at : ℕ} → Left r₀ bytes r at → length bytes ≤ at → record { answer = Taken; used = at; reader = r } ≡ fedSpec r₀ bytes
-left-none {r₀} {r} {bytes} {at} l h = left-ends Taken l (rw (drop-of-length-le bytes h) (fed-stops r [] none-whole))
-
-module _ {r₀ r : Reader} {bytes : List ℕ} {at : ℕ} {f : Fed} {t : Bool} (l : Left r₀ bytes r at) (f-is : f ≡ nextSpec r (take (length bytes - at) (drop at bytes))) (t-is : t ≡ isRefused (f .answer)) where
-  next-is : f ≡ nextSpec r (drop at bytes)
-  next-is = f-is ∙ ap (nextSpec r) (part-to-end bytes at)
-
-  refused-is : {b : Bool} → t ≡ b → isRefused (nextSpec r (drop at bytes) .answer) ≡ b
-  refused-is e = sym (ap (λ (f : Fed). isRefused (f .answer)) next-is) ∙ sym t-is ∙ e
+module _ {r₀ r : Reader} {bytes : List ℕ} {at : ℕ} {f : Fed} {t : Bool} (l : Left r₀ bytes r at) (f-is : Turned r (take (length bytes - at) (drop at bytes)) f) (t-is : t ≡ isRefused (f .answer)) where
+  turned : Turned r (drop at bytes) f
+  turned = rw (part-to-end bytes at) at f-is
 
   pub left-refused : t ≡ true → record { answer = f .answer; used = at; reader = r } ≡ fedSpec r₀ bytes
-  left-refused e = left-ends (f .answer) l (next-refused r (drop at bytes) (refused-is e) ∙ ap (λ (f : Fed). record { answer = f .answer; used = 0; reader = r }) (sym next-is))
+  left-refused e = left-ends (f .answer) l (turned .refused (sym t-is ∙ e))
 
-  pub left-stops : f .used ≡ 0 → record { answer = Taken; used = at; reader = r } ≡ fedSpec r₀ bytes
-  left-stops e = left-ends Taken l (next-stops r (drop at bytes) (sym (ap (λ (f : Fed). f .used) next-is) ∙ e))
+  pub left-stops : t ≡ false → f .used ≡ 0 → record { answer = Taken; used = at; reader = r } ≡ fedSpec r₀ bytes
+  left-stops e n = left-ends Taken l (turned .stops (sym t-is ∙ e) n)
 
-  pub left-on : t ≡ false → (f .used ≡ 0 → ⊥) → Left r₀ bytes (f .reader) (at + f .used)
-  left-on e n = record {
-    room = subst (λ (f : Fed). at + f .used ≤ length bytes) (sym next-is) (let room = next-room r (drop at bytes) in omega (arith, room, length-drop at bytes, l .room));
-    rest = subst (λ (f : Fed). later (at + f .used) (fedSpec (f .reader) (drop (at + f .used) bytes)) ≡ fedSpec r₀ bytes) (sym next-is) (
-        sym (later-later at _ _ ∙ ap (λ (xs : List ℕ). later (at + nextSpec r (drop at bytes) .used) (fedSpec (nextSpec r (drop at bytes) .reader) xs)) (drop-drop _ at bytes))
-        ∙ ap (later at) (sym (next-goes-on r (drop at bytes) (refused-is e) (λ z. n (ap (λ (f : Fed). f .used) next-is ∙ z))))
-        ∙ l .rest
-        );
-  }
+  pub left-on : t ≡ false → Left r₀ bytes (f .reader) (at + f .used)
+  left-on e = left-trans l (turned .goes-on (sym t-is ∙ e))
 
 -- ---- the whole file
 

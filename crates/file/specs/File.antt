@@ -59,8 +59,11 @@ fedSpec r xs = fedBy (length xs) r xs
 
 -- ---- the end: 18, a record that runs past it; 19, a file with no record
 
+abbrev pub endTests : Bool → ℕ → List (Bool × Answer)
+endTests opened left = (not (eqb left 0), Refused RecordLength) ∷ (not opened, Refused RecordKind) ∷ []
+
 unfoldable pub endAnswer : Bool → ℕ → Answer
-endAnswer opened left = firstAnswer ((not (eqb left 0), Refused RecordLength) ∷ (not opened, Refused RecordKind) ∷ [])
+endAnswer opened left = firstAnswer (endTests opened left)
 
 -- ---- the whole file
 

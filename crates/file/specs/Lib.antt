@@ -1,3 +1,5 @@
 pub mod Record
 pub mod File
+pub mod Runs
 pub mod Handed
+pub mod Answered

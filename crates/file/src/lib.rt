@@ -1,6 +1,8 @@
 // The reader of a load file (request 01, version 1).
+mod fits;
 pub mod read;
 mod record;
+mod runs;
 
 use load::Load;
 use refusal::Answer;
@@ -22,4 +24,10 @@ pub struct Fed {
     pub answer: Answer,
     pub used: usize,
     pub reader: Reader,
+}
+
+// How many bytes a run of records took, and the load after them.
+pub struct Run {
+    pub used: usize,
+    pub load: Load,
 }

@@ -1,12 +1,15 @@
 // A load file, read whole or in parts: version, records, end.
 ghost use mathlib.Core.Path.{_≡_};
+ghost use mathlib.Core.Bool.{true};
 ghost use lib.ListN.{length, take, drop};
 ghost use Rattle.file.specs.Record.{freshReader};
 ghost use Rattle.file.specs.File.{versionAnswer, nextSpec, fedSpec, endAnswer, readSpec};
+ghost use Rattle.file.specs.Runs.{Turned};
 use crate::Fed;
 use crate::Reader;
 use crate::Took;
 use crate::record::record;
+use crate::runs::run;
 use fields::layout::kind_of;
 use fields::layout::length_of;
 use load::Load;
@@ -57,6 +60,37 @@ pub fn next(reader: Reader, bytes: &[u8]) -> Fed
     }
 }
 
+// One turn of a reader whose load is opened: a run of records, or else the next record alone.
+fn run_or_next(reader: Reader, bytes: &[u8]) -> Fed
+    requires { ⌜ reader .opened ≡ true ⌝ }
+    ensures { λ r. ⌜ Turned reader (now (bytes .entry)) r ⌝ }
+{
+    let load = reader.load;
+    let run = run(load, bytes);
+    let used = run.used;
+    if 0 < used {
+        let after = run.load;
+        return Fed {
+            answer: Answer::Taken,
+            used,
+            reader: Reader {
+                opened: true,
+                load: after,
+            },
+        };
+    }
+    next(reader, bytes)
+}
+
+fn turn(reader: Reader, bytes: &[u8]) -> Fed
+    ensures { λ r. ⌜ Turned reader (now (bytes .entry)) r ⌝ }
+{
+    if reader.opened {
+        return run_or_next(reader, bytes);
+    }
+    next(reader, bytes)
+}
+
 // The whole records at the start of the bytes, up to the first that is refused.
 pub fn fed(reader: Reader, bytes: &[u8]) -> Fed
     ensures { λ r. ⌜ r ≡ fedSpec reader (now (bytes .entry)) ⌝ }
@@ -64,7 +98,7 @@ pub fn fed(reader: Reader, bytes: &[u8]) -> Fed
     let mut after = reader;
     let mut at: usize = 0;
     while at < bytes.len() {
-        let f = next(after, &bytes[at..]);
+        let f = turn(after, &bytes[at..]);
         let answer = f.answer;
         if is_refused(answer) {
             return Fed {

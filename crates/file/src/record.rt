@@ -85,21 +85,40 @@ fn text_from(b: &[u8], at: usize) -> usize
     if has_at(b, at) { at + 2 } else { at + 1 }
 }
 
+// The three texts of a stop's record.
+pub fn id_text(b: &[u8]) -> &[u8]
+    requires { ⌜ stopFilled (now b) ≡ true ⌝ }
+    ensures { λ r. ⌜ now r ≡ textAt (now (b .entry)) 1 ⌝ }
+{
+    let end = name_at(b);
+    &b[2..end]
+}
+
+pub fn name_text(b: &[u8]) -> &[u8]
+    requires { ⌜ stopFilled (now b) ≡ true ⌝ }
+    ensures { λ r. ⌜ now r ≡ optionTextAt (now (b .entry)) (nameAt (now (b .entry))) ⌝ }
+{
+    let name = name_at(b);
+    let from = text_from(b, name);
+    let end = parent_at(b);
+    &b[from..end]
+}
+
+pub fn parent_text(b: &[u8]) -> &[u8]
+    requires { ⌜ stopFilled (now b) ≡ true ⌝ }
+    ensures { λ r. ⌜ now r ≡ optionTextAt (now (b .entry)) (parentAt (now (b .entry))) ⌝ }
+{
+    let parent = parent_at(b);
+    let from = text_from(b, parent);
+    let end = type_at(b);
+    &b[from..end]
+}
+
 fn stop_record(load: Load, b: &[u8]) -> Stepped
     requires { ⌜ stopFilled (now b) ≡ true ⌝ }
     ensures { λ r. ⌜ r ≡ stopSpec load (textAt (now (b .entry)) 1) (optionTextAt (now (b .entry)) (nameAt (now (b .entry)))) (optionTextAt (now (b .entry)) (parentAt (now (b .entry)))) (stopIn (now (b .entry))) ⌝ }
 {
-    let name = name_at(b);
-    let parent = parent_at(b);
-    let end = type_at(b);
-    let name_from = text_from(b, name);
-    let parent_from = text_from(b, parent);
-    load.stop(
-        &b[2..name],
-        &b[name_from..parent],
-        &b[parent_from..end],
-        stop_in(b),
-    )
+    load.stop(id_text(b), name_text(b), parent_text(b), stop_in(b))
 }
 
 // A record that is filled is handed to the load, or opens it.

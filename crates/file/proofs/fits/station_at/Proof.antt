@@ -1,0 +1,25 @@
+-- The station of the parent's text, if there is one.
+use Rattle.file.proofs.FitLaws.{station-is}
+use borrow.Author.Needs.{needs}
+use Rattle.file.proofs.fits.station_at.Statement.{statement}
+use Rattle.file.proofs.fits.station_at.Tie as tie
+
+parent-at-requires : tie.Need-parent-at-requires
+parent-at-requires c κs = search needs
+
+has-at-requires : tie.Need-has-at-requires
+has-at-requires c κs = search needs
+
+parent-text-requires : tie.Need-parent-text-requires
+parent-text-requires c κs = search needs
+
+parent-of-requires : tie.Need-parent-of-requires
+parent-of-requires c κs = search needs
+
+returns : tie.Need-returns
+returns c = station-is _ _ _ (c .before .before .before .parent-at .ensures .0) (c .before .before .has-at .ensures) (c .before .parent-text .ensures) (c .parent-of .ensures)
+
+pub station-at-spec : {M : Type 1} → statement M
+station-at-spec =
+    tie.close
+    (tie.spec parent-at-requires has-at-requires parent-text-requires parent-of-requires returns)

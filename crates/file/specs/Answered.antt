@@ -1,0 +1,33 @@
+-- Why a whole file is answered as it is: for its version, for a record's first cause, or for its end.
+use Prim.Native.Nat.{ℕ, _+_}
+use mathlib.Core.Path.{_≡_}
+use mathlib.Core.Bool.{true, false}
+use mathlib.Core.List.{List, _++_}
+use lib.ListN.{length, drop}
+use Rattle.refusal.specs.declared.Refusal.the-variants.{FileVersion}
+use Rattle.refusal.specs.declared.Answer.{Answer}
+use Rattle.refusal.specs.declared.Answer.the-variants.{Refused}
+use Rattle.refusal.specs.First.{First, isRefused}
+use Rattle.fields.specs.Numbers.{byteAt}
+use Rattle.file.specs.declared.Reader.{Reader}
+use Rattle.file.specs.declared.Took.{Took}
+use Rattle.file.specs.Record.{freshReader, recordTests, recordSpec, causesBy}
+use Rattle.file.specs.File.{startsWhole, sizeOf, bodyOf, endTests, readSpec}
+
+-- the reader after the whole records up to a place of the bytes, each of which was taken or lay outside
+pub data Reached (bytes : List ℕ) : Reader → ℕ → Type 0 where
+  start : Reached bytes freshReader 0
+  past : {r : Reader} {at : ℕ} → Reached bytes r at → startsWhole (drop at bytes) ≡ true → isRefused (recordSpec r (bodyOf (drop at bytes)) .answer) ≡ false
+      → Reached bytes (recordSpec r (bodyOf (drop at bytes)) .reader) (at + sizeOf (drop at bytes))
+
+-- of a file xs: 17; a record sent back for its first cause, with the reader before it; or the end, with 18, 19 or none
+pub data FileAnswered (xs : List ℕ) : Took → Type 0 where
+  version : (byteAt xs 0 ≡ 1 → ⊥) → FileAnswered xs (record { answer = Refused FileVersion; reader = freshReader })
+  refused : {r : Reader} {at : ℕ} {a : Answer} → byteAt xs 0 ≡ 1 → Reached (drop 1 xs) r at → startsWhole (drop at (drop 1 xs)) ≡ true
+      → First a (recordTests (r .opened) (bodyOf (drop at (drop 1 xs))) ++ causesBy r (bodyOf (drop at (drop 1 xs)))) → isRefused a ≡ true
+      → FileAnswered xs (record { answer = a; reader = r })
+  ended : {r : Reader} {at : ℕ} {a : Answer} → byteAt xs 0 ≡ 1 → Reached (drop 1 xs) r at → startsWhole (drop at (drop 1 xs)) ≡ false
+      → First a (endTests (r .opened) (length (drop at (drop 1 xs)))) → FileAnswered xs (record { answer = a; reader = r })
+
+abbrev pub ReadAnswered : Type 0
+ReadAnswered = (xs : List ℕ) → FileAnswered xs (readSpec xs)

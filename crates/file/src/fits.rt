@@ -1,0 +1,164 @@
+// Records that a load takes as they come: whether one fits, how many bytes it uses, and what is stored of it.
+ghost use mathlib.Core.Path.{_≡_};
+ghost use mathlib.Core.Bool.{true};
+ghost use Rattle.fields.specs.Layout.{stopFilled};
+ghost use Rattle.fields.specs.Records.{ruleIn};
+ghost use Rattle.rules.specs.Rules.{ruleOf};
+ghost use Rattle.file.specs.File.{startsWhole, sizeOf, bodyOf};
+ghost use Rattle.file.specs.Runs.{wholeAs, sizeIf, ruleFits, stationAt, stopFits, stopAt, callTold};
+use crate::record::id_text;
+use crate::record::name_text;
+use crate::record::parent_text;
+use calls::Uncut;
+use calls::step::uncut;
+use fields::layout::call_filled;
+use fields::layout::has_at;
+use fields::layout::kind_of;
+use fields::layout::length_of;
+use fields::layout::parent_at;
+use fields::layout::rule_filled;
+use fields::layout::stop_filled;
+use fields::records::call_in;
+use fields::records::rule_in;
+use fields::records::stop_in;
+use refusal::is_taken;
+use rules::Rule;
+use rules::rule_answer;
+use rules::rule_of;
+use settings::Settings;
+use stops::Found;
+use stops::Stop;
+use stops::answer::parent_of;
+use stops::answer::stop_answer;
+use stops::taken::stop_of;
+
+// How many bytes the record at the start of the bytes takes, with its length.
+pub fn size_of(bytes: &[u8]) -> usize
+    ensures { λ r. ⌜ r ≡ sizeOf (now (bytes .entry)) ⌝ }
+{
+    2 + length_of(bytes) as usize
+}
+
+// Whether the bytes start with a whole record of the kind.
+fn whole_as(kind: u8, bytes: &[u8]) -> bool
+    ensures { λ r. ⌜ r ≡ wholeAs kind (now (bytes .entry)) ⌝ }
+{
+    let end = size_of(bytes);
+    if end <= bytes.len() {
+        return kind_of(&bytes[2..end]) == kind;
+    }
+    false
+}
+
+// What stands in it.
+fn body_of(bytes: &[u8]) -> &[u8]
+    requires { ⌜ startsWhole (now bytes) ≡ true ⌝ }
+    ensures { λ r. ⌜ now r ≡ bodyOf (now (bytes .entry)) ⌝ }
+{
+    let end = size_of(bytes);
+    &bytes[2..end]
+}
+
+// ---- rule
+
+fn rule_fits(searched: bool, stops: usize, rules: [Rule; 128], count: usize, b: &[u8]) -> bool
+    ensures { λ r. ⌜ r ≡ ruleFits searched stops rules count (now (b .entry)) ⌝ }
+{
+    if rule_filled(b) {
+        return is_taken(rule_answer(searched, stops, rules, count, rule_in(b)));
+    }
+    false
+}
+
+pub fn rule_size(
+    searched: bool,
+    stops: usize,
+    rules: [Rule; 128],
+    count: usize,
+    bytes: &[u8],
+) -> usize
+    ensures { λ r. ⌜ r ≡ sizeIf 4 (ruleFits searched stops rules count) (now (bytes .entry)) ⌝ }
+{
+    if whole_as(4, bytes) {
+        if rule_fits(searched, stops, rules, count, body_of(bytes)) {
+            return size_of(bytes);
+        }
+    }
+    0
+}
+
+pub fn rule_at(bytes: &[u8]) -> Rule
+    requires { ⌜ startsWhole (now bytes) ≡ true ⌝ }
+    ensures { λ r. ⌜ r ≡ ruleOf (ruleIn (bodyOf (now (bytes .entry)))) ⌝ }
+{
+    rule_of(rule_in(body_of(bytes)))
+}
+
+// ---- stop
+
+fn station_at(stops: [Stop; 128], count: usize, b: &[u8]) -> Found
+    requires { ⌜ stopFilled (now b) ≡ true ⌝ }
+    ensures { λ r. ⌜ r ≡ stationAt stops count (now (b .entry)) ⌝ }
+{
+    parent_of(stops, count, has_at(b, parent_at(b)), parent_text(b))
+}
+
+fn stop_fits(searched: bool, stops: [Stop; 128], count: usize, b: &[u8]) -> bool
+    ensures { λ r. ⌜ r ≡ stopFits searched stops count (now (b .entry)) ⌝ }
+{
+    if stop_filled(b) {
+        let station = station_at(stops, count, b);
+        return is_taken(stop_answer(
+            searched,
+            stops,
+            count,
+            station,
+            id_text(b),
+            name_text(b),
+            stop_in(b),
+        ));
+    }
+    false
+}
+
+pub fn stop_size(searched: bool, stops: [Stop; 128], count: usize, bytes: &[u8]) -> usize
+    ensures { λ r. ⌜ r ≡ sizeIf 2 (stopFits searched stops count) (now (bytes .entry)) ⌝ }
+{
+    if whole_as(2, bytes) {
+        if stop_fits(searched, stops, count, body_of(bytes)) {
+            return size_of(bytes);
+        }
+    }
+    0
+}
+
+pub fn stop_at(stops: [Stop; 128], count: usize, bytes: &[u8]) -> Stop
+    requires { ⌜ (startsWhole (now bytes) ≡ true) × (stopFilled (bodyOf (now bytes)) ≡ true) ⌝ }
+    ensures { λ r. ⌜ r ≡ stopAt stops count (bodyOf (now (bytes .entry))) ⌝ }
+{
+    let b = body_of(bytes);
+    let station = station_at(stops, count, b);
+    stop_of(id_text(b), name_text(b), station, stop_in(b))
+}
+
+// ---- call
+
+// What a call's record tells of its step, if it is whole and filled.
+pub fn call_told(
+    settings: Settings,
+    searched: bool,
+    stops: usize,
+    count: usize,
+    h: u16,
+    bytes: &[u8],
+) -> Uncut
+    ensures { λ r. ⌜ r ≡ callTold settings searched stops count h (now (bytes .entry)) ⌝ }
+{
+    if whole_as(3, bytes) {
+        let b = body_of(bytes);
+        if call_filled(b) {
+            return uncut(settings, searched, stops, count, h, call_in(b));
+        }
+    }
+    Uncut::Other
+}
