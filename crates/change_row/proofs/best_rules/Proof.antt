@@ -5,9 +5,9 @@ use borrow.Author.Needs.{needs}
 use mathlib.Core.Path.{_≡_}
 use Prim.Native.Nat.{_-_, _≤_}
 use native.Mathlib.Omega.{arith}
-use Rattle.transfer.proofs.Entries.{Slots, slots-none, slots-more, slots-all}
-use Rattle.transfer.proofs.row.best_rules.Statement.{statement}
-use Rattle.transfer.proofs.row.best_rules.Tie as tie
+use Rattle.change_row.proofs.Entries.{Slots, slots-none, slots-more, slots-all}
+use Rattle.change_row.proofs.best_rules.Statement.{statement}
+use Rattle.change_row.proofs.best_rules.Tie as tie
 
 abbrev Inv-loop : tie.InvT-loop
 Inv-loop rules count from parent n best₀ i₀ best i = (n ≡ least count 128) × (i ≤ n) × Slots rules from parent best i

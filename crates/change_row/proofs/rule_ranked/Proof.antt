@@ -2,11 +2,11 @@
 use mathlib.Core.Path.{sym, ap, _∙_}
 use borrow.Author.Tests.{eq-eqb, ne-eqb}
 use Rattle.laws.proofs.Bools.{cond-by, cond-not}
 use Rattle.transfer.specs.declared.Chosen.the-variants.{By}
-use Rattle.transfer.specs.Rows.{ranked}
+use Rattle.change_row.specs.Ranks.{ranked}
 use borrow.Author.Needs.{needs}
-use Rattle.transfer.proofs.row.rule_ranked.Statement.{statement}
-use Rattle.transfer.proofs.row.rule_ranked.Tie as tie
+use Rattle.change_row.proofs.rule_ranked.Statement.{statement}
+use Rattle.change_row.proofs.rule_ranked.Tie as tie
 
 returns : tie.Need-returns
 unfolding ranked

@@ -1,10 +1,10 @@
 -- The parts of a transfer, as a number.
 use Rattle.laws.specs.Bounds.{least}
 use Rattle.transfer.specs.Copied.{rulesOf}
-use Rattle.transfer.proofs.Entries.{ends-best, entry-parts}
+use Rattle.change_row.proofs.Entries.{ends-best, entry-parts}
 use borrow.Author.Needs.{needs}
-use Rattle.transfer.proofs.row.entry_by.Statement.{statement}
-use Rattle.transfer.proofs.row.entry_by.Tie as tie
+use Rattle.change_row.proofs.entry_by.Statement.{statement}
+use Rattle.change_row.proofs.entry_by.Tie as tie
 
 ends-of-requires : tie.Need-ends-of-requires
 ends-of-requires c κs = search needs

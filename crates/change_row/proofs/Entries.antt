@@ -14,19 +14,16 @@ use Rattle.laws.proofs.Bools.{cond-by, cond-not, and-by}
 use Rattle.laws.proofs.Slots.{below-cases}
 use Rattle.laws.proofs.Tables.{getD-table, length-table}
 use Rattle.rules.specs.declared.Rule.{Rule}
 use Rattle.transfer.specs.declared.Ends.{Ends}
 use Rattle.transfer.specs.declared.Chosen.{Chosen}
 use Rattle.transfer.specs.declared.Chosen.the-variants.{By, Open}
 use Rattle.transfer.specs.Choice.{bit, exact, better, applies, read, chosen}
 use Rattle.transfer.specs.Copied.{ruleAt, rulesOf}
 use Rattle.transfer.specs.declared.Change.{Change}
 use Rattle.transfer.specs.Changes.{endsOf, near, changeOf, changeNumber}
-use Rattle.transfer.specs.Rows.{entryOf, rankTo, ranked, rankFrom, slotOf, bestTo, raised, isShared}
+use Rattle.transfer.specs.Rows.{entryOf}
+use Rattle.change_row.specs.Ranks.{rankTo, ranked, rankFrom, slotOf, bestTo, raised, isShared}
 use Rattle.transfer.proofs.Laws.{rules-turn, rules-none, transfer-parts}
-
-pub bit-small : (b : Bool) → bit b ≤ 1
-bit-small true = omega arith
-bit-small false = omega arith
 
 -- ---- the rule of a rank
 

@@ -7,10 +7,11 @@ use native.Mathlib.Omega.{arith}
 use lib.ListN.{getD}
 use Rattle.laws.specs.Tables.{table}
 use Rattle.laws.proofs.Tables.{Filled, filled-none, filled-more, filled-all}
 use Rattle.transfer.specs.Copied.{rulesOf}
-use Rattle.transfer.specs.Rows.{entryOf, changeRow, bestTo}
-use Rattle.transfer.proofs.row.change_row.Statement.{statement}
-use Rattle.transfer.proofs.row.change_row.Tie as tie
+use Rattle.transfer.specs.Rows.{entryOf, changeRow}
+use Rattle.change_row.specs.Ranks.{bestTo}
+use Rattle.change_row.proofs.change_row.Statement.{statement}
+use Rattle.change_row.proofs.change_row.Tie as tie
 
 abbrev Inv-loop : tie.InvT-loop
 Inv-loop row₀ rules count parents places from change parent best t₀ row t =

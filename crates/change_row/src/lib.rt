@@ -5,19 +5,20 @@ ghost use mathlib.Core.Path.{_≡_};
 ghost use Prim.Native.Nat.{_<_, _≤_, max};
 ghost use lib.ListN.{length, getD, set};
 ghost use Rattle.laws.specs.Tables.{table};
 ghost use Rattle.transfer.specs.Choice.{chosen};
 ghost use Rattle.transfer.specs.Copied.{rulesOf, ruleAt};
-ghost use Rattle.transfer.specs.Rows.{entryOf, changeRow, ranked, rankFrom, slotOf, bestTo, raised, isShared};
-use crate::Chosen;
-use crate::Ends;
-use crate::choice::rule_for;
-use crate::parts::are_near;
-use crate::parts::change_by;
-use crate::parts::change_number;
-use crate::parts::ends_of;
-use crate::reads::at_most;
-use crate::reads::number_at;
-use crate::reads::rule_at;
+ghost use Rattle.transfer.specs.Rows.{entryOf, changeRow};
+ghost use Rattle.change_row.specs.Ranks.{ranked, rankFrom, slotOf, bestTo, raised, isShared};
+use transfer::Chosen;
+use transfer::Ends;
+use transfer::choice::rule_for;
+use transfer::parts::are_near;
+use transfer::parts::change_by;
+use transfer::parts::change_number;
+use transfer::parts::ends_of;
+use transfer::reads::at_most;
+use transfer::reads::number_at;
+use transfer::reads::rule_at;
 
 // A row that is lent has its length.
 fn known_row(row: [u32; 128])

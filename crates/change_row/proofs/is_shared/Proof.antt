@@ -2,8 +2,8 @@
 use mathlib.Core.Path.{sym}
 use borrow.Author.Tests.{eq-eqb, ne-eqb}
 use Rattle.laws.proofs.Bools.{and-by, and-not}
-use Rattle.transfer.proofs.row.is_shared.Statement.{statement}
-use Rattle.transfer.proofs.row.is_shared.Tie as tie
+use Rattle.change_row.proofs.is_shared.Statement.{statement}
+use Rattle.change_row.proofs.is_shared.Tie as tie
 
 returns : tie.Need-returns
 returns c = sym (and-by _ (eq-eqb _ _ (c .if1 .taken)))

@@ -2,10 +2,10 @@
 use mathlib.Core.Path.{sym, _∙_}
 use borrow.Author.Tests.{eq-eqb, ne-eqb}
 use Rattle.laws.proofs.Bools.{cond-by, cond-not}
-use Rattle.transfer.specs.Rows.{rankFrom}
+use Rattle.change_row.specs.Ranks.{rankFrom}
 use borrow.Author.Needs.{needs}
-use Rattle.transfer.proofs.row.rank_from.Statement.{statement}
-use Rattle.transfer.proofs.row.rank_from.Tie as tie
+use Rattle.change_row.proofs.rank_from.Statement.{statement}
+use Rattle.change_row.proofs.rank_from.Tie as tie
 
 cast-result : tie.Need-cast-result
 cast-result c = search needs

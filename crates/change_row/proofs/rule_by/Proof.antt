@@ -3,10 +3,10 @@ use Rattle.laws.specs.Bounds.{least}
 use Rattle.laws.proofs.Bounds.{least-under}
 use mathlib.Core.Path.{sym, _∙_}
 use native.Mathlib.Omega.{arith}
-use Rattle.transfer.proofs.Entries.{best-below, rule-found}
+use Rattle.change_row.proofs.Entries.{best-below, rule-found}
 use borrow.Author.Needs.{needs}
-use Rattle.transfer.proofs.row.rule_by.Statement.{statement}
-use Rattle.transfer.proofs.row.rule_by.Tie as tie
+use Rattle.change_row.proofs.rule_by.Statement.{statement}
+use Rattle.change_row.proofs.rule_by.Tie as tie
 
 slot-of-requires : tie.Need-slot-of-requires
 slot-of-requires c κs = search needs

@@ -1,8 +1,8 @@
 -- The rule is put in its slot.
-use Rattle.transfer.proofs.Entries.{slot-put}
+use Rattle.change_row.proofs.Entries.{slot-put}
 use borrow.Author.Needs.{needs}
-use Rattle.transfer.proofs.row.read_rule.Statement.{statement}
-use Rattle.transfer.proofs.row.read_rule.Tie as tie
+use Rattle.change_row.proofs.read_rule.Statement.{statement}
+use Rattle.change_row.proofs.read_rule.Tie as tie
 
 mul-at : tie.Need-mul-at
 mul-at c = search needs
