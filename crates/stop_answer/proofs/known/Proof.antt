@@ -1,11 +1,11 @@
 -- A stop of the load has the id.
 use Prim.Native.Nat.{_-_}
 use mathlib.Core.Path.{ap, _∙_}
 use Rattle.stops.specs.Stops.{isAt}
 use Rattle.stops.specs.Answer.{isKnown}
 use borrow.Author.Needs.{needs}
-use Rattle.stops.proofs.answer.known.Statement.{statement}
-use Rattle.stops.proofs.answer.known.Tie as tie
+use Rattle.stop_answer.proofs.known.Statement.{statement}
+use Rattle.stop_answer.proofs.known.Tie as tie
 
 find-requires : tie.Need-find-requires
 find-requires c κs = search needs

@@ -2,16 +2,16 @@
 ghost use mathlib.Core.Path.{_≡_};
 ghost use mathlib.Core.Bool.{not, _&&_};
 ghost use Rattle.refusal.specs.First.{firstAnswer};
 ghost use Rattle.stops.specs.Stops.{isAt};
 ghost use Rattle.stops.specs.Answer.{stationOf, isKnown, idWrong, typeWrong, nameNeeded, unusable, nameWrong, stopTests};
-use crate::Found;
-use crate::Stop;
-use crate::StopInput;
-use crate::find::find;
-use crate::find::is_at;
 use key::NameKey;
 use refusal::Answer;
 use refusal::Refusal;
+use stops::Found;
+use stops::Stop;
+use stops::StopInput;
+use stops::find::find;
+use stops::find::is_at;
 
 pub fn parent_of(stops: [Stop; 128], count: usize, has: bool, parent: &[u8]) -> Found
     ensures { λ r. ⌜ r ≡ stationOf stops count has (now (parent .entry)) ⌝ }

@@ -2,10 +2,10 @@
 use mathlib.Core.Path.{ap, _∙_}
 use borrow.Author.Tests.{eq-eqb, ne-eqb}
 use Rattle.place.specs.Positions.{isUsable}
 use Rattle.stops.specs.Answer.{nameNeeded}
 use borrow.Author.Needs.{needs}
-use Rattle.stops.proofs.answer.name_needed.Statement.{statement}
-use Rattle.stops.proofs.answer.name_needed.Tie as tie
+use Rattle.stop_answer.proofs.name_needed.Statement.{statement}
+use Rattle.stop_answer.proofs.name_needed.Tie as tie
 
 returns : tie.Need-returns
 unfolding nameNeeded

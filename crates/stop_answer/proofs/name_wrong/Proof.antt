@@ -2,10 +2,10 @@
 use Prim.Native.Nat.{_-_}
 use mathlib.Core.Path.{refl}
 use borrow.Author.Tests.{lt-ltb, le-ltb}
 use Rattle.stops.specs.Answer.{nameWrong}
 use borrow.Author.Needs.{needs}
-use Rattle.stops.proofs.answer.name_wrong.Statement.{statement}
-use Rattle.stops.proofs.answer.name_wrong.Tie as tie
+use Rattle.stop_answer.proofs.name_wrong.Statement.{statement}
+use Rattle.stop_answer.proofs.name_wrong.Tie as tie
 
 returns : tie.Need-returns
 unfolding nameWrong

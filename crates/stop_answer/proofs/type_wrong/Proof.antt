@@ -2,9 +2,9 @@
 use Prim.Native.Nat.{_-_}
 use mathlib.Core.Path.{refl}
 use borrow.Author.Tests.{lt-ltb, le-ltb, eq-eqb, ne-eqb}
 use Rattle.stops.specs.Answer.{typeWrong}
-use Rattle.stops.proofs.answer.type_wrong.Statement.{statement}
-use Rattle.stops.proofs.answer.type_wrong.Tie as tie
+use Rattle.stop_answer.proofs.type_wrong.Statement.{statement}
+use Rattle.stop_answer.proofs.type_wrong.Tie as tie
 
 returns : tie.Need-returns
 unfolding typeWrong

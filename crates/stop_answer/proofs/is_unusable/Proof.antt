@@ -1,10 +1,10 @@
 -- A name without a hash, by the case of its key.
 use Prim.Native.Nat.{_-_}
 use mathlib.Core.Path.{refl, sym, _∙_}
 use Rattle.stops.specs.Answer.{unusable}
 use borrow.Author.Needs.{needs}
-use Rattle.stops.proofs.answer.is_unusable.Statement.{statement}
-use Rattle.stops.proofs.answer.is_unusable.Tie as tie
+use Rattle.stop_answer.proofs.is_unusable.Statement.{statement}
+use Rattle.stop_answer.proofs.is_unusable.Tie as tie
 
 name-key-requires : tie.Need-name-key-requires
 name-key-requires c κs = search needs

@@ -1,10 +1,10 @@
 -- A parent is looked for only where one is named.
 use Prim.Native.Nat.{_-_}
 use mathlib.Core.Path.{refl, _∙_}
 use Rattle.stops.specs.Answer.{stationOf}
 use borrow.Author.Needs.{needs}
-use Rattle.stops.proofs.answer.parent_of.Statement.{statement}
-use Rattle.stops.proofs.answer.parent_of.Tie as tie
+use Rattle.stop_answer.proofs.parent_of.Statement.{statement}
+use Rattle.stop_answer.proofs.parent_of.Tie as tie
 
 find-requires : tie.Need-find-requires
 find-requires c κs = search needs

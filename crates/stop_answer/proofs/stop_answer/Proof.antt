@@ -6,11 +6,11 @@ use borrow.Author.Needs.{needs}
 use borrow.Author.Tests.{le-leb, lt-leb}
 use lib.ListN.{drop}
 use Rattle.refusal.specs.declared.Answer.{Answer}
 use Rattle.stops.specs.Answer.{stopTests}
 use Rattle.refusal.specs.First.{First, hit, miss, none}
 use Rattle.refusal.proofs.FirstLaws.{first-is-answer}
-use Rattle.stops.proofs.answer.stop_answer.Statement.{statement}
-use Rattle.stops.proofs.answer.stop_answer.Tie as tie
+use Rattle.stop_answer.proofs.stop_answer.Statement.{statement}
+use Rattle.stop_answer.proofs.stop_answer.Tie as tie
 
 abbrev T1 : tie.Else1 → List (Bool × Answer)
 T1 c = let a = c .before .before .before .args in stopTests (a .searched) (a .stops) (a .count) (a .station) (a .id .now) (a .name .now) (a .input)

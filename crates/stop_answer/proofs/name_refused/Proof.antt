@@ -2,8 +2,8 @@
 use Prim.Native.Nat.{_-_}
 use mathlib.Core.Path.{refl, _∙_}
 use borrow.Author.Needs.{needs}
-use Rattle.stops.proofs.answer.name_refused.Statement.{statement}
-use Rattle.stops.proofs.answer.name_refused.Tie as tie
+use Rattle.stop_answer.proofs.name_refused.Statement.{statement}
+use Rattle.stop_answer.proofs.name_refused.Tie as tie
 
 name-needed-requires : tie.Need-name-needed-requires
 name-needed-requires c κs = search needs

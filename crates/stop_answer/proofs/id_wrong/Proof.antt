@@ -2,9 +2,9 @@
 use Prim.Native.Nat.{_-_}
 use mathlib.Core.Path.{refl}
 use borrow.Author.Tests.{eq-eqb, ne-eqb}
 use Rattle.stops.specs.Answer.{idWrong}
-use Rattle.stops.proofs.answer.id_wrong.Statement.{statement}
-use Rattle.stops.proofs.answer.id_wrong.Tie as tie
+use Rattle.stop_answer.proofs.id_wrong.Statement.{statement}
+use Rattle.stop_answer.proofs.id_wrong.Tie as tie
 
 returns : tie.Need-returns
 unfolding idWrong
