@@ -8,7 +8,7 @@ ghost use Rattle.transfer.specs.Rows.{entryOf};
 ghost use Rattle.arrays.specs.Regions.{Region};
 ghost use Rattle.arrays.specs.Named.{Marks, Marked, HoldsChanges};
 use crate::feed::known_feed;
-use transfer::row::change_row;
+use change_row::change_row;
 
 // A row that is lent has its length.
 fn known_row(row: [u32; 128])

@@ -1,48 +1,19 @@
 -- What a call is answered before the table: a law for each test on the way.
-use Prim.Native.Nat.{ℕ, _≤_, _<_}
+use Prim.Native.Nat.{ℕ}
 use mathlib.Core.Path.{_≡_, sym, ap, _∙_}
 use mathlib.Core.Bool.{cond, Bool, true, false}
-use lib.Dec.{leb, ltb}
-use borrow.Author.Tests.{lt-ltb, le-ltb, le-leb, lt-leb}
+use lib.Dec.{ltb}
 use Rattle.calls.specs.declared.CallInput.{CallInput}
 use Rattle.calls.specs.declared.Fitted.{Fitted}
 use Rattle.refusal.specs.declared.Answer.{Answer}
 use Rattle.refusal.specs.declared.Refusal.{Refusal}
 use Rattle.refusal.specs.declared.Refusal.the-variants.{AlreadySearched, FieldRange, TimesReversed}
 use Rattle.refusal.specs.declared.Answer.the-variants.{Taken, Outside, Refused}
-use lib.ListN.{getD}
-use lib.IntN.{ℤ, pos}
 use Rattle.calls.specs.declared.Table.{Table}
-use Rattle.calls.specs.declared.Offset.{Offset}
-use Rattle.calls.specs.declared.Seconds.{Seconds}
-use Rattle.calls.specs.declared.View.{View}
 use Rattle.settings.specs.declared.Settings.{Settings}
-use Rattle.calls.specs.Tables.{fitted}
-use Rattle.calls.specs.Windows.{timeAfter, seen}
 use Rattle.refusal.specs.First.{firstAnswer, none, hit, miss, isRefused}
 use Rattle.refusal.proofs.FirstLaws.{first-is-answer}
-use Rattle.calls.specs.Calls.{known, absent, secondsOf, callTests, goesOn, ended, callFit, callOn, callTime, callSeen}
-
-module _ (stops : ℕ) (i : CallInput) where
-  pub no-stop : stops ≤ i .stop → false ≡ known stops i
-  unfolding known
-  no-stop a = simp (le-ltb _ _ a)
-
-  pub no-trip : i .stop < stops → 65535 ≤ i .trip → false ≡ known stops i
-  unfolding known
-  no-trip a b = simp (lt-ltb _ _ a, le-ltb _ _ b)
-
-  pub no-day : i .stop < stops → i .trip < 65535 → 2 < i .day → false ≡ known stops i
-  unfolding known
-  no-day a b d = simp (lt-ltb _ _ a, lt-ltb _ _ b, lt-leb _ _ d)
-
-  pub no-pickup : i .stop < stops → i .trip < 65535 → i .day ≤ 2 → 3 < i .pickup → false ≡ known stops i
-  unfolding known
-  no-pickup a b d p = simp (lt-ltb _ _ a, lt-ltb _ _ b, le-leb _ _ d, lt-leb _ _ p)
-
-  pub last-known : i .stop < stops → i .trip < 65535 → i .day ≤ 2 → i .pickup ≤ 3 → leb (i .«drop_off») 3 ≡ known stops i
-  unfolding known
-  last-known a b d p = simp (lt-ltb _ _ a, lt-ltb _ _ b, le-leb _ _ d, le-leb _ _ p)
+use Rattle.calls.specs.Calls.{known, absent, secondsOf, callTests, goesOn, ended, callFit, callOn}
 
 module _ (b : Bool) (stops : ℕ) (i : CallInput) where
   abbrev answer : Answer
@@ -94,16 +65,3 @@ module _ (s : Settings) (b : Bool) (n : ℕ) (t : Table) (i : CallInput) where
   changed f e q r =
       let x : f ≡ ended t f = λ k. record { answer = f .answer; table = cond (sym r k) t (f .table) } in
       x ∙ ap (ended t) q ∙ ap (goesOn s t i) e
-
--- the call's two times, and what is made of them
-module _ (s : Settings) (i : CallInput) where
-  pub time-made : (t : Seconds) (e n : ℤ) (x : ℕ) (r : Offset) → e ≡ getD (s .epochs) (i .day) (pos 0) → n ≡ s .now → x ≡ secondsOf t → r ≡ timeAfter e n x → r ≡ callTime s i t
-  time-made t e n x r ee en ex er = er ∙ (λ k. timeAfter (ee k) (en k) (ex k))
-
-  module _ (a d : Offset) (ea : a ≡ callTime s i (i .arrival)) (ed : d ≡ callTime s i (i .departure)) where
-    pub fits-call : (t : Table) (f : Fitted) → f ≡ fitted t a d i → f ≡ callFit s t i
-    unfolding callFit
-    fits-call t f ef = ef ∙ (λ k. fitted t (ea k) (ed k) i)
-
-    pub seen-call : (h : ℕ) (v : View) → v ≡ seen h a d i → v ≡ callSeen s h i
-    seen-call h v ev = ev ∙ (λ k. seen h (ea k) (ed k) i)

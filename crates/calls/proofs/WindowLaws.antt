@@ -1,14 +1,12 @@
 -- The window, a law for each test on the way.
-use Prim.Native.Nat.{ℕ, _≤_, _<_}
+use Prim.Native.Nat.{ℕ}
 use mathlib.Core.Path.{_≡_, ap, _∙_}
 use mathlib.Core.Bool.{Bool, true, false}
-use borrow.Author.Tests.{le-leb, lt-leb}
 use Rattle.calls.specs.declared.Call.{Call}
 use Rattle.calls.specs.declared.CallInput.{CallInput}
 use Rattle.calls.specs.declared.Offset.{Offset}
 use Rattle.calls.specs.declared.View.the-variants.{In, Out}
 use Rattle.calls.specs.Windows.{before, after, within, held, allowed, asked, seenCall, seen}
-use Rattle.calls.specs.Tables.{trim}
 
 module _ (h : ℕ) (a d : Offset) (i : CallInput) where
   pub out-before : before d ≡ true → Out ≡ seen h a d i
@@ -58,23 +56,3 @@ module _ (h : ℕ) (a d : Offset) (i : CallInput) where
           «board_request» = xbr k;
           «alight_request» = xar k;
         }
-
-module _ (h : ℕ) (c : Call) where
-  pub trim-same : c .departure ≤ h → c ≡ trim h c
-  unfolding trim
-  trim-same e = simp (le-leb _ _ e)
-
-  pub trim-held : h < c .departure → _≡_ {A = Call} (record {
-    trip = c .trip;
-    day = c .day;
-    sequence = c .sequence;
-    stop = c .stop;
-    arrival = c .arrival;
-    departure = h;
-    board = false;
-    alight = c .alight;
-    «board_request» = false;
-    «alight_request» = c .«alight_request»;
-  }) (trim h c)
-  unfolding trim
-  trim-held e = simp (lt-leb _ _ e)

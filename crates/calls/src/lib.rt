@@ -1,8 +1,9 @@
-// The calls of a load: what is handed in, what the window shows of it, and the table that it goes into.
-pub mod cuts;
-pub mod step;
+// The calls of a load: what is handed in, what the window shows of it, and the table that it goes into (the steps on it stand
+// in `table`).
 pub mod window;
 
+ghost use mathlib.Core.Path.{_≡_};
+ghost use Rattle.calls.specs.Tables.{blankCall};
 use refusal::Answer;
 
 pub enum Seconds {
@@ -68,4 +69,21 @@ pub struct Packed {
 pub struct Fitted {
     pub answer: Answer,
     pub table: Table,
+}
+
+pub fn blank_call() -> Call
+    ensures { λ r. ⌜ r ≡ blankCall ⌝ }
+{
+    Call {
+        trip: 0,
+        day: 0,
+        sequence: 0,
+        stop: 0,
+        arrival: 0,
+        departure: 0,
+        board: false,
+        alight: false,
+        board_request: false,
+        alight_request: false,
+    }
 }

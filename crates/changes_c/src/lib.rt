@@ -22,7 +22,7 @@ pub extern "C" fn changes_row(
 )
     ensures { λ _. ⌜ now (row .exit) ≡ changeRow (rulesOf (now (rules .entry)) (least count 128)) (now (parents .entry)) (now (places .entry)) from change ⌝ }
 {
-    transfer::row::change_row(row, rules, count, parents, places, from, change);
+    change_row::change_row(row, rules, count, parents, places, from, change);
 }
 
 // A stop of plain numbers.

@@ -6,9 +6,7 @@ use calls::Call;
 use calls::CallInput;
 use calls::Table;
 use calls::Uncut;
-use calls::cuts::blank_call;
-use calls::step::call_on;
-use calls::step::uncut;
+use calls::blank_call;
 use profile::Journey;
 use profile::no_journey;
 use refusal::Answer;
@@ -22,12 +20,14 @@ use rules::rule_of;
 use settings::Settings;
 use settings::canonical;
 use settings::settings_answer;
+use stop_answer::parent_of;
+use stop_answer::stop_answer;
 use stops::Stop;
 use stops::StopInput;
-use stops::answer::parent_of;
-use stops::answer::stop_answer;
 use stops::taken::blank_stop;
 use stops::taken::stop_of;
+use table::step::call_on;
+use table::step::uncut;
 
 // A slot past its count holds the blank record. `table_horizon` and `table_limits` are the call table's; `horizon` and
 // `limits` are what a query sees, and differ from them only after the search.

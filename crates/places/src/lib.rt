@@ -1,7 +1,7 @@
 // The places of stops: each stop of type 0, in the byte order of ids, goes with the smallest-id representative that is one place with it, else as its own.
 mod entries;
 pub mod group;
-mod order;
+mod sorted;
 
 use place::PlaceKey;
 

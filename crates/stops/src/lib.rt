@@ -1,5 +1,4 @@
-// The stops of a load: how they are held, which are sent back, and how one is found by its id.
-pub mod answer;
+// The stops of a load: what is handed in, how they are held, and how one is found by its id. Which are sent back is told in `stop_answer`.
 pub mod find;
 pub mod taken;
 

@@ -2,7 +2,7 @@
 use mathlib.Core.Path.{_≡_, refl, sym, ap, _∙_}
 use mathlib.Core.Logic.{_⊎_, inl, inr}
 use mathlib.Core.Bool.{Bool, true, false, not, true≢false}
-use Prim.Native.Nat.{ℕ, _+_, _<_}
+use Prim.Native.Nat.{ℕ, _+_, _≤_, _<_}
 use native.Mathlib.Omega.{arith}
 use lib.Dec.{leb, eqb}
 use lib.ListN.{getD}
@@ -20,7 +20,6 @@ use Rattle.transfer.specs.Changes.{endsOf, near, changeOf, transferOf, j
 use Rattle.transfer.specs.Copied.{parentsOf}
 use Rattle.transfer.specs.Rows.{entryOf, changeRow}
 use Rattle.transfer.specs.Choice.{side, bit}
-use Rattle.transfer.proofs.Entries.{bit-small}
 use Rattle.transfer.specs.Promises.{TypeThreeForbids, PairOnce, OnlyHalves, NoneNotNamed, RowJoins, ParentRead}
 
 pub type-three-forbids : TypeThreeForbids
@@ -40,6 +39,10 @@ pair-once stops rules count s j k hj hk f t = go (tri j k)
     go (inr (inr h)) = absurd (twice k j h hj (sym f) (sym t))
 
 -- ---- equal rules
+
+bit-small : (b : Bool) → bit b ≤ 1
+bit-small true = omega arith
+bit-small false = omega arith
 
 same-side : (x y stop parent : ℕ) → side x stop parent ≡ true → side y stop parent ≡ true → eqb x stop ≡ eqb y stop → x ≡ y
 same-side x y stop parent p q e = go (eqb x stop) refl

@@ -1,10 +1,9 @@
 // The time that a change from one stop to another takes, and which rides join.
-mod choice;
+pub mod choice;
 pub mod copied;
 pub mod pair;
-mod parts;
-mod reads;
-pub mod row;
+pub mod parts;
+pub mod reads;
 
 use rules::Rule;
 

@@ -5,6 +5,7 @@ ghost use Prim.Native.Nat.{_<_};
 ghost use lib.ListN.{length, getD};
 ghost use Rattle.transfer.specs.Copied.{ruleAt};
 use rules::Rule;
+use rules::blank_rule;
 
 pub fn at_most(a: usize, b: usize) -> usize
     ensures { λ r. ⌜ r ≡ least a b ⌝ }
@@ -12,7 +13,12 @@ pub fn at_most(a: usize, b: usize) -> usize
     if a <= b { a } else { b }
 }
 
-pub fn rule_at(rules: &[u16; 640], i: usize) -> Rule
+// Rules that are lent have their length.
+fn known_rules(rules: [u16; 640])
+    ensures { λ _. ⌜ length rules ≡ 640 ⌝ }
+{}
+
+fn read_at(rules: &[u16; 640], i: usize) -> Rule
     requires { ⌜ i < 128 ⌝ }
     ensures { λ r. ⌜ r ≡ ruleAt (now (rules .entry)) i ⌝ }
 {
@@ -24,6 +30,17 @@ pub fn rule_at(rules: &[u16; 640], i: usize) -> Rule
         seconds: rules[at + 3],
         timed: rules[at + 4] == 1,
     }
+}
+
+// The rule at a place: a blank one past the array's end.
+pub fn rule_at(rules: &[u16; 640], i: usize) -> Rule
+    ensures { λ r. ⌜ r ≡ ruleAt (now (rules .entry)) i ⌝ }
+{
+    known_rules(*rules);
+    if i < 128 {
+        return read_at(rules, i);
+    }
+    blank_rule()
 }
 
 // An array that is lent has its length.

@@ -1,6 +1,5 @@
 -- The rule that holds among the first i is that of the loop.
 use Rattle.laws.specs.Bounds.{least}
-use Rattle.laws.proofs.Bounds.{least-under}
 use mathlib.Core.Path.{_≡_, ap, ap₂, sym, _∙_}
 use Prim.Native.Nat.{ℕ, _-_, _≤_}
 use native.Mathlib.Omega.{arith}
@@ -25,7 +24,7 @@ loop-holds : tie.Need-loop-holds Inv-loop μ-loop
 loop-holds c = (c .at-most .ensures, omega arith, rules-none (read (c .before .args .ends)) Open (c .before .args .rules .now))
 
 rule-at-requires : tie.Need-rule-at-requires Inv-loop μ-loop
-rule-at-requires c κs = omega (arith, least-under (c .before .before .before .args .count) 128)
+rule-at-requires c κs = search needs
 
 better-of-requires : tie.Need-better-of-requires Inv-loop μ-loop
 better-of-requires c κs = search needs

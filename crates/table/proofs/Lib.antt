@@ -1,0 +1,3 @@
+pub mod Trims
+pub mod StepLaws
+pub mod UncutWays
