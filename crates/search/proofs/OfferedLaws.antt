@@ -19,8 +19,9 @@ use Rattle.stops.specs.Taken.{blankStop}
 use Rattle.rules.specs.declared.Rule.{Rule}
 use Rattle.calls.specs.declared.Call.{Call}
 use Rattle.profile.specs.Kept.{going}
-use Rattle.profile.specs.View.{view, offerTo}
-use Rattle.profile.proofs.OfferLaws.{offers-search}
+use Rattle.state.specs.View.{view}
+use Rattle.candidate.specs.Offer.{offerTo}
+use Rattle.candidate.proofs.OfferLaws.{offers-search}
 use Rattle.places.specs.Places.{placesOf}
 use Rattle.transfer.specs.declared.Change.{Change}
 use Rattle.transfer.specs.declared.Change.the-variants.{Takes, Never}

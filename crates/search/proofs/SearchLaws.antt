@@ -20,8 +20,8 @@ use Rattle.profile.specs.declared.Row.{Row}
 use Rattle.profile.specs.declared.Journey.{Journey}
 use Rattle.profile.specs.Journeys.{noJourney, rowFigures}
 use Rattle.profile.specs.Kept.{St, going, refused, searched, mapSt}
-use Rattle.profile.specs.View.{view, openOf, countOf, keptOf, horizonOf, limitsOf}
-use Rattle.profile.proofs.ViewLaws.{view-parts, view-is-refused}
+use Rattle.state.specs.View.{view, openOf, countOf, keptOf, horizonOf, limitsOf}
+use Rattle.state.proofs.ViewLaws.{view-parts, view-is-refused}
 use Rattle.profile.proofs.ClaimLaws.{kept-is-front, front-unbeaten}
 use Rattle.offers.specs.Order.{earlier, sortFirst, clashes}
 use Rattle.offers.specs.Offers.{sorted}
