@@ -33,8 +33,8 @@ use Rattle.offers.specs.Indexed as by
 use Rattle.rides.specs.Feed.{callAt, memberAt, originMask, targetMask, originWalk, targetWalk, changeAt, joined, joinsOf, sheetOf, rowsOf}
 use Rattle.rides.specs.Offered.{offerAll}
 use Rattle.rides.specs.Rows.{firstOf, rows}
-use Rattle.arrays.specs.Feeds.{Feeds}
-use Rattle.arrays.specs.Named.{stopIn, HoldsChanges}
+use Rattle.feed_array.specs.Feeds.{Feeds}
+use Rattle.change_array.specs.Named.{stopIn, HoldsChanges}
 use Rattle.load.specs.declared.Load.{Load}
 use Rattle.search.specs.Timetable.{changeIn, joinsIn, timetableOf}
 use Rattle.search.specs.Offered.{placed, offeredOf}

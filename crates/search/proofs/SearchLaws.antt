@@ -29,8 +29,8 @@ use Rattle.offers.specs.Indexed.{journeyAt, rowOffers, InPlaces}
 use Rattle.offers.specs.Search.{Outcome, clashing, falling, found, answerOf, foundBy, searchOf}
 use Rattle.offers.proofs.OrderLaws.{sorted-front}
 use Rattle.offers.proofs.IndexedLaws.{search-by-rows, array-in-places}
-use Rattle.arrays.specs.Kept.{Small, journeyOf}
-use Rattle.arrays.proofs.KeptLaws.{journeys-right}
+use Rattle.read_back.specs.Kept.{Small, journeyOf}
+use Rattle.read_back.proofs.KeptLaws.{journeys-right}
 use Rattle.load.specs.declared.Load.{Load}
 use Rattle.load.specs.declared.Stepped.{Stepped}
 use Rattle.search.specs.Timetable.{timetableOf}
