@@ -10,7 +10,6 @@ use crate::record::id_text;
 use crate::record::name_text;
 use crate::record::parent_text;
 use calls::Uncut;
-use calls::step::uncut;
 use fields::layout::call_filled;
 use fields::layout::has_at;
 use fields::layout::kind_of;
@@ -26,11 +25,12 @@ use rules::Rule;
 use rules::rule_answer;
 use rules::rule_of;
 use settings::Settings;
+use stop_answer::parent_of;
+use stop_answer::stop_answer;
 use stops::Found;
 use stops::Stop;
-use stops::answer::parent_of;
-use stops::answer::stop_answer;
 use stops::taken::stop_of;
+use table::step::uncut;
 
 // How many bytes the record at the start of the bytes takes, with its length.
 pub fn size_of(bytes: &[u8]) -> usize

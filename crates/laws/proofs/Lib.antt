@@ -13,6 +13,7 @@ pub mod Cut
 pub mod Tests
 pub mod Halves
 pub mod Arrays
+pub mod Regions
 pub mod Maps
 pub mod Tails
 pub mod Bits

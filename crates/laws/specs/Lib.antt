@@ -2,6 +2,7 @@ pub mod Lists
 pub mod Sort
 pub mod Floats
 pub mod Arrays
+pub mod Regions
 pub mod Tails
 pub mod Bits
 pub mod Tables

@@ -10,9 +10,8 @@ use Rattle.laws.specs.Bits.{bitsOf}
 use Rattle.calls.specs.declared.Call.{Call}
 use Rattle.profile.specs.declared.Row.{Row}
 use Rattle.profile.specs.declared.Journey.{Journey}
-use Rattle.profile.specs.Journeys.{noRide, journeyFigures, rowFigures}
+use Rattle.profile.specs.Journeys.{noRide, journeyFigures, rowFigures, row}
 use Rattle.profile.specs.Kept.{searched, mapSt}
-use Rattle.profile.specs.View.{row}
 use Rattle.offers.specs.Offers.{Timetable, rideOf, leaveOf, arrivalOf, sameRun, sorted, offers}
 
 -- ---- the three ways that a loop goes, each from where it stands

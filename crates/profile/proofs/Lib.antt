@@ -9,7 +9,3 @@ pub mod BestLaws
 pub mod ClaimLaws
 pub mod InstanceLaws
 pub mod CoverLaws
-pub mod RowLaws
-pub mod StepLaws
-pub mod ViewLaws
-pub mod OfferLaws

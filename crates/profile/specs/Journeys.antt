@@ -1,4 +1,4 @@
--- The figures of a journey and of a row (a journey while the search runs), the tests on rows, and the blank journey.
+-- The figures of a journey and of a row (a journey while the search runs), the tests on rows, and the blank ones.
 use mathlib.Core.Bool.{Bool, false}
 use Prim.Native.Nat.{ℕ}
 use Rattle.profile.specs.declared.Ride.{Ride}
@@ -25,3 +25,14 @@ noRide = record { trip = 0; day = 0; from = 0; to = 0; departure = 0; arrival = 
 
 abbrev pub noJourney : Journey
 noJourney = record { leave = 0; arrival = 0; rides = 0; walk = 0; origin = 0; target = 0; first = noRide; last = noRide }
+
+-- a row of ten numbers; the same, shut, as contracts name it
+abbrev pub row : ℕ → ℕ → ℕ → ℕ → ℕ → ℕ → ℕ → ℕ → ℕ → ℕ → Row
+row a b c d p q r s t u = record { leave = a; arrival = b; rides = c; walk = d; origin = p; target = q; board = r; alight = s; board2 = t; alight2 = u }
+
+unfoldable pub rowOf : ℕ → ℕ → ℕ → ℕ → ℕ → ℕ → ℕ → ℕ → ℕ → ℕ → Row
+rowOf a b c d p q r s t u = row a b c d p q r s t u
+
+-- no row: what stands past the count
+abbrev pub noRow : Row
+noRow = row 0 0 0 0 0 0 0 0 0 0

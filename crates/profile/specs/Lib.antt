@@ -4,7 +4,5 @@ pub mod Front
 pub mod Fall
 pub mod Best
 pub mod Journeys
-pub mod View
-pub mod Pieces
 pub mod Claims
 pub mod Instances

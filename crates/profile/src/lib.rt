@@ -1,11 +1,8 @@
-// What a search keeps: the records of a journey, the running state of a search, and the offer (`candidate`).
+// What a search keeps: the records of a journey, its four figures, and the theory of the kept list.
 ghost use mathlib.Core.Path.{_≡_};
-ghost use Rattle.profile.specs.Journeys.{noRide, noJourney};
+ghost use Rattle.profile.specs.Journeys.{noRide, noJourney, noRow};
 
 pub mod figures;
-pub mod offer;
-mod slots;
-pub mod state;
 
 // A ride, as a kept journey holds it.
 pub struct Ride {
@@ -46,7 +43,7 @@ pub struct Row {
     pub alight2: u16,
 }
 
-// The blank ride and the blank journey: what stands where there is none.
+// The blank ride, the blank journey and the blank row: what stands where there is none.
 pub fn no_ride() -> Ride
     ensures { λ r. ⌜ r ≡ noRide ⌝ }
 {
@@ -75,5 +72,22 @@ pub fn no_journey() -> Journey
         target: 0,
         first: none,
         last: none,
+    }
+}
+
+pub fn no_row() -> Row
+    ensures { λ r. ⌜ r ≡ noRow ⌝ }
+{
+    Row {
+        leave: 0,
+        arrival: 0,
+        rides: 0,
+        walk: 0,
+        origin: 0,
+        target: 0,
+        board: 0,
+        alight: 0,
+        board2: 0,
+        alight2: 0,
     }
 }

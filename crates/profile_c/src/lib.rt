@@ -1,6 +1,8 @@
 // The offer over plain numbers and a lent array, for programs in C and Rust to call.
 ghost use mathlib.Core.Path.{_≡_};
-ghost use Rattle.profile.specs.View.{rowOf, view, offerTo};
+ghost use Rattle.profile.specs.Journeys.{rowOf};
+ghost use Rattle.state.specs.View.{view};
+ghost use Rattle.candidate.specs.Offer.{offerTo};
 
 // Offers a journey to the state (`candidate`); the state has 654 numbers.
 #[no_mangle]
@@ -19,7 +21,7 @@ pub extern "C" fn profile_candidate(
 )
     ensures { λ _. ⌜ view (now (st .exit)) ≡ offerTo (view (now (st .entry))) (rowOf leave arrival rides walk origin target board alight board2 alight2) ⌝ }
 {
-    profile::offer::candidate(
+    candidate::candidate(
         st,
         leave,
         arrival,

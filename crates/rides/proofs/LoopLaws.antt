@@ -12,9 +12,10 @@ use Rattle.laws.proofs.Bits.{bits-none, lowest-first}
 use Rattle.laws.proofs.Places.{span-cons, span-nil}
 use Rattle.profile.specs.declared.Row.{Row}
 use Rattle.profile.specs.Kept.{St, refused}
-use Rattle.profile.specs.View.{view, openOf, offerTo}
+use Rattle.state.specs.View.{view, openOf}
+use Rattle.candidate.specs.Offer.{offerTo}
 use Rattle.profile.proofs.PassLaws.{refused-stays}
-use Rattle.profile.proofs.ViewLaws.{view-is-refused}
+use Rattle.state.proofs.ViewLaws.{view-is-refused}
 use Rattle.rides.specs.declared.FeedCall.{FeedCall}
 use Rattle.rides.specs.Rows.{overBits, overCalls, overRun, laterFrom, sameRun}
 use Rattle.rides.specs.Offered.{offerAll, Offered}

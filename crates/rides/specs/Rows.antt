@@ -9,7 +9,7 @@ use lib.Dec.{eqb, leb}
 use Rattle.laws.specs.Lists.{concatMap, takeWhile, span}
 use Rattle.laws.specs.Bits.{bitsOf}
 use Rattle.profile.specs.declared.Row.{Row}
-use Rattle.profile.specs.View.{rowOf}
+use Rattle.profile.specs.Journeys.{rowOf}
 use Rattle.rides.specs.declared.FeedCall.{FeedCall}
 use Rattle.rides.specs.declared.FirstRide.{FirstRide}
 

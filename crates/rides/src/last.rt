@@ -22,8 +22,8 @@ use crate::feed::join;
 use crate::feed::same_run;
 use crate::feed::target_walk;
 use crate::feed::targets_of;
-use profile::offer::candidate;
-use profile::state::is_refused;
+use candidate::candidate;
+use state::is_refused;
 
 // Offers the first ride and then the ride from j to m, to target x.
 fn last_at(st: &mut [u16; 654], feed: &[u16; 3208], f: FirstRide, j: usize, m: usize, x: u8)

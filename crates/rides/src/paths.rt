@@ -1,16 +1,8 @@
 // First rides, and the whole search.
 ghost use mathlib.Core.Path.{_≡_};
 ghost use Prim.Native.Nat.{_+_, _≤_, _<_};
-ghost use Rattle.profile.specs.View.{view};
-ghost use Rattle.rides.specs.Rows.{
-  overBits,
-  overRun,
-  directAt,
-  directRows,
-  alightRows,
-  originRows,
-  boardRows,
-};
+ghost use Rattle.state.specs.View.{view};
+ghost use Rattle.rides.specs.Rows.{overBits, overRun, directAt, directRows, alightRows, originRows, boardRows};
 ghost use Rattle.rides.specs.Feed.{callAt, joinsOf, sheetOf, rowsOf};
 ghost use Rattle.rides.specs.Offered.{offerAll, Offered};
 use crate::FirstRide;
@@ -27,8 +19,8 @@ use crate::feed::same_run;
 use crate::feed::target_walk;
 use crate::feed::targets_of;
 use crate::last::change_rides;
-use profile::offer::candidate;
-use profile::state::is_refused;
+use candidate::candidate;
+use state::is_refused;
 
 // Offers the ride alone, to target x.
 fn direct_at(st: &mut [u16; 654], feed: &[u16; 3208], f: FirstRide, x: u8)

@@ -19,8 +19,9 @@ use Rattle.stops.specs.Taken.{blankStop}
 use Rattle.rules.specs.declared.Rule.{Rule}
 use Rattle.calls.specs.declared.Call.{Call}
 use Rattle.profile.specs.Kept.{going}
-use Rattle.profile.specs.View.{view, offerTo}
-use Rattle.profile.proofs.OfferLaws.{offers-search}
+use Rattle.state.specs.View.{view}
+use Rattle.candidate.specs.Offer.{offerTo}
+use Rattle.candidate.proofs.OfferLaws.{offers-search}
 use Rattle.places.specs.Places.{placesOf}
 use Rattle.transfer.specs.declared.Change.{Change}
 use Rattle.transfer.specs.declared.Change.the-variants.{Takes, Never}
@@ -32,8 +33,8 @@ use Rattle.offers.specs.Indexed as by
 use Rattle.rides.specs.Feed.{callAt, memberAt, originMask, targetMask, originWalk, targetWalk, changeAt, joined, joinsOf, sheetOf, rowsOf}
 use Rattle.rides.specs.Offered.{offerAll}
 use Rattle.rides.specs.Rows.{firstOf, rows}
-use Rattle.arrays.specs.Feeds.{Feeds}
-use Rattle.arrays.specs.Named.{stopIn, HoldsChanges}
+use Rattle.feed_array.specs.Feeds.{Feeds}
+use Rattle.change_array.specs.Named.{stopIn, HoldsChanges}
 use Rattle.load.specs.declared.Load.{Load}
 use Rattle.search.specs.Timetable.{changeIn, joinsIn, timetableOf}
 use Rattle.search.specs.Offered.{placed, offeredOf}

@@ -13,7 +13,7 @@ use Rattle.laws.proofs.Tails.{takeWhile-mem}
 use Rattle.laws.proofs.Bits.{bits-set}
 use Rattle.calls.specs.declared.Call.{Call}
 use Rattle.profile.specs.declared.Row.{Row}
-use Rattle.profile.specs.View.{row, rowOf}
+use Rattle.profile.specs.Journeys.{row, rowOf}
 use Rattle.offers.specs.Offers.{Timetable}
 use Rattle.offers.specs.Indexed as by
 use Rattle.rides.specs.Rows.{Sheet, Joins, overBits, overCalls, overRun, laterFrom, sameRun, leaveOf, arrivalOf, firstOf, directRow, changeRow, lastAt, lastAlightRows, lastBoardRows, changeRows, directAt, directRows, alightRows, originRows, boardRows, rows}

@@ -20,8 +20,8 @@ use Rattle.profile.specs.declared.Row.{Row}
 use Rattle.profile.specs.declared.Journey.{Journey}
 use Rattle.profile.specs.Journeys.{noJourney, rowFigures}
 use Rattle.profile.specs.Kept.{St, going, refused, searched, mapSt}
-use Rattle.profile.specs.View.{view, openOf, countOf, keptOf, horizonOf, limitsOf}
-use Rattle.profile.proofs.ViewLaws.{view-parts, view-is-refused}
+use Rattle.state.specs.View.{view, openOf, countOf, keptOf, horizonOf, limitsOf}
+use Rattle.state.proofs.ViewLaws.{view-parts, view-is-refused}
 use Rattle.profile.proofs.ClaimLaws.{kept-is-front, front-unbeaten}
 use Rattle.offers.specs.Order.{earlier, sortFirst, clashes}
 use Rattle.offers.specs.Offers.{sorted}
@@ -29,8 +29,8 @@ use Rattle.offers.specs.Indexed.{journeyAt, rowOffers, InPlaces}
 use Rattle.offers.specs.Search.{Outcome, clashing, falling, found, answerOf, foundBy, searchOf}
 use Rattle.offers.proofs.OrderLaws.{sorted-front}
 use Rattle.offers.proofs.IndexedLaws.{search-by-rows, array-in-places}
-use Rattle.arrays.specs.Kept.{Small, journeyOf}
-use Rattle.arrays.proofs.KeptLaws.{journeys-right}
+use Rattle.read_back.specs.Kept.{Small, journeyOf}
+use Rattle.read_back.proofs.KeptLaws.{journeys-right}
 use Rattle.load.specs.declared.Load.{Load}
 use Rattle.load.specs.declared.Stepped.{Stepped}
 use Rattle.search.specs.Timetable.{timetableOf}

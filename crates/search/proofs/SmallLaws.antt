@@ -14,7 +14,7 @@ use Rattle.calls.specs.declared.Call.{Call}
 use Rattle.profile.specs.declared.Row.{Row}
 use Rattle.offers.specs.Offers.{Timetable, rideOf}
 use Rattle.offers.specs.Indexed as by
-use Rattle.arrays.specs.Kept.{Small}
+use Rattle.read_back.specs.Kept.{Small}
 
 abbrev pub AllSmall : List Row → Type 0
 AllSmall rs = (r : Row) → List·Memᴰ r rs → Small r

@@ -1,4 +1,0 @@
-pub mod RegionLaws
-pub mod ChangeLaws
-pub mod FeedLaws
-pub mod KeptLaws

@@ -1,4 +1,0 @@
-pub mod Regions
-pub mod Feeds
-pub mod Kept
-pub mod Named

@@ -1,0 +1,190 @@
+-- What an offer leaves, as a state.
+use mathlib.Core.Path.{_≡_, refl, sym, ap, _∙_}
+use mathlib.Core.Bool.{Bool, true, false, not}
+use mathlib.Core.Logic.{_≢_}
+use mathlib.Core.List.{List, [], _∷_, _++_}
+use Prim.Native.Nat.{ℕ, suc, _+_, _-_, _≤_, _<_}
+use native.Mathlib.Omega.{arith}
+use native.Mathlib.Numerals.{add-one}
+use lib.Dec.{leb}
+use borrow.Author.Tests.{le-leb, lt-leb, lt-ltb, le-ltb}
+use lib.ListN.{length, getD, set, take, length-set, length-take, length-append}
+use lib.Seq.{getD-set-same, getD-set-other, take-suc-set, take-all}
+use Rattle.laws.specs.Lists.{filterb, anyb}
+use Rattle.laws.proofs.Lists.{length-filterb-lt}
+use Rattle.profile.specs.declared.Row.{Row}
+use Rattle.profile.specs.Figures.{covᶠ, dueᶠ}
+use Rattle.profile.specs.Kept.{going, refused, latest, tooLate}
+use Rattle.profile.specs.Journeys.{rowFigures, cov, due}
+use Rattle.state.specs.View.{rows, countOf, horizonOf, limitsOf, keptOf, view}
+use Rattle.candidate.specs.Offer.{offerTo, OffersSearch, OffersLate}
+use Rattle.candidate.specs.Pieces.{putRow, Tail, coveredBy, stays, Packed, Open, latestDue, settled}
+use Rattle.profile.proofs.KeptLaws.{latest-mem}
+use Rattle.profile.proofs.PassLaws.{offer-late}
+use Rattle.profile.proofs.ClaimLaws.{late-passed-over}
+use Rattle.candidate.proofs.PutLaws.{put-long, put-tail, rows-put, rows-set}
+use Rattle.state.proofs.RowLaws.{rows-length}
+use Rattle.state.proofs.ViewLaws.{count-is, view-open, view-refused, view-is}
+
+-- ---- what is to be settled
+
+pub settled-fits : (l : List ℕ) (ks : List Row) → length ks ≤ 64 → settled l ks ≡ going ks (horizonOf l) (limitsOf l)
+unfolding settled
+settled-fits l ks h = rw (le-leb (length ks) 64 h) refl
+
+settled-refused : (l : List ℕ) → latestDue (rows l) < 3601 → settled l (rows l) ≡ refused
+unfolding settled latestDue
+settled-refused l h =
+    rw (lt-leb (length (rows l)) 64 (omega (arith, rows-length l)), lt-ltb (latest due (rows l) - 1) 3600 (omega arith)) refl
+
+settled-falls : (l : List ℕ) (o : Row) (h : ℕ) → 3600 ≤ h → latestDue (rows l) ≡ h + 1 → settled l (rows l) ≡ going (filterb (stays false o h) (rows l)) h 1
+unfolding settled latestDue stays
+settled-falls l o h lo e =
+    let g : latest due (rows l) - 1 ≡ h = omega arith in
+    rw (lt-leb (length (rows l)) 64 (omega (arith, rows-length l)), g, le-ltb h 3600 lo) refl
+
+falls-short : (l : List ℕ) (o : Row) (h : ℕ) → latestDue (rows l) ≡ h + 1 → length (filterb (stays false o h) (rows l)) < 65
+unfolding latestDue stays
+falls-short l o h e =
+    let w = latest-mem due (rows l) (omega (arith, rows-length l)) in
+    let lt = length-filterb-lt (λ k. leb (due k) h) (w .1) (lt-leb (due (w .0)) h (omega (arith, w .2))) in
+    omega (arith, lt, rows-length l)
+
+settled-same : (l m : List ℕ) (ks : List Row) → Tail l m → settled m ks ≡ settled l ks
+unfolding settled horizonOf limitsOf
+settled-same l m ks t = rw (t 651 (omega arith), t 652 (omega arith)) refl
+
+-- ---- 65 are to be kept
+
+pub refused-all : (l l′ : List ℕ) (late : ℕ) → length l ≡ 654 → late ≡ latestDue (rows l) → late < 3601 → l′ ≡ set l 653 1 → view l′ ≡ settled l (rows l)
+refused-all l l′ late long e h el =
+    let mark : getD l′ 653 0 ≡ 1 = ap (λ (ys : List ℕ). getD ys 653 0) el ∙ getD-set-same l 653 1 0 (omega arith) in
+    view-refused l′ (λ z. omega arith) ∙ sym (settled-refused l (omega arith))
+
+module _ (l m l′ : List ℕ) (o : Row) (n h : ℕ) (mark : getD l 653 0 ≡ 0) (lo : 3600 ≤ h) (late : latestDue (rows l) ≡ h + 1)
+    (t : Packed (stays false o h) l m 65 n) (el : l′ ≡ set (set (set m 650 n) 651 h) 652 1) where
+  fallen-list : take n (rows m) ≡ filterb (stays false o h) (rows l)
+  fallen-list = t .list ∙ ap (filterb (stays false o h)) (take-all 65 (rows l) (omega (arith, rows-length l)))
+
+  fallen-few : n ≤ 64
+  fallen-few = omega (arith, falls-short l o h late, ap length fallen-list, length-take n (rows m), rows-length m, t .small)
+
+  fallen-rows : rows l′ ≡ rows m
+  fallen-rows =
+      ap rows el ∙ rows-set (set (set m 650 n) 651 h) 652 1 (omega arith) ∙ rows-set (set m 650 n) 651 h (omega arith) ∙ rows-set m 650 n (omega arith)
+
+  fallen₀ : getD l′ 650 0 ≡ n
+  fallen₀ =
+      let a : _≢_ {A = ℕ} 650 652 = λ e. omega arith in
+      let b : _≢_ {A = ℕ} 650 651 = λ e. omega arith in
+      ap (λ (ys : List ℕ). getD ys 650 0) el ∙ getD-set-other (set (set m 650 n) 651 h) 652 650 1 0 a ∙ getD-set-other (set m 650 n) 651 650 h 0 b
+      ∙ getD-set-same m 650 n 0 (omega (arith, t .long))
+
+  fallen₁ : getD l′ 651 0 ≡ h
+  fallen₁ =
+      let a : _≢_ {A = ℕ} 651 652 = λ e. omega arith in
+      ap (λ (ys : List ℕ). getD ys 651 0) el ∙ getD-set-other (set (set m 650 n) 651 h) 652 651 1 0 a ∙ getD-set-same (set m 650 n) 651 h 0 (omega (arith, t .long, length-set m 650 n))
+
+  fallen₂ : getD l′ 652 0 ≡ 1
+  fallen₂ =
+      ap (λ (ys : List ℕ). getD ys 652 0) el ∙ getD-set-same (set (set m 650 n) 651 h) 652 1 0 (omega (arith, t .long, length-set m 650 n, length-set (set m 650 n) 651 h))
+
+  fallen₃ : getD l′ 653 0 ≡ 0
+  fallen₃ =
+      let a : _≢_ {A = ℕ} 653 652 = λ e. omega arith in
+      let b : _≢_ {A = ℕ} 653 651 = λ e. omega arith in
+      let d : _≢_ {A = ℕ} 653 650 = λ e. omega arith in
+      ap (λ (ys : List ℕ). getD ys 653 0) el ∙ getD-set-other (set (set m 650 n) 651 h) 652 653 1 0 a ∙ getD-set-other (set m 650 n) 651 653 h 0 b
+      ∙ getD-set-other m 650 653 n 0 d ∙ t .tail 653 (omega arith) ∙ mark
+
+  pub fallen-all : view l′ ≡ settled l (rows l)
+  fallen-all =
+      view-is l′ n h 1 fallen₀ fallen-few fallen₁ fallen₂ (omega arith) fallen₃
+      ∙ ap (λ (ks : List Row). going ks h 1) (ap (take n) fallen-rows ∙ fallen-list)
+      ∙ sym (settled-falls l o h lo late)
+
+-- ---- one added
+
+module _ (l m : List ℕ) (n : ℕ) (o : Row) (long : length l ≡ 654) (mark : getD l 653 0 ≡ 0) (em : m ≡ putRow l n o) where
+  pub added-long : length m ≡ 654
+  added-long = ap length em ∙ put-long l n o ∙ long
+
+  added-tail : n < 65 → Tail l m
+  added-tail h x b = ap (λ (ys : List ℕ). getD ys x 0) em ∙ put-tail l n o long h x b
+
+  added-take : n < 65 → take (suc n) (rows m) ≡ take n (rows l) ++ o ∷ []
+  added-take h = ap (λ (ys : List ℕ). take (suc n) (rows ys)) em ∙ ap (take (suc n)) (rows-put l n o long h) ∙ take-suc-set (rows l) n o (omega (arith, rows-length l))
+
+  module _ (l′ : List ℕ) (room : n < 64) (el : l′ ≡ set m 650 (n + 1)) where
+    room′ : n < 65
+    room′ = omega arith
+
+    added₀ : getD l′ 650 0 ≡ n + 1
+    added₀ = ap (λ (ys : List ℕ). getD ys 650 0) el ∙ getD-set-same m 650 (n + 1) 0 (omega (arith, added-long))
+
+    added-past : (x : ℕ) → 650 < x → getD l′ x 0 ≡ getD l x 0
+    added-past x h =
+        let a : x ≢ 650 = λ e. omega arith in
+        ap (λ (ys : List ℕ). getD ys x 0) el ∙ getD-set-other m 650 x (n + 1) 0 a ∙ added-tail room′ x (omega arith)
+
+    added-kept : keptOf l′ ≡ take n (rows l) ++ o ∷ []
+    unfolding keptOf
+    added-kept =
+        ap (λ (j : ℕ). take j (rows l′)) (count-is l′ (n + 1) added₀ (omega arith) ∙ add-one n)
+        ∙ ap (take (suc n)) (ap rows el ∙ rows-set m 650 (n + 1) (omega arith)) ∙ added-take room′
+
+    added-few : length (take n (rows l) ++ o ∷ []) ≤ 64
+    added-few = omega (arith, length-append (take n (rows l)) (o ∷ []), length-take n (rows l))
+
+    pub added-fits : view l′ ≡ settled l (take n (rows l) ++ o ∷ [])
+    unfolding horizonOf limitsOf
+    added-fits =
+        view-open l′ (added-past 653 (omega arith) ∙ mark)
+        ∙ rw (added-kept, added-past 651 (omega arith), added-past 652 (omega arith)) (sym (settled-fits l (take n (rows l) ++ o ∷ []) added-few))
+
+  pub added-open : n ≤ 64 → Open m
+  unfolding Open
+  added-open h = added-tail (omega arith) 653 (omega arith) ∙ mark
+
+  pub added-too-many : (l′ : List ℕ) → n ≤ 64 → 64 ≤ n → view l′ ≡ settled m (rows m) → view l′ ≡ settled l (take n (rows l) ++ o ∷ [])
+  added-too-many l′ le ge f =
+      let h : n < 65 = omega arith in
+      let all : rows m ≡ take n (rows l) ++ o ∷ [] = sym (take-all (suc n) (rows m) (omega (arith, rows-length m))) ∙ added-take h in
+      f ∙ settled-same l m (rows m) (added-tail h) ∙ ap (settled l) all
+
+-- ---- the whole offer
+
+pub offers-search : OffersSearch
+unfolding offerTo
+offers-search h g os = refl
+
+pub offers-late : OffersLate
+unfolding offerTo
+offers-late s os f = late-passed-over rowFigures s os f
+
+pub offered-late : (l : List ℕ) (o : Row) (b : Bool) → b ≡ tooLate (view l) (due o) → b ≡ true → view l ≡ offerTo (view l) o
+unfolding offerTo due
+offered-late l o b e t = sym (offer-late (covᶠ rowFigures) (dueᶠ rowFigures) 64 3600 (view l) o (sym e ∙ t))
+
+module _ (l : List ℕ) (o : Row) (open′ : Open l) (early : due o ≤ horizonOf l) (c : ℕ) (b : Bool) (ec : c ≡ countOf l) (eb : b ≡ coveredBy o (take c (rows l))) where
+  covered-kept : b ≡ coveredBy o (keptOf l)
+  unfolding keptOf
+  covered-kept = eb ∙ ap (λ (j : ℕ). coveredBy o (take j (rows l))) ec
+
+  pub offered-covered : b ≡ true → view l ≡ offerTo (view l) o
+  unfolding offerTo coveredBy Open cov due
+  offered-covered t =
+      let y : anyb (λ k. cov k o) (keptOf l) ≡ true = sym covered-kept ∙ t in
+      rw (view-open l open′, le-ltb (horizonOf l) (due o) early, y) refl
+
+  pub offered-added : (m l′ : List ℕ) (n : ℕ) → b ≡ false → Packed (stays true o 0) l m c n → view l′ ≡ settled m (take n (rows m) ++ o ∷ []) → view l′ ≡ offerTo (view l) o
+  unfolding offerTo coveredBy Open stays settled keptOf cov due
+  offered-added m l′ n t w s =
+      let y : anyb (λ k. cov k o) (keptOf l) ≡ false = sym covered-kept ∙ t in
+      let ks : take n (rows m) ≡ filterb (λ k. not (cov o k)) (keptOf l) = w .list ∙ ap (λ (j : ℕ). filterb (λ k. not (cov o k)) (take j (rows l))) ec in
+      s ∙ settled-same l m (take n (rows m) ++ o ∷ []) (w .tail) ∙ ap (λ (zs : List Row). settled l (zs ++ o ∷ [])) ks
+      ∙ sym (rw (view-open l open′, le-ltb (horizonOf l) (due o) early, y) refl)
+
+pub packed-open : (p : Row → Bool) (l m : List ℕ) (c n : ℕ) → Open l → Packed p l m c n → Open m
+unfolding Open
+packed-open p l m c n e w = w .tail 653 (omega arith) ∙ e

@@ -1,0 +1,139 @@
+-- What the loops of an offer do, turn by turn.
+use mathlib.Core.Path.{_≡_, refl, sym, ap, _∙_}
+use mathlib.Core.Bool.{Bool, true, false, cond, _||_}
+use mathlib.Core.Logic.{_≢_}
+use mathlib.Core.List.{List, [], _∷_, _++_, append-nil}
+use Prim.Native.Nat.{ℕ, suc, _+_, _-_, _≤_, _<_, max}
+use native.Mathlib.Omega.{arith}
+use native.Mathlib.Numerals.{add-one}
+use lib.ListN.{length, getD, take, drop, length-take, drop-of-length-le}
+use lib.Seq.{getD-set-other, take-suc, take-suc-set, drop-cons, getD-take}
+use Rattle.laws.specs.Lists.{filterb, anyb}
+use Rattle.laws.proofs.Lists.{filterb-append}
+use Rattle.profile.specs.Journeys.{cov, due, noRow}
+use Rattle.profile.specs.Kept.{latest}
+use Rattle.profile.specs.declared.Row.{Row}
+use Rattle.state.specs.View.{rowAt, rows}
+use Rattle.candidate.specs.Pieces.{putRow, coveredBy, Packed, Moved, latestDue}
+use Rattle.candidate.proofs.PutLaws.{put-long, put-tail, rows-put}
+use Rattle.state.proofs.RowLaws.{rows-length, rows-get}
+
+-- ---- is it covered
+
+module _ (l : List ℕ) (n i : ℕ) (o : Row) (few : n ≤ 65) (lt : i < n) where
+  next : drop i (take n (rows l)) ≡ getD (rows l) i noRow ∷ drop (suc i) (take n (rows l))
+  next =
+      let b : i < length (take n (rows l)) = omega (arith, length-take n (rows l), rows-length l) in
+      drop-cons (take n (rows l)) i noRow b ∙ ap (λ (x : Row). x ∷ drop (suc i) (take n (rows l))) (getD-take n (rows l) i noRow lt)
+
+  covered-next : coveredBy o (drop i (take n (rows l))) ≡ (cov (getD (rows l) i noRow) o || coveredBy o (drop (suc i) (take n (rows l))))
+  unfolding coveredBy
+  covered-next = ap (anyb (λ k. cov k o)) next
+
+  pub covered-found : (k : Row) (b : Bool) → k ≡ getD (rows l) i noRow → b ≡ cov k o → b ≡ true → coveredBy o (drop i (take n (rows l))) ≡ coveredBy o (take n (rows l))
+      → true ≡ coveredBy o (take n (rows l))
+  covered-found k b ek eb t inv =
+      let y : cov (getD (rows l) i noRow) o ≡ true = ap (λ (x : Row). cov x o) (sym ek) ∙ sym eb ∙ t in
+      sym (ap (λ (x : Bool). x || coveredBy o (drop (suc i) (take n (rows l)))) y) ∙ sym covered-next ∙ inv
+
+  pub covered-on : (k : Row) (b : Bool) → k ≡ getD (rows l) i noRow → b ≡ cov k o → b ≡ false → coveredBy o (drop i (take n (rows l))) ≡ coveredBy o (take n (rows l))
+      → coveredBy o (drop (i + 1) (take n (rows l))) ≡ coveredBy o (take n (rows l))
+  covered-on k b ek eb t inv =
+      let y : cov (getD (rows l) i noRow) o ≡ false = ap (λ (x : Row). cov x o) (sym ek) ∙ sym eb ∙ t in
+      ap (λ (j : ℕ). coveredBy o (drop j (take n (rows l)))) (add-one i)
+      ∙ sym (ap (λ (x : Bool). x || coveredBy o (drop (suc i) (take n (rows l)))) y) ∙ sym covered-next ∙ inv
+
+pub covered-none : (l : List ℕ) (n i : ℕ) (o : Row) → n ≤ i → coveredBy o (drop i (take n (rows l))) ≡ coveredBy o (take n (rows l)) → false ≡ coveredBy o (take n (rows l))
+unfolding coveredBy
+covered-none l n i o h inv =
+    let e : drop i (take n (rows l)) ≡ [] = drop-of-length-le (take n (rows l)) {i = i} (omega (arith, length-take n (rows l))) in
+    sym (ap (anyb (λ k. cov k o)) e) ∙ inv
+
+-- ---- the latest arrival
+
+pub latest-turn : (l : List ℕ) (m m′ i : ℕ) (k : Row) → i < 65 → k ≡ getD (rows l) i noRow → m′ ≡ max m (k .arrival)
+    → max m (latestDue (drop i (rows l))) ≡ latestDue (rows l) → max m′ (latestDue (drop (i + 1) (rows l))) ≡ latestDue (rows l)
+unfolding latestDue due
+latest-turn l m m′ i k h ek em inv =
+    let b : i < length (rows l) = omega (arith, rows-length l) in
+    let e : drop i (rows l) ≡ getD (rows l) i noRow ∷ drop (suc i) (rows l) = drop-cons (rows l) i noRow b in
+    let f : latest due (drop i (rows l)) ≡ max (getD (rows l) i noRow .arrival) (latest due (drop (suc i) (rows l))) = ap (latest due) e in
+    let g : k .arrival ≡ getD (rows l) i noRow .arrival = ap (λ (x : Row). x .arrival) ek in
+    let s : latest due (drop (i + 1) (rows l)) ≡ latest due (drop (suc i) (rows l)) = ap (λ (j : ℕ). latest due (drop j (rows l))) (add-one i) in
+    omega (arith, inv, f, g, s, em)
+
+pub latest-done : (l : List ℕ) (m i : ℕ) → 65 ≤ i → max m (latestDue (drop i (rows l))) ≡ latestDue (rows l) → m ≡ latestDue (rows l)
+unfolding latestDue
+latest-done l m i h inv =
+    let e : drop i (rows l) ≡ [] = drop-of-length-le (rows l) {i = i} (omega (arith, rows-length l)) in
+    let f : latest due (drop i (rows l)) ≡ 0 = ap (latest due) e in
+    omega (arith, inv, f)
+
+-- ---- packing in place
+
+pub packed-none : (p : Row → Bool) (l : List ℕ) → length l ≡ 654 → Packed p l l 0 0
+packed-none p l long = record { long = long; list = refl; small = omega arith; tail = λ x h. refl; upper = λ k h. refl }
+
+module _ (p : Row → Bool) (l m m′ : List ℕ) (i n n′ : ℕ) (h : i < 65) (s : Packed p l m i n) where
+  same-row : rowAt m i ≡ getD (rows l) i noRow
+  same-row = sym (rows-get m i h) ∙ s .upper i (omega arith)
+
+  more : filterb p (take (i + 1) (rows l)) ≡ filterb p (take i (rows l)) ++ filterb p (rowAt m i ∷ [])
+  more =
+      ap (λ (j : ℕ). filterb p (take j (rows l))) (add-one i)
+      ∙ ap (filterb p) (take-suc (rows l) i noRow (omega (arith, rows-length l)))
+      ∙ filterb-append p (take i (rows l)) (getD (rows l) i noRow ∷ [])
+      ∙ ap (λ (x : Row). filterb p (take i (rows l)) ++ filterb p (x ∷ [])) (sym same-row)
+
+  kept-turn : p (rowAt m i) ≡ true → Packed p l (putRow m n (rowAt m i)) (i + 1) (n + 1)
+  kept-turn e =
+      let room : n < 65 = omega (arith, s .small) in
+      let r = rows-put m n (rowAt m i) (s .long) room in
+      let one : filterb p (rowAt m i ∷ []) ≡ rowAt m i ∷ [] = rw e refl in
+      record {
+        long = put-long m n (rowAt m i) ∙ s .long;
+        list =
+            ap (λ (j : ℕ). take j (rows (putRow m n (rowAt m i)))) (add-one n)
+            ∙ ap (take (suc n)) r
+            ∙ take-suc-set (rows m) n (rowAt m i) (omega (arith, rows-length m))
+            ∙ ap (λ (ys : List Row). ys ++ rowAt m i ∷ []) (s .list)
+            ∙ ap (λ (ys : List Row). filterb p (take i (rows l)) ++ ys) (sym one)
+            ∙ sym more;
+        small = omega (arith, s .small);
+        tail = λ x b. put-tail m n (rowAt m i) (s .long) room x b ∙ s .tail x b;
+        upper = λ k b.
+            let d : k ≢ n = λ q. omega (arith, s .small) in
+            ap (λ (ys : List Row). getD ys k noRow) r ∙ getD-set-other (rows m) n k (rowAt m i) noRow d ∙ s .upper k (omega arith);
+      }
+
+  gone-turn : p (rowAt m i) ≡ false → Packed p l m (i + 1) n
+  gone-turn e =
+      let none : filterb p (rowAt m i ∷ []) ≡ [] = rw e refl in
+      record {
+        long = s .long;
+        list =
+            s .list ∙ sym (append-nil (filterb p (take i (rows l)))) ∙ ap (λ (ys : List Row). filterb p (take i (rows l)) ++ ys) (sym none) ∙ sym more;
+        small = omega (arith, s .small);
+        tail = s .tail;
+        upper = λ k b. s .upper k (omega arith);
+      }
+
+  pub pack-turn : Moved p m m′ i n n′ → Packed p l m′ (i + 1) n′
+  pack-turn w = go (p (rowAt m i)) refl (w .list) (w .count)
+    where
+      go : (b : Bool) → p (rowAt m i) ≡ b → m′ ≡ cond b (putRow m n (rowAt m i)) m → n′ ≡ cond b (n + 1) n → Packed p l m′ (i + 1) n′
+      go true e a b = rw (a, b) (kept-turn e)
+      go false e a b = rw (a, b) (gone-turn e)
+
+pub moved-on : (p : Row → Bool) (l l′ : List ℕ) (i n : ℕ) {b : Bool} (k : Row) → k ≡ rowAt l i → b ≡ p k → b ≡ true → l′ ≡ putRow l n k → Moved p l l′ i n (n + 1)
+moved-on p l l′ i n k ek eb t el =
+    let y : p (rowAt l i) ≡ true = ap p (sym ek) ∙ sym eb ∙ t in
+    record { list = rw y (el ∙ ap (putRow l n) ek); count = rw y refl }
+
+pub moved-not : (p : Row → Bool) (l : List ℕ) (i n : ℕ) {b : Bool} (k : Row) → k ≡ rowAt l i → b ≡ p k → b ≡ false → Moved p l l i n n
+moved-not p l i n k ek eb t =
+    let y : p (rowAt l i) ≡ false = ap p (sym ek) ∙ sym eb ∙ t in
+    record { list = rw y refl; count = rw y refl }
+
+pub packed-all : (p : Row → Bool) (l m : List ℕ) (i c n : ℕ) → i ≤ c → c ≤ i → Packed p l m i n → Packed p l m c n
+packed-all p l m i c n a b s = let e : c ≡ i = omega arith in rw e s

@@ -1,0 +1,22 @@
+-- The offer of a row to the state of a search.
+use mathlib.Core.Path.{_≡_}
+use mathlib.Core.Bool.{true}
+use mathlib.Core.List.{List, [], List·Memᴰ}
+use Prim.Native.Nat.{ℕ}
+use Rattle.laws.specs.Lists.{foldl}
+use Rattle.profile.specs.declared.Row.{Row}
+use Rattle.profile.specs.Figures.{covᶠ, dueᶠ}
+use Rattle.profile.specs.Kept.{St, going, offer, searched, tooLate}
+use Rattle.profile.specs.Journeys.{rowFigures}
+
+-- the offer of a row, at 64 journeys and a least horizon of 3600
+unfoldable pub offerTo : St Row → Row → St Row
+offerTo s o = offer (covᶠ rowFigures) (dueᶠ rowFigures) 64 3600 s o
+
+-- the offers `os` made to a fresh state, one after the other, are a search
+abbrev pub OffersSearch : Type 0
+OffersSearch = (h g : ℕ) (os : List Row) → foldl offerTo (going [] h g) os ≡ searched rowFigures 64 3600 h g os
+
+-- offers that are too late leave the state as it is, so that they need not be made
+abbrev pub OffersLate : Type 0
+OffersLate = (s : St Row) (os : List Row) → ((o : Row) → List·Memᴰ o os → tooLate s (o .arrival) ≡ true) → foldl offerTo s os ≡ s

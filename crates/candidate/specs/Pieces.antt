@@ -1,0 +1,59 @@
+-- What the private functions of an offer do to the array, piece by piece.
+use mathlib.Core.Path.{_≡_}
+use mathlib.Core.Bool.{Bool, true, false, not, cond}
+use mathlib.Core.List.{List, [], _∷_}
+use Prim.Native.Nat.{ℕ, _+_, _*_, _≤_}
+use lib.Dec.{leb}
+use lib.ListN.{getD, length, set, take}
+use Rattle.laws.specs.Lists.{filterb, anyb}
+use Rattle.laws.specs.Arrays.{puts}
+use Rattle.profile.specs.declared.Row.{Row}
+use Rattle.profile.specs.Kept.{St, latest, settle}
+use Rattle.profile.specs.Journeys.{cov, due, noRow}
+use Rattle.state.specs.View.{rowAt, rows, horizonOf, limitsOf}
+
+-- the row r stored in slot i
+abbrev pub stored : List ℕ → ℕ → Row → List ℕ
+stored l i r =
+    puts (set l (i * 10) (r .leave)) (i * 10) 1
+    (r .arrival ∷ r .rides ∷ r .walk ∷ r .origin ∷ r .target ∷ r .board ∷ r .alight ∷ r .board2 ∷ r .alight2 ∷ [])
+
+-- the same, shut
+unfoldable pub putRow : List ℕ → ℕ → Row → List ℕ
+putRow l i r = stored l i r
+
+-- nothing but the slots differs
+abbrev pub Tail : List ℕ → List ℕ → Type 0
+Tail l l′ = (x : ℕ) → 650 ≤ x → getD l′ x 0 ≡ getD l x 0
+
+unfoldable pub coveredBy : Row → List Row → Bool
+coveredBy o ks = anyb (λ k. cov k o) ks
+
+-- which rows stay: those that o does not cover; or those due by h
+unfoldable pub stays : Bool → Row → ℕ → Row → Bool
+stays true o h k = not (cov o k)
+stays false o h k = leb (due k) h
+
+-- l′ has the rows of the first i of l that stay, n in number, then others; from i on it is l
+pub record Packed (p : Row → Bool) (l l′ : List ℕ) (i n : ℕ) : Type 0 where
+  pub long : length l′ ≡ 654
+  pub list : take n (rows l′) ≡ filterb p (take i (rows l))
+  pub small : n ≤ i
+  pub tail : Tail l l′
+  pub upper : (k : ℕ) → i ≤ k → getD (rows l′) k noRow ≡ getD (rows l) k noRow
+
+-- slot i is looked at, and its row put into slot n if it stays
+pub record Moved (p : Row → Bool) (l l′ : List ℕ) (i n n′ : ℕ) : Type 0 where
+  pub list : l′ ≡ cond (p (rowAt l i)) (putRow l n (rowAt l i)) l
+  pub count : n′ ≡ cond (p (rowAt l i)) (n + 1) n
+
+-- the search is not refused
+unfoldable pub Open : List ℕ → Type 0
+Open l = getD l 653 0 ≡ 0
+
+unfoldable pub latestDue : List Row → ℕ
+latestDue ks = latest due ks
+
+-- the rows ks are to be kept
+unfoldable pub settled : List ℕ → List Row → St Row
+settled l ks = settle due 64 3600 ks (horizonOf l) (limitsOf l)

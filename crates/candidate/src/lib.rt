@@ -1,0 +1,215 @@
+// An offer (`candidate`) to the kept list of a search.
+ghost use mathlib.Core.Path.{_≡_};
+ghost use mathlib.Core.List.{[], _∷_, _++_};
+ghost use Prim.Native.Nat.{_+_, _*_, _≤_, _<_, max};
+ghost use lib.ListN.{length, take};
+ghost use Rattle.profile.specs.Journeys.{due, rowOf};
+ghost use Rattle.state.specs.View.{rowAt, rows, horizonOf, view};
+ghost use Rattle.candidate.specs.Offer.{offerTo};
+ghost use Rattle.candidate.specs.Pieces.{stored, putRow, coveredBy, stays, Packed, Moved, Open, latestDue, settled};
+use profile::Row;
+use profile::figures::covers;
+use profile::no_row;
+use state::count;
+use state::horizon;
+use state::known;
+use state::row_at;
+use state::too_late;
+
+// Whether one of the first n rows equals or beats o.
+fn covered(st: &[u16; 654], n: usize, o: Row) -> bool
+    requires { ⌜ n ≤ 65 ⌝ }
+    ensures { λ r. ⌜ r ≡ coveredBy o (take n (rows (now (st .entry)))) ⌝ }
+{
+    let mut i = 0usize;
+    while i < n {
+        let k = row_at(st, i);
+        if covers(k, o) {
+            return true;
+        }
+        i += 1;
+    }
+    false
+}
+
+// Whether the row k stays: if o does not cover it, or, without `by`, if it is due by h.
+fn stays_on(by: bool, o: Row, h: u16, k: Row) -> bool
+    ensures { λ r. ⌜ r ≡ stays by o h k ⌝ }
+{
+    if by {
+        if covers(o, k) { false } else { true }
+    } else {
+        k.arrival <= h
+    }
+}
+
+// Stores a row in slot i.
+fn put_row(st: &mut [u16; 654], i: usize, r: Row)
+    requires { ⌜ (length (now st) ≡ 654) × (i < 65) ⌝ }
+    ensures { λ _. ⌜ now (st .exit) ≡ stored (now (st .entry)) i r ⌝ }
+{
+    let at = i * 10;
+    st[at] = r.leave;
+    st[at + 1] = r.arrival;
+    st[at + 2] = r.rides;
+    st[at + 3] = r.walk;
+    st[at + 4] = r.origin;
+    st[at + 5] = r.target;
+    st[at + 6] = r.board;
+    st[at + 7] = r.alight;
+    st[at + 8] = r.board2;
+    st[at + 9] = r.alight2;
+}
+
+// Puts the row k, which stands at i, at n; there is nothing to do if that is the same place.
+fn store(st: &mut [u16; 654], i: usize, n: usize, k: Row)
+    requires { ⌜ (length (now st) ≡ 654) × (n < 65) × (k ≡ rowAt (now st) i) ⌝ }
+    ensures { λ _. ⌜ now (st .exit) ≡ putRow (now (st .entry)) n k ⌝ }
+{
+    if n == i {
+        return;
+    }
+    put_row(st, n, k);
+}
+
+// Moves the row at i to n if it stays; the next place to fill.
+fn moved(st: &mut [u16; 654], i: usize, n: usize, by: bool, o: Row, h: u16) -> usize
+    requires { ⌜ (length (now st) ≡ 654) × (i < 65) × (n ≤ i) ⌝ }
+    ensures { λ r. ⌜ Moved (stays by o h) (now (st .entry)) (now (st .exit)) i n r ⌝ }
+{
+    let k = row_at(st, i);
+    if stays_on(by, o, h, k) {
+        store(st, i, n, k);
+        return n + 1;
+    }
+    n
+}
+
+// Moves those of the first c rows that stay to the front, in order; how many there are.
+fn pack(st: &mut [u16; 654], c: usize, by: bool, o: Row, h: u16) -> usize
+    requires { ⌜ (length (now st) ≡ 654) × (c ≤ 65) ⌝ }
+    ensures { λ r. ⌜ Packed (stays by o h) (now (st .entry)) (now (st .exit)) c r ⌝ }
+{
+    let mut n = 0usize;
+    let mut i = 0usize;
+    while i < c {
+        n = moved(st, i, n, by, o, h);
+        i += 1;
+    }
+    n
+}
+
+fn later(a: u16, b: u16) -> u16
+    ensures { λ r. ⌜ r ≡ max a b ⌝ }
+{
+    if a < b { b } else { a }
+}
+
+// The latest arrival of the 65.
+fn latest(st: &[u16; 654]) -> u16
+    ensures { λ r. ⌜ r ≡ latestDue (rows (now (st .entry))) ⌝ }
+{
+    let mut m = 0u16;
+    let mut i = 0usize;
+    while i < 65 {
+        let k = row_at(st, i);
+        m = later(m, k.arrival);
+        i += 1;
+    }
+    m
+}
+
+// The horizon falls to h, and of the 65 rows those due later go.
+fn fall(st: &mut [u16; 654], h: u16)
+    requires { ⌜ (length (now st) ≡ 654) × Open (now st) × (3600 ≤ h) × (latestDue (rows (now st)) ≡ h + 1) ⌝ }
+    ensures { λ _. ⌜ view (now (st .exit)) ≡ settled (now (st .entry)) (rows (now (st .entry))) ⌝ }
+{
+    let n = pack(st, 65, false, no_row(), h);
+    st[650] = n as u16;
+    st[651] = h;
+    st[652] = 1;
+}
+
+// The 65 rows are to be kept, which is one too many.
+fn overflow(st: &mut [u16; 654])
+    requires { ⌜ (length (now st) ≡ 654) × Open (now st) ⌝ }
+    ensures { λ _. ⌜ view (now (st .exit)) ≡ settled (now (st .entry)) (rows (now (st .entry))) ⌝ }
+{
+    let late = latest(st);
+    if late < 3601 {
+        st[653] = 1;
+        return;
+    }
+    fall(st, late - 1);
+}
+
+// The first n rows are to be kept, and o after them.
+fn added(st: &mut [u16; 654], n: usize, o: Row)
+    requires { ⌜ (length (now st) ≡ 654) × Open (now st) × (n ≤ 64) ⌝ }
+    ensures { λ _. ⌜ view (now (st .exit)) ≡ settled (now (st .entry)) (take n (rows (now (st .entry))) ++ o ∷ []) ⌝ }
+{
+    put_row(st, n, o);
+    if n < 64 {
+        st[650] = n as u16 + 1;
+        return;
+    }
+    overflow(st);
+}
+
+// The offer of a row that is due in time.
+fn consider(st: &mut [u16; 654], o: Row)
+    requires { ⌜ (length (now st) ≡ 654) × Open (now st) × (due o ≤ horizonOf (now st)) ⌝ }
+    ensures { λ _. ⌜ view (now (st .exit)) ≡ offerTo (view (now (st .entry))) o ⌝ }
+{
+    let c = count(st);
+    if covered(st, c, o) {
+        return;
+    }
+    let n = pack(st, c, true, o, 0);
+    added(st, n, o);
+}
+
+fn narrow(horizon: u16, arrival: u32) -> u16
+    requires { ⌜ arrival ≤ horizon ⌝ }
+    ensures { λ r. ⌜ r ≡ arrival ⌝ }
+{
+    arrival as u16
+}
+
+// Offers a journey, given by the numbers of a row. An arrival past 65535 is due after every horizon.
+pub fn candidate(
+    st: &mut [u16; 654],
+    leave: u16,
+    arrival: u32,
+    rides: u16,
+    walk: u16,
+    origin: u16,
+    target: u16,
+    board: u16,
+    alight: u16,
+    board2: u16,
+    alight2: u16,
+)
+    ensures { λ _. ⌜ view (now (st .exit)) ≡ offerTo (view (now (st .entry))) (rowOf leave arrival rides walk origin target board alight board2 alight2) ⌝ }
+{
+    known(*st);
+    if too_late(st, arrival) {
+        return;
+    }
+    let due = narrow(horizon(st), arrival);
+    consider(
+        st,
+        Row {
+            leave,
+            arrival: due,
+            rides,
+            walk,
+            origin,
+            target,
+            board,
+            alight,
+            board2,
+            alight2,
+        },
+    );
+}
