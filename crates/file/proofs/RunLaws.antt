@@ -68,15 +68,15 @@ abbrev ruleFitsIn : Load → List ℕ → Bool
 ruleFitsIn l b = ruleFits (l .searched) (l .«stop_count») (l .rules) (l .«rule_count») b
 
 -- the load with the rule
-abbrev ruleIn′ : Load → Rule → Load
-ruleIn′ l x = withRules l (set (l .rules) (l .«rule_count») x) (l .«rule_count» + 1)
+abbrev withRule : Load → Rule → Load
+withRule l x = withRules l (set (l .rules) (l .«rule_count») x) (l .«rule_count» + 1)
 
 fit-rule-taken : (l : Load) (b : List ℕ) → ruleFitsIn l b ≡ true → ruleAnswer l (ruleIn b) ≡ Taken
 unfolding ruleFits
 fit-rule-taken l b f = taken-is _ (and-true-right (ruleFilled b) _ f)
 
 rule-recorded : (l : Load) (b : List ℕ) {x : Rule} → byteAt b 0 ≡ 4 → ruleFitsIn l b ≡ true → x ≡ ruleOf (ruleIn b)
-    → recordSpec (openReader l) b ≡ record { answer = Taken; reader = openReader (ruleIn′ l x) }
+    → recordSpec (openReader l) b ≡ record { answer = Taken; reader = openReader (withRule l x) }
 unfolding kindRight ruleFits
 rule-recorded l b {x} k f x-is =
     recorded b 4 k (omega arith) refl (and-true-left (ruleFilled b) _ f) l
@@ -91,7 +91,7 @@ module _ {l₀ l : Load} {bytes : List ℕ} {at n : ℕ} {u : RuleTold} (left : 
   pub rule-space : l .«rule_count» < 128
   rule-space = rule-room l (ruleIn (bodyOf (drop at bytes))) Taken (sym (fit-rule-taken l _ (rule-fit .taken))) refl
 
-  pub rule-on : Left (openReader l₀) bytes (openReader (ruleIn′ l (u .rule))) (at + n)
+  pub rule-on : Left (openReader l₀) bytes (openReader (withRule l (u .rule))) (at + n)
   rule-on = run-on left n-is (rule-fit .whole) (rule-recorded l (bodyOf (drop at bytes)) (rule-fit .kind) (rule-fit .taken) (ap (λ (t : RuleTold). t .rule) (rule-fit .is))) refl
 
 -- ---- stop
@@ -103,8 +103,8 @@ abbrev stopFitsIn : Load → List ℕ → Bool
 stopFitsIn l b = stopFits (l .searched) (l .stops) (l .«stop_count») b
 
 -- the load with the stop
-abbrev stopIn′ : Load → Stop → Load
-stopIn′ l x = withStops l (set (l .stops) (l .«stop_count») x) (l .«stop_count» + 1)
+abbrev withStop : Load → Stop → Load
+withStop l x = withStops l (set (l .stops) (l .«stop_count») x) (l .«stop_count» + 1)
 
 fit-stop-taken : (l : Load) (b : List ℕ) → stopFitsIn l b ≡ true → stopAnswer l (textAt b 1) (optionTextAt b (nameAt b)) (optionTextAt b (parentAt b)) (stopIn b) ≡ Taken
 unfolding stopFits stationAt stopIn
@@ -115,7 +115,7 @@ unfolding stopFits
 fit-stop-filled l b f = and-true-left (stopFilled b) _ f
 
 stop-recorded : (l : Load) (b : List ℕ) {x : Stop} → byteAt b 0 ≡ 2 → stopFitsIn l b ≡ true → x ≡ stopAt (l .stops) (l .«stop_count») b
-    → recordSpec (openReader l) b ≡ record { answer = Taken; reader = openReader (stopIn′ l x) }
+    → recordSpec (openReader l) b ≡ record { answer = Taken; reader = openReader (withStop l x) }
 unfolding kindRight stopAt stationAt stopIn
 stop-recorded l b {x} k f x-is =
     recorded b 2 k (omega arith) refl (fit-stop-filled l b f) l
@@ -130,7 +130,7 @@ module _ {l₀ l : Load} {bytes : List ℕ} {at n : ℕ} {u : StopTold} (left : 
   pub stop-space : l .«stop_count» < 128
   stop-space = stop-room l _ _ _ _ Taken (sym (fit-stop-taken l (bodyOf (drop at bytes)) (stop-fit .taken))) refl
 
-  pub stop-on : Left (openReader l₀) bytes (openReader (stopIn′ l (u .stop))) (at + n)
+  pub stop-on : Left (openReader l₀) bytes (openReader (withStop l (u .stop))) (at + n)
   stop-on = run-on left n-is (stop-fit .whole) (stop-recorded l (bodyOf (drop at bytes)) (stop-fit .kind) (stop-fit .taken) (ap (λ (t : StopTold). t .stop) (stop-fit .is))) refl
 
 -- ---- call
