@@ -13,20 +13,23 @@ use Rattle.refusal.specs.First.{firstAnswer, isTaken}
 use Rattle.stops.specs.declared.Stop.{Stop}
 use Rattle.stops.specs.declared.StopInput.{StopInput}
 use Rattle.stops.specs.declared.Found.{Found}
+use Rattle.stops.specs.declared.Found.the-variants.{Nothing}
 use Rattle.stops.specs.Answer.{stationOf, stopTests}
-use Rattle.stops.specs.Taken.{stopOf}
+use Rattle.stops.specs.Taken.{blankStop, stopOf}
 use Rattle.settings.specs.declared.Settings.{Settings}
 use Rattle.calls.specs.declared.CallInput.{CallInput}
 use Rattle.calls.specs.declared.Uncut.{Uncut}
 use Rattle.calls.specs.Uncut.{uncutOn}
 use Rattle.rules.specs.declared.Rule.{Rule}
 use Rattle.rules.specs.declared.RuleInput.{RuleInput}
-use Rattle.rules.specs.Rules.{ruleTests}
+use Rattle.rules.specs.Rules.{blankRule, ruleTests, ruleOf}
 use Rattle.fields.specs.Numbers.{byteAt, u16At}
 use Rattle.fields.specs.Layout.{hasAt, textAt, optionTextAt, nameAt, parentAt, stopFilled, ruleFilled}
 use Rattle.fields.specs.Records.{stopIn, callIn, ruleIn}
+use Rattle.file.specs.declared.StopTold.{StopTold}
+use Rattle.file.specs.declared.RuleTold.{RuleTold}
 use Rattle.file.specs.File.{startsWhole, sizeOf, bodyOf}
-use Rattle.file.specs.Runs.{wholeAs, whereFits, ruleFits, stationAt, stopFits, stopAt}
+use Rattle.file.specs.Runs.{wholeAs, whereFits, ruleFits, stationAt, stopFits, stopAt, ruleTold, stopTold}
 use Rattle.file.proofs.FedLaws.{whole-room}
 
 -- ---- a whole record
@@ -88,15 +91,34 @@ where-tells k fits xs {x} {y} {z} x-is other = go (startsWhole xs) refl (eqb (by
 
 -- ---- rule
 
-module _ (searched : Bool) (stops : ℕ) (rules : List Rule) (count : ℕ) (b : List ℕ) {f : Bool} (f-is : f ≡ ruleFilled b) where
-  pub rule-unfilled : f ≡ false → false ≡ ruleFits searched stops rules count b
-  unfolding ruleFits
-  rule-unfilled e = sym (and-not _ (sym f-is ∙ e))
+-- one test after another
+module _ (searched : Bool) (stops : ℕ) (rules : List Rule) (count : ℕ) (xs : List ℕ) {w : Bool} {none : Rule} (none-is : none ≡ blankRule) (w-is : w ≡ wholeAs 4 xs) where
+  abbrev ruleHere : RuleTold
+  ruleHere = record { fits = true; rule = ruleOf (ruleIn (bodyOf xs)) }
 
-  pub rule-answered : {i : RuleInput} {a : Answer} {t : Bool} → f ≡ true → i ≡ ruleIn b → a ≡ firstAnswer (ruleTests searched stops rules count i) → t ≡ isTaken a
-      → t ≡ ruleFits searched stops rules count b
-  unfolding ruleFits
-  rule-answered e i-is a-is t-is = t-is ∙ ap isTaken (a-is ∙ ap (λ (i : RuleInput). firstAnswer (ruleTests searched stops rules count i)) i-is) ∙ sym (and-by _ (sym f-is ∙ e))
+  no-rule : record { fits = false; rule = blankRule } ≡ ruleTold searched stops rules count xs → record { fits = false; rule = none } ≡ ruleTold searched stops rules count xs
+  no-rule q = ap (λ (x : Rule). record { fits = false; rule = x }) none-is ∙ q
+
+  pub rule-other : w ≡ false → record { fits = false; rule = none } ≡ ruleTold searched stops rules count xs
+  rule-other e = no-rule (where-other 4 (ruleFits searched stops rules count) xs ruleHere _ w-is e)
+
+  module _ {b : List ℕ} {f : Bool} (e : w ≡ true) (b-is : b ≡ bodyOf xs) (f-is : f ≡ ruleFilled b) where
+    pub rule-unfilled : f ≡ false → record { fits = false; rule = none } ≡ ruleTold searched stops rules count xs
+    unfolding ruleFits
+    rule-unfilled g = no-rule (where-unfit 4 (ruleFits searched stops rules count) xs ruleHere _ w-is e b-is (sym (and-not _ (sym f-is ∙ g))) refl)
+
+    module _ {i : RuleInput} {a : Answer} {t : Bool} (g : f ≡ true) (i-is : i ≡ ruleIn b) (a-is : a ≡ firstAnswer (ruleTests searched stops rules count i)) (t-is : t ≡ isTaken a) where
+      rule-fits-by : t ≡ ruleFits searched stops rules count b
+      unfolding ruleFits
+      rule-fits-by = t-is ∙ ap isTaken (a-is ∙ ap (λ (i : RuleInput). firstAnswer (ruleTests searched stops rules count i)) i-is) ∙ sym (and-by _ (sym f-is ∙ g))
+
+      pub rule-sent-back : t ≡ false → record { fits = false; rule = none } ≡ ruleTold searched stops rules count xs
+      rule-sent-back h = no-rule (where-unfit 4 (ruleFits searched stops rules count) xs ruleHere _ w-is e b-is rule-fits-by h)
+
+      pub rule-held : {x : Rule} → t ≡ true → x ≡ ruleOf i → record { fits = true; rule = x } ≡ ruleTold searched stops rules count xs
+      rule-held h x-is =
+          where-fits 4 (ruleFits searched stops rules count) xs ruleHere _ w-is e b-is rule-fits-by h
+          (ap (λ (x : Rule). record { fits = true; rule = x }) (x-is ∙ ap ruleOf (i-is ∙ ap ruleIn b-is)))
 
 -- ---- call
 
@@ -106,23 +128,42 @@ told-is settings searched stops count h xs b-is i-is u-is = u-is ∙ ap (uncutOn
 
 -- ---- stop
 
-pub station-is : (stops : List Stop) (count : ℕ) (b : List ℕ) {at : ℕ} {has : Bool} {text : List ℕ} {s : Found} → at ≡ parentAt b → has ≡ hasAt b at → text ≡ optionTextAt b (parentAt b)
-    → s ≡ stationOf stops count has text → s ≡ stationAt stops count b
-unfolding stationAt
-station-is stops count b at-is has-is text-is s-is = s-is ∙ (λ k. stationOf stops count ((has-is ∙ ap (hasAt b) at-is) k) (text-is k))
+module _ (stops : List Stop) (count : ℕ) (b : List ℕ) {at : ℕ} {has : Bool} (at-is : at ≡ parentAt b) (has-is : has ≡ hasAt b at) where
+  pub station-is : {text : List ℕ} {s : Found} → has ≡ true → text ≡ optionTextAt b (parentAt b) → s ≡ stationOf stops count true text → s ≡ stationAt stops count b
+  unfolding stationAt
+  station-is e text-is s-is = s-is ∙ (λ k. stationOf stops count (sym (sym (has-is ∙ ap (hasAt b) at-is) ∙ e) k) (text-is k))
 
-module _ (stops : List Stop) (count : ℕ) (b : List ℕ) {s : Found} {id name : List ℕ} {i : StopInput} (s-is : s ≡ stationAt stops count b) (id-is : id ≡ textAt b 1)
-    (name-is : name ≡ optionTextAt b (nameAt b)) (i-is : i ≡ stopIn b) where
-  pub stop-answered : (searched : Bool) {f : Bool} {a : Answer} {t : Bool} → f ≡ stopFilled b → f ≡ true → a ≡ firstAnswer (stopTests searched stops count s id name i) → t ≡ isTaken a
-      → t ≡ stopFits searched stops count b
-  unfolding stopFits
-  stop-answered searched f-is e a-is t-is =
-      t-is ∙ ap isTaken (a-is ∙ (λ k. firstAnswer (stopTests searched stops count (s-is k) (id-is k) (name-is k) (i-is k)))) ∙ sym (and-by _ (sym f-is ∙ e))
+  pub station-none : has ≡ false → Nothing ≡ stationAt stops count b
+  unfolding stationAt stationOf
+  station-none e = rw (sym (has-is ∙ ap (hasAt b) at-is) ∙ e) refl
 
-  pub stop-held : {x : Stop} → x ≡ stopOf id name s i → x ≡ stopAt stops count b
-  unfolding stopAt
-  stop-held x-is = x-is ∙ (λ k. stopOf (id-is k) (name-is k) (s-is k) (i-is k))
+module _ (searched : Bool) (stops : List Stop) (count : ℕ) (xs : List ℕ) {w : Bool} {none : Stop} (none-is : none ≡ blankStop) (w-is : w ≡ wholeAs 2 xs) where
+  abbrev stopHere : StopTold
+  stopHere = record { fits = true; stop = stopAt stops count (bodyOf xs) }
 
-pub stop-unfilled : (searched : Bool) (stops : List Stop) (count : ℕ) (b : List ℕ) {f : Bool} → f ≡ stopFilled b → f ≡ false → false ≡ stopFits searched stops count b
-unfolding stopFits
-stop-unfilled searched stops count b f-is e = sym (and-not _ (sym f-is ∙ e))
+  no-stop : record { fits = false; stop = blankStop } ≡ stopTold searched stops count xs → record { fits = false; stop = none } ≡ stopTold searched stops count xs
+  no-stop q = ap (λ (x : Stop). record { fits = false; stop = x }) none-is ∙ q
+
+  pub stop-other : w ≡ false → record { fits = false; stop = none } ≡ stopTold searched stops count xs
+  stop-other e = no-stop (where-other 2 (stopFits searched stops count) xs stopHere _ w-is e)
+
+  module _ {b : List ℕ} {f : Bool} (e : w ≡ true) (b-is : b ≡ bodyOf xs) (f-is : f ≡ stopFilled b) where
+    pub stop-unfilled : f ≡ false → record { fits = false; stop = none } ≡ stopTold searched stops count xs
+    unfolding stopFits
+    stop-unfilled g = no-stop (where-unfit 2 (stopFits searched stops count) xs stopHere _ w-is e b-is (sym (and-not _ (sym f-is ∙ g))) refl)
+
+    module _ {s : Found} {id name : List ℕ} {i : StopInput} {a : Answer} {t : Bool} (g : f ≡ true) (s-is : s ≡ stationAt stops count b) (i-is : i ≡ stopIn b)
+        (id-is : id ≡ textAt b 1) (name-is : name ≡ optionTextAt b (nameAt b)) (a-is : a ≡ firstAnswer (stopTests searched stops count s id name i)) (t-is : t ≡ isTaken a) where
+      stop-fits-by : t ≡ stopFits searched stops count b
+      unfolding stopFits
+      stop-fits-by = t-is ∙ ap isTaken (a-is ∙ (λ k. firstAnswer (stopTests searched stops count (s-is k) (id-is k) (name-is k) (i-is k)))) ∙ sym (and-by _ (sym f-is ∙ g))
+
+      pub stop-sent-back : t ≡ false → record { fits = false; stop = none } ≡ stopTold searched stops count xs
+      stop-sent-back h = no-stop (where-unfit 2 (stopFits searched stops count) xs stopHere _ w-is e b-is stop-fits-by h)
+
+      pub stop-held : {id′ name′ : List ℕ} {x : Stop} → t ≡ true → id′ ≡ textAt b 1 → name′ ≡ optionTextAt b (nameAt b) → x ≡ stopOf id′ name′ s i
+          → record { fits = true; stop = x } ≡ stopTold searched stops count xs
+      unfolding stopAt
+      stop-held h id′-is name′-is x-is =
+          where-fits 2 (stopFits searched stops count) xs stopHere _ w-is e b-is stop-fits-by h
+          (ap (λ (x : Stop). record { fits = true; stop = x }) (x-is ∙ (λ k. stopOf (id′-is k) (name′-is k) (s-is k) (i-is k)) ∙ ap (stopAt stops count) b-is))

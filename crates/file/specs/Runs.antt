@@ -10,20 +10,21 @@ use Rattle.refusal.specs.First.{firstAnswer, isRefused, isTaken}
 use Rattle.stops.specs.declared.Stop.{Stop}
 use Rattle.stops.specs.declared.Found.{Found}
 use Rattle.stops.specs.Answer.{stationOf, stopTests}
-use Rattle.stops.specs.Taken.{stopOf}
+use Rattle.stops.specs.Taken.{blankStop, stopOf}
 use Rattle.settings.specs.declared.Settings.{Settings}
 use Rattle.calls.specs.declared.Uncut.{Uncut}
-use Rattle.calls.specs.declared.Uncut.the-variants.{Other}
 use Rattle.calls.specs.Uncut.{uncutOn}
 use Rattle.rules.specs.declared.Rule.{Rule}
-use Rattle.rules.specs.Rules.{ruleTests}
+use Rattle.rules.specs.Rules.{blankRule, ruleTests, ruleOf}
 use Rattle.fields.specs.Numbers.{byteAt}
 use Rattle.fields.specs.Layout.{hasAt, textAt, optionTextAt, nameAt, parentAt, stopFilled, callFilled, ruleFilled}
 use Rattle.fields.specs.Records.{stopIn, callIn, ruleIn}
 use Rattle.load.specs.declared.Load.{Load}
 use Rattle.file.specs.declared.Reader.{Reader}
 use Rattle.file.specs.declared.Fed.{Fed}
-use Rattle.file.specs.File.{startsWhole, sizeOf, bodyOf, later, fedSpec}
+use Rattle.file.specs.declared.StopTold.{StopTold}
+use Rattle.file.specs.declared.RuleTold.{RuleTold}
+use Rattle.file.specs.File.{startsWhole, bodyOf, later, fedSpec}
 
 -- the reader whose load is opened
 abbrev pub openReader : Load → Reader
@@ -33,13 +34,9 @@ openReader l = record { opened = true; load = l }
 unfoldable pub wholeAs : ℕ → List ℕ → Bool
 wholeAs k xs = startsWhole xs && eqb (byteAt (bodyOf xs) 0) k
 
--- one of two values, by whether the bytes start with a whole record of kind k that fits
+-- the first value if the bytes start with a whole record of kind k that fits, else the second
 unfoldable pub whereFits : {A : Type 0} → ℕ → (List ℕ → Bool) → List ℕ → A → A → A
 whereFits k fits xs a b = cond (wholeAs k xs && fits (bodyOf xs)) a b
-
--- how many bytes the record takes if it fits, else 0
-abbrev pub sizeIf : ℕ → (List ℕ → Bool) → List ℕ → ℕ
-sizeIf k fits xs = whereFits k fits xs (sizeOf xs) 0
 
 -- ---- which records fit: they are filled, and the load takes them
 
@@ -58,9 +55,17 @@ stopFits searched stops count b =
 unfoldable pub stopAt : List Stop → ℕ → List ℕ → Stop
 stopAt stops count b = stopOf (textAt b 1) (optionTextAt b (nameAt b)) (stationAt stops count b) (stopIn b)
 
--- what a filled call's record tells of its step, by the settings and the table's count and horizon; `Other` where there is none
+-- ---- what the record at the start of the bytes hands in, where it fits
+
+abbrev pub ruleTold : Bool → ℕ → List Rule → ℕ → List ℕ → RuleTold
+ruleTold searched stops rules count xs = whereFits 4 (ruleFits searched stops rules count) xs (record { fits = true; rule = ruleOf (ruleIn (bodyOf xs)) }) (record { fits = false; rule = blankRule })
+
+abbrev pub stopTold : Bool → List Stop → ℕ → List ℕ → StopTold
+stopTold searched stops count xs = whereFits 2 (stopFits searched stops count) xs (record { fits = true; stop = stopAt stops count (bodyOf xs) }) (record { fits = false; stop = blankStop })
+
+-- a call that cuts nothing, by the settings and the table's count and horizon
 abbrev pub callTold : Settings → Bool → ℕ → ℕ → ℕ → List ℕ → Uncut
-callTold settings searched stops count h xs = whereFits 3 callFilled xs (uncutOn settings searched stops count h (callIn (bodyOf xs))) Other
+callTold settings searched stops count h xs = whereFits 3 callFilled xs (uncutOn settings searched stops count h (callIn (bodyOf xs))) Uncut.Other
 
 -- ---- runs and turns
 

@@ -1,11 +1,11 @@
-// Records that a load takes as they come: whether one fits, how many bytes it uses, and what is stored of it.
+// Records that a load takes as they come: what the one at the start of the bytes hands in, if it fits.
 ghost use mathlib.Core.Path.{_≡_};
 ghost use mathlib.Core.Bool.{true};
 ghost use Rattle.fields.specs.Layout.{stopFilled};
-ghost use Rattle.fields.specs.Records.{ruleIn};
-ghost use Rattle.rules.specs.Rules.{ruleOf};
 ghost use Rattle.file.specs.File.{startsWhole, sizeOf, bodyOf};
-ghost use Rattle.file.specs.Runs.{wholeAs, sizeIf, ruleFits, stationAt, stopFits, stopAt, callTold};
+ghost use Rattle.file.specs.Runs.{wholeAs, stationAt, stopTold, callTold, ruleTold};
+use crate::RuleTold;
+use crate::StopTold;
 use crate::record::id_text;
 use crate::record::name_text;
 use crate::record::parent_text;
@@ -22,6 +22,7 @@ use fields::records::rule_in;
 use fields::records::stop_in;
 use refusal::is_taken;
 use rules::Rule;
+use rules::blank_rule;
 use rules::rule_answer;
 use rules::rule_of;
 use settings::Settings;
@@ -29,6 +30,7 @@ use stop_answer::parent_of;
 use stop_answer::stop_answer;
 use stops::Found;
 use stops::Stop;
+use stops::taken::blank_stop;
 use stops::taken::stop_of;
 use table::step::uncut;
 
@@ -61,37 +63,30 @@ fn body_of(bytes: &[u8]) -> &[u8]
 
 // ---- rule
 
-fn rule_fits(searched: bool, stops: usize, rules: [Rule; 128], count: usize, b: &[u8]) -> bool
-    ensures { λ r. ⌜ r ≡ ruleFits searched stops rules count (now (b .entry)) ⌝ }
-{
-    if rule_filled(b) {
-        return is_taken(rule_answer(searched, stops, rules, count, rule_in(b)));
-    }
-    false
-}
-
-pub fn rule_size(
+pub fn rule_told(
     searched: bool,
     stops: usize,
     rules: [Rule; 128],
     count: usize,
     bytes: &[u8],
-) -> usize
-    ensures { λ r. ⌜ r ≡ sizeIf 4 (ruleFits searched stops rules count) (now (bytes .entry)) ⌝ }
+) -> RuleTold
+    ensures { λ r. ⌜ r ≡ ruleTold searched stops rules count (now (bytes .entry)) ⌝ }
 {
+    let none = blank_rule();
     if whole_as(4, bytes) {
-        if rule_fits(searched, stops, rules, count, body_of(bytes)) {
-            return size_of(bytes);
+        let b = body_of(bytes);
+        if rule_filled(b) {
+            let input = rule_in(b);
+            if is_taken(rule_answer(searched, stops, rules, count, input)) {
+                let rule = rule_of(input);
+                return RuleTold { fits: true, rule };
+            }
         }
     }
-    0
-}
-
-pub fn rule_at(bytes: &[u8]) -> Rule
-    requires { ⌜ startsWhole (now bytes) ≡ true ⌝ }
-    ensures { λ r. ⌜ r ≡ ruleOf (ruleIn (bodyOf (now (bytes .entry)))) ⌝ }
-{
-    rule_of(rule_in(body_of(bytes)))
+    RuleTold {
+        fits: false,
+        rule: none,
+    }
 }
 
 // ---- stop
@@ -100,45 +95,40 @@ fn station_at(stops: [Stop; 128], count: usize, b: &[u8]) -> Found
     requires { ⌜ stopFilled (now b) ≡ true ⌝ }
     ensures { λ r. ⌜ r ≡ stationAt stops count (now (b .entry)) ⌝ }
 {
-    parent_of(stops, count, has_at(b, parent_at(b)), parent_text(b))
-}
-
-fn stop_fits(searched: bool, stops: [Stop; 128], count: usize, b: &[u8]) -> bool
-    ensures { λ r. ⌜ r ≡ stopFits searched stops count (now (b .entry)) ⌝ }
-{
-    if stop_filled(b) {
-        let station = station_at(stops, count, b);
-        return is_taken(stop_answer(
-            searched,
-            stops,
-            count,
-            station,
-            id_text(b),
-            name_text(b),
-            stop_in(b),
-        ));
+    if has_at(b, parent_at(b)) {
+        return parent_of(stops, count, true, parent_text(b));
     }
-    false
+    Found::Nothing
 }
 
-pub fn stop_size(searched: bool, stops: [Stop; 128], count: usize, bytes: &[u8]) -> usize
-    ensures { λ r. ⌜ r ≡ sizeIf 2 (stopFits searched stops count) (now (bytes .entry)) ⌝ }
+pub fn stop_told(searched: bool, stops: [Stop; 128], count: usize, bytes: &[u8]) -> StopTold
+    ensures { λ r. ⌜ r ≡ stopTold searched stops count (now (bytes .entry)) ⌝ }
 {
+    let none = blank_stop();
     if whole_as(2, bytes) {
-        if stop_fits(searched, stops, count, body_of(bytes)) {
-            return size_of(bytes);
+        let b = body_of(bytes);
+        if stop_filled(b) {
+            let station = station_at(stops, count, b);
+            let input = stop_in(b);
+            let answer = stop_answer(
+                searched,
+                stops,
+                count,
+                station,
+                id_text(b),
+                name_text(b),
+                input,
+            );
+            if is_taken(answer) {
+                let stop = stop_of(id_text(b), name_text(b), station, input);
+                return StopTold { fits: true, stop };
+            }
         }
     }
-    0
-}
-
-pub fn stop_at(stops: [Stop; 128], count: usize, bytes: &[u8]) -> Stop
-    requires { ⌜ (startsWhole (now bytes) ≡ true) × (stopFilled (bodyOf (now bytes)) ≡ true) ⌝ }
-    ensures { λ r. ⌜ r ≡ stopAt stops count (bodyOf (now (bytes .entry))) ⌝ }
-{
-    let b = body_of(bytes);
-    let station = station_at(stops, count, b);
-    stop_of(id_text(b), name_text(b), station, stop_in(b))
+    StopTold {
+        fits: false,
+        stop: none,
+    }
 }
 
 // ---- call

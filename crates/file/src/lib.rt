@@ -6,6 +6,8 @@ mod runs;
 
 use load::Load;
 use refusal::Answer;
+use rules::Rule;
+use stops::Stop;
 
 // The load so far; before the settings are taken, the empty load of blank settings.
 pub struct Reader {
@@ -30,4 +32,15 @@ pub struct Fed {
 pub struct Run {
     pub used: usize,
     pub load: Load,
+}
+
+// The stop that a record hands in, where the load takes it; else the blank one.
+pub struct StopTold {
+    pub fits: bool,
+    pub stop: Stop,
+}
+
+pub struct RuleTold {
+    pub fits: bool,
+    pub rule: Rule,
 }

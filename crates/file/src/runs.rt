@@ -2,11 +2,9 @@
 ghost use Rattle.file.specs.Runs.{openReader, Left};
 use crate::Run;
 use crate::fits::call_told;
-use crate::fits::rule_at;
-use crate::fits::rule_size;
+use crate::fits::rule_told;
 use crate::fits::size_of;
-use crate::fits::stop_at;
-use crate::fits::stop_size;
+use crate::fits::stop_told;
 use calls::Uncut;
 use load::Load;
 
@@ -18,16 +16,19 @@ fn stop_run(load: Load, bytes: &[u8]) -> Run
     while at < bytes.len() {
         let stops = next.stops;
         let n = next.stop_count;
-        let size = stop_size(next.searched, stops, n, &bytes[at..]);
-        if size == 0 {
+        let told = stop_told(next.searched, stops, n, &bytes[at..]);
+        let size = size_of(&bytes[at..]);
+        if told.fits {
+            let stop = told.stop;
+            next.stops[n] = stop;
+            next.stop_count = n + 1;
+            at += size;
+        } else {
             return Run {
                 used: at,
                 load: next,
             };
         }
-        next.stops[n] = stop_at(stops, n, &bytes[at..]);
-        next.stop_count = n + 1;
-        at += size;
     }
     Run {
         used: at,
@@ -43,16 +44,19 @@ fn rule_run(load: Load, bytes: &[u8]) -> Run
     while at < bytes.len() {
         let rules = next.rules;
         let n = next.rule_count;
-        let size = rule_size(next.searched, next.stop_count, rules, n, &bytes[at..]);
-        if size == 0 {
+        let told = rule_told(next.searched, next.stop_count, rules, n, &bytes[at..]);
+        let size = size_of(&bytes[at..]);
+        if told.fits {
+            let rule = told.rule;
+            next.rules[n] = rule;
+            next.rule_count = n + 1;
+            at += size;
+        } else {
             return Run {
                 used: at,
                 load: next,
             };
         }
-        next.rules[n] = rule_at(&bytes[at..]);
-        next.rule_count = n + 1;
-        at += size;
     }
     Run {
         used: at,

@@ -5,7 +5,7 @@ use borrow.Author.Needs.{needs}
 use lib.ListN.{length}
 use Rattle.file.specs.Runs.{openReader, Left}
 use Rattle.file.proofs.LeftLaws.{left-first}
-use Rattle.file.proofs.RunLaws.{rule-whole, rule-space, rule-on}
+use Rattle.file.proofs.RunLaws.{rule-space, rule-on}
 use Rattle.file.proofs.runs.rule_run.Statement.{statement}
 use Rattle.file.proofs.runs.rule_run.Tie as tie
 
@@ -18,50 +18,50 @@ abbrev μ-loop : tie.MeasureT-loop
 loop-holds : tie.Need-loop-holds Inv-loop μ-loop
 loop-holds c = left-first _ _
 
-sub-rule-size : tie.Need-sub-rule-size Inv-loop μ-loop
-sub-rule-size c = omega arith
+sub-rule-told : tie.Need-sub-rule-told Inv-loop μ-loop
+sub-rule-told c = omega arith
 
-part-rule-size-start : tie.Need-part-rule-size-start Inv-loop μ-loop
-part-rule-size-start c = omega arith
+part-rule-told-start : tie.Need-part-rule-told-start Inv-loop μ-loop
+part-rule-told-start c = omega arith
 
-part-rule-size-end : tie.Need-part-rule-size-end Inv-loop μ-loop
-part-rule-size-end c = search needs
+part-rule-told-end : tie.Need-part-rule-told-end Inv-loop μ-loop
+part-rule-told-end c = search needs
 
-rule-size-requires : tie.Need-rule-size-requires Inv-loop μ-loop
-rule-size-requires c κs = search needs
+rule-told-requires : tie.Need-rule-told-requires Inv-loop μ-loop
+rule-told-requires c κs = search needs
 
-returns : tie.Need-returns Inv-loop μ-loop
-returns c = c .before .before .before .before .before .loop .inv
+sub-size-of : tie.Need-sub-size-of Inv-loop μ-loop
+sub-size-of c = omega arith
 
-sub-rule-at : tie.Need-sub-rule-at Inv-loop μ-loop
-sub-rule-at c = omega arith
+part-size-of-start : tie.Need-part-size-of-start Inv-loop μ-loop
+part-size-of-start c = omega arith
 
-part-rule-at-start : tie.Need-part-rule-at-start Inv-loop μ-loop
-part-rule-at-start c = omega arith
+part-size-of-end : tie.Need-part-size-of-end Inv-loop μ-loop
+part-size-of-end c = search needs
 
-part-rule-at-end : tie.Need-part-rule-at-end Inv-loop μ-loop
-part-rule-at-end c = search needs
+size-of-requires : tie.Need-size-of-requires Inv-loop μ-loop
+size-of-requires c κs = search needs
 
-rule-at-requires : tie.Need-rule-at-requires Inv-loop μ-loop
-rule-at-requires c κs = rule-whole (c .before .before .before .before .before .before .loop .inv) (c .before .before .rule-size .ensures) (c .before .if1 .left)
+mul-rule : tie.Need-mul-rule Inv-loop μ-loop
+mul-rule c = omega (arith, rule-space (c .before .before .before .before .before .before .before .before .loop .inv) (c .before .before .before .before .rule-told .ensures) (c .before .before .size-of .ensures) (c .before .if1 .taken))
 
-mul-t8 : tie.Need-mul-t8 Inv-loop μ-loop
-mul-t8 c = omega (arith, rule-space (c .before .before .before .before .before .before .before .loop .inv) (c .before .before .before .rule-size .ensures) (c .before .before .if1 .left))
-
-element-set-from-next : tie.Need-element-set-from-next Inv-loop μ-loop
-element-set-from-next c = rule-space (c .before .before .before .before .before .before .before .loop .inv) (c .before .before .before .rule-size .ensures) (c .before .before .if1 .left)
+element-set-from-rule : tie.Need-element-set-from-rule Inv-loop μ-loop
+element-set-from-rule c = rule-space (c .before .before .before .before .before .before .before .before .loop .inv) (c .before .before .before .before .rule-told .ensures) (c .before .before .size-of .ensures) (c .before .if1 .taken)
 
 add-next : tie.Need-add-next Inv-loop μ-loop
-add-next c = omega (arith, rule-space (c .before .before .before .before .before .before .before .loop .inv) (c .before .before .before .rule-size .ensures) (c .before .before .if1 .left))
+add-next c = omega (arith, rule-space (c .before .before .before .before .before .before .before .before .loop .inv) (c .before .before .before .before .rule-told .ensures) (c .before .before .size-of .ensures) (c .before .if1 .taken))
 
 add-at : tie.Need-add-at Inv-loop μ-loop
-add-at c = omega (arith, rule-on (c .before .before .before .before .before .before .before .loop .inv) (c .before .before .before .rule-size .ensures) (c .before .before .if1 .left) (c .rule-at .ensures) .room)
+add-at c = omega (arith, rule-on (c .before .before .before .before .before .before .before .before .loop .inv) (c .before .before .before .before .rule-told .ensures) (c .before .before .size-of .ensures) (c .before .if1 .taken) .room)
 
 loop-less : tie.Need-loop-less Inv-loop μ-loop
-loop-less c = omega (arith, rule-on (c .before .before .before .before .before .before .before .loop .inv) (c .before .before .before .rule-size .ensures) (c .before .before .if1 .left) (c .rule-at .ensures) .room)
+loop-less c = omega (arith, rule-on (c .before .before .before .before .before .before .before .before .loop .inv) (c .before .before .before .before .rule-told .ensures) (c .before .before .size-of .ensures) (c .before .if1 .taken) .room, c .before .before .size-of .ensures)
 
 loop-again : tie.Need-loop-again Inv-loop μ-loop
-loop-again c = rule-on (c .before .before .before .before .before .before .before .loop .inv) (c .before .before .before .rule-size .ensures) (c .before .before .if1 .left) (c .rule-at .ensures)
+loop-again c = rule-on (c .before .before .before .before .before .before .before .before .loop .inv) (c .before .before .before .before .rule-told .ensures) (c .before .before .size-of .ensures) (c .before .if1 .taken)
+
+returns : tie.Need-returns Inv-loop μ-loop
+returns c = c .before .before .before .before .before .before .before .loop .inv
 
 returns-2 : tie.Need-returns-2 Inv-loop μ-loop
 returns-2 c = c .before .loop .inv
@@ -73,19 +73,19 @@ rule-run-spec =
     Inv-loop
     μ-loop
     loop-holds
-    sub-rule-size
-    part-rule-size-start
-    part-rule-size-end
-    rule-size-requires
-    returns
-    sub-rule-at
-    part-rule-at-start
-    part-rule-at-end
-    rule-at-requires
-    mul-t8
-    element-set-from-next
+    sub-rule-told
+    part-rule-told-start
+    part-rule-told-end
+    rule-told-requires
+    sub-size-of
+    part-size-of-start
+    part-size-of-end
+    size-of-requires
+    mul-rule
+    element-set-from-rule
     add-next
     add-at
     loop-less
     loop-again
+    returns
     returns-2)

@@ -5,7 +5,7 @@ use borrow.Author.Needs.{needs}
 use lib.ListN.{length}
 use Rattle.file.specs.Runs.{openReader, Left}
 use Rattle.file.proofs.LeftLaws.{left-first}
-use Rattle.file.proofs.RunLaws.{stop-filled, stop-space, stop-on}
+use Rattle.file.proofs.RunLaws.{stop-space, stop-on}
 use Rattle.file.proofs.runs.stop_run.Statement.{statement}
 use Rattle.file.proofs.runs.stop_run.Tie as tie
 
@@ -18,50 +18,50 @@ abbrev μ-loop : tie.MeasureT-loop
 loop-holds : tie.Need-loop-holds Inv-loop μ-loop
 loop-holds c = left-first _ _
 
-sub-stop-size : tie.Need-sub-stop-size Inv-loop μ-loop
-sub-stop-size c = omega arith
+sub-stop-told : tie.Need-sub-stop-told Inv-loop μ-loop
+sub-stop-told c = omega arith
 
-part-stop-size-start : tie.Need-part-stop-size-start Inv-loop μ-loop
-part-stop-size-start c = omega arith
+part-stop-told-start : tie.Need-part-stop-told-start Inv-loop μ-loop
+part-stop-told-start c = omega arith
 
-part-stop-size-end : tie.Need-part-stop-size-end Inv-loop μ-loop
-part-stop-size-end c = search needs
+part-stop-told-end : tie.Need-part-stop-told-end Inv-loop μ-loop
+part-stop-told-end c = search needs
 
-stop-size-requires : tie.Need-stop-size-requires Inv-loop μ-loop
-stop-size-requires c κs = search needs
+stop-told-requires : tie.Need-stop-told-requires Inv-loop μ-loop
+stop-told-requires c κs = search needs
 
-returns : tie.Need-returns Inv-loop μ-loop
-returns c = c .before .before .before .before .before .loop .inv
+sub-size-of : tie.Need-sub-size-of Inv-loop μ-loop
+sub-size-of c = omega arith
 
-sub-stop-at : tie.Need-sub-stop-at Inv-loop μ-loop
-sub-stop-at c = omega arith
+part-size-of-start : tie.Need-part-size-of-start Inv-loop μ-loop
+part-size-of-start c = omega arith
 
-part-stop-at-start : tie.Need-part-stop-at-start Inv-loop μ-loop
-part-stop-at-start c = omega arith
+part-size-of-end : tie.Need-part-size-of-end Inv-loop μ-loop
+part-size-of-end c = search needs
 
-part-stop-at-end : tie.Need-part-stop-at-end Inv-loop μ-loop
-part-stop-at-end c = search needs
+size-of-requires : tie.Need-size-of-requires Inv-loop μ-loop
+size-of-requires c κs = search needs
 
-stop-at-requires : tie.Need-stop-at-requires Inv-loop μ-loop
-stop-at-requires c κs = stop-filled (c .before .before .before .before .before .before .loop .inv) (c .before .before .stop-size .ensures) (c .before .if1 .left)
+mul-stop : tie.Need-mul-stop Inv-loop μ-loop
+mul-stop c = omega (arith, stop-space (c .before .before .before .before .before .before .before .before .loop .inv) (c .before .before .before .before .stop-told .ensures) (c .before .before .size-of .ensures) (c .before .if1 .taken))
 
-mul-t18 : tie.Need-mul-t18 Inv-loop μ-loop
-mul-t18 c = omega (arith, stop-space (c .before .before .before .before .before .before .before .loop .inv) (c .before .before .before .stop-size .ensures) (c .before .before .if1 .left))
-
-element-set-from-next : tie.Need-element-set-from-next Inv-loop μ-loop
-element-set-from-next c = stop-space (c .before .before .before .before .before .before .before .loop .inv) (c .before .before .before .stop-size .ensures) (c .before .before .if1 .left)
+element-set-from-stop : tie.Need-element-set-from-stop Inv-loop μ-loop
+element-set-from-stop c = stop-space (c .before .before .before .before .before .before .before .before .loop .inv) (c .before .before .before .before .stop-told .ensures) (c .before .before .size-of .ensures) (c .before .if1 .taken)
 
 add-next : tie.Need-add-next Inv-loop μ-loop
-add-next c = omega (arith, stop-space (c .before .before .before .before .before .before .before .loop .inv) (c .before .before .before .stop-size .ensures) (c .before .before .if1 .left))
+add-next c = omega (arith, stop-space (c .before .before .before .before .before .before .before .before .loop .inv) (c .before .before .before .before .stop-told .ensures) (c .before .before .size-of .ensures) (c .before .if1 .taken))
 
 add-at : tie.Need-add-at Inv-loop μ-loop
-add-at c = omega (arith, stop-on (c .before .before .before .before .before .before .before .loop .inv) (c .before .before .before .stop-size .ensures) (c .before .before .if1 .left) (c .stop-at .ensures) .room)
+add-at c = omega (arith, stop-on (c .before .before .before .before .before .before .before .before .loop .inv) (c .before .before .before .before .stop-told .ensures) (c .before .before .size-of .ensures) (c .before .if1 .taken) .room)
 
 loop-less : tie.Need-loop-less Inv-loop μ-loop
-loop-less c = omega (arith, stop-on (c .before .before .before .before .before .before .before .loop .inv) (c .before .before .before .stop-size .ensures) (c .before .before .if1 .left) (c .stop-at .ensures) .room)
+loop-less c = omega (arith, stop-on (c .before .before .before .before .before .before .before .before .loop .inv) (c .before .before .before .before .stop-told .ensures) (c .before .before .size-of .ensures) (c .before .if1 .taken) .room, c .before .before .size-of .ensures)
 
 loop-again : tie.Need-loop-again Inv-loop μ-loop
-loop-again c = stop-on (c .before .before .before .before .before .before .before .loop .inv) (c .before .before .before .stop-size .ensures) (c .before .before .if1 .left) (c .stop-at .ensures)
+loop-again c = stop-on (c .before .before .before .before .before .before .before .before .loop .inv) (c .before .before .before .before .stop-told .ensures) (c .before .before .size-of .ensures) (c .before .if1 .taken)
+
+returns : tie.Need-returns Inv-loop μ-loop
+returns c = c .before .before .before .before .before .before .before .loop .inv
 
 returns-2 : tie.Need-returns-2 Inv-loop μ-loop
 returns-2 c = c .before .loop .inv
@@ -73,19 +73,19 @@ stop-run-spec =
     Inv-loop
     μ-loop
     loop-holds
-    sub-stop-size
-    part-stop-size-start
-    part-stop-size-end
-    stop-size-requires
-    returns
-    sub-stop-at
-    part-stop-at-start
-    part-stop-at-end
-    stop-at-requires
-    mul-t18
-    element-set-from-next
+    sub-stop-told
+    part-stop-told-start
+    part-stop-told-end
+    stop-told-requires
+    sub-size-of
+    part-size-of-start
+    part-size-of-end
+    size-of-requires
+    mul-stop
+    element-set-from-stop
     add-next
     add-at
     loop-less
     loop-again
+    returns
     returns-2)
