@@ -1,5 +1,5 @@
-// The calls of a load: what is handed in, what the window shows of it, and the table that it goes into (the steps on it stand
-// in `table`).
+// The calls of a load: what is handed in, what the window shows of it, and the table that it goes into. The steps on that stand
+// in `table`.
 pub mod window;
 
 ghost use mathlib.Core.Path.{_≡_};
@@ -71,6 +71,7 @@ pub struct Fitted {
     pub table: Table,
 }
 
+// What an unused slot holds.
 pub fn blank_call() -> Call
     ensures { λ r. ⌜ r ≡ blankCall ⌝ }
 {
