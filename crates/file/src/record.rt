@@ -99,8 +99,8 @@ pub fn name_text(b: &[u8]) -> &[u8]
     ensures { λ r. ⌜ now r ≡ optionTextAt (now (b .entry)) (nameAt (now (b .entry))) ⌝ }
 {
     let name = name_at(b);
-    let from = text_from(b, name);
     let end = parent_at(b);
+    let from = text_from(b, name);
     &b[from..end]
 }
 
@@ -109,8 +109,8 @@ pub fn parent_text(b: &[u8]) -> &[u8]
     ensures { λ r. ⌜ now r ≡ optionTextAt (now (b .entry)) (parentAt (now (b .entry))) ⌝ }
 {
     let parent = parent_at(b);
-    let from = text_from(b, parent);
     let end = type_at(b);
+    let from = text_from(b, parent);
     &b[from..end]
 }
 
