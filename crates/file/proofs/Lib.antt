@@ -1,10 +1,6 @@
 pub mod KindLaws
 pub mod StopLaws
 pub mod FedLaws
-pub mod LeftLaws
-pub mod FitLaws
 pub mod RecordLaws
 pub mod AnsweredLaws
 pub mod HandedLaws
-pub mod RunLaws
-pub mod ReadLaws

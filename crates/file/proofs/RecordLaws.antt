@@ -3,7 +3,6 @@ use mathlib.Core.Path.{_≡_, refl, sym, ap, _∙_, subst}
 use mathlib.Core.Bool.{Bool, true, false, not, cond, true≢false, false≢true}
 use mathlib.Core.List.{List, _++_}
 use Prim.Native.Nat.{ℕ}
-use borrow.Author.Tests.{not-false}
 use lib.Dec.{eqb}
 use lib.ListN.{length}
 use Rattle.refusal.specs.declared.Refusal.the-variants.{RecordLength, RecordKind}
@@ -104,10 +103,6 @@ module _ (r : Reader) (b : List ℕ) {a : Answer} {t : Bool} (a-is : a ≡ first
 
   pub turned-away : t ≡ true → record { answer = a; reader = r } ≡ recordSpec r b
   turned-away e = ap (λ (x : Answer). record { answer = x; reader = r }) a-is ∙ sym (tested r b true (refused-by e))
-
-  pub is-filled : t ≡ false → filled b ≡ true
-  unfolding recordTests
-  is-filled e = not-false _ (all-fail (r .opened) b (refused-by e) .1 .1 .0)
 
   module _ {s : Stepped} {u : Bool} (s-is : s ≡ steppedBy r b) (u-is : u ≡ isRefused (s .answer)) (e : t ≡ false) where
     pub sent-back : u ≡ true → record { answer = s .answer; reader = r } ≡ recordSpec r b

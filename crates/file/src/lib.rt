@@ -1,13 +1,9 @@
-// The reader of a load file (request 01, version 1).
-mod fits;
-pub mod read;
-mod record;
-mod runs;
+// A load file (request 01, version 1): the definitions of what is read of one, and its records, tested and taken one by one.
+pub mod record;
+pub mod texts;
 
 use load::Load;
 use refusal::Answer;
-use rules::Rule;
-use stops::Stop;
 
 // The load so far; before the settings are taken, the empty load of blank settings.
 pub struct Reader {
@@ -26,21 +22,4 @@ pub struct Fed {
     pub answer: Answer,
     pub used: usize,
     pub reader: Reader,
-}
-
-// How many bytes a run of records took, and the load after them.
-pub struct Run {
-    pub used: usize,
-    pub load: Load,
-}
-
-// The stop that a record hands in, where the load takes it; else the blank one.
-pub struct StopTold {
-    pub fits: bool,
-    pub stop: Stop,
-}
-
-pub struct RuleTold {
-    pub fits: bool,
-    pub rule: Rule,
 }

@@ -1,24 +1,21 @@
 // One record, tested and taken.
 ghost use mathlib.Core.Path.{_≡_};
-ghost use mathlib.Core.Bool.{true};
-ghost use Prim.Native.Nat.{_≤_};
 ghost use Rattle.refusal.specs.First.{firstAnswer};
-ghost use Rattle.fields.specs.Layout.{stopFilled, textAt, optionTextFrom, optionTextAt, nameAt, parentAt};
+ghost use Rattle.fields.specs.Layout.{textAt, optionTextAt, nameAt, parentAt};
 ghost use Rattle.fields.specs.Records.{stopIn};
 ghost use Rattle.load.specs.Steps.{stopSpec};
 ghost use Rattle.file.specs.Record.{kindRight, filled, recordTests, steppedBy, recordSpec};
 use crate::Reader;
 use crate::Took;
+use crate::texts::id_text;
+use crate::texts::name_text;
+use crate::texts::parent_text;
 use fields::layout::call_filled;
-use fields::layout::has_at;
 use fields::layout::kind_of;
-use fields::layout::name_at;
-use fields::layout::parent_at;
 use fields::layout::rule_filled;
 use fields::layout::search_filled;
 use fields::layout::settings_filled;
 use fields::layout::stop_filled;
-use fields::layout::type_at;
 use fields::records::call_in;
 use fields::records::rule_in;
 use fields::records::settings_in;
@@ -77,53 +74,14 @@ fn record_answer(opened: bool, b: &[u8]) -> Answer
     Answer::Refused(Refusal::RecordKind)
 }
 
-// Where an optional text starts: after its byte and its length; it ends where the next field begins.
-fn text_from(b: &[u8], at: usize) -> usize
-    requires { ⌜ at ≤ 2048 ⌝ }
-    ensures { λ r. ⌜ r ≡ optionTextFrom (now (b .entry)) at ⌝ }
-{
-    if has_at(b, at) { at + 2 } else { at + 1 }
-}
-
-// The three texts of a stop's record.
-pub fn id_text(b: &[u8]) -> &[u8]
-    requires { ⌜ stopFilled (now b) ≡ true ⌝ }
-    ensures { λ r. ⌜ now r ≡ textAt (now (b .entry)) 1 ⌝ }
-{
-    let end = name_at(b);
-    &b[2..end]
-}
-
-pub fn name_text(b: &[u8]) -> &[u8]
-    requires { ⌜ stopFilled (now b) ≡ true ⌝ }
-    ensures { λ r. ⌜ now r ≡ optionTextAt (now (b .entry)) (nameAt (now (b .entry))) ⌝ }
-{
-    let name = name_at(b);
-    let end = parent_at(b);
-    let from = text_from(b, name);
-    &b[from..end]
-}
-
-pub fn parent_text(b: &[u8]) -> &[u8]
-    requires { ⌜ stopFilled (now b) ≡ true ⌝ }
-    ensures { λ r. ⌜ now r ≡ optionTextAt (now (b .entry)) (parentAt (now (b .entry))) ⌝ }
-{
-    let parent = parent_at(b);
-    let end = type_at(b);
-    let from = text_from(b, parent);
-    &b[from..end]
-}
-
 fn stop_record(load: Load, b: &[u8]) -> Stepped
-    requires { ⌜ stopFilled (now b) ≡ true ⌝ }
     ensures { λ r. ⌜ r ≡ stopSpec load (textAt (now (b .entry)) 1) (optionTextAt (now (b .entry)) (nameAt (now (b .entry)))) (optionTextAt (now (b .entry)) (parentAt (now (b .entry)))) (stopIn (now (b .entry))) ⌝ }
 {
     load.stop(id_text(b), name_text(b), parent_text(b), stop_in(b))
 }
 
-// A record that is filled is handed to the load, or opens it.
+// A record is handed to the load, or opens it.
 fn stepped_by(reader: Reader, b: &[u8]) -> Stepped
-    requires { ⌜ filled (now b) ≡ true ⌝ }
     ensures { λ r. ⌜ r ≡ steppedBy reader (now (b .entry)) ⌝ }
 {
     let load = reader.load;

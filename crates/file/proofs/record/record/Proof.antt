@@ -1,6 +1,6 @@
 -- The record's tests, then the load's answer.
 use borrow.Author.Needs.{needs}
-use Rattle.file.proofs.RecordLaws.{turned-away, is-filled, sent-back, taken}
+use Rattle.file.proofs.RecordLaws.{turned-away, sent-back, taken}
 use Rattle.file.proofs.record.record.Statement.{statement}
 use Rattle.file.proofs.record.record.Tie as tie
 
@@ -14,7 +14,7 @@ returns : tie.Need-returns
 returns c = turned-away _ _ (c .before .before .record-answer .ensures) (c .before .is-refused .ensures) (c .if1 .taken)
 
 stepped-by-requires : tie.Need-stepped-by-requires
-stepped-by-requires c κs = is-filled (c .before .before .before .before .args .reader) _ (c .before .before .record-answer .ensures) (c .before .is-refused .ensures) (c .if1 .left)
+stepped-by-requires c κs = search needs
 
 is-refused-requires-2 : tie.Need-is-refused-requires-2
 is-refused-requires-2 c κs = search needs

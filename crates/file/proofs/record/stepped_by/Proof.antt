@@ -1,6 +1,6 @@
 -- By the kind, once a load is open.
 use mathlib.Core.Path.{sym, _∙_}
-use Rattle.file.proofs.KindLaws.{filled-as, stepped-settings, stepped-stop, stepped-call, stepped-rule, stepped-search}
+use Rattle.file.proofs.KindLaws.{stepped-settings, stepped-stop, stepped-call, stepped-rule, stepped-search}
 use borrow.Author.Needs.{needs}
 use Rattle.file.proofs.record.stepped_by.Statement.{statement}
 use Rattle.file.proofs.record.stepped_by.Tie as tie
@@ -9,7 +9,7 @@ kind-of-requires : tie.Need-kind-of-requires
 kind-of-requires c κs = search needs
 
 stop-record-requires : tie.Need-stop-record-requires
-stop-record-requires c κs = sym (filled-as _ 2 (sym (c .before .kind-of .ensures) ∙ c .if2 .taken)) ∙ c .before .before .before .before .before .pre
+stop-record-requires c κs = search needs
 
 returns : tie.Need-returns
 returns c = stepped-stop _ _ (c .before .before .before .if1 .taken) (sym (c .before .before .kind-of .ensures) ∙ c .before .if2 .taken) (c .stop-record .ensures)

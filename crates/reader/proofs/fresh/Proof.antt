@@ -1,0 +1,22 @@
+-- The empty load of blank settings, not open.
+use mathlib.Core.Path.{ap}
+use mathlib.Core.Bool.{false}
+use borrow.Author.Needs.{needs}
+use Rattle.load.specs.declared.Load.{Load}
+use Rattle.file.specs.declared.Reader.{Reader}
+use Rattle.file.specs.Record.{freshReader}
+use Rattle.reader.proofs.fresh.Statement.{statement}
+use Rattle.reader.proofs.fresh.Tie as tie
+
+blank-requires : tie.Need-blank-requires
+blank-requires c κs = search needs
+
+closed : Load → Reader
+closed l = record { opened = false; load = l }
+
+returns : tie.Need-returns
+unfolding freshReader closed
+returns c = ap closed (c .blank .ensures)
+
+pub fresh-spec : {M : Type 1} → statement M
+fresh-spec = tie.close (tie.spec blank-requires returns)
