@@ -4,9 +4,9 @@ ghost use lib.ListN.{take};
 ghost use Rattle.file.specs.File.{readSpec};
 ghost use Rattle.lines.specs.Lines.{linesOf};
 ghost use Rattle.load_c.specs.Searches.{horizonAfter, searchesOf};
-use file::read::read;
 use lines::lines;
 use load::Load;
+use reader::read;
 use search::search;
 
 // The file read, and its lines printed: how many bytes they are.

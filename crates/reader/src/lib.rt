@@ -1,7 +1,6 @@
-// A load file, read whole or in parts: version, records, end.
+// The reader of a load file (request 01, version 1), whole or in parts: version, records, end.
 ghost use mathlib.Core.Path.{_≡_};
 ghost use mathlib.Core.Bool.{true};
-ghost use lib.ListN.{length, take, drop};
 ghost use Rattle.file.specs.Record.{freshReader};
 ghost use Rattle.file.specs.File.{versionAnswer, nextSpec, fedSpec, endAnswer, readSpec};
 ghost use Rattle.runs.specs.Runs.{Turned};
@@ -11,7 +10,6 @@ use file::Fed;
 use file::Reader;
 use file::Took;
 use file::record::record;
-use load::Load;
 use refusal::Answer;
 use refusal::Refusal;
 use refusal::is_refused;

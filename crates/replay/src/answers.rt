@@ -2,7 +2,6 @@
 use crate::load_lines;
 use crate::out;
 use file::Reader;
-use file::read;
 use refusal::Answer;
 use refusal::is_refused;
 
@@ -57,7 +56,7 @@ fn noted(out: &mut [u8; 65536], at: usize, call: bool, a: Answer) -> usize {
 
 // The file's end, so many bytes after its last whole record.
 fn ended(out: &mut [u8; 65536], at: usize, reader: Reader, left: usize) -> usize {
-    let answer = read::ended(reader.opened, left);
+    let answer = reader::ended(reader.opened, left);
     if is_refused(answer) {
         return refused(out, answer);
     }
@@ -68,10 +67,10 @@ fn ended(out: &mut [u8; 65536], at: usize, reader: Reader, left: usize) -> usize
 // The records after the version.
 fn records(out: &mut [u8; 65536], bytes: &[u8]) -> usize {
     let mut to = out::text(out, 0, b"answers");
-    let mut reader = read::fresh();
+    let mut reader = reader::fresh();
     let mut at: usize = 0;
     while at < bytes.len() {
-        let f = read::next(reader, &bytes[at..]);
+        let f = reader::next(reader, &bytes[at..]);
         let answer = f.answer;
         if is_refused(answer) {
             return refused(out, answer);
@@ -89,7 +88,7 @@ fn records(out: &mut [u8; 65536], bytes: &[u8]) -> usize {
 }
 
 pub fn file(out: &mut [u8; 65536], bytes: &[u8]) -> usize {
-    let answer = read::version(bytes);
+    let answer = reader::version(bytes);
     if is_refused(answer) {
         return refused(out, answer);
     }

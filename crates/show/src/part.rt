@@ -3,11 +3,11 @@ ghost use mathlib.Core.Path.{_≡_};
 ghost use Prim.Native.Nat.{_≤_};
 ghost use lib.ListN.{length};
 use file::Reader;
-use file::read::ended;
-use file::read::fed;
-use file::read::fresh;
-use file::read::version;
 use libc::STDIN_FILENO;
+use reader::ended;
+use reader::fed;
+use reader::fresh;
+use reader::version;
 use refusal::Answer;
 use refusal::is_refused;
 

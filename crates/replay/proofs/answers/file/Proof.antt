@@ -1,5 +1,5 @@
 -- A file that has version 1 has a byte.
-use Rattle.file.proofs.ReadLaws.{version-room}
+use Rattle.reader.proofs.ReadLaws.{version-room}
 use borrow.Author.Needs.{needs}
 use Rattle.replay.proofs.answers.file.Statement.{statement}
 use Rattle.replay.proofs.answers.file.Tie as tie

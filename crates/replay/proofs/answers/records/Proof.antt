@@ -1,7 +1,9 @@
 -- The place stays inside the bytes, and each turn takes two of them or more.
 use Prim.Native.Nat.{_-_}
 use lib.ListN.{length}
-use Rattle.file.proofs.ReadLaws.{Left, left-first, left-on}
+use Rattle.runs.specs.Runs.{Left}
+use Rattle.runs.proofs.LeftLaws.{left-first}
+use Rattle.reader.proofs.ReadLaws.{next-turned, left-on}
 use native.Mathlib.Omega.{arith}
 use borrow.Author.Needs.{needs}
 use Rattle.replay.proofs.answers.records.Statement.{statement}
@@ -71,7 +73,7 @@ noted-requires : tie.Need-noted-requires Inv-loop μ-loop
 noted-requires c κs = search needs
 
 loop-again : tie.Need-loop-again Inv-loop μ-loop
-loop-again c = left-on (c .before .before .before .before .before .before .before .before .before .before .before .loop .inv) (c .before .before .before .before .before .before .before .before .next .ensures) (c .before .before .before .before .before .before .before .is-refused .ensures) (c .before .before .before .before .before .before .if1 .left) (c .before .before .before .before .before .if2 .left)
+loop-again c = left-on (c .before .before .before .before .before .before .before .before .before .before .before .loop .inv) (next-turned _ _ (c .before .before .before .before .before .before .before .before .next .ensures)) (c .before .before .before .before .before .before .before .is-refused .ensures) (c .before .before .before .before .before .before .if1 .left)
 
 add-at : tie.Need-add-at Inv-loop μ-loop
 add-at c = let room = loop-again c .room in omega arith
