@@ -7,9 +7,10 @@ use Rattle.laws.specs.Bits.{bitsOf}
 use Rattle.laws.proofs.Bits.{bits-set}
 use Rattle.laws.proofs.Agree.{concatMap-agree, takeWhile-agree, takeWhile-member, span-below}
 use Rattle.profile.specs.declared.Row.{Row}
-use Rattle.rides.specs.declared.FeedCall.{FeedCall}
-use Rattle.rides.specs.declared.FirstRide.{FirstRide}
-use Rattle.rides.specs.Rows.{Sheet, Joins, overBits, overCalls, overRun, laterFrom, sameRun, firstOf, directRow, changeRow, lastAt, lastAlightRows, lastBoardRows, changeRows, directAt, directRows, alightRows, originRows, boardRows, rows}
+use Rattle.feed.specs.declared.FeedCall.{FeedCall}
+use Rattle.feed.specs.declared.FirstRide.{FirstRide}
+use Rattle.feed.specs.Feed.{sameRun}
+use Rattle.rides.specs.Rows.{Sheet, Joins, overBits, overCalls, overRun, laterFrom, firstOf, directRow, changeRow, lastAt, lastAlightRows, lastBoardRows, changeRows, directAt, directRows, alightRows, originRows, boardRows, rows}
 use Rattle.rides.specs.Agree.{Agree, RowsAgree}
 
 -- ---- the three ways that a loop goes

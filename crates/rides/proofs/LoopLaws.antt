@@ -16,8 +16,9 @@ use Rattle.state.specs.View.{view, openOf}
 use Rattle.candidate.specs.Offer.{offerTo}
 use Rattle.profile.proofs.PassLaws.{refused-stays}
 use Rattle.state.proofs.ViewLaws.{view-is-refused}
-use Rattle.rides.specs.declared.FeedCall.{FeedCall}
-use Rattle.rides.specs.Rows.{overBits, overCalls, overRun, laterFrom, sameRun}
+use Rattle.feed.specs.declared.FeedCall.{FeedCall}
+use Rattle.feed.specs.Feed.{sameRun}
+use Rattle.rides.specs.Rows.{overBits, overCalls, overRun, laterFrom}
 use Rattle.rides.specs.Offered.{offerAll, Offered}
 
 -- what is left to offer, from the present state, gives what all of it gives from the first

@@ -1,4 +1,4 @@
 pub mod Rows
-pub mod Feed
+pub mod Sheets
 pub mod Offered
 pub mod Agree

@@ -2,7 +2,7 @@
 -- origins are taken lowest set bit first), then each alighting call: boarding needs departure at or above walk × 60. First the direct journeys by
 -- target; then, with `max_transfers` 1, each last ride by boarding call, alighting call and target, if it joins." The join is tested once for each
 -- boarding call of a last ride.
-use mathlib.Core.Bool.{Bool, cond, _&&_}
+use mathlib.Core.Bool.{Bool, cond}
 use mathlib.Core.List.{List, [], _∷_, _++_}
 use Prim.Native.Nat.{ℕ, _+_, _-_, _*_}
 use lib.Dec.{eqb, leb}
@@ -10,8 +10,9 @@ use Rattle.laws.specs.Lists.{concatMap, takeWhile, span}
 use Rattle.laws.specs.Bits.{bitsOf}
 use Rattle.profile.specs.declared.Row.{Row}
 use Rattle.profile.specs.Journeys.{rowOf}
-use Rattle.rides.specs.declared.FeedCall.{FeedCall}
-use Rattle.rides.specs.declared.FirstRide.{FirstRide}
+use Rattle.feed.specs.declared.FeedCall.{FeedCall}
+use Rattle.feed.specs.declared.FirstRide.{FirstRide}
+use Rattle.feed.specs.Feed.{sameRun, leaveOf, arrivalOf}
 
 -- what the loops read: the call at each place of the calls in order; the origins and the targets of a stop, each a mask of four digits; and the walk of
 -- each origin and each target, in minutes
@@ -36,10 +37,6 @@ overBits g m = concatMap g (bitsOf m)
 unfoldable pub overCalls : (ℕ → List Row) → ℕ → ℕ → List Row
 overCalls g n i = concatMap g (span i (n - i))
 
--- two calls are of one trip and day
-unfoldable pub sameRun : FeedCall → FeedCall → Bool
-sameRun b a = eqb (b .trip) (a .trip) && eqb (b .day) (a .day)
-
 -- the places from j up to n, as far as their calls are of the trip and day of the call at i
 unfoldable pub laterFrom : (ℕ → FeedCall) → ℕ → ℕ → ℕ → List ℕ
 laterFrom at n i j = takeWhile (λ k. sameRun (at i) (at k)) (span j (n - j))
@@ -48,13 +45,6 @@ unfoldable pub overRun : (ℕ → List Row) → (ℕ → FeedCall) → ℕ → �
 overRun g at n i j = concatMap g (laterFrom at n i j)
 
 -- ---- rides and rows
-
--- leave = departure − walk × 60, arrival = alighting + target walk × 60
-unfoldable pub leaveOf : ℕ → ℕ → ℕ
-leaveOf walk departure = departure - walk * 60
-
-unfoldable pub arrivalOf : ℕ → ℕ → ℕ
-arrivalOf walk alighting = alighting + walk * 60
 
 -- the first ride from origin o that boards at i and alights at k
 unfoldable pub firstOf : Sheet → ℕ → ℕ → ℕ → FirstRide

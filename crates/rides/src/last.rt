@@ -1,28 +1,21 @@
 // Last rides: what is offered after a first ride, with a change.
 ghost use mathlib.Core.Path.{_≡_};
 ghost use Prim.Native.Nat.{_+_, _≤_, _<_};
-ghost use Rattle.rides.specs.Rows.{
-  overBits,
-  overCalls,
-  overRun,
-  lastAt,
-  lastAlightRows,
-  lastBoardRows,
-  changeRows,
-};
-ghost use Rattle.rides.specs.Feed.{callAt, joinsOf, sheetOf};
+ghost use Rattle.rides.specs.Rows.{overBits, overCalls, overRun, lastAt, lastAlightRows, lastBoardRows, changeRows};
+ghost use Rattle.feed.specs.Feed.{callAt};
+ghost use Rattle.rides.specs.Sheets.{joinsOf, sheetOf};
 ghost use Rattle.rides.specs.Offered.{Offered};
-use crate::FirstRide;
 use crate::bits::clear_lowest;
 use crate::bits::lowest;
-use crate::feed::arrival_of;
-use crate::feed::call_at;
-use crate::feed::change_at;
-use crate::feed::join;
-use crate::feed::same_run;
-use crate::feed::target_walk;
-use crate::feed::targets_of;
+use crate::reads::call_at;
+use crate::reads::target_walk;
 use candidate::candidate;
+use feed::FirstRide;
+use feed::arrival_of;
+use feed::change_at;
+use feed::join;
+use feed::same_run;
+use feed::targets_of;
 use state::is_refused;
 
 // Offers the first ride and then the ride from j to m, to target x.

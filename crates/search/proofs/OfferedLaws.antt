@@ -30,7 +30,8 @@ use Rattle.transfer.specs.Copied.{rulesOf, parentsOf}
 use Rattle.transfer.specs.Rows.{entryOf}
 use Rattle.offers.specs.Offers.{rideOf}
 use Rattle.offers.specs.Indexed as by
-use Rattle.rides.specs.Feed.{callAt, memberAt, originMask, targetMask, originWalk, targetWalk, changeAt, joined, joinsOf, sheetOf, rowsOf}
+use Rattle.feed.specs.Feed.{callAt, memberAt, originMask, targetMask, originWalk, targetWalk, changeAt, joined}
+use Rattle.rides.specs.Sheets.{joinsOf, sheetOf, rowsOf}
 use Rattle.rides.specs.Offered.{offerAll}
 use Rattle.rides.specs.Rows.{firstOf, rows}
 use Rattle.feed_array.specs.Feeds.{Feeds}

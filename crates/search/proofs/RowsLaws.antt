@@ -16,7 +16,8 @@ use Rattle.profile.specs.declared.Row.{Row}
 use Rattle.profile.specs.Journeys.{row, rowOf}
 use Rattle.offers.specs.Offers.{Timetable}
 use Rattle.offers.specs.Indexed as by
-use Rattle.rides.specs.Rows.{Sheet, Joins, overBits, overCalls, overRun, laterFrom, sameRun, leaveOf, arrivalOf, firstOf, directRow, changeRow, lastAt, lastAlightRows, lastBoardRows, changeRows, directAt, directRows, alightRows, originRows, boardRows, rows}
+use Rattle.feed.specs.Feed.{sameRun, leaveOf, arrivalOf}
+use Rattle.rides.specs.Rows.{Sheet, Joins, overBits, overCalls, overRun, laterFrom, firstOf, directRow, changeRow, lastAt, lastAlightRows, lastBoardRows, changeRows, directAt, directRows, alightRows, originRows, boardRows, rows}
 use Rattle.search.specs.Rows.{Agrees, SameRows}
 
 -- ---- lists

@@ -1,8 +1,8 @@
 -- `last_alight` meets its contract: the targets of the stop, if the call is alightable.
 use borrow.Author.Needs.{needs}
 use Rattle.rides.specs.Rows.{lastAlightRows}
-use Rattle.rides.specs.Feed.{sheetOf}
-use Rattle.rides.proofs.FeedLaws.{targets-small}
+use Rattle.rides.specs.Sheets.{sheetOf}
+use Rattle.feed.proofs.FeedLaws.{targets-small}
 use Rattle.rides.proofs.LoopLaws.{nothing}
 use Rattle.rides.proofs.last.last_alight.Statement.{statement}
 use Rattle.rides.proofs.last.last_alight.Tie as tie

@@ -1,6 +1,6 @@
 -- `last_at` meets its contract.
 use Rattle.rides.specs.Rows.{lastAt, changeRow}
-use Rattle.rides.specs.Feed.{sheetOf}
+use Rattle.rides.specs.Sheets.{sheetOf}
 use Rattle.rides.proofs.LoopLaws.{single}
 use borrow.Author.Needs.{needs}
 use Rattle.rides.proofs.last.last_at.Statement.{statement}

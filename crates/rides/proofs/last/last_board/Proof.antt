@@ -1,7 +1,8 @@
 -- `last_board` meets its contract: the run's later calls, if the call is boardable and the first ride joins it.
 use borrow.Author.Needs.{needs}
 use Rattle.rides.specs.Rows.{lastBoardRows}
-use Rattle.rides.specs.Feed.{joined, joinsOf, sheetOf}
+use Rattle.feed.specs.Feed.{joined}
+use Rattle.rides.specs.Sheets.{joinsOf, sheetOf}
 use Rattle.rides.proofs.LoopLaws.{nothing}
 use Rattle.rides.proofs.last.last_board.Statement.{statement}
 use Rattle.rides.proofs.last.last_board.Tie as tie

@@ -1,8 +1,8 @@
 -- `board_at` meets its contract: the origins of the stop, if the call is boardable.
 use borrow.Author.Needs.{needs}
 use Rattle.rides.specs.Rows.{boardRows}
-use Rattle.rides.specs.Feed.{sheetOf}
-use Rattle.rides.proofs.FeedLaws.{origins-small}
+use Rattle.rides.specs.Sheets.{sheetOf}
+use Rattle.feed.proofs.FeedLaws.{origins-small}
 use Rattle.rides.proofs.LoopLaws.{nothing}
 use Rattle.rides.proofs.paths.board_at.Statement.{statement}
 use Rattle.rides.proofs.paths.board_at.Tie as tie

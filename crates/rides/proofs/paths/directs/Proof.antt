@@ -1,8 +1,8 @@
 -- `directs` meets its contract: a loop over the set digits of the stop's targets.
 use borrow.Author.Needs.{needs}
 use Rattle.rides.specs.Rows.{directAt, directRows}
-use Rattle.rides.specs.Feed.{sheetOf}
-use Rattle.rides.proofs.FeedLaws.{targets-small}
+use Rattle.rides.specs.Sheets.{sheetOf}
+use Rattle.feed.proofs.FeedLaws.{targets-small}
 use Rattle.rides.proofs.LoopLaws.{InBits, bits-start, bits-low, bits-less, bits-turn, bits-done}
 use Rattle.rides.proofs.paths.directs.Statement.{statement}
 use Rattle.rides.proofs.paths.directs.Tie as tie

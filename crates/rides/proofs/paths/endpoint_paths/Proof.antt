@@ -3,7 +3,7 @@ use Prim.Native.Nat.{_-_, _≤_}
 use native.Mathlib.Omega.{arith}
 use borrow.Author.Needs.{needs}
 use Rattle.rides.specs.Rows.{overCalls, boardRows, rows}
-use Rattle.rides.specs.Feed.{joinsOf, sheetOf, rowsOf}
+use Rattle.rides.specs.Sheets.{joinsOf, sheetOf, rowsOf}
 use Rattle.rides.proofs.LoopLaws.{Left, starts, stops, calls-turn, calls-done}
 use Rattle.rides.proofs.paths.endpoint_paths.Statement.{statement}
 use Rattle.rides.proofs.paths.endpoint_paths.Tie as tie

@@ -3,7 +3,8 @@ use Prim.Native.Nat.{_-_}
 use native.Mathlib.Omega.{arith}
 use borrow.Author.Needs.{needs}
 use Rattle.rides.specs.Rows.{overRun, alightRows}
-use Rattle.rides.specs.Feed.{callAt, joinsOf, sheetOf}
+use Rattle.feed.specs.Feed.{callAt}
+use Rattle.rides.specs.Sheets.{joinsOf, sheetOf}
 use Rattle.rides.proofs.LoopLaws.{Left, starts, run-turn, run-other, run-done}
 use Rattle.rides.proofs.paths.first_rides.Statement.{statement}
 use Rattle.rides.proofs.paths.first_rides.Tie as tie
