@@ -11,6 +11,7 @@ ghost use Rattle.rides.specs.Rows.{
   changeRows,
 };
 ghost use Rattle.rides.specs.Feed.{callAt, joinsOf, sheetOf};
+ghost use Rattle.rides.specs.Forward.{ForwardIf};
 ghost use Rattle.rides.specs.Offered.{Offered};
 use crate::FirstRide;
 use crate::bits::clear_lowest;
@@ -22,7 +23,9 @@ use crate::feed::join;
 use crate::feed::same_run;
 use crate::feed::target_walk;
 use crate::feed::targets_of;
+use crate::forward::bound;
 use candidate::candidate;
+use candidate::passes_over;
 use state::is_refused;
 
 // Offers the first ride and then the ride from j to m, to target x.
@@ -88,21 +91,25 @@ fn last_alightings(st: &mut [u16; 654], feed: &[u16; 3208], n: usize, f: FirstRi
     }
 }
 
-// The rides that board at j, if the first ride joins them.
+// The rides that board at j, if the first ride joins them; unless one due when they depart would be passed over.
 fn last_board(
     st: &mut [u16; 654],
     feed: &[u16; 3208],
     changes: &[u32; 16384],
     n: usize,
     f: FirstRide,
+    forward: bool,
     j: usize,
 )
-    requires { ⌜ (n ≤ 512) × (j < n) ⌝ }
+    requires { ⌜ (n ≤ 512) × (j < n) × ForwardIf forward (now feed) n ⌝ }
     ensures { λ _. ⌜ Offered (now (st .entry)) (now (st .exit)) (lastBoardRows (sheetOf (now (feed .entry))) (joinsOf (now (feed .entry)) (now (changes .entry))) n f j) ⌝ }
 {
     let b = call_at(feed, j);
     if b.board {
         if join(f, b, change_at(changes, f.stop, b.stop)) {
+            if passes_over(st, f.leave, bound(forward, b.departure), 2, f.walk) {
+                return;
+            }
             last_alightings(st, feed, n, f, j);
         }
     }
@@ -115,8 +122,9 @@ fn last_rides(
     changes: &[u32; 16384],
     n: usize,
     f: FirstRide,
+    forward: bool,
 )
-    requires { ⌜ n ≤ 512 ⌝ }
+    requires { ⌜ (n ≤ 512) × ForwardIf forward (now feed) n ⌝ }
     ensures { λ _. ⌜ Offered (now (st .entry)) (now (st .exit)) (overCalls (lastBoardRows (sheetOf (now (feed .entry))) (joinsOf (now (feed .entry)) (now (changes .entry))) n f) n 0) ⌝ }
 {
     let mut j = 0;
@@ -124,12 +132,12 @@ fn last_rides(
         if is_refused(st) {
             return;
         }
-        last_board(st, feed, changes, n, f, j);
+        last_board(st, feed, changes, n, f, forward, j);
         j += 1;
     }
 }
 
-// With depth 1, every last ride; else none.
+// With depth 1, every last ride; else none. None either if one due when the first ride arrives would be passed over.
 pub fn change_rides(
     st: &mut [u16; 654],
     feed: &[u16; 3208],
@@ -137,11 +145,15 @@ pub fn change_rides(
     n: usize,
     depth: u16,
     f: FirstRide,
+    forward: bool,
 )
-    requires { ⌜ n ≤ 512 ⌝ }
+    requires { ⌜ (n ≤ 512) × ForwardIf forward (now feed) n ⌝ }
     ensures { λ _. ⌜ Offered (now (st .entry)) (now (st .exit)) (changeRows (sheetOf (now (feed .entry))) (joinsOf (now (feed .entry)) (now (changes .entry))) depth n f) ⌝ }
 {
     if depth == 1 {
-        last_rides(st, feed, changes, n, f);
+        if passes_over(st, f.leave, bound(forward, f.arrival), 2, f.walk) {
+            return;
+        }
+        last_rides(st, feed, changes, n, f, forward);
     }
 }
