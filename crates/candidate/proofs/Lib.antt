@@ -1,3 +1,4 @@
 pub mod PutLaws
 pub mod StepLaws
 pub mod OfferLaws
+pub mod PassedLaws

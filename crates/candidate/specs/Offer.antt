@@ -1,13 +1,15 @@
 -- The offer of a row to the state of a search.
 use mathlib.Core.Path.{_≡_}
-use mathlib.Core.Bool.{true}
+use mathlib.Core.Bool.{Bool, true, _||_}
 use mathlib.Core.List.{List, [], List·Memᴰ}
 use Prim.Native.Nat.{ℕ}
+use lib.Dec.{ltb}
 use Rattle.laws.specs.Lists.{foldl}
 use Rattle.profile.specs.declared.Row.{Row}
 use Rattle.profile.specs.Figures.{covᶠ, dueᶠ}
-use Rattle.profile.specs.Kept.{St, going, offer, searched, tooLate}
-use Rattle.profile.specs.Journeys.{rowFigures}
+use Rattle.profile.specs.Kept.{St, going, refused, offer, searched, tooLate}
+use Rattle.profile.specs.Journeys.{rowFigures, cov, due}
+use Rattle.candidate.specs.Pieces.{coveredBy}
 
 -- the offer of a row, at 64 journeys and a least horizon of 3600
 unfoldable pub offerTo : St Row → Row → St Row
@@ -20,3 +22,12 @@ OffersSearch = (h g : ℕ) (os : List Row) → foldl offerTo (going [] h g) os �
 -- offers that are too late leave the state as it is, so that they need not be made
 abbrev pub OffersLate : Type 0
 OffersLate = (s : St Row) (os : List Row) → ((o : Row) → List·Memᴰ o os → tooLate s (o .arrival) ≡ true) → foldl offerTo s os ≡ s
+
+-- whether the offer of a row would be passed over: it is due after the horizon, a kept one equals or beats it, or the search is refused
+unfoldable pub passedOver : St Row → Row → Bool
+passedOver (going ks h l) o = ltb h (due o) || coveredBy o ks
+passedOver refused o = true
+
+-- where a row would be passed over, what it equals or beats leaves the state as it is, so that those offers need not be made
+abbrev pub OffersCovered : Type 0
+OffersCovered = (s : St Row) (b : Row) (os : List Row) → passedOver s b ≡ true → ((o : Row) → List·Memᴰ o os → cov b o ≡ true) → foldl offerTo s os ≡ s

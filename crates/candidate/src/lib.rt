@@ -5,7 +5,7 @@ ghost use Prim.Native.Nat.{_+_, _*_, _≤_, _<_, max};
 ghost use lib.ListN.{length, take};
 ghost use Rattle.profile.specs.Journeys.{due, rowOf};
 ghost use Rattle.state.specs.View.{rowAt, rows, horizonOf, view};
-ghost use Rattle.candidate.specs.Offer.{offerTo};
+ghost use Rattle.candidate.specs.Offer.{offerTo, passedOver};
 ghost use Rattle.candidate.specs.Pieces.{stored, putRow, coveredBy, stays, Packed, Moved, Open, latestDue, settled};
 use profile::Row;
 use profile::figures::covers;
@@ -212,4 +212,30 @@ pub fn candidate(
             alight2,
         },
     );
+}
+
+// Whether the offer of a journey with these figures would be passed over; then so would that of each one that it equals or beats.
+pub fn passes_over(st: &[u16; 654], leave: u16, arrival: u16, rides: u16, walk: u16) -> bool
+    ensures { λ r. ⌜ r ≡ passedOver (view (now (st .entry))) (rowOf leave arrival rides walk 0 0 0 0 0 0) ⌝ }
+{
+    if too_late(st, arrival as u32) {
+        return true;
+    }
+    let c = count(st);
+    covered(
+        st,
+        c,
+        Row {
+            leave,
+            arrival,
+            rides,
+            walk,
+            origin: 0,
+            target: 0,
+            board: 0,
+            alight: 0,
+            board2: 0,
+            alight2: 0,
+        },
+    )
 }

@@ -1,2 +1,4 @@
 pub mod LoopLaws
 pub mod AgreeLaws
+pub mod ForwardLaws
+pub mod SkipLaws

@@ -4,12 +4,15 @@ ghost use Prim.Native.Nat.{_+_, _≤_, _<_};
 ghost use Rattle.rides.specs.Rows.{overBits, overCalls, overRun, lastAt, lastAlightRows, lastBoardRows, changeRows};
 ghost use Rattle.feed.specs.Feed.{callAt};
 ghost use Rattle.rides.specs.Sheets.{joinsOf, sheetOf};
+ghost use Rattle.rides.specs.Forward.{ForwardIf};
 ghost use Rattle.rides.specs.Offered.{Offered};
 use crate::bits::clear_lowest;
 use crate::bits::lowest;
+use crate::forward::bound;
 use crate::reads::call_at;
 use crate::reads::target_walk;
 use candidate::candidate;
+use candidate::passes_over;
 use feed::FirstRide;
 use feed::arrival_of;
 use feed::change_at;
@@ -81,21 +84,25 @@ fn last_alightings(st: &mut [u16; 654], feed: &[u16; 3208], n: usize, f: FirstRi
     }
 }
 
-// The rides that board at j, if the first ride joins them.
+// The rides that board at j, if the first ride joins them; unless one due when they depart would be passed over.
 fn last_board(
     st: &mut [u16; 654],
     feed: &[u16; 3208],
     changes: &[u32; 16384],
     n: usize,
     f: FirstRide,
+    forward: bool,
     j: usize,
 )
-    requires { ⌜ (n ≤ 512) × (j < n) ⌝ }
+    requires { ⌜ (n ≤ 512) × (j < n) × ForwardIf forward (now feed) n ⌝ }
     ensures { λ _. ⌜ Offered (now (st .entry)) (now (st .exit)) (lastBoardRows (sheetOf (now (feed .entry))) (joinsOf (now (feed .entry)) (now (changes .entry))) n f j) ⌝ }
 {
     let b = call_at(feed, j);
     if b.board {
         if join(f, b, change_at(changes, f.stop, b.stop)) {
+            if passes_over(st, f.leave, bound(forward, b.departure), 2, f.walk) {
+                return;
+            }
             last_alightings(st, feed, n, f, j);
         }
     }
@@ -108,8 +115,9 @@ fn last_rides(
     changes: &[u32; 16384],
     n: usize,
     f: FirstRide,
+    forward: bool,
 )
-    requires { ⌜ n ≤ 512 ⌝ }
+    requires { ⌜ (n ≤ 512) × ForwardIf forward (now feed) n ⌝ }
     ensures { λ _. ⌜ Offered (now (st .entry)) (now (st .exit)) (overCalls (lastBoardRows (sheetOf (now (feed .entry))) (joinsOf (now (feed .entry)) (now (changes .entry))) n f) n 0) ⌝ }
 {
     let mut j = 0;
@@ -117,12 +125,12 @@ fn last_rides(
         if is_refused(st) {
             return;
         }
-        last_board(st, feed, changes, n, f, j);
+        last_board(st, feed, changes, n, f, forward, j);
         j += 1;
     }
 }
 
-// With depth 1, every last ride; else none.
+// With depth 1, every last ride; else none. None either if one due when the first ride arrives would be passed over.
 pub fn change_rides(
     st: &mut [u16; 654],
     feed: &[u16; 3208],
@@ -130,11 +138,15 @@ pub fn change_rides(
     n: usize,
     depth: u16,
     f: FirstRide,
+    forward: bool,
 )
-    requires { ⌜ n ≤ 512 ⌝ }
+    requires { ⌜ (n ≤ 512) × ForwardIf forward (now feed) n ⌝ }
     ensures { λ _. ⌜ Offered (now (st .entry)) (now (st .exit)) (changeRows (sheetOf (now (feed .entry))) (joinsOf (now (feed .entry)) (now (changes .entry))) depth n f) ⌝ }
 {
     if depth == 1 {
-        last_rides(st, feed, changes, n, f);
+        if passes_over(st, f.leave, bound(forward, f.arrival), 2, f.walk) {
+            return;
+        }
+        last_rides(st, feed, changes, n, f, forward);
     }
 }

@@ -1,21 +1,39 @@
--- `change_rides` meets its contract: every last ride, if changes are allowed.
+-- `change_rides` meets its contract: every last ride, if changes are allowed; none is walked if every one would be passed over.
 use borrow.Author.Tests.{eq-eqb, ne-eqb}
 use borrow.Author.Needs.{needs}
 use Rattle.rides.specs.Rows.{changeRows}
 use Rattle.rides.proofs.LoopLaws.{nothing}
+use Rattle.rides.proofs.SkipLaws.{skip-changes}
 use Rattle.rides.proofs.last.change_rides.Statement.{statement}
 use Rattle.rides.proofs.last.change_rides.Tie as tie
+
+bound-requires : tie.Need-bound-requires
+bound-requires c κs = search needs
+
+passes-over-requires : tie.Need-passes-over-requires
+passes-over-requires c κs = search needs
+
+returns : tie.Need-returns
+returns c = skip-changes _ _ _ _ (c .before .before .before .before .before .pre .1) _ _ (c .before .before .bound .ensures) (c .before .passes-over .ensures) (c .if2 .taken)
 
 last-rides-requires : tie.Need-last-rides-requires
 last-rides-requires c κs = search needs
 
-returns : tie.Need-returns
-unfolding changeRows
-returns c = rw (eq-eqb _ _ (c .before .before .if1 .taken)) (c .last-rides .ensures)
-
 returns-2 : tie.Need-returns-2
 unfolding changeRows
-returns-2 c = rw (ne-eqb _ _ (c .if1 .left)) nothing
+returns-2 c = rw (eq-eqb _ _ (c .before .before .before .before .before .before .if1 .taken)) (c .last-rides .ensures)
+
+returns-3 : tie.Need-returns-3
+unfolding changeRows
+returns-3 c = rw (ne-eqb _ _ (c .if1 .left)) nothing
 
 pub change-rides-spec : {M : Type 1} → statement M
-change-rides-spec = tie.close (tie.spec last-rides-requires returns returns-2)
+change-rides-spec =
+    tie.close
+    (tie.spec
+    bound-requires
+    passes-over-requires
+    returns
+    last-rides-requires
+    returns-2
+    returns-3)

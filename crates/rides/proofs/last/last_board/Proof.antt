@@ -1,9 +1,11 @@
--- `last_board` meets its contract: the run's later calls, if the call is boardable and the first ride joins it.
+-- `last_board` meets its contract: the run's later calls, if the call is boardable, the first ride joins it and one due when
+-- it departs would not be passed over.
 use borrow.Author.Needs.{needs}
 use Rattle.rides.specs.Rows.{lastBoardRows}
 use Rattle.feed.specs.Feed.{joined}
 use Rattle.rides.specs.Sheets.{joinsOf, sheetOf}
 use Rattle.rides.proofs.LoopLaws.{nothing}
+use Rattle.rides.proofs.SkipLaws.{skip-run}
 use Rattle.rides.proofs.last.last_board.Statement.{statement}
 use Rattle.rides.proofs.last.last_board.Tie as tie
 
@@ -16,25 +18,39 @@ change-at-requires c κs = search needs
 join-requires : tie.Need-join-requires
 join-requires c κs = search needs
 
-last-alightings-requires : tie.Need-last-alightings-requires
-last-alightings-requires c κs = search needs
+bound-requires : tie.Need-bound-requires
+bound-requires c κs = search needs
+
+passes-over-requires : tie.Need-passes-over-requires
+passes-over-requires c κs = search needs
 
 returns : tie.Need-returns
 unfolding lastBoardRows joinsOf joined sheetOf
 returns c =
-    let p = c .before .before .before in
+    let p = c .before .before .before .before .before in
     let q = p .before .before in
-    rw (← q .before .call-at .ensures, q .if1 .taken, ← p .before .change-at .ensures, ← p .join .ensures, c .before .before .if2 .taken) (c .last-alightings .ensures)
+    rw (← q .before .call-at .ensures, q .if1 .taken, ← p .before .change-at .ensures, ← p .join .ensures, c .before .before .before .before .if2 .taken)
+    (skip-run _ _ _ _ (q .before .before .pre .2) _ (q .before .call-at .ensures) (c .before .before .bound .ensures) (c .before .passes-over .ensures) (c .if3 .taken))
+
+last-alightings-requires : tie.Need-last-alightings-requires
+last-alightings-requires c κs = search needs
 
 returns-2 : tie.Need-returns-2
 unfolding lastBoardRows joinsOf joined sheetOf
 returns-2 c =
+    let p = c .before .before .before .before .before .before .before in
+    let q = p .before .before in
+    rw (← q .before .call-at .ensures, q .if1 .taken, ← p .before .change-at .ensures, ← p .join .ensures, c .before .before .before .before .before .before .if2 .taken) (c .last-alightings .ensures)
+
+returns-3 : tie.Need-returns-3
+unfolding lastBoardRows joinsOf joined sheetOf
+returns-3 c =
     let q = c .before .before .before in
     rw (← q .before .call-at .ensures, q .if1 .taken, ← c .before .before .change-at .ensures, ← c .before .join .ensures, c .if2 .left) nothing
 
-returns-3 : tie.Need-returns-3
+returns-4 : tie.Need-returns-4
 unfolding lastBoardRows sheetOf
-returns-3 c = rw (← c .before .call-at .ensures, c .if1 .left) nothing
+returns-4 c = rw (← c .before .call-at .ensures, c .if1 .left) nothing
 
 pub last-board-spec : {M : Type 1} → statement M
 last-board-spec =
@@ -43,7 +59,10 @@ last-board-spec =
     call-at-requires
     change-at-requires
     join-requires
-    last-alightings-requires
+    bound-requires
+    passes-over-requires
     returns
+    last-alightings-requires
     returns-2
-    returns-3)
+    returns-3
+    returns-4)

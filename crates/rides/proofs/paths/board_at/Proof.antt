@@ -16,7 +16,7 @@ origins-of-requires c κs = search needs
 origins-requires : tie.Need-origins-requires
 origins-requires c κs =
     let p = c .before .before .before .before .pre in
-    (p .0, p .1, rw (c .origins-of .ensures) (origins-small _ _))
+    (p .0, p .1, rw (c .origins-of .ensures) (origins-small _ _), p .2)
 
 returns : tie.Need-returns
 unfolding boardRows sheetOf

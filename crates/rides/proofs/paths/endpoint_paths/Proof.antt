@@ -9,18 +9,21 @@ use Rattle.rides.proofs.paths.endpoint_paths.Statement.{statement}
 use Rattle.rides.proofs.paths.endpoint_paths.Tie as tie
 
 abbrev Inv-loop : tie.InvT-loop
-Inv-loop st₀ feed changes n depth count i₀ st i =
+Inv-loop st₀ feed changes n depth count forward i₀ st i =
     (count ≤ 512) × Left st₀ st (rowsOf feed changes n depth) (overCalls (boardRows (sheetOf feed) (joinsOf feed changes) depth count) count i)
 
 abbrev μ-loop : tie.MeasureT-loop
-μ-loop st₀ feed changes n depth count i₀ st i = count - i
+μ-loop st₀ feed changes n depth count forward i₀ st i = count - i
 
 at-most-512-requires : tie.Need-at-most-512-requires Inv-loop μ-loop
 at-most-512-requires c κs = search needs
 
+forward-at-requires : tie.Need-forward-at-requires Inv-loop μ-loop
+forward-at-requires c κs = omega (arith, c .at-most-512 .ensures)
+
 loop-holds : tie.Need-loop-holds Inv-loop μ-loop
 unfolding rowsOf rows
-loop-holds c = (omega (arith, c .at-most-512 .ensures), rw (← c .at-most-512 .ensures) starts)
+loop-holds c = (omega (arith, c .before .at-most-512 .ensures), rw (← c .before .at-most-512 .ensures) starts)
 
 is-refused-requires : tie.Need-is-refused-requires Inv-loop μ-loop
 is-refused-requires c κs = tt
@@ -52,6 +55,7 @@ endpoint-paths-spec =
     Inv-loop
     μ-loop
     at-most-512-requires
+    forward-at-requires
     loop-holds
     is-refused-requires
     returns

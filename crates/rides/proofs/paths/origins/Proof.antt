@@ -7,10 +7,10 @@ use Rattle.rides.proofs.paths.origins.Statement.{statement}
 use Rattle.rides.proofs.paths.origins.Tie as tie
 
 abbrev Inv-loop : tie.InvT-loop
-Inv-loop st₀ feed changes n depth i mask left₀ st left = InBits st₀ st (overBits (originRows (sheetOf feed) (joinsOf feed changes) depth n i) left₀) (originRows (sheetOf feed) (joinsOf feed changes) depth n i) left
+Inv-loop st₀ feed changes n depth forward i mask left₀ st left = InBits st₀ st (overBits (originRows (sheetOf feed) (joinsOf feed changes) depth n i) left₀) (originRows (sheetOf feed) (joinsOf feed changes) depth n i) left
 
 abbrev μ-loop : tie.MeasureT-loop
-μ-loop st₀ feed changes n depth i mask left₀ st left = left
+μ-loop st₀ feed changes n depth forward i mask left₀ st left = left
 
 loop-holds : tie.Need-loop-holds Inv-loop μ-loop
 loop-holds c = bits-start (c .pre .2)
@@ -21,7 +21,7 @@ lowest-requires c κs = search needs
 origin-at-requires : tie.Need-origin-at-requires Inv-loop μ-loop
 origin-at-requires c κs =
     let p = c .before .before in
-    (p .before .before .pre .0, p .before .before .pre .1, bits-low (p .loop-test .taken) (p .before .loop .inv) (c .before .lowest .ensures))
+    (p .before .before .pre .0, p .before .before .pre .1, bits-low (p .loop-test .taken) (p .before .loop .inv) (c .before .lowest .ensures), p .before .before .pre .3)
 
 clear-lowest-requires : tie.Need-clear-lowest-requires Inv-loop μ-loop
 clear-lowest-requires c κs = search needs
