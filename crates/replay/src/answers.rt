@@ -1,7 +1,10 @@
-// One load file: its records are handed in one by one, and each call's answer is noted.
+// One load file: read whole, and its records handed in one by one, each call's answer noted.
 use crate::load_lines;
 use crate::out;
-use file::Reader;
+use reader::fresh;
+use reader::next;
+use reader::read;
+use reader::version;
 use refusal::Answer;
 use refusal::is_refused;
 
@@ -54,43 +57,42 @@ fn noted(out: &mut [u8; 65536], at: usize, call: bool, a: Answer) -> usize {
     at
 }
 
-// The file's end, so many bytes after its last whole record.
-fn ended(out: &mut [u8; 65536], at: usize, reader: Reader, left: usize) -> usize {
-    let answer = reader::ended(reader.opened, left);
-    if is_refused(answer) {
-        return refused(out, answer);
-    }
-    let to = out::line(out, at);
-    load_lines::lines(out, to, reader.load)
-}
-
-// The records after the version.
+// Notes the answers to the records after the version, up to one that is refused.
 fn records(out: &mut [u8; 65536], bytes: &[u8]) -> usize {
     let mut to = out::text(out, 0, b"answers");
-    let mut reader = reader::fresh();
+    let mut reader = fresh();
     let mut at: usize = 0;
     while at < bytes.len() {
-        let f = reader::next(reader, &bytes[at..]);
+        let f = next(reader, &bytes[at..]);
         let answer = f.answer;
         if is_refused(answer) {
-            return refused(out, answer);
+            return to;
         }
         let used = f.used;
         if used == 0 {
-            return ended(out, to, reader, bytes.len() - at);
+            return to;
         }
         to = noted(out, to, is_call(&bytes[at..]), answer);
         let after = f.reader;
         reader = after;
         at += used;
     }
-    ended(out, to, reader, 0)
+    to
 }
 
+// The answers are those of the records handed in one by one; all else is of the file read whole, which goes by runs.
 pub fn file(out: &mut [u8; 65536], bytes: &[u8]) -> usize {
-    let answer = reader::version(bytes);
+    let first = version(bytes);
+    if is_refused(first) {
+        return refused(out, first);
+    }
+    let noted = records(out, &bytes[1..]);
+    let t = read(bytes);
+    let answer = t.answer;
     if is_refused(answer) {
         return refused(out, answer);
     }
-    records(out, &bytes[1..])
+    let to = out::line(out, noted);
+    let reader = t.reader;
+    load_lines::lines(out, to, reader.load)
 }

@@ -28,8 +28,26 @@ part-records-end c = search needs
 records-requires : tie.Need-records-requires
 records-requires c κs = search needs
 
+read-requires : tie.Need-read-requires
+read-requires c κs = search needs
+
+is-refused-requires-2 : tie.Need-is-refused-requires-2
+is-refused-requires-2 c κs = search needs
+
+refused-requires-2 : tie.Need-refused-requires-2
+refused-requires-2 c κs = search needs
+
 returns-2 : tie.Need-returns-2
 returns-2 c = search needs
+
+line-requires : tie.Need-line-requires
+line-requires c κs = search needs
+
+lines-requires : tie.Need-lines-requires
+lines-requires c κs = search needs
+
+returns-3 : tie.Need-returns-3
+returns-3 c = search needs
 
 pub file-spec : {M : Type 1} → statement M
 file-spec =
@@ -43,4 +61,10 @@ file-spec =
     part-records-start
     part-records-end
     records-requires
-    returns-2)
+    read-requires
+    is-refused-requires-2
+    refused-requires-2
+    returns-2
+    line-requires
+    lines-requires
+    returns-3)

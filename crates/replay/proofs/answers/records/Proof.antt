@@ -42,17 +42,8 @@ next-requires c κs = search needs
 is-refused-requires : tie.Need-is-refused-requires Inv-loop μ-loop
 is-refused-requires c κs = search needs
 
-refused-requires : tie.Need-refused-requires Inv-loop μ-loop
-refused-requires c κs = search needs
-
 returns : tie.Need-returns Inv-loop μ-loop
 returns c = search needs
-
-sub-ended : tie.Need-sub-ended Inv-loop μ-loop
-sub-ended c = omega arith
-
-ended-requires : tie.Need-ended-requires Inv-loop μ-loop
-ended-requires c κs = search needs
 
 returns-2 : tie.Need-returns-2 Inv-loop μ-loop
 returns-2 c = search needs
@@ -81,9 +72,6 @@ add-at c = let room = loop-again c .room in omega arith
 loop-less : tie.Need-loop-less Inv-loop μ-loop
 loop-less c = let room = loop-again c .room in omega arith
 
-ended-requires-2 : tie.Need-ended-requires-2 Inv-loop μ-loop
-ended-requires-2 c κs = search needs
-
 returns-3 : tie.Need-returns-3 Inv-loop μ-loop
 returns-3 c = search needs
 
@@ -102,10 +90,7 @@ records-spec =
     part-next-end
     next-requires
     is-refused-requires
-    refused-requires
     returns
-    sub-ended
-    ended-requires
     returns-2
     sub-is-call
     part-is-call-start
@@ -115,5 +100,4 @@ records-spec =
     add-at
     loop-less
     loop-again
-    ended-requires-2
     returns-3)
