@@ -9,7 +9,7 @@ use lib.Dec.{leb, ltb}
 use lib.ListN.{take}
 use borrow.Author.Tests.{le-leb, le-ltb, lt-ltb, ltb-true, ltb-false}
 use Rattle.laws.specs.Lists.{anyb}
-use Rattle.laws.proofs.Bools.{and-true, or-true-cases, or-true-left, test}
+use Rattle.laws.proofs.Bools.{and-true, or-true-cases, test}
 use Rattle.laws.proofs.Lists.{anyb-mem, mem-anyb}
 use Rattle.profile.specs.declared.Row.{Row}
 use Rattle.profile.specs.Figures.{lexb}
@@ -25,7 +25,9 @@ use Rattle.candidate.specs.Pieces.{coveredBy}
 
 pub passed-late : (s : St Row) (o : Row) (b : Bool) → b ≡ tooLate s (due o) → b ≡ true → true ≡ passedOver s o
 unfolding passedOver
-passed-late (going ks h l) o b e t = sym (or-true-left (ltb h (due o)) (coveredBy o ks) (sym e ∙ t))
+passed-late (going ks h l) o b e t =
+    let y : ltb h (due o) ≡ true = sym e ∙ t in
+    rw y refl
 passed-late refused o b e t = refl
 
 pub passed-covered : (l : List ℕ) (o : Row) (b r : Bool) (c : ℕ) → b ≡ tooLate (view l) (due o) → b ≡ false → c ≡ countOf l → r ≡ coveredBy o (take c (rows l))

@@ -6,7 +6,7 @@ use crate::reads::call_at;
 use feed::FeedCall;
 use feed::same_run;
 
-// Whether the call b is forward of the call a that follows it, if they are of one trip and day.
+// Whether b departs no earlier than it arrives, and a, which follows it, arrives no earlier than that; if they are of one trip and day.
 fn pair_forward(b: FeedCall, a: FeedCall) -> bool
     ensures { λ r. ⌜ r ≡ forwardPair b a ⌝ }
 {
@@ -19,7 +19,7 @@ fn pair_forward(b: FeedCall, a: FeedCall) -> bool
     true
 }
 
-// Whether no later call of a run arrives before an earlier one departs, found by neighbours.
+// Whether no later call of a run arrives before an earlier one departs, found by neighbours. Nothing is claimed if it says no.
 fn runs_forward(feed: &[u16; 3208], n: usize) -> bool
     requires { ⌜ n ≤ 512 ⌝ }
     ensures { λ r. ⌜ ForwardIf r (now (feed .entry)) n ⌝ }
