@@ -1,11 +1,14 @@
-// Loads that a step is tried on: a small one, one full of stops, calls or rules, and each of them searched.
+// Loads that a step is tried on: a small one, and one full of stops, calls or rules.
 use crate::show;
+use crate::show::CALL;
+use crate::show::RULE;
+use crate::show::SEARCH;
+use crate::show::STOP;
 use calls::CallInput;
 use calls::Seconds;
 use load::Load;
 use load::Stepped;
 use place::Degrees;
-use refusal::Answer;
 use rules::MinTime;
 use rules::RuleInput;
 use settings::Settings;
@@ -25,12 +28,17 @@ fn settings() -> Settings {
     }
 }
 
-// A stop with no name, no parent and no position.
-pub fn plain(kind: u8, members: u8) -> StopInput {
+// Stop 0 is a station, 1 an origin and 2 a target. None has a name, a parent or a position.
+fn stop(i: u16) -> StopInput {
+    let members = match i {
+        1 => 0x01,
+        2 => 0x10,
+        _ => 0,
+    };
     StopInput {
         named: false,
         has_parent: false,
-        location_type: kind,
+        location_type: if i == 0 { 1 } else { 0 },
         located: false,
         degrees: Degrees {
             latitude: 0.0,
@@ -40,6 +48,16 @@ pub fn plain(kind: u8, members: u8) -> StopInput {
     }
 }
 
+// No time
+pub const NONE: u32 = 65535;
+
+fn seconds(n: u32) -> Seconds {
+    if n == NONE {
+        return Seconds::Absent;
+    }
+    Seconds::Given(n)
+}
+
 // A call of day 0.
 pub fn call(trip: u16, sequence: u32, stop: u16, arrival: u32, departure: u32) -> CallInput {
     CallInput {
@@ -47,158 +65,98 @@ pub fn call(trip: u16, sequence: u32, stop: u16, arrival: u32, departure: u32) -
         day: 0,
         sequence,
         stop,
-        arrival: Seconds::Given(arrival),
-        departure: Seconds::Given(departure),
+        arrival: seconds(arrival),
+        departure: seconds(departure),
         pickup: 0,
         drop_off: 0,
     }
 }
 
-pub fn rule(from: u16, to: u16, kind: u8) -> RuleInput {
+// Rides from stop 1 to stop 2, each of which leaves and arrives a second later than the one before it.
+fn leg(i: u16) -> CallInput {
+    let trip = i / 2;
+    if i % 2 == 0 {
+        return call(trip, 0, 1, 10 + trip as u32, 10 + trip as u32);
+    }
+    call(trip, 1, 2, 1000 + trip as u32, 1000 + trip as u32)
+}
+
+pub fn rule(from: u16, to: u16, kind: u8, timed: bool) -> RuleInput {
     RuleInput {
         from,
         to,
         transfer_type: kind,
-        seconds: MinTime::Absent,
+        seconds: if timed {
+            MinTime::Given(0)
+        } else {
+            MinTime::Absent
+        },
     }
 }
 
-fn opened() -> Load {
-    let s = Load::open(settings());
-    s.load
-}
-
-fn with_stop(load: Load, id: &[u8], input: StopInput) -> Load {
-    let s = load.stop(id, b"", b"", input);
-    s.load
-}
-
-pub fn with_call(load: Load, input: CallInput) -> Load {
-    let s = load.call(input);
-    s.load
-}
-
-fn with_rule(load: Load, input: RuleInput) -> Load {
-    let s = load.rule(input);
-    s.load
-}
-
-fn searched(load: Load) -> Load {
-    let s = search::search(load);
-    s.load
-}
-
-pub fn searched_if(b: bool, load: Load) -> Load {
-    if b {
-        return searched(load);
+// A good step: stop i, with the id 65 + i; a call of trip i, which stays at every horizon; a rule to stop 2; half a ride.
+fn good(step: u8, load: Load, i: u16) -> Stepped {
+    if step == STOP {
+        let id = [(65 + i % 128) as u8];
+        return load.stop(&id, b"", b"", stop(i));
     }
-    load
-}
-
-// The station "SS", number 0, and the stops "AA", an origin, and "BB", a target.
-fn stopped() -> Load {
-    let a = with_stop(opened(), b"SS", plain(1, 0));
-    let b = with_stop(a, b"AA", plain(0, 0x01));
-    with_stop(b, b"BB", plain(0, 0x10))
-}
-
-// These stops, and a rule from "AA" to "BB".
-pub fn small() -> Load {
-    with_rule(stopped(), rule(1, 2, 0))
-}
-
-// A byte for each of the first 256 numbers.
-fn low(i: u16) -> u8 {
-    (i % 256) as u8
-}
-
-fn later(a: u32, trip: u16) -> u32 {
-    std::num::wrapping_add_u32(a, trip as u32)
-}
-
-// A ride from "AA" to "BB", which leaves and arrives a second later than that of the trip before it.
-fn with_ride(load: Load, trip: u16) -> Load {
-    let from = call(trip, 0, 1, later(10, trip), later(10, trip));
-    let to = call(trip, 1, 2, later(1000, trip), later(1000, trip));
-    with_call(with_call(load, from), to)
-}
-
-fn with_byte(load: Load, id: u8) -> Load {
-    let bytes = [id];
-    with_stop(load, &bytes, plain(0, 0))
-}
-
-const STOPS: u8 = 0;
-
-const CALLS: u8 = 1;
-
-const RULES: u8 = 2;
-
-const RIDES: u8 = 3;
-
-fn with_one(what: u8, load: Load, i: u16) -> Load {
-    if what == STOPS {
-        return with_byte(load, low(i));
+    if step == CALL {
+        return load.call(call(i, 0, 1, 600, 600));
     }
-    if what == CALLS {
-        return with_call(load, call(i, 0, 1, 600, 600));
+    if step == RULE {
+        return load.rule(rule((1 + i % 128) % 128, 2, 0, false));
     }
-    if what == RULES {
-        return with_rule(load, rule(i, 0, 0));
-    }
-    with_ride(load, i)
+    load.call(leg(i))
 }
 
-// So many stops, calls, rules or rides more.
-fn with_more(what: u8, n: u16, first: Load) -> Load {
+// So many good steps; those that are refused leave the load as it was.
+pub fn with(step: u8, n: u16, first: Load) -> Load {
     let mut load = first;
     for i in 0u16..n {
-        let next = with_one(what, load, i);
+        let s = good(step, load, i);
+        let next = s.load;
         load = next;
     }
     load
 }
 
-// 128 stops and a rule.
-pub fn full_of_stops() -> Load {
-    with_more(STOPS, 125, small())
+// Stops "A" to "C", and a rule from "B" to "C".
+pub fn small() -> Load {
+    let s = Load::open(settings());
+    let opened = s.load;
+    with(RULE, 1, with(STOP, 3, opened))
 }
 
-// 128 stops and 128 rules.
-pub fn full_of_rules() -> Load {
-    with_more(RULES, 127, full_of_stops())
+// 128 stops, 512 calls, or 128 stops and 128 rules.
+pub fn full_of(step: u8) -> Load {
+    if step == CALL {
+        return with(CALL, 512, small());
+    }
+    let stops = with(STOP, 128, small());
+    if step == RULE {
+        return with(RULE, 128, stops);
+    }
+    stops
 }
 
-// 512 calls, which stay at every horizon.
-pub fn full_of_calls() -> Load {
-    with_more(CALLS, 512, small())
+// So many journeys, none of which equals or beats another; then, if `arrival` is a time, two calls of trip 900 at a stop
+// that is no target: the first has sequence 0 and departs at 600.
+pub fn rides(n: u16, sequence: u32, arrival: u32) -> Load {
+    let load = with(SEARCH, n, small());
+    if arrival == NONE {
+        return load;
+    }
+    let s = load.call(call(900, 0, 1, 600, 600));
+    let once = s.load;
+    let t = once.call(call(900, sequence, 1, arrival, 700));
+    t.load
 }
 
-// So many journeys, none of which equals or beats another.
-pub fn rides(n: u16) -> Load {
-    with_more(RIDES, n, small())
-}
-
-fn rule_after(s: Stepped) -> Answer {
-    let load = s.load;
-    let next = load.rule(rule(2, 1, 0));
-    next.answer
-}
-
-fn call_after(s: Stepped) -> Answer {
-    let load = s.load;
-    let next = load.call(call(901, 0, 1, 600, 600));
-    next.answer
-}
-
-// Writes what a step is answered, and a good rule on the load that it returns.
-pub fn then_rule(s: Stepped) {
+// Writes what a step is answered, and a good step on the load that it returns: a call after a rule, else a rule.
+pub fn then(step: u8, s: Stepped) {
     let answer = s.answer;
-    show::both(answer, rule_after(s));
-}
-
-// Likewise a good call.
-pub fn then_call(s: Stepped) {
-    let answer = s.answer;
-    show::both(answer, call_after(s));
+    let load = s.load;
+    let next = good(if step == RULE { CALL } else { RULE }, load, 127);
+    let after = next.answer;
+    show::both(answer, after);
 }

@@ -1,17 +1,38 @@
 // Meets each refusal of opening, stop, call, rule and search alone and in pairs, and writes what is answered, and what a
 // good step after it is answered. The file `stdout` says what the scope's order gives.
-mod call_step;
+mod faults;
 mod loads;
-mod opening;
-mod rule_step;
-mod search_step;
 mod show;
-mod stop_step;
+mod words;
 
+use show::ABSENT;
+use show::CALL;
+use show::NOTHING;
+use show::OUTSIDE;
+use show::RULE;
+use show::SEARCH;
+use show::STOP;
+
+// The faults of each step stand in the scope's order.
 fn main() {
-    opening::run();
-    stop_step::run();
-    call_step::run();
-    rule_step::run();
-    search_step::run();
+    words::openings();
+    faults::each(STOP, [NOTHING, 15, 3, 5, 6, 7, 8, 4]);
+    words::stop_texts();
+    words::stop_names();
+    let stops = loads::full_of(STOP);
+    show::held(STOP, stops.stop_count);
+    faults::each(CALL, [NOTHING, 15, 9, ABSENT, 10, OUTSIDE, 11, NOTHING]);
+    words::call_fields();
+    words::call_times();
+    let calls = loads::full_of(CALL);
+    show::held(CALL, calls.call_count);
+    faults::each(RULE, [NOTHING, 15, 9, 12, 13, 11, NOTHING, NOTHING]);
+    words::rules();
+    let rules = loads::full_of(RULE);
+    show::held(RULE, rules.rule_count);
+    faults::each(
+        SEARCH,
+        [NOTHING, 15, 14, 11, NOTHING, NOTHING, NOTHING, NOTHING],
+    );
+    words::searches();
 }

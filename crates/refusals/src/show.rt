@@ -2,6 +2,17 @@
 use libc::STDOUT_FILENO;
 use refusal::Answer;
 
+// The steps
+pub const OPEN: u8 = 0;
+
+pub const STOP: u8 = 1;
+
+pub const CALL: u8 = 2;
+
+pub const RULE: u8 = 3;
+
+pub const SEARCH: u8 = 4;
+
 // What is wrong with a step, beside the scope's numbers: nothing, a time absent, or a call outside the window.
 pub const NOTHING: u8 = 0;
 
@@ -9,29 +20,27 @@ pub const ABSENT: u8 = 100;
 
 pub const OUTSIDE: u8 = 101;
 
-// Whether n is one of the two.
-pub fn has(a: u8, b: u8, n: u8) -> bool {
-    if a == n {
-        return true;
-    }
-    b == n
-}
-
 fn text(s: &[u8]) {
     io::write_all(STDOUT_FILENO, s);
 }
 
-fn number(n: u8) {
-    io::print_decimal(STDOUT_FILENO, n as u64);
+fn step(n: u8) {
+    match n {
+        OPEN => text(b"open"),
+        STOP => text(b"stop"),
+        CALL => text(b"call"),
+        RULE => text(b"rule"),
+        _ => text(b"search"),
+    }
 }
 
 fn cause(n: u8) {
-    if n == ABSENT {
-        text(b"absent");
-    } else if n == OUTSIDE {
-        text(b"outside");
-    } else {
-        number(n);
+    match n {
+        ABSENT => text(b"absent"),
+        OUTSIDE => text(b"outside"),
+        _ => {
+            io::print_decimal(STDOUT_FILENO, n as u64);
+        }
     }
 }
 
@@ -39,25 +48,25 @@ fn answer(a: Answer) {
     match a {
         Answer::Taken => text(b"taken"),
         Answer::Outside => text(b"outside"),
-        Answer::Refused(r) => number(refusal::number(r)),
+        Answer::Refused(r) => cause(refusal::number(r)),
     }
 }
 
 // A step with one thing wrong, or two.
-pub fn faults(step: &[u8], a: u8, b: u8) {
-    text(step);
+pub fn faults(n: u8, a: u8, b: u8) {
+    step(n);
     text(b" ");
-    cause(a);
-    if b != NOTHING {
+    if a != NOTHING {
+        cause(a);
         text(b"+");
-        cause(b);
     }
+    cause(b);
     text(b": ");
 }
 
 // A step told in words.
-pub fn words(step: &[u8], label: &[u8]) {
-    text(step);
+pub fn words(n: u8, label: &[u8]) {
+    step(n);
     text(b" ");
     text(label);
     text(b": ");
@@ -75,9 +84,10 @@ pub fn both(a: Answer, next: Answer) {
     only(next);
 }
 
-pub fn held(label: &[u8], n: usize) {
-    text(label);
-    text(b" held: ");
-    io::print_decimal(STDOUT_FILENO, n as u64);
+// How many a full load holds.
+pub fn held(n: u8, count: usize) {
+    step(n);
+    text(b"s held: ");
+    io::print_decimal(STDOUT_FILENO, count as u64);
     text(b"\n");
 }

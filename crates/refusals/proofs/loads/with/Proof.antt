@@ -2,20 +2,20 @@
 use Prim.Native.Nat.{_≤_, _-_}
 use native.Mathlib.Omega.{arith}
 use borrow.Author.Needs.{needs}
-use Rattle.refusals.proofs.loads.with_more.Statement.{statement}
-use Rattle.refusals.proofs.loads.with_more.Tie as tie
+use Rattle.refusals.proofs.loads.with.Statement.{statement}
+use Rattle.refusals.proofs.loads.with.Tie as tie
 
 abbrev Inv-loop : tie.InvT-loop
-Inv-loop what n load₀ i₀ load i = i ≤ n
+Inv-loop step n load₀ i₀ load i = i ≤ n
 
 abbrev μ-loop : tie.MeasureT-loop
-μ-loop what n load₀ i₀ load i = n - i
+μ-loop step n load₀ i₀ load i = n - i
 
 loop-holds : tie.Need-loop-holds Inv-loop μ-loop
 loop-holds c = omega arith
 
-with-one-requires : tie.Need-with-one-requires Inv-loop μ-loop
-with-one-requires c κs = search needs
+good-requires : tie.Need-good-requires Inv-loop μ-loop
+good-requires c κs = search needs
 
 add-i : tie.Need-add-i Inv-loop μ-loop
 add-i c = omega arith
@@ -29,7 +29,7 @@ loop-again c = omega arith
 returns : tie.Need-returns Inv-loop μ-loop
 returns c = search needs
 
-pub with-more-spec : {M : Type 1} → statement M
-with-more-spec =
+pub with-spec : {M : Type 1} → statement M
+with-spec =
     tie.close
-    (tie.spec Inv-loop μ-loop loop-holds with-one-requires add-i loop-less loop-again returns)
+    (tie.spec Inv-loop μ-loop loop-holds good-requires add-i loop-less loop-again returns)

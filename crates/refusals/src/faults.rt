@@ -1,0 +1,149 @@
+// Each fault of a step alone, and each two of them together.
+use crate::loads;
+use crate::show;
+use crate::show::ABSENT;
+use crate::show::CALL;
+use crate::show::NOTHING;
+use crate::show::OUTSIDE;
+use crate::show::SEARCH;
+use crate::show::STOP;
+use calls::CallInput;
+use load::Load;
+use load::Stepped;
+use place::Degrees;
+use rules::RuleInput;
+use stops::StopInput;
+
+// Whether n is one of the two.
+fn has(a: u8, b: u8, n: u8) -> bool {
+    if a == n {
+        return true;
+    }
+    b == n
+}
+
+// The first number where n is one of the two faults, else the second.
+fn pick(a: u8, b: u8, n: u8, yes: u16, no: u16) -> u16 {
+    if has(a, b, n) { yes } else { no }
+}
+
+// Two that never hold together. An id that is taken is 1 to 32 bytes long; 10 needs both times; the stops of a rule taken are
+// known; a load is searched only where neither 14 nor 11 holds, and takes no call after it.
+fn apart(step: u8, a: u8, b: u8) -> bool {
+    match a {
+        3 => b == 5,
+        ABSENT => b == 10,
+        9 => b == 13,
+        15 => step == SEARCH,
+        _ => false,
+    }
+}
+
+// A stop with an unknown parent, if it has one.
+fn stop(load: Load, a: u8, b: u8) -> Stepped {
+    let input = StopInput {
+        named: true,
+        has_parent: has(a, b, 7),
+        location_type: if has(a, b, 6) { 2 } else { 0 },
+        located: false,
+        degrees: Degrees {
+            latitude: 0.0,
+            longitude: 0.0,
+        },
+        members: 0,
+    };
+    if has(a, b, 8) {
+        return identified(load, a, b, &[97u8; 65], input);
+    }
+    identified(load, a, b, b"name", input)
+}
+
+fn identified(load: Load, a: u8, b: u8, name: &[u8], input: StopInput) -> Stepped {
+    if has(a, b, 3) {
+        return load.stop(b"", name, b"unknown", input);
+    }
+    if has(a, b, 5) {
+        return load.stop(b"B", name, b"unknown", input);
+    }
+    load.stop(b"new", name, b"unknown", input)
+}
+
+fn call(a: u8, b: u8) -> CallInput {
+    let time = pick(a, b, OUTSIDE, 30000, 600);
+    let late = pick(a, b, OUTSIDE, 30001, 601);
+    loads::call(
+        pick(a, b, 9, 65535, 900),
+        0,
+        1,
+        pick(a, b, 10, late, time) as u32,
+        pick(a, b, ABSENT, 65535, time) as u32,
+    )
+}
+
+fn rule(a: u8, b: u8) -> RuleInput {
+    let from = pick(a, b, 13, 1, 2);
+    loads::rule(
+        pick(a, b, 9, 128, from),
+        pick(a, b, 13, 2, 1),
+        if has(a, b, 12) { 4 } else { 0 },
+        false,
+    )
+}
+
+// The load that a step is tried on, before it is searched.
+fn unsearched(step: u8, a: u8, b: u8) -> Load {
+    if step == SEARCH {
+        return loads::rides(pick(a, b, 11, 130, 0), 0, pick(a, b, 14, 600, 65535) as u32);
+    }
+    if has(a, b, 4) {
+        return loads::full_of(STOP);
+    }
+    if has(a, b, 11) {
+        return loads::full_of(step);
+    }
+    loads::small()
+}
+
+fn load_of(step: u8, a: u8, b: u8) -> Load {
+    let load = unsearched(step, a, b);
+    if has(a, b, 15) {
+        let s = search::search(load);
+        return s.load;
+    }
+    load
+}
+
+fn stepped(step: u8, load: Load, a: u8, b: u8) -> Stepped {
+    if step == STOP {
+        return stop(load, a, b);
+    }
+    if step == CALL {
+        return load.call(call(a, b));
+    }
+    if step == SEARCH {
+        return search::search(load);
+    }
+    load.rule(rule(a, b))
+}
+
+fn tried(step: u8, a: u8, b: u8) {
+    if b == NOTHING {
+        return;
+    }
+    if apart(step, a, b) {
+        return;
+    }
+    show::faults(step, a, b);
+    loads::then(step, stepped(step, load_of(step, a, b), a, b));
+}
+
+// Each two of the faults in their order; the first is nothing, so each alone too.
+pub fn each(step: u8, faults: [u8; 8]) {
+    for k in 0usize..64 {
+        let i = k / 8;
+        let j = k % 8;
+        if i < j {
+            tried(step, faults[i], faults[j]);
+        }
+    }
+}
