@@ -1,13 +1,11 @@
 // Runs the scope's marked instances and published hash vectors, and writes a line for each; the file `stdout` says what each must give.
-mod hashes;
-mod names;
 mod places;
 mod show;
-mod times;
+mod texts;
 
 fn main() {
-    hashes::run();
-    names::run();
-    times::run();
+    texts::hashes();
+    texts::names();
+    texts::times();
     places::run();
 }

@@ -39,23 +39,11 @@ fn micro(label: &[u8], latitude: f64, lat: i32) {
     }
 }
 
-fn tag(t: u8) {
-    if t == b'P' {
-        show::text(b"P ");
-    } else if t == b'N' {
-        show::text(b"N ");
-    } else if t == b'I' {
-        show::text(b"I ");
-    } else {
-        show::text(b"? ");
-    }
-}
-
 // The key of the stop "U1 Mitte" with the parent "S", or of the same without a parent.
 fn key(label: &[u8], parent: bool, position: Position, named: bool) {
     let k = place::place_key(parent, b"S", position, named, b"Stadt  Mitte", b"U1 Mitte");
     show::asked(b"place key", label);
-    tag(k.tag);
+    show::text(&[k.tag, b' ']);
     show::hash(k.hash);
 }
 

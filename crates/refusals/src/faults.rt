@@ -1,5 +1,6 @@
 // Each fault of a step alone, and each two of them together.
 use crate::loads;
+use crate::loads::text;
 use crate::show;
 use crate::show::ABSENT;
 use crate::show::CALL;
@@ -39,9 +40,8 @@ fn apart(step: u8, a: u8, b: u8) -> bool {
     }
 }
 
-// A stop with an unknown parent, if it has one.
-fn stop(load: Load, a: u8, b: u8) -> Stepped {
-    let input = StopInput {
+fn input(a: u8, b: u8) -> StopInput {
+    StopInput {
         named: true,
         has_parent: has(a, b, 7),
         location_type: if has(a, b, 6) { 2 } else { 0 },
@@ -51,21 +51,14 @@ fn stop(load: Load, a: u8, b: u8) -> Stepped {
             longitude: 0.0,
         },
         members: 0,
-    };
-    if has(a, b, 8) {
-        return identified(load, a, b, &[97u8; 65], input);
     }
-    identified(load, a, b, b"name", input)
 }
 
-fn identified(load: Load, a: u8, b: u8, name: &[u8], input: StopInput) -> Stepped {
-    if has(a, b, 3) {
-        return load.stop(b"", name, b"unknown", input);
-    }
-    if has(a, b, 5) {
-        return load.stop(b"B", name, b"unknown", input);
-    }
-    load.stop(b"new", name, b"unknown", input)
+// The parent of a stop, if it has one, is unknown.
+fn stop(load: Load, a: u8, b: u8) -> Stepped {
+    let id = text(has(a, b, 3), b"", text(has(a, b, 5), b"B", b"new"));
+    let name = text(has(a, b, 8), &[97u8; 65], b"name");
+    load.stop(id, name, b"unknown", input(a, b))
 }
 
 fn call(a: u8, b: u8) -> CallInput {
@@ -93,7 +86,7 @@ fn rule(a: u8, b: u8) -> RuleInput {
 // The load that a step is tried on, before it is searched.
 fn unsearched(step: u8, a: u8, b: u8) -> Load {
     if step == SEARCH {
-        return loads::rides(pick(a, b, 11, 130, 0), 0, pick(a, b, 14, 600, 65535) as u32);
+        return loads::rides(pick(a, b, 11, 130, 0), pick(a, b, 14, 600, 0));
     }
     if has(a, b, 4) {
         return loads::full_of(STOP);

@@ -9,6 +9,7 @@ use calls::Seconds;
 use load::Load;
 use load::Stepped;
 use place::Degrees;
+use refusal::Answer;
 use rules::MinTime;
 use rules::RuleInput;
 use settings::Settings;
@@ -72,8 +73,12 @@ pub fn call(trip: u16, sequence: u32, stop: u16, arrival: u32, departure: u32) -
     }
 }
 
-// Rides from stop 1 to stop 2, each of which leaves and arrives a second later than the one before it.
+// Calls for a search. Below 500 halves of rides from stop 1 to stop 2, each of which leaves and arrives a second later than the
+// one before it; from there a call of trip 900 of sequence i / 1000, which arrives at i % 1000.
 fn leg(i: u16) -> CallInput {
+    if i >= 500 {
+        return call(900, (i / 1000) as u32, 1, (i % 1000) as u32, 700);
+    }
     let trip = i / 2;
     if i % 2 == 0 {
         return call(trip, 0, 1, 10 + trip as u32, 10 + trip as u32);
@@ -109,13 +114,18 @@ fn good(step: u8, load: Load, i: u16) -> Stepped {
     load.call(leg(i))
 }
 
+// The load after a good step.
+fn next(step: u8, load: Load, i: u16) -> Load {
+    let s = good(step, load, i);
+    s.load
+}
+
 // So many good steps; those that are refused leave the load as it was.
 pub fn with(step: u8, n: u16, first: Load) -> Load {
     let mut load = first;
     for i in 0u16..n {
-        let s = good(step, load, i);
-        let next = s.load;
-        load = next;
+        let one = next(step, load, i);
+        load = one;
     }
     load
 }
@@ -139,24 +149,34 @@ pub fn full_of(step: u8) -> Load {
     stops
 }
 
-// So many journeys, none of which equals or beats another; then, if `arrival` is a time, two calls of trip 900 at a stop
+// So many halves of journeys, none of which equals or beats another; and unless `second` is 0 two calls of trip 900 at a stop
 // that is no target: the first has sequence 0 and departs at 600.
-pub fn rides(n: u16, sequence: u32, arrival: u32) -> Load {
+pub fn rides(n: u16, second: u16) -> Load {
     let load = with(SEARCH, n, small());
-    if arrival == NONE {
+    if second == 0 {
         return load;
     }
-    let s = load.call(call(900, 0, 1, 600, 600));
-    let once = s.load;
-    let t = once.call(call(900, sequence, 1, arrival, 700));
-    t.load
+    next(SEARCH, next(CALL, load, 900), second)
 }
 
-// Writes what a step is answered, and a good step on the load that it returns: a call after a rule, else a rule.
+// The step that follows: a call after a rule, else a rule.
+fn following(step: u8) -> u8 {
+    if step == RULE { CALL } else { RULE }
+}
+
+fn after(step: u8, s: Stepped) -> Answer {
+    let load = s.load;
+    let next = good(following(step), load, 127);
+    next.answer
+}
+
+// Writes what a step is answered, and a good step on the load that it returns.
 pub fn then(step: u8, s: Stepped) {
     let answer = s.answer;
-    let load = s.load;
-    let next = good(if step == RULE { CALL } else { RULE }, load, 127);
-    let after = next.answer;
-    show::both(answer, after);
+    show::both(answer, after(step, s));
+}
+
+// One of two texts.
+pub fn text<'a>(first: bool, a: &'a [u8], b: &'a [u8]) -> &'a [u8] {
+    if first { a } else { b }
 }

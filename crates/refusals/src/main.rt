@@ -15,21 +15,16 @@ use show::STOP;
 
 // The faults of each step stand in the scope's order.
 fn main() {
-    words::openings();
+    words::opens();
     faults::each(STOP, [NOTHING, 15, 3, 5, 6, 7, 8, 4]);
-    words::stop_texts();
-    words::stop_names();
-    let stops = loads::full_of(STOP);
-    show::held(STOP, stops.stop_count);
+    words::stops();
+    show::held(STOP, loads::full_of(STOP).stop_count);
     faults::each(CALL, [NOTHING, 15, 9, ABSENT, 10, OUTSIDE, 11, NOTHING]);
-    words::call_fields();
-    words::call_times();
-    let calls = loads::full_of(CALL);
-    show::held(CALL, calls.call_count);
+    words::calls();
+    show::held(CALL, loads::full_of(CALL).call_count);
     faults::each(RULE, [NOTHING, 15, 9, 12, 13, 11, NOTHING, NOTHING]);
     words::rules();
-    let rules = loads::full_of(RULE);
-    show::held(RULE, rules.rule_count);
+    show::held(RULE, loads::full_of(RULE).rule_count);
     faults::each(
         SEARCH,
         [NOTHING, 15, 14, 11, NOTHING, NOTHING, NOTHING, NOTHING],

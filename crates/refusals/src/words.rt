@@ -1,6 +1,7 @@
 // Steps told in words, on the small load: what is just refused, and what is just taken.
 use crate::loads;
 use crate::loads::NONE;
+use crate::loads::text;
 use crate::show;
 use crate::show::CALL;
 use crate::show::OPEN;
@@ -8,7 +9,6 @@ use crate::show::RULE;
 use crate::show::SEARCH;
 use crate::show::STOP;
 use load::Load;
-use load::Stepped;
 use place::Degrees;
 use settings::Settings;
 use stops::StopInput;
@@ -30,7 +30,7 @@ fn open(label: &[u8], origins: u8, targets: u8, transfers: u8, now: i64, a: i64,
 }
 
 // No load is opened, so no step follows.
-pub fn openings() {
+pub fn opens() {
     open(b"5 origins", 5, 4, 1, 0, 0, 0, 0);
     open(b"5 targets", 4, 5, 1, 0, 0, 0, 0);
     open(b"2 transfers", 4, 4, 2, 0, 0, 0, 0);
@@ -76,33 +76,25 @@ fn placed(what: u8, latitude: f64) -> StopInput {
     }
 }
 
-fn with_text(what: u8, text: &[u8], input: StopInput) -> Stepped {
-    let load = loads::small();
-    if what == ID {
-        return load.stop(text, b"", b"", input);
-    }
-    if what == NAME {
-        return load.stop(b"new", text, b"", input);
-    }
-    load.stop(b"new", b"", text, input)
-}
-
 // A stop with a text, at a latitude or, where that is 0, at no position.
-fn stop(label: &[u8], what: u8, text: &[u8], latitude: f64) {
+fn stop(label: &[u8], what: u8, told: &[u8], latitude: f64) {
+    let id = text(what == ID, told, b"new");
+    let name = text(what == NAME, told, b"");
+    let parent = text(what >= PARENT, told, b"");
     show::words(STOP, label);
-    loads::then(STOP, with_text(what, text, placed(what, latitude)));
+    loads::then(
+        STOP,
+        loads::small().stop(id, name, parent, placed(what, latitude)),
+    );
 }
 
-pub fn stop_texts() {
+pub fn stops() {
     stop(b"id of 32 bytes", ID, &[97u8; 32], 0.0);
     stop(b"id of 33 bytes", ID, &[97u8; 33], 0.0);
     stop(b"station with a parent", STATION, b"A", 0.0);
     stop(b"stop with a parent", PARENT, b"A", 0.0);
     stop(b"parent that is no station", PARENT, b"B", 0.0);
     stop(b"name of 64 bytes", NAME, &[97u8; 64], 52.5);
-}
-
-pub fn stop_names() {
     stop(b"needed name of 65 bytes", NAME, &[97u8; 65], 52.5);
     stop(b"needed name without a word", NAME, b" \t ", 52.5);
     stop(b"needed name with a control", NAME, b"a\x1f", 52.5);
@@ -129,7 +121,7 @@ fn call(
     loads::then(CALL, loads::small().call(input));
 }
 
-pub fn call_fields() {
+pub fn calls() {
     call(b"of stop 2", 900, 2, 0, 600, 600, 0, 0);
     call(b"of stop 3", 900, 3, 0, 600, 600, 0, 0);
     call(b"of trip 65534", 65534, 1, 0, 600, 600, 0, 0);
@@ -137,9 +129,6 @@ pub fn call_fields() {
     call(b"with pickup 4", 900, 1, 0, 600, 600, 4, 0);
     call(b"with drop-off 4", 900, 1, 0, 600, 600, 0, 4);
     call(b"with pickup and drop-off 3", 900, 1, 0, 600, 600, 3, 3);
-}
-
-pub fn call_times() {
     call(b"without an arrival", 900, 1, 0, NONE, 600, 0, 0);
     call(b"a second before the start", 900, 1, 2, 999, 999, 0, 0);
     call(b"at the start", 900, 1, 2, 1000, 1000, 0, 0);
@@ -165,14 +154,14 @@ pub fn rules() {
     rule(b"of type 4 with 0 seconds", 2, 1, 4, true);
 }
 
-fn search(label: &[u8], legs: u16, arrival: u32) {
+fn search(label: &[u8], legs: u16, second: u16) {
     show::words(SEARCH, label);
-    loads::then(SEARCH, search::search(loads::rides(legs, 1, arrival)));
+    loads::then(SEARCH, search::search(loads::rides(legs, second)));
 }
 
 pub fn searches() {
-    search(b"of a call arriving as the last departs", 0, 600);
-    search(b"of a call arriving before the last departs", 0, 599);
-    search(b"of 64 unbeaten journeys", 128, NONE);
-    search(b"of no call", 0, NONE);
+    search(b"of a call arriving as the last departs", 0, 1600);
+    search(b"of a call arriving before the last departs", 0, 1599);
+    search(b"of 64 unbeaten journeys", 128, 0);
+    search(b"of no call", 0, 0);
 }

@@ -14,8 +14,8 @@ abbrev μ-loop : tie.MeasureT-loop
 loop-holds : tie.Need-loop-holds Inv-loop μ-loop
 loop-holds c = omega arith
 
-good-requires : tie.Need-good-requires Inv-loop μ-loop
-good-requires c κs = search needs
+next-requires : tie.Need-next-requires Inv-loop μ-loop
+next-requires c κs = search needs
 
 add-i : tie.Need-add-i Inv-loop μ-loop
 add-i c = omega arith
@@ -32,4 +32,4 @@ returns c = search needs
 pub with-spec : {M : Type 1} → statement M
 with-spec =
     tie.close
-    (tie.spec Inv-loop μ-loop loop-holds good-requires add-i loop-less loop-again returns)
+    (tie.spec Inv-loop μ-loop loop-holds next-requires add-i loop-less loop-again returns)
