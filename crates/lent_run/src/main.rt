@@ -1,10 +1,12 @@
 // Asks best by value (`best_over`) and over lent journeys (`best_lent`), side by side, a line for each question: which journey of the
 // list each takes, with its leave, arrival, rides and walk. The file `stdout` says what each must give.
 mod lists;
+mod rows;
 
 use best::Found;
 use libc::STDOUT_FILENO;
-use profile::Journey;
+use rows::at;
+use rows::part;
 
 fn text(s: &[u8]) {
     io::write_all(STDOUT_FILENO, s);
@@ -34,160 +36,80 @@ fn show(f: Found) {
     }
 }
 
-fn ask(label: &[u8], js: [Journey; 64], count: usize, horizon: u16, second: i64) {
-    text(label);
-    text(b", first ");
-    number(count as u64);
-    text(b", up to ");
-    number(horizon as u64);
-    text(b": ");
+// A second: an end of i64, -1, or a number below 2^32.
+fn second(digits: &[u8]) -> i64 {
+    let negative = part(digits, b'-', 1).len() > 0;
+    if digits.len() > 10 {
+        return if negative {
+            -9223372036854775808
+        } else {
+            9223372036854775807
+        };
+    }
+    if negative {
+        return -1;
+    }
+    (at(digits, 0) % 4294967296) as i64
+}
+
+fn answers(list: &[u8], count: usize, horizon: u16, second: i64) {
+    let js = lists::list(list);
     show(best::best_over(js, count, horizon, second));
     text(b" | ");
     show(lent::best_lent(js, count, horizon, second));
     text(b"\n");
 }
 
-fn ask_none() {
-    let js = lists::none();
-    ask(b"none at 0", js, 0, 21600, 0);
-    ask(
-        b"none at 9223372036854775807",
-        js,
-        0,
-        65535,
-        9223372036854775807,
+// A question is written by how many journeys are asked, the horizon and the second.
+fn ask(name: &[u8], list: &[u8], question: &[u8]) {
+    text(name);
+    text(b" at ");
+    text(part(question, b' ', 2));
+    text(b", first ");
+    text(part(question, b' ', 0));
+    text(b", up to ");
+    text(part(question, b' ', 1));
+    text(b": ");
+    answers(
+        list,
+        at(question, 0) as usize,
+        (at(question, 1) % 65536) as u16,
+        second(part(question, b' ', 2)),
     );
 }
 
-fn ask_single() {
-    let js = lists::single();
-    ask(b"single at 300", js, 1, 21600, 300);
-    ask(b"single at 301", js, 1, 21600, 301);
-    ask(b"single at 0", js, 1, 0, 0);
-    ask(
-        b"single at -9223372036854775808",
-        js,
-        1,
-        65535,
-        -9223372036854775808,
-    );
-    ask(
-        b"single at 9223372036854775807",
-        js,
-        1,
-        65535,
-        9223372036854775807,
-    );
+// Question k of a row: a name, a list, and at most eight questions of it.
+fn asked(row: &[u8], k: usize) {
+    let question = part(part(row, b'|', 2), b',', k);
+    if question.len() > 0 {
+        ask(part(row, b'|', 0), part(row, b'|', 1), question);
+    }
 }
 
-fn ask_pair() {
-    let js = lists::pair();
-    ask(b"pair at 0", js, 2, 21600, 0);
-    ask(b"pair at 300", js, 2, 65535, 300);
+fn each(rows: &[u8]) {
+    for k in 0usize..104 {
+        asked(part(rows, b'\n', k / 8), k % 8);
+    }
 }
 
-fn ask_between() {
-    let js = lists::between();
-    ask(b"between at 300", js, 5, 21600, 300);
-    ask(b"between at 301", js, 5, 21600, 301);
-    ask(b"between at 0", js, 2, 21600, 0);
-    ask(b"between at 0", js, 1, 21600, 0);
-}
-
-fn ask_falling() {
-    let js = lists::falling();
-    ask(b"falling at 0", js, 5, 21600, 0);
-    ask(b"falling at 0", js, 4, 21600, 0);
-    ask(b"falling at 501", js, 5, 21600, 501);
-}
-
-fn ask_mixed() {
-    let js = lists::mixed();
-    ask(b"mixed at 0", js, 5, 21600, 0);
-    ask(b"mixed at 401", js, 5, 21600, 401);
-    ask(b"mixed at 651", js, 5, 21600, 651);
-    ask(b"mixed at 651", js, 5, 650, 651);
-    ask(b"mixed at 650", js, 5, 650, 650);
-}
-
-fn ask_fewer() {
-    let js = lists::fewer();
-    ask(b"fewer at 0", js, 3, 21600, 0);
-    ask(b"fewer at 101", js, 3, 21600, 101);
-}
-
-fn ask_shorter() {
-    let js = lists::shorter();
-    ask(b"shorter at 0", js, 3, 21600, 0);
-    ask(b"shorter at 101", js, 3, 21600, 101);
-}
-
-fn ask_later() {
-    let js = lists::later();
-    ask(b"later at 0", js, 4, 21600, 0);
-    ask(b"later at 600", js, 3, 21600, 600);
-    ask(b"later at 700", js, 4, 699, 700);
-}
-
-fn ask_early() {
-    let js = lists::early();
-    ask(b"early at 0", js, 4, 0, 0);
-    ask(b"early at 1", js, 4, 0, 1);
-    ask(b"early at 11", js, 4, 21600, 11);
-    ask(b"early at 40", js, 4, 21600, 40);
-    ask(b"early at -1", js, 4, 21600, -1);
-}
-
-fn ask_ends() {
-    let js = lists::ends();
-    ask(b"ends at 65535", js, 5, 65535, 65535);
-    ask(b"ends at 65536", js, 5, 65535, 65536);
-    ask(b"ends at 0", js, 5, 65535, 0);
-    ask(b"ends at 1", js, 5, 65535, 1);
-    ask(b"ends at 65535", js, 5, 65534, 65535);
-    ask(b"ends at 65535", js, 1, 65535, 65535);
-    ask(
-        b"ends at -9223372036854775808",
-        js,
-        5,
-        65535,
-        -9223372036854775808,
-    );
-    ask(
-        b"ends at 9223372036854775807",
-        js,
-        5,
-        65535,
-        9223372036854775807,
-    );
-}
-
-fn ask_equal() {
-    let js = lists::equal();
-    ask(b"equal at 0", js, 64, 21600, 0);
-    ask(b"equal at 300", js, 65, 21600, 300);
-    ask(b"equal at 300", js, 18446744073709551615, 21600, 300);
-}
-
-fn ask_back() {
-    let js = lists::back();
-    ask(b"back at 0", js, 64, 21600, 0);
-    ask(b"back at 0", js, 63, 21600, 0);
-    ask(b"back at 0", js, 65, 21600, 0);
-}
-
+// No journey; one; a full tie of two; of three, the last two apart; arrivals in falling order; neither leave nor arrival in order;
+// a tie in arrival, with fewer rides; and in rides, with the shorter walk; and in walk, with the later leave; the preferred leaves
+// first; figures at the ends of their types; 64 equal journeys; the same with the best in the last slot.
+// Past all but the last two stands a journey that best would take.
 fn main() {
-    ask_none();
-    ask_single();
-    ask_pair();
-    ask_between();
-    ask_falling();
-    ask_mixed();
-    ask_fewer();
-    ask_shorter();
-    ask_later();
-    ask_early();
-    ask_ends();
-    ask_equal();
-    ask_back();
+    each(
+        b"none|99 65535 0 0 0|0 21600 0,0 65535 9223372036854775807
+single|99 65535 0 0 0,0 300 1320 1 5|1 21600 300,1 21600 301,1 0 0,1 65535 -9223372036854775808,1 65535 9223372036854775807
+pair|99 65535 0 0 0,0 300 1319 2 5,1 300 1319 2 5|2 21600 0,2 65535 300
+between|99 65535 0 0 0,0 250 1400 1 1,1 300 1319 2 5,2 300 1319 2 5,3 310 1320 1 0,4 300 1319 2 5|5 21600 300,5 21600 301,2 21600 0,1 21600 0
+falling|99 65535 0 0 0,0 100 5000 1 1,1 200 4000 1 1,2 300 3000 2 9,3 400 2000 2 9,4 500 1000 2 9|5 21600 0,4 21600 0,5 21600 501
+mixed|99 65535 0 0 0,0 700 2000 1 4,1 100 1500 2 4,2 900 2500 1 0,3 400 1500 2 4,4 650 1999 2 4|5 21600 0,5 21600 401,5 21600 651,5 650 651,5 650 650
+fewer|99 65535 0 0 0,0 500 900 2 0,1 100 900 1 9,2 600 900 2 0|3 21600 0,3 21600 101
+shorter|99 65535 0 0 0,0 500 900 1 7,1 100 900 1 6,2 600 900 1 7|3 21600 0,3 21600 101
+later|99 65535 0 0 0,0 500 900 1 7,1 700 900 1 7,2 600 900 1 7,3 700 900 1 7|4 21600 0,3 21600 600,4 699 700
+early|99 65535 0 0 0,0 10 50 1 0,1 20 60 1 0,2 30 70 1 0,3 40 80 1 0|4 0 0,4 0 1,4 21600 11,4 21600 40,4 21600 -1
+ends|99 65535 0 0 0,0 65535 65535 255 255,1 0 65535 255 255,2 65535 65535 0 255,3 65535 65535 255 0,4 0 0 255 255|5 65535 65535,5 65535 65536,5 65535 0,5 65535 1,5 65534 65535,1 65535 65535,5 65535 -9223372036854775808,5 65535 9223372036854775807
+equal|1 300 1320 1 5,0 300 1320 1 5|64 21600 0,65 21600 300,18446744073709551615 21600 300
+back|1 300 1320 1 5,0 300 1320 1 5,63 300 1319 2 9|64 21600 0,63 21600 0,65 21600 0",
+    );
 }
