@@ -1,4 +1,4 @@
-//! Times the port (the static library of crate load_c) beside the published Rust on load files, in turns: the search alone, and
+//! Times the port (the static libraries of crates load_c and steps_c) beside the published Rust on load files, in turns: the search alone, and
 //! the whole load from the file's bytes to the kept list. Both print the same lines of each file, or it stops.
 mod port;
 mod published;
@@ -25,7 +25,8 @@ fn side(times: &Times) -> String {
 }
 fn row(name: &str, [port, published]: &[Times; 2]) {
     let ratio = port.median() / published.median();
-    println!("| {name} | {} | {} | {ratio:.2} | {} |", side(port), side(published), port.rounds());
+    let digits = if ratio < 0.095 { 4 } else { 2 };
+    println!("| {name} | {} | {} | {ratio:.digits$} | {} |", side(port), side(published), port.rounds());
 }
 fn head(what: &str) {
     println!("\n| {what} | port, ms: least, median, quartiles | Rust | ratio of the medians | rounds |\n|---|---|---|---|---|");
@@ -45,7 +46,7 @@ fn compare(paths: &[String]) {
     head("whole load");
     files.iter().for_each(|(name, bytes)| row(name, &rounds::loads(bytes)));
 }
-/// The search by number of calls: the first 4, 8, 16 and 32 trips of tables of 32 trips with 16 calls, then the worst case.
+/// The search by number of calls: the first 4, 8, 16 and 32 trips of tables of 32 trips with 16 calls, then the worst cases.
 fn growth(paths: &[String]) {
     head("search by number of calls");
     let search = |name: String, bytes: &[u8]| {
@@ -61,11 +62,15 @@ fn growth(paths: &[String]) {
     for calls in [16, 32, 64, 128] {
         search(format!("two trips, {calls} calls"), &tables::two_trips(calls));
     }
+    for calls in [16, 32, 64, 128] {
+        search(format!("near at last, {calls} calls"), &tables::near_at_last(calls));
+    }
 }
-/// The worst case with as many calls as a load holds, once, without the Rust.
+/// The worst cases with as many calls as a load holds, once, without the Rust.
 fn worst() {
-    let bytes = tables::two_trips(512);
-    println!("two trips, 512 calls: {:.1} s", rounds::timed(|| port::load(&bytes)));
+    for (name, bytes) in [("two trips", tables::two_trips(512)), ("near at last", tables::near_at_last(512))] {
+        println!("{name}, 512 calls: {:.1} s", rounds::timed(|| port::load(&bytes)));
+    }
 }
 /// A load of 128 stops, 128 rules and 512 calls, as a file and step by step, in a thread with 1 MB of stack.
 fn steps() {
@@ -83,6 +88,7 @@ fn steps() {
             times[1].median() * 1e6 / 768.0
         );
         row("filled and searched", &rounds::loads(&full));
+        row("128 stops, then 128 rules and 128 calls in turn", &rounds::loads(&tables::in_turn()));
         let [stop, rule, call, all] = rounds::one_by_one();
         println!(
             "one by one, by the steps themselves: a stop {:.2} us, a rule {:.2}, a call {:.2}; all 768 with the opening {:.2} ms",

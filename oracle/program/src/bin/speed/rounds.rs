@@ -68,11 +68,12 @@ pub fn loads(bytes: &[u8]) -> [Times; 2] {
     in_turns([&mut port, &mut published])
 }
 /// The search alone: of each side the difference between what does it many times and the same without it. On the port's side that
-/// is a file read, so there are enough searches in a round to outweigh the reading; on the Rust's enough for a millisecond.
+/// is a file read, so there are enough searches in a round to outweigh the reading, and for two milliseconds; on the Rust's enough for
+/// one.
 pub fn searches(searched: &[u8]) -> [Times; 2] {
     let bytes = tables::unsearched(searched);
     let read = least(5, || port::searches(&bytes, 0));
-    let enough = |one: f64| (4.0 * read / one.max(1e-6)).ceil().clamp(1.0, 2000.0) as u16;
+    let enough = |one: f64| ((4.0 * read).max(2e-3) / one.max(1e-6)).ceil().clamp(1.0, 2000.0) as u16;
     let some = enough(least(3, || port::searches(&bytes, 1)) - read);
     let times = enough((least(3, || port::searches(&bytes, some)) - read) / f64::from(some));
     let mut port = || {

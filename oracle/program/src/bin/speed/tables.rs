@@ -24,32 +24,52 @@ pub fn first_trips(bytes: &[u8], trips: u16) -> Vec<u8> {
     only(bytes, |record| record[0] != CALL || u16::from_be_bytes([record[1], record[2]]) < trips)
 }
 
-fn settings(walks: &[u8]) -> Settings {
-    let (origin_walks, target_walks) = (walks.to_vec(), walks.to_vec());
+fn settings(walks: &[u8], target_walks: &[u8]) -> Settings {
+    let (origin_walks, target_walks) = (walks.to_vec(), target_walks.to_vec());
     Settings { origin_walks, target_walks, transfer_minutes: 3, max_transfers: 1, ..Settings::default() }
 }
-/// The most offers that so many calls can make: two trips, one after the other, from stops of four origins to stops of four
+/// The most journeys that so many calls can make: two trips, one after the other, from stops of four origins to stops of four
 /// targets, which are one place. So each ride of the first is followed by each of the second.
 pub fn two_trips(calls: u16) -> Vec<u8> {
+    trips(calls, [0x0f, 0xf0, 0xf0], &[0, 1, 2, 3])
+}
+/// The same where no ride can be left out: only the last call is at a target that is near, all others of the second trip at targets
+/// four hours away on foot, so that whatever departs earlier might still be the best.
+pub fn near_at_last(calls: u16) -> Vec<u8> {
+    trips(calls, [0x0f, 0xe0, 0x10], &[0, 240, 240, 240])
+}
+fn trips(calls: u16, members: [u8; 3], target_walks: &[u8]) -> Vec<u8> {
     let stop = |i: u8| Stop {
         id: vec![b'a' + i],
         name: Some(b"Stop".to_vec()),
         position: Some((52.0, 16.9)),
-        members: if i == 0 { 0x0f } else { 0xf0 },
+        members: members[usize::from(i)],
         ..Stop::default()
     };
     let call = |i: u16| {
         let trip = i / (calls / 2);
         let at = Some(u32::from(300 + 40 * i + 300 * trip));
-        Step::Call(Call { trip, sequence: u32::from(i), stop: trip, arrival: at, departure: at, ..Call::default() })
+        let stop = trip + u16::from(i + 1 == calls);
+        Step::Call(Call { trip, sequence: u32::from(i), stop, arrival: at, departure: at, ..Call::default() })
     };
-    let stops = (0..2).map(|i| Step::Stop(stop(i)));
+    let stops = (0..3).map(|i| Step::Stop(stop(i)));
     let steps: Vec<Step> = stops.chain((0..calls).map(call)).chain([Step::Search]).collect();
-    file(&settings(&[0, 1, 2, 3]), &steps)
+    file(&settings(&[0, 1, 2, 3], target_walks), &steps)
 }
 /// 128 stops, every second one in a station; 128 rules; 512 calls of 32 trips. Ids have 32 bytes and differ in the last three,
 /// names have 64, so that tests which read every earlier record read much of it.
 pub fn full() -> Vec<u8> {
+    let [stops, rules, calls] = parts();
+    let steps = [stops, rules, calls, vec![Step::Search]].concat();
+    file(&settings(&[2, 5], &[2, 5]), &steps)
+}
+/// The same stops, then the rules and the first 128 calls in turn, so that no two records of a kind follow one another.
+pub fn in_turn() -> Vec<u8> {
+    let [stops, rules, calls] = parts();
+    let turns = rules.into_iter().zip(calls).flat_map(|(rule, call)| [rule, call]);
+    file(&settings(&[2, 5], &[2, 5]), &stops.into_iter().chain(turns).collect::<Vec<_>>())
+}
+fn parts() -> [Vec<Step>; 3] {
     let id = |i: u16| format!("{:a<29}{i:03}", "").into_bytes();
     let stop = |i: u16| Stop {
         id: id(i),
@@ -64,9 +84,8 @@ pub fn full() -> Vec<u8> {
         let at = Some(u32::from(600 + i % 16 * 900 + i / 16 * 60));
         Call { trip: i / 16, sequence: u32::from(i % 16), stop: i * 5 % 128, arrival: at, departure: at, ..Call::default() }
     };
-    let stops = (0..128).map(|i| Step::Stop(stop(i)));
-    let rules = (0..128).map(|i| Step::Rule(rule(i)));
-    let calls = (0..512).map(|i| Step::Call(call(i)));
-    let steps: Vec<Step> = stops.chain(rules).chain(calls).chain([Step::Search]).collect();
-    file(&settings(&[2, 5]), &steps)
+    let stops = (0..128).map(|i| Step::Stop(stop(i))).collect();
+    let rules = (0..128).map(|i| Step::Rule(rule(i))).collect();
+    let calls = (0..512).map(|i| Step::Call(call(i))).collect();
+    [stops, rules, calls]
 }
