@@ -4,3 +4,4 @@ pub mod OfferedLaws
 pub mod SmallLaws
 pub mod SearchLaws
 pub mod Known
+pub mod MarkedLaws
