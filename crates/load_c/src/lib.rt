@@ -1,9 +1,14 @@
 // A whole load file over lent bytes, for programs in C and Rust to call.
 ghost use mathlib.Core.Path.{_≡_};
+ghost use lib.IntN.{pos};
 ghost use lib.ListN.{take};
 ghost use Rattle.file.specs.File.{readSpec};
 ghost use Rattle.lines.specs.Lines.{linesOf};
+ghost use Rattle.best.specs.Best.{bestSpec};
+ghost use Rattle.load_c.specs.Best.{timesOf};
 ghost use Rattle.load_c.specs.Searches.{horizonAfter, searchesOf};
+use best::Found;
+use best::best;
 use lines::lines;
 use load::Load;
 use reader::read;
@@ -18,6 +23,33 @@ pub extern "C" fn load_lines(bytes: &[u8], out: &mut [u8; 4096]) -> usize
     let answer = t.answer;
     let reader = t.reader;
     lines(out, answer, reader.load)
+}
+
+// When a journey leaves and arrives, as one number.
+fn times_of(found: Found) -> u64
+    ensures { λ r. ⌜ r ≡ timesOf found ⌝ }
+{
+    match found {
+        Found::Best(j) => wide(j.leave) * 65536 + wide(j.arrival),
+        Found::Nothing => 4294967296,
+    }
+}
+
+// Best of the load from the start on.
+fn best_times(load: Load) -> u64
+    ensures { λ r. ⌜ r ≡ timesOf (bestSpec load (pos 0)) ⌝ }
+{
+    times_of(best(load, 0))
+}
+
+// The file read, and best asked at second 0.
+#[no_mangle]
+pub extern "C" fn load_best(bytes: &[u8]) -> u64
+    ensures { λ r. ⌜ r ≡ timesOf (bestSpec (readSpec (now (bytes .entry)) .reader .load) (pos 0)) ⌝ }
+{
+    let t = read(bytes);
+    let reader = t.reader;
+    best_times(reader.load)
 }
 
 // The horizon after a search of the load.

@@ -1,5 +1,5 @@
 //! Times the port (the static libraries of crates load_c and steps_c) beside the published Rust on load files, in turns: the search alone, and
-//! the whole load from the file's bytes to the kept list. Both print the same lines of each file, or it stops.
+//! the whole load from the file's bytes to the best journey at second 0. Both print the same lines of each file and find the same, or it stops.
 mod port;
 mod published;
 mod rounds;
@@ -12,6 +12,7 @@ fn check(name: &str, bytes: &[u8]) {
     for lines in published::lines(bytes) {
         assert!(port == lines, "{name}: the port prints\n{port}and the Rust\n{lines}");
     }
+    assert!(port::best(bytes) == published::best(bytes), "{name}: the best journeys differ");
 }
 /// Milliseconds with three digits.
 fn ms(seconds: f64) -> String {
@@ -69,7 +70,7 @@ fn growth(paths: &[String]) {
 /// The worst cases with as many calls as a load holds, once, without the Rust.
 fn worst() {
     for (name, bytes) in [("two trips", tables::two_trips(512)), ("near at last", tables::near_at_last(512))] {
-        println!("{name}, 512 calls: {:.1} s", rounds::timed(|| port::load(&bytes)));
+        println!("{name}, 512 calls: {:.1} s", rounds::timed(|| _ = port::best(&bytes)));
     }
 }
 /// A load of 128 stops, 128 rules and 512 calls, as a file and step by step, in a thread with 1 MB of stack.

@@ -50,6 +50,11 @@ pub fn load(bytes: &[u8]) -> Filled {
     load.filter(|_| read.is_ok()).expect("a load that is accepted")
 }
 
+/// The same, and best asked at second 0: its leave and its arrival.
+pub fn best(bytes: &[u8]) -> Option<(u16, u16)> {
+    load(bytes).kept().best(0).map(|p| (p.leave, p.arrival))
+}
+
 fn lines_of(run: &Run) -> String {
     let mut out = String::new();
     for p in run.paths() {

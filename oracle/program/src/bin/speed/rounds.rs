@@ -61,10 +61,10 @@ fn in_turns(mut sides: [&mut dyn FnMut() -> f64; 2]) -> [Times; 2] {
     seconds.map(Times::of)
 }
 
-/// From the file's bytes to the kept list, of a file with a search or without.
+/// From the file's bytes to the best journey at second 0, of a file with a search or without.
 pub fn loads(bytes: &[u8]) -> [Times; 2] {
-    let mut port = || timed(|| port::load(bytes));
-    let mut published = || timed(|| _ = black_box(published::load(bytes)));
+    let mut port = || timed(|| _ = black_box(port::best(bytes)));
+    let mut published = || timed(|| _ = black_box(published::best(bytes)));
     in_turns([&mut port, &mut published])
 }
 /// The search alone: of each side the difference between what does it many times and the same without it. On the port's side that
