@@ -40,7 +40,8 @@ class Notes:
 
     def call(self, fields):
         times = [self.time(fields["day"], fields[key]) for key in ("arrival", "departure")]
-        return [self.stop_name(fields["stop"]), " to ".join(dict.fromkeys(times)),
+        lacking = None in (fields["arrival"], fields["departure"])
+        return [self.stop_name(fields["stop"]), " to ".join(dict.fromkeys(times)), "left out" if lacking else "",
                 BOARDING.get(fields["pickup"], "unknown pickup"), ALIGHTING.get(fields["drop-off"], "unknown drop-off")]
 
     def rule(self, fields):
@@ -92,7 +93,7 @@ def read(record, kind, fields):
 def records(data):
     """Each record's line; then Damaged where the file can't be read on, with the part of a record that could be."""
     if data[:1] != b"\1":
-        raise Damaged(0, f"version {data[0]}; it should be 1" if data else "no byte at all", 17)
+        raise Damaged(0, f"version {data[0]}; it should be 1 (a text is to be packed first)" if data else "no byte at all", 17)
     at, notes = 1, Notes()
     while at < len(data):
         kind, end = head(data, at, at == 1)

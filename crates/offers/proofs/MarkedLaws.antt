@@ -8,4 +8,4 @@ use Rattle.offers.specs.Marked.{MarkedOffers}
 
 pub marked-offers : MarkedOffers
 unfolding lexb clash lastAt lastAlight lastBoard directAt changesAt alightAt originAt boardAt offersIn offers searchOf
-marked-offers = record { one-ride = refl; at-zero = refl; not-boarded = refl; at-horizon = refl; past-horizon = refl; joins = refl; joins-not = refl }
+marked-offers = record { one-ride = refl; at-zero = refl; not-boarded = refl; at-horizon = refl; past-horizon = refl; joins = refl; joins-not = refl; latest-3601 = refl; latest-3600 = refl }

@@ -4,12 +4,15 @@ use mathlib.Core.Bool.{true, false, cond, not, _&&_}
 use mathlib.Core.List.{List, [], _∷_, map}
 use Prim.Native.Nat.{ℕ, _+_}
 use lib.Dec.{eqb, leb}
+use Rattle.refusal.specs.First.{answerNumber}
 use Rattle.calls.specs.declared.Call.{Call}
+use Rattle.profile.specs.declared.Journey.{Journey}
 use Rattle.profile.specs.Figures.{Figures}
-use Rattle.profile.specs.Journeys.{journeyFigures}
-use Rattle.profile.specs.Instances.{figuresOf}
+use Rattle.profile.specs.Kept.{searched}
+use Rattle.profile.specs.Journeys.{noRide, journeyFigures}
+use Rattle.profile.specs.Instances.{figuresOf, aSecondApart}
 use Rattle.offers.specs.Offers.{Timetable, offers}
-use Rattle.offers.specs.Search.{Outcome, clashing, falling, found, searchOf}
+use Rattle.offers.specs.Search.{Outcome, clashing, falling, found, answerOf, foundBy, searchOf}
 
 -- stop 0 is of the one origin, walk 5; stop 1 of the one target, walk 2; a change takes 3 minutes, at one stop
 abbrev pub marked : List Call → Timetable
@@ -42,6 +45,14 @@ keptBy (found ks h l) = map journeyFigures ks
 abbrev pub kept : List Call → List Figures
 kept cs = keptBy (searchOf (marked cs) 21600 0)
 
+-- a journey with these figures, and the number that a search from the horizon 21600 is answered with, 0 where it is taken
+abbrev pub journeyWith : Figures → Journey
+journeyWith f =
+    record { leave = f .leave; arrival = f .arrival; rides = f .rides; walk = f .walk; origin = 0; target = 0; first = noRide; last = noRide }
+
+abbrev pub numberFor : List Figures → ℕ
+numberFor fs = answerNumber (answerOf (foundBy (searched journeyFigures 64 3600 21600 0 (map journeyWith fs))))
+
 pub record MarkedOffers : Type 0 where
   -- trip 1 departs 600, arrives 1200: 300, 1320, 1 ride, walk 5; in any order of the calls
   pub one-ride : offered (callAt 1 2 1 1200 ∷ callAt 1 1 0 600 ∷ []) ≡ figuresOf 300 1320 1 5 ∷ []
@@ -54,3 +65,6 @@ pub record MarkedOffers : Type 0 where
   -- arrival 1000 joins 1180, not 1179
   pub joins : offered (callAt 1 1 0 600 ∷ callAt 1 2 2 1000 ∷ callAt 2 1 2 1180 ∷ callAt 2 2 1 1500 ∷ []) ≡ figuresOf 300 1620 2 5 ∷ []
   pub joins-not : offered (callAt 1 1 0 600 ∷ callAt 1 2 2 1000 ∷ callAt 2 1 2 1179 ∷ callAt 2 2 1 1500 ∷ []) ≡ []
+  -- 65 unbeaten, the latest 3601: taken; the latest 3600: 11
+  pub latest-3601 : numberFor (aSecondApart 537 65) ≡ 0
+  pub latest-3600 : numberFor (aSecondApart 536 65) ≡ 11

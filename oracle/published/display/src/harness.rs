@@ -1,4 +1,4 @@
-//! Drives the private functions of journey.rs for one load. It holds no rule of its own: it fills `Search` as the
+//! Not a published file. Drives the private functions of journey.rs for one load. It holds no rule of its own: it fills `Search` as the
 //! published driver does, calls the published functions and hands out what they left.
 use super::*;
 use crate::config::JourneyStop;

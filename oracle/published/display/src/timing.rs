@@ -1,4 +1,4 @@
-//! Times for the benchmark. It sits in this folder because the harness does.
+//! Not a published file. Times for the benchmark. It sits in this folder because the harness does.
 use super::super::*;
 use super::{Feed, List, Run, Settings, Sized, StopTimes, block_on};
 use std::time::{Duration, Instant};
