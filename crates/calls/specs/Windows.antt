@@ -16,7 +16,7 @@ abbrev pub timeOf : ℤ → Offset
 timeOf (pos n) = At n
 timeOf (negsuc n) = Before
 
--- a time is epoch + seconds − now (before the start, where the settings are no opened load's)
+-- a time is epoch + seconds − now; before the start, where the epoch or the start is beyond 2^40, which no opened load has
 unfoldable pub timeAfter : ℤ → ℤ → ℕ → Offset
 timeAfter epoch now seconds = cond (near epoch && near now) (timeOf (epoch +ℤ pos seconds -ℤ now)) Before
 

@@ -18,7 +18,7 @@ stored l i r =
     puts (set l (i * 10) (r .leave)) (i * 10) 1
     (r .arrival ∷ r .rides ∷ r .walk ∷ r .origin ∷ r .target ∷ r .board ∷ r .alight ∷ r .board2 ∷ r .alight2 ∷ [])
 
--- the same, shut
+-- the same, unfolded only where a proof asks for it
 unfoldable pub putRow : List ℕ → ℕ → Row → List ℕ
 putRow l i r = stored l i r
 

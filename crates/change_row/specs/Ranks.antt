@@ -41,6 +41,6 @@ bestTo l from parent (suc n) slot =
 abbrev pub raised : ℕ → ℕ
 raised k = k + min k 1 * 128
 
--- the slot of a parent is shared by all numbers past the stops, and has a rule
+-- the slot is 128, which all numbers past the stops share, and its rank k is a rule's
 abbrev pub isShared : ℕ → ℕ → Bool
 isShared slot k = eqb slot 128 && not (eqb k 0)

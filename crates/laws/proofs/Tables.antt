@@ -9,7 +9,7 @@ use lib.ListN.{length, getD, take, set, length-set}
 use lib.Seq.{getD-set-same, getD-set-other, getD-take, length-take-le, ext-getD}
 use borrow.Author.Count.{below-none, below-more}
 use Rattle.laws.specs.Lists.{span}
-use Rattle.laws.specs.Sort.{insert, sort}
+use Rattle.laws.specs.Sort.{insertBy, sort}
 use Rattle.laws.specs.Tables.{table}
 
 module _ {A : Type 0} (f : ℕ → A) where
@@ -72,15 +72,15 @@ table-same n f g h = go 0 n (λ k a b. h k (omega arith))
 
 -- sorting by f and then taking f is taking f and then sorting
 module _ {A B : Type 0} (lt : B → B → Bool) (f : A → B) where
-  insert-map : (x : A) (l : List A) → map f (insert (λ a b. lt (f a) (f b)) x l) ≡ insert lt (f x) (map f l)
-  insert-map x [] = refl
-  insert-map x (y ∷ l) = go (lt (f y) (f x)) (insert-map x l)
+  insertBy-map : (x : A) (l : List A) → map f (insertBy (λ a b. lt (f a) (f b)) x l) ≡ insertBy lt (f x) (map f l)
+  insertBy-map x [] = refl
+  insertBy-map x (y ∷ l) = go (lt (f y) (f x)) (insertBy-map x l)
     where
-      go : (b : Bool) → map f (insert (λ a b. lt (f a) (f b)) x l) ≡ insert lt (f x) (map f l)
-          → map f (cond b (y ∷ insert (λ a b. lt (f a) (f b)) x l) (x ∷ y ∷ l)) ≡ cond b (f y ∷ insert lt (f x) (map f l)) (f x ∷ f y ∷ map f l)
+      go : (b : Bool) → map f (insertBy (λ a b. lt (f a) (f b)) x l) ≡ insertBy lt (f x) (map f l)
+          → map f (cond b (y ∷ insertBy (λ a b. lt (f a) (f b)) x l) (x ∷ y ∷ l)) ≡ cond b (f y ∷ insertBy lt (f x) (map f l)) (f x ∷ f y ∷ map f l)
       go true e = ap {B = List B} (λ r. f y ∷ r) e
       go false e = refl
 
   pub sort-map : (l : List A) → map f (sort (λ a b. lt (f a) (f b)) l) ≡ sort lt (map f l)
   sort-map [] = refl
-  sort-map (x ∷ l) = insert-map x (sort (λ a b. lt (f a) (f b)) l) ∙ ap (insert lt (f x)) (sort-map l)
+  sort-map (x ∷ l) = insertBy-map x (sort (λ a b. lt (f a) (f b)) l) ∙ ap (insertBy lt (f x)) (sort-map l)

@@ -6,7 +6,7 @@ use mathlib.Core.Bool.{Bool, true, false, cond}
 use mathlib.Core.List.{List, [], _∷_, _++_, List·Memᴰ, List·Memᴰ·head, List·Memᴰ·tail, List·Memᴰ·not-nil, List·Memᴰ·cases-cons, List·Memᴰ·append-cases, List·Memᴰ·eq-of-singleton, Memᴰ·append-right}
 use native.Mathlib.Omega.{arith}
 use Rattle.laws.specs.Lists.{span}
-use Rattle.laws.specs.Sort.{insert, sort, Ordered}
+use Rattle.laws.specs.Sort.{insertBy, sort, Ordered}
 use Rattle.laws.proofs.Folds.{span-mem}
 use Rattle.laws.proofs.Sort.{sort-mem}
 
@@ -20,11 +20,11 @@ span-apart a zero = tt
 span-apart a (suc n) = ((λ m. omega (arith, span-mem (suc a) n m .0)), span-apart (suc a) n)
 
 module _ (lt : ℕ → ℕ → Bool) where
-  insert-mem : (x : ℕ) (l : List ℕ) {y : ℕ} → List·Memᴰ y (insert lt x l) → (y ≡ x) ⊎ List·Memᴰ y l
-  insert-mem x [] m = List·Memᴰ·cases-cons m
-  insert-mem x (z ∷ l) {y} m = go (lt z x) m (λ k. insert-mem x l k)
+  insertBy-mem : (x : ℕ) (l : List ℕ) {y : ℕ} → List·Memᴰ y (insertBy lt x l) → (y ≡ x) ⊎ List·Memᴰ y l
+  insertBy-mem x [] m = List·Memᴰ·cases-cons m
+  insertBy-mem x (z ∷ l) {y} m = go (lt z x) m (λ k. insertBy-mem x l k)
     where
-      tail : (y ≡ z) ⊎ List·Memᴰ y (insert lt x l) → (List·Memᴰ y (insert lt x l) → (y ≡ x) ⊎ List·Memᴰ y l) → (y ≡ x) ⊎ List·Memᴰ y (z ∷ l)
+      tail : (y ≡ z) ⊎ List·Memᴰ y (insertBy lt x l) → (List·Memᴰ y (insertBy lt x l) → (y ≡ x) ⊎ List·Memᴰ y l) → (y ≡ x) ⊎ List·Memᴰ y (z ∷ l)
       tail (inl e) ih = inr (List·Memᴰ·head e)
       tail (inr k) ih = later (ih k)
         where
@@ -32,25 +32,25 @@ module _ (lt : ℕ → ℕ → Bool) where
           later (inl e) = inl e
           later (inr j) = inr (List·Memᴰ·tail j)
 
-      go : (b : Bool) → List·Memᴰ y (cond b (z ∷ insert lt x l) (x ∷ z ∷ l)) → (List·Memᴰ y (insert lt x l) → (y ≡ x) ⊎ List·Memᴰ y l) → (y ≡ x) ⊎ List·Memᴰ y (z ∷ l)
+      go : (b : Bool) → List·Memᴰ y (cond b (z ∷ insertBy lt x l) (x ∷ z ∷ l)) → (List·Memᴰ y (insertBy lt x l) → (y ≡ x) ⊎ List·Memᴰ y l) → (y ≡ x) ⊎ List·Memᴰ y (z ∷ l)
       go true k ih = tail (List·Memᴰ·cases-cons k) ih
       go false k ih = List·Memᴰ·cases-cons k
 
-  insert-apart : (x : ℕ) (l : List ℕ) → (List·Memᴰ x l → ⊥) → Apart l → Apart (insert lt x l)
-  insert-apart x [] n a = ((λ m. List·Memᴰ·not-nil m), tt)
-  insert-apart x (z ∷ l) n a = go (lt z x) (insert-apart x l (λ m. n (List·Memᴰ·tail m)) (a .1))
+  insertBy-apart : (x : ℕ) (l : List ℕ) → (List·Memᴰ x l → ⊥) → Apart l → Apart (insertBy lt x l)
+  insertBy-apart x [] n a = ((λ m. List·Memᴰ·not-nil m), tt)
+  insertBy-apart x (z ∷ l) n a = go (lt z x) (insertBy-apart x l (λ m. n (List·Memᴰ·tail m)) (a .1))
     where
       other : (z ≡ x) ⊎ List·Memᴰ z l → ⊥
       other (inl e) = n (List·Memᴰ·head (sym e))
       other (inr m) = a .0 m
 
-      go : (b : Bool) → Apart (insert lt x l) → Apart (cond b (z ∷ insert lt x l) (x ∷ z ∷ l))
-      go true ih = ((λ m. other (insert-mem x l m)), ih)
+      go : (b : Bool) → Apart (insertBy lt x l) → Apart (cond b (z ∷ insertBy lt x l) (x ∷ z ∷ l))
+      go true ih = ((λ m. other (insertBy-mem x l m)), ih)
       go false ih = (n, a)
 
   sort-apart : (l : List ℕ) → Apart l → Apart (sort lt l)
   sort-apart [] a = tt
-  sort-apart (x ∷ l) a = insert-apart x (sort lt l) (λ m. a .0 (sort-mem lt l m)) (sort-apart l (a .1))
+  sort-apart (x ∷ l) a = insertBy-apart x (sort lt l) (λ m. a .0 (sort-mem lt l m)) (sort-apart l (a .1))
 
   pub order-apart : (n : ℕ) → Apart (sort lt (span 0 n))
   order-apart n = sort-apart (span 0 n) (span-apart 0 n)

@@ -26,7 +26,7 @@ noRide = record { trip = 0; day = 0; from = 0; to = 0; departure = 0; arrival = 
 abbrev pub noJourney : Journey
 noJourney = record { leave = 0; arrival = 0; rides = 0; walk = 0; origin = 0; target = 0; first = noRide; last = noRide }
 
--- a row of ten numbers; the same, shut, as contracts name it
+-- a row of ten numbers; the same as contracts name it, unfolded only where a proof asks for it
 abbrev pub row : ℕ → ℕ → ℕ → ℕ → ℕ → ℕ → ℕ → ℕ → ℕ → ℕ → Row
 row a b c d p q r s t u = record { leave = a; arrival = b; rides = c; walk = d; origin = p; target = q; board = r; alight = s; board2 = t; alight2 = u }
 

@@ -26,7 +26,7 @@ module _ {A : Type 0} (due : A → ℕ) (cap floor : ℕ) where
       (cond (ltb (latest due ks - 1) floor) refused (going (filterb (λ k. leb (due k) (latest due ks - 1)) ks) (latest due ks - 1) 1))
 
 module _ {A : Type 0} (cov : A → A → Bool) (due : A → ℕ) (cap floor : ℕ) where
-  -- an offer (`candidate`) due after the horizon is passed over; so is one equalled or beaten by a kept one; otherwise those it equals or beats go and it is added last
+  -- an offer (`candidate`) due after the horizon is passed over; so is one equalled or beaten by a kept one; otherwise those it equals or beats go and it is added last. It equals none then, so those are the ones it beats
   abbrev pub offer : St A → A → St A
   offer refused o = refused
   offer (going ks h l) o =

@@ -17,7 +17,7 @@ slot l i =
     row (getD l (i * 10) 0) (getD l (i * 10 + 1) 0) (getD l (i * 10 + 2) 0) (getD l (i * 10 + 3) 0) (getD l (i * 10 + 4) 0) (getD l (i * 10 + 5) 0)
     (getD l (i * 10 + 6) 0) (getD l (i * 10 + 7) 0) (getD l (i * 10 + 8) 0) (getD l (i * 10 + 9) 0)
 
--- the same, shut
+-- the same, unfolded only where a proof asks for it
 unfoldable pub rowAt : List ℕ → ℕ → Row
 rowAt l i = slot l i
 

@@ -20,7 +20,7 @@ fn digit(b: u8) -> bool
     b < 58
 }
 
-fn worth(b: u8) -> u32
+fn digit_value(b: u8) -> u32
     ensures { λ r. ⌜ r ≡ b - 48 ⌝ }
 {
     if b < 48 { 0 } else { b as u32 - 48 }
@@ -30,7 +30,7 @@ fn worth(b: u8) -> u32
 fn pair(a: u8, b: u8) -> u32
     ensures { λ r. ⌜ r ≡ number (a ∷ b ∷ []) ⌝ }
 {
-    worth(a) * 10 + worth(b)
+    digit_value(a) * 10 + digit_value(b)
 }
 
 // Two digits, below 60.
@@ -54,7 +54,7 @@ fn with_hours(hours: &[u8], rest: u32) -> Time
     while i < hours.len() {
         let b = hours[i];
         if digit(b) {
-            v = v * 10 + worth(b);
+            v = v * 10 + digit_value(b);
         } else {
             return Time::Refused(Refusal::TimeText);
         }

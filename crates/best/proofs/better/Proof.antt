@@ -1,4 +1,4 @@
--- `lent::better` meets its contract: a case for each way. Assumes nothing.
+-- `better` meets its contract: a case for each way.
 use mathlib.Core.Path.{sym, _∙_}
 use borrow.Author.Needs.{needs}
 use Rattle.best.proofs.TurnLaws.{better-stays, better-goes, better-first, better-early}

@@ -1,4 +1,4 @@
--- `lent::turn` meets its contract: before 0, after the horizon, and between. Assumes nothing.
+-- `turn` meets its contract: before 0, after the horizon, and between.
 use mathlib.Core.Path.{_≡_, sym, _∙_}
 use mathlib.Core.Bool.{false}
 use lib.IntN.{ℤ, pos, natAbs}

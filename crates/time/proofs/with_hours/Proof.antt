@@ -27,11 +27,11 @@ digit-requires c κs = search needs
 mul-v : tie.Need-mul-v Inv-loop μ-loop
 mul-v c = search needs
 
-worth-requires : tie.Need-worth-requires Inv-loop μ-loop
-worth-requires c κs = search needs
+digit-value-requires : tie.Need-digit-value-requires Inv-loop μ-loop
+digit-value-requires c κs = search needs
 
 add-v : tie.Need-add-v Inv-loop μ-loop
-add-v c = omega (arith, c .worth .ensures, c .before .before .before .shared-slice-known2 .given (c .before .before .before .before .before .loop .i))
+add-v c = omega (arith, c .digit-value .ensures, c .before .before .before .shared-slice-known2 .given (c .before .before .before .before .before .loop .i))
 
 returns : tie.Need-returns Inv-loop μ-loop
 returns c =
@@ -44,7 +44,7 @@ returns-2 c =
     let d = c .before .before .before in
     let L = d .before .before .before in
     too-many _ _ _ (c .if2 .taken)
-    ∙ sym (L .loop .inv .2 ∙ digit-turn _ _ _ _ _ (d .before .before .loop-test .taken) (sym (d .digit .ensures) ∙ c .before .before .if1 .taken) (c .before .worth .ensures))
+    ∙ sym (L .loop .inv .2 ∙ digit-turn _ _ _ _ _ (d .before .before .loop-test .taken) (sym (d .digit .ensures) ∙ c .before .before .if1 .taken) (c .before .digit-value .ensures))
 
 add-i : tie.Need-add-i Inv-loop μ-loop
 add-i c = search needs
@@ -56,7 +56,7 @@ loop-again : tie.Need-loop-again Inv-loop μ-loop
 loop-again c =
     let d = c .before .before .before in
     let L = d .before .before .before in
-    (omega arith, c .if2 .left, L .loop .inv .2 ∙ digit-turn _ _ _ _ _ (d .before .before .loop-test .taken) (sym (d .digit .ensures) ∙ c .before .before .if1 .taken) (c .before .worth .ensures))
+    (omega arith, c .if2 .left, L .loop .inv .2 ∙ digit-turn _ _ _ _ _ (d .before .before .loop-test .taken) (sym (d .digit .ensures) ∙ c .before .before .if1 .taken) (c .before .digit-value .ensures))
 
 cast-total : tie.Need-cast-total Inv-loop μ-loop
 cast-total c = search needs
@@ -90,7 +90,7 @@ with-hours-spec =
     shared-slice-read-b
     digit-requires
     mul-v
-    worth-requires
+    digit-value-requires
     add-v
     returns
     returns-2
