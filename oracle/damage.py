@@ -122,7 +122,7 @@ LISTS = [swapped, dropped, repeated]
 SINGLE = [length, kind, field, field, mark, mark, extreme, extreme, stretched, stretched]
 
 
-def wound(rng, data, other):
+def damage_once(rng, data, other):
     parts, way = records(data), rng.random()
     if way < 0.35 or not parts:
         return rng.choice(BYTES)(rng, data)
@@ -137,10 +137,10 @@ def wound(rng, data, other):
 
 
 def damaged(rng, data, other):
-    """The file with one to four wounds, and not as it was; seldom mere noise after the version. `other` lends a record."""
+    """The file with one to four of these damages, and not as it was; seldom mere noise after the version. `other` lends a record."""
     if rng.random() < 0.01:
         return b"\1" + rng.randbytes(rng.randrange(40))
     found = data
     for _ in range(rng.choice([1, 1, 1, 2, 2, 3, 4])):
-        found = wound(rng, found, other)
+        found = damage_once(rng, found, other)
     return found if found != data else damaged(rng, data, other)

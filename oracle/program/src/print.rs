@@ -1,6 +1,7 @@
 //! What both sides print for one load.
 use crate::load::{End, Load};
 use display::journey::Path;
+use display::journey::harness::Run;
 use std::fmt::Write;
 
 fn flag(b: bool) -> u8 {
@@ -30,9 +31,7 @@ pub fn file(out: &mut String, bytes: &[u8]) {
         Ok(load) => accepted(out, &load),
     }
 }
-fn accepted(out: &mut String, load: &Load) {
-    let run = &load.run;
-    line(out, "answers", (!load.answers.is_empty()).then(|| load.answers.clone()));
+fn calls(out: &mut String, run: &Run) {
     for c in run.calls() {
         let _ = writeln!(
             out,
@@ -49,9 +48,8 @@ fn accepted(out: &mut String, load: &Load) {
             flag(c.alight_request)
         );
     }
-    if load.searched {
-        line(out, "places", run.place_numbers().into_iter().map(|p| p.map_or("-".to_string(), |p| p.to_string())));
-    }
+}
+fn journeys(out: &mut String, run: &Run) {
     for (i, path) in run.paths().iter().enumerate() {
         let _ = write!(out, "journey {}", figures(path));
         for r in run.rides(i) {
@@ -70,7 +68,8 @@ fn accepted(out: &mut String, load: &Load) {
         }
         out.push('\n');
     }
-    let _ = writeln!(out, "horizon {} limits {}", run.horizon(), run.limits());
+}
+fn queries(out: &mut String, run: &Run) {
     let horizon = i64::from(run.horizon());
     let mut seconds = vec![-1, 0, horizon, horizon + 1];
     for path in run.paths() {
@@ -84,4 +83,15 @@ fn accepted(out: &mut String, load: &Load) {
     for path in run.paths() {
         let _ = writeln!(out, "next {} {}", path.leave, answer(run.next_after(0, path)));
     }
+}
+fn accepted(out: &mut String, load: &Load) {
+    let run = &load.run;
+    line(out, "answers", (!load.answers.is_empty()).then(|| load.answers.clone()));
+    calls(out, run);
+    if load.searched {
+        line(out, "places", run.place_numbers().into_iter().map(|p| p.map_or("-".to_string(), |p| p.to_string())));
+    }
+    journeys(out, run);
+    let _ = writeln!(out, "horizon {} limits {}", run.horizon(), run.limits());
+    queries(out, run);
 }

@@ -13,13 +13,30 @@ fn changed(whole: Vec<u8>, change: impl FnOnce(&mut Vec<u8>)) -> Vec<u8> {
 fn file(parts: &[Vec<u8>]) -> Vec<u8> {
     [vec![1], parts.concat()].concat()
 }
+/// A byte too few or too many in each record, and optional bytes of 2.
+fn unfilled(open: &[u8], stop: &[u8], search: &[u8]) -> Vec<Vec<u8>> {
+    let call = Call { arrival: Some(600), departure: Some(600), ..Call::default() }.record();
+    let rule = Rule { seconds: Some(60), transfer_type: 2, ..Rule::default() }.record();
+    let parts = |last| file(&[open.to_vec(), stop.to_vec(), last]);
+    let mut files = Vec::new();
+    for whole in [stop, &call, &rule, search] {
+        files.push(parts(changed(whole.to_vec(), |fields| fields.push(0))));
+        if whole.len() > 3 {
+            files.push(parts(changed(whole.to_vec(), |fields| fields.truncate(fields.len() - 1))));
+        }
+    }
+    for (whole, places) in [(stop, vec![2, 3, 5]), (&call, vec![9, 14]), (&rule, vec![5])] {
+        for at in places {
+            files.push(parts(changed(whole.to_vec(), |fields| fields[at] = 2)));
+        }
+    }
+    files
+}
 
 pub fn files() -> Vec<Vec<u8>> {
     let open = settings(1).record();
     let search = record(5, &[]);
     let stop = Stop { id: b"a".to_vec(), ..Stop::default() }.record();
-    let call = Call { arrival: Some(600), departure: Some(600), ..Call::default() }.record();
-    let rule = Rule { seconds: Some(60), transfer_type: 2, ..Rule::default() }.record();
     let late = Stop { id: vec![], ..Stop::default() }.record();
     let mut files = vec![vec![], vec![0], vec![2], vec![255, 0, 0]];
     // Another version before anything else.
@@ -34,19 +51,7 @@ pub fn files() -> Vec<Vec<u8>> {
     {
         files.push(file(&[open.clone(), rest]));
     }
-    // A byte too few or too many in each record, and optional bytes of 2.
-    for whole in [&stop, &call, &rule, &search] {
-        let parts = |last| file(&[open.clone(), stop.clone(), last]);
-        files.push(parts(changed(whole.clone(), |fields| fields.push(0))));
-        if whole.len() > 3 {
-            files.push(parts(changed(whole.clone(), |fields| fields.truncate(fields.len() - 1))));
-        }
-    }
-    for (whole, places) in [(&stop, vec![2, 3, 5]), (&call, vec![9, 14]), (&rule, vec![5])] {
-        for at in places {
-            files.push(file(&[open.clone(), stop.clone(), changed(whole.clone(), |fields| fields[at] = 2)]));
-        }
-    }
+    files.extend(unfilled(&open, &stop, &search));
     // Walks as many as the count says; a record's own 18 before 1; what follows a refusal is not looked at.
     files.push(file(&[changed(open.clone(), |fields| fields[0] = 2)]));
     files.push(file(&[changed(settings(5).record(), |fields| fields.truncate(fields.len() - 1))]));

@@ -71,6 +71,15 @@ pub fn rules(rng: &mut Rng) -> Vec<u8> {
     file(&plain(vec![0], vec![0], minutes), &steps)
 }
 
+/// A few rides between any of so many stops.
+fn rides(rng: &mut Rng, steps: &mut Vec<Step>, stops: u64) {
+    for trip in 0..rng.range(0, 4) as u16 {
+        let (a, b) = (rng.below(stops) as u16, rng.below(stops) as u16);
+        let start = 600 + rng.below(6) as u32 * 200;
+        steps.extend(ride(trip, a, b, start, start + 200));
+    }
+}
+
 /// Degrees whose product with a million cuts to these microdegrees, or lies just beside.
 fn degrees(rng: &mut Rng, micro: i64) -> f64 {
     let half = if micro < 0 { -0.5 } else { 0.5 };
@@ -130,14 +139,35 @@ pub fn places(rng: &mut Rng) -> Vec<u8> {
         };
         steps.push(Step::Stop(stop));
     }
-    let count = stations.len() as u64 + n as u64;
-    for trip in 0..rng.range(0, 4) as u16 {
-        let (a, b) = (rng.below(count) as u16, rng.below(count) as u16);
-        let start = 600 + rng.below(6) as u32 * 200;
-        steps.extend(ride(trip, a, b, start, start + 200));
-    }
+    rides(rng, &mut steps, stations.len() as u64 + n as u64);
     steps.push(Step::Search);
     file(&plain(vec![0], vec![0], 0), &steps)
+}
+
+/// A name; where it may be a bad one, now and then with any byte in it, or without a word, or too long.
+fn name(rng: &mut Rng, risky: bool) -> Vec<u8> {
+    let mut name: Vec<u8> =
+        rng.pick(&["Old Quay", "old quay", "OLD  QUAY ", "\told\n\x0b\x0c\rquay", "x", "oldquay", "[old`{quay@"]).into();
+    if risky && rng.once_in(3) {
+        let at = rng.below(name.len() as u64 + 1) as usize;
+        let any = rng.below(256) as u8;
+        let byte = rng.pick(&[0, 8, 9, 13, 14, 28, 31, 32, 126, 127, 127, 128, 133, 160, 255, any]);
+        name.insert(at, byte);
+    }
+    if risky && rng.once_in(4) {
+        name = rng.pick(&[
+            b"".to_vec(),
+            b"".to_vec(),
+            b" \t ".to_vec(),
+            "B\u{e9}con".into(),
+            vec![b'n'; 64],
+            vec![b'n'; 65],
+            vec![200; 65],
+            "\u{a0}".into(),
+            vec![7; 65],
+        ]);
+    }
+    name
 }
 
 /// Names with and without words, of every byte, needed and not; lengths at the limit.
@@ -150,27 +180,7 @@ pub fn names(rng: &mut Rng) -> Vec<u8> {
     })];
     let risky = rng.once_in(2);
     for i in 0..rng.range(2, 5) {
-        let mut name: Vec<u8> =
-            rng.pick(&["Old Quay", "old quay", "OLD  QUAY ", "\told\n\x0b\x0c\rquay", "x", "oldquay", "[old`{quay@"]).into();
-        if risky && rng.once_in(3) {
-            let at = rng.below(name.len() as u64 + 1) as usize;
-            let any = rng.below(256) as u8;
-            let byte = rng.pick(&[0, 8, 9, 13, 14, 28, 31, 32, 126, 127, 127, 128, 133, 160, 255, any]);
-            name.insert(at, byte);
-        }
-        if risky && rng.once_in(4) {
-            name = rng.pick(&[
-                b"".to_vec(),
-                b"".to_vec(),
-                b" \t ".to_vec(),
-                "B\u{e9}con".into(),
-                vec![b'n'; 64],
-                vec![b'n'; 65],
-                vec![200; 65],
-                "\u{a0}".into(),
-                vec![7; 65],
-            ]);
-        }
+        let name = name(rng, risky);
         let unnamed = rng.once_in(6);
         let mut id: Vec<u8> = format!("i{i}").into();
         if unnamed && rng.once_in(2) {

@@ -40,12 +40,10 @@ pub fn table(rng: &mut Rng, trips: u64, calls: u64, stops: u64, ends: Ends, max_
         // A trip runs along the stops with a stride, so that trips cross; every trip passes an end now and then.
         let (first, stride) = (rng.below(stops), 1 + rng.below(stops.max(4) / 4));
         for k in 0..calls {
-            let stop = if k == 0 && trip % 4 == 0 {
-                0
-            } else if k + 1 == calls && trip % 4 == 1 {
-                stops - 1
-            } else {
-                (first + k * stride) % stops
+            let stop = match trip % 4 {
+                0 if k == 0 => 0,
+                1 if k + 1 == calls => stops - 1,
+                _ => (first + k * stride) % stops,
             };
             let departure = at + rng.below(30);
             steps.push(Step::Call(Call {
