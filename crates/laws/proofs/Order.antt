@@ -9,17 +9,17 @@ use lib.Dec.{ltb}
 use lib.ListN.{length, getD, take, drop, length-take}
 use borrow.Author.Tests.{lt-ltb, le-ltb, ltb-true, ltb-false}
 use Rattle.laws.specs.Sort.{Strict}
-use Rattle.laws.specs.Order.{lexb, lessBytes}
+use Rattle.laws.specs.Order.{byFirst, lessBytes}
 use Rattle.laws.proofs.Turns.{drop-take-cons, drop-take-nil}
 
-pub lexb-less : (a b : ℕ) (r : Bool) → a < b → lexb a b r ≡ true
-lexb-less a b r h = rw (lt-ltb a b h)
+pub byFirst-less : (a b : ℕ) (r : Bool) → a < b → byFirst a b r ≡ true
+byFirst-less a b r h = rw (lt-ltb a b h)
 
-pub lexb-more : (a b : ℕ) (r : Bool) → b < a → lexb a b r ≡ false
-lexb-more a b r h = rw (le-ltb a b (omega arith), lt-ltb b a h)
+pub byFirst-more : (a b : ℕ) (r : Bool) → b < a → byFirst a b r ≡ false
+byFirst-more a b r h = rw (le-ltb a b (omega arith), lt-ltb b a h)
 
-pub lexb-same : (a b : ℕ) (r : Bool) → b ≤ a → a ≤ b → lexb a b r ≡ r
-lexb-same a b r g h = rw (le-ltb a b g, le-ltb b a h)
+pub byFirst-same : (a b : ℕ) (r : Bool) → b ≤ a → a ≤ b → byFirst a b r ≡ r
+byFirst-same a b r g h = rw (le-ltb a b g, le-ltb b a h)
 
 pub tri : (m n : ℕ) → (m < n) ⊎ ((m ≡ n) ⊎ (n < m))
 tri m n = go (ltb m n) (ltb n m) refl refl
@@ -34,10 +34,10 @@ bytes-asym a [] e = absurd (false≢true e)
 bytes-asym [] (y ∷ b) e = refl
 bytes-asym (x ∷ a) (y ∷ b) e = go (tri x y) (bytes-asym a b)
   where
-    go : (x < y) ⊎ ((x ≡ y) ⊎ (y < x)) → (lessBytes a b ≡ true → lessBytes b a ≡ false) → lexb y x (lessBytes b a) ≡ false
-    go (inl h) ih = lexb-more y x _ h
-    go (inr (inl h)) ih = lexb-same y x _ (omega arith) (omega arith) ∙ ih (sym (lexb-same x y _ (omega arith) (omega arith)) ∙ e)
-    go (inr (inr h)) ih = absurd (true≢false (sym e ∙ lexb-more x y _ h))
+    go : (x < y) ⊎ ((x ≡ y) ⊎ (y < x)) → (lessBytes a b ≡ true → lessBytes b a ≡ false) → byFirst y x (lessBytes b a) ≡ false
+    go (inl h) ih = byFirst-more y x _ h
+    go (inr (inl h)) ih = byFirst-same y x _ (omega arith) (omega arith) ∙ ih (sym (byFirst-same x y _ (omega arith) (omega arith)) ∙ e)
+    go (inr (inr h)) ih = absurd (true≢false (sym e ∙ byFirst-more x y _ h))
 
 bytes-pass : (a b c : List ℕ) → lessBytes b a ≡ false → lessBytes c b ≡ false → lessBytes c a ≡ false
 bytes-pass [] b c p q = refl
@@ -46,16 +46,16 @@ bytes-pass (x ∷ a) (y ∷ b) [] p q = absurd (true≢false q)
 bytes-pass (x ∷ a) (y ∷ b) (z ∷ c) p q = go (tri x y) (tri y z) (bytes-pass a b c)
   where
     go : (x < y) ⊎ ((x ≡ y) ⊎ (y < x)) → (y < z) ⊎ ((y ≡ z) ⊎ (z < y)) → (lessBytes b a ≡ false → lessBytes c b ≡ false → lessBytes c a ≡ false)
-        → lexb z x (lessBytes c a) ≡ false
-    go (inr (inr h)) k ih = absurd (true≢false (sym (lexb-less y x _ h) ∙ p))
-    go (inl h) (inr (inr k)) ih = absurd (true≢false (sym (lexb-less z y _ k) ∙ q))
-    go (inr (inl h)) (inr (inr k)) ih = absurd (true≢false (sym (lexb-less z y _ k) ∙ q))
-    go (inl h) (inl k) ih = lexb-more z x _ (omega arith)
-    go (inl h) (inr (inl k)) ih = lexb-more z x _ (omega arith)
-    go (inr (inl h)) (inl k) ih = lexb-more z x _ (omega arith)
+        → byFirst z x (lessBytes c a) ≡ false
+    go (inr (inr h)) k ih = absurd (true≢false (sym (byFirst-less y x _ h) ∙ p))
+    go (inl h) (inr (inr k)) ih = absurd (true≢false (sym (byFirst-less z y _ k) ∙ q))
+    go (inr (inl h)) (inr (inr k)) ih = absurd (true≢false (sym (byFirst-less z y _ k) ∙ q))
+    go (inl h) (inl k) ih = byFirst-more z x _ (omega arith)
+    go (inl h) (inr (inl k)) ih = byFirst-more z x _ (omega arith)
+    go (inr (inl h)) (inl k) ih = byFirst-more z x _ (omega arith)
     go (inr (inl h)) (inr (inl k)) ih =
-        lexb-same z x _ (omega arith) (omega arith)
-        ∙ ih (sym (lexb-same y x _ (omega arith) (omega arith)) ∙ p) (sym (lexb-same z y _ (omega arith) (omega arith)) ∙ q)
+        byFirst-same z x _ (omega arith) (omega arith)
+        ∙ ih (sym (byFirst-same y x _ (omega arith) (omega arith)) ∙ p) (sym (byFirst-same z y _ (omega arith) (omega arith)) ∙ q)
 
 -- by the bytes that f gives
 pub strict-bytes : {A : Type 0} (f : A → List ℕ) → Strict (λ (a b : A). lessBytes (f a) (f b))
@@ -77,14 +77,14 @@ module _ (a b : List ℕ) (m n k : ℕ) where
     left-whole h = rw (drop-take-nil a m k (simp length-take (omega arith)), drop-take-cons b n k 0 in-b long-b)
 
     module _ (in-a : k < m) (long-a : k < length a) where
-      turn : left ≡ lexb (getD a k 0) (getD b k 0) (lessBytes (drop (k + 1) (take m a)) (drop (k + 1) (take n b)))
+      turn : left ≡ byFirst (getD a k 0) (getD b k 0) (lessBytes (drop (k + 1) (take m a)) (drop (k + 1) (take n b)))
       turn = rw (drop-take-cons a m k 0 in-a long-a, drop-take-cons b n k 0 in-b long-b)
 
       pub turn-less : getD a k 0 < getD b k 0 → left ≡ true
-      turn-less h = turn ∙ lexb-less _ _ _ h
+      turn-less h = turn ∙ byFirst-less _ _ _ h
 
       pub turn-more : getD b k 0 < getD a k 0 → left ≡ false
-      turn-more h = turn ∙ lexb-more _ _ _ h
+      turn-more h = turn ∙ byFirst-more _ _ _ h
 
       pub turn-same : getD b k 0 ≤ getD a k 0 → getD a k 0 ≤ getD b k 0 → left ≡ lessBytes (drop (k + 1) (take m a)) (drop (k + 1) (take n b))
-      turn-same g h = turn ∙ lexb-same _ _ _ g h
+      turn-same g h = turn ∙ byFirst-same _ _ _ g h
