@@ -7,4 +7,5 @@ pub mod Fits
 pub mod SoundLaws
 pub mod ShownLaws
 pub mod FallLaws
+pub mod ReachedLaws
 pub mod Marks

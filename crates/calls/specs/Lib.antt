@@ -4,4 +4,5 @@ pub mod Calls
 pub mod Uncut
 pub mod Sound
 pub mod Shown
+pub mod Reached
 pub mod Marked

@@ -64,5 +64,8 @@ seenCall h a d i = record {
 }
 
 -- outside: departure below 0, or arrival after the horizon
+abbrev pub outside : ℕ → Offset → Offset → Bool
+outside h a d = before d || after h a
+
 unfoldable pub seen : ℕ → Offset → Offset → CallInput → View
-seen h a d i = cond (before d || after h a) Out (In (seenCall h a d i))
+seen h a d i = cond (outside h a d) Out (In (seenCall h a d i))

@@ -10,9 +10,10 @@ use lib.IntN.{ℤ}
 use Rattle.laws.proofs.Bools.{or-true-left, or-true-right}
 use Rattle.refusal.specs.declared.Answer.{Answer}
 use Rattle.refusal.specs.First.{First, none as no-test, hit, miss, answerNumber}
-use Rattle.refusal.proofs.FirstLaws.{answer-is-first}
+use Rattle.refusal.proofs.FirstLaws.{answer-is-first, first-taken}
 use Rattle.time.proofs.Times.{taken, answered}
 use Rattle.settings.specs.declared.Settings.{Settings}
+use Rattle.settings.specs.Settings.{settingsTests}
 use Rattle.profile.specs.declared.Journey.{Journey}
 use Rattle.profile.specs.Figures.{covᶠ, dueᶠ}
 use Rattle.profile.specs.Front.{front}
@@ -27,7 +28,7 @@ use Rattle.offers.specs.Admitted as by
 use Rattle.offers.specs.Machine as machines
 use Rattle.offers.proofs.MachineLaws.{meets-2, meets-3}
 use Rattle.load.specs.declared.Load.{Load}
-use Rattle.load.specs.Steps.{opened}
+use Rattle.load.specs.Steps.{opened, openSpec}
 use Rattle.load.specs.Load.{emptyLoad}
 use Rattle.load.specs.Filling.{stop, call, rule}
 use Rattle.load.specs.Sound.{Sound}
@@ -38,7 +39,7 @@ use Rattle.best.specs.Best.{keptOf}
 use Rattle.search.proofs.AnswerLaws.{search-answered}
 use Rattle.comparison.specs.Steps.{Step, filling, search, stepped, causes, numbers}
 use Rattle.comparison.specs.Lists.{handed, endOf, accepts, start, startOf, Admitted}
-use Rattle.comparison.specs.Demands.{Answered, Demand1, CoveredBy, Holds, Demand2, I64, read, Demand3}
+use Rattle.comparison.specs.Demands.{Answered, OpeningAnswered, Demand1, CoveredBy, Holds, Demand2, I64, read, Demand3}
 use Rattle.comparison.specs.Machine.{machine}
 use Rattle.comparison.proofs.SearchSound.{search-sound}
 use Rattle.comparison.proofs.StepLaws.{searched-stays, sound-timed, sound-in-time, sound-near, step-finds, best-asks}
@@ -76,17 +77,24 @@ step-listed l (filling (call i)) f = listed-by _ _ f
 step-listed l (filling (rule i)) f = listed-by _ _ f
 step-listed l search f = listed-by _ _ f
 
+opening-answered : (s : Settings) → OpeningAnswered s
+unfolding openSpec settingsTests
+opening-answered s = record {
+  first = answer-is-first _;
+  taken = first-taken _ _ refl (answer-is-first _);
+  listed = listed-by _ _ (answer-is-first _);
+}
+
 pub demand-1 : Demand1
 demand-1 = record {
   texts = (taken, answered);
-  opening = λ s. answer-is-first _;
+  opening = opening-answered;
   steps = answers;
 }
   where
     answers : (l : Load) (x : Step) → Answered l x
-    answers l (filling x) =
-        record { first = step-answered l x .first; listed = step-listed l (filling x) (step-answered l x .first); unchanged = step-answered l x .unchanged }
-    answers l search = record { first = search-answered l .first; listed = step-listed l search (search-answered l .first); unchanged = search-answered l .unchanged }
+    answers l (filling x) = let w = step-answered l x in record { first = w .first; taken = w .taken; listed = step-listed l (filling x) (w .first); unchanged = w .unchanged }
+    answers l search = let w = search-answered l in record { first = w .first; taken = w .taken; listed = step-listed l search (w .first); unchanged = w .unchanged }
 
 -- ---- the load as a machine
 

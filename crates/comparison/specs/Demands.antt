@@ -6,7 +6,8 @@ use mathlib.Core.Option.{Option, none, some}
 use mathlib.Core.List.{List, [], _∷_, List·Memᴰ}
 use Prim.Native.Nat.{ℕ, _≤_, _<_, min}
 use lib.IntN.{ℤ, pos, negsuc}
-use Rattle.refusal.specs.First.{First, isRefused, answerNumber}
+use Rattle.refusal.specs.declared.Answer.the-variants.{Taken}
+use Rattle.refusal.specs.First.{First, AllFail, isRefused, answerNumber}
 use Rattle.settings.specs.declared.Settings.{Settings}
 use Rattle.settings.specs.Settings.{settingsTests}
 use Rattle.profile.specs.declared.Journey.{Journey}
@@ -15,10 +16,10 @@ use Rattle.profile.specs.Front.{front}
 use Rattle.profile.specs.Fall.{upTo, fall}
 use Rattle.profile.specs.Best.{readBy}
 use Rattle.profile.specs.Journeys.{journeyFigures}
-use Rattle.time.specs.Promises.{Taken, Answered as TextAnswered}
+use Rattle.time.specs.Promises.{Taken as TextTaken, Answered as TextAnswered}
 use Rattle.calls.specs.Sound.{oneOf}
 use Rattle.load.specs.declared.Load.{Load}
-use Rattle.load.specs.Steps.{openAnswer}
+use Rattle.load.specs.Steps.{openSpec}
 use Rattle.load.specs.Sound.{Opens}
 use Rattle.best.specs.declared.Found.{Found}
 use Rattle.best.specs.Best.{keptOf, bestSpec}
@@ -29,16 +30,24 @@ use Rattle.comparison.specs.Lists.{endOf, startOf, Admitted, offersOf}
 
 -- of any load and any step
 pub record Answered (l : Load) (x : Step) : Type 0 where
-  -- the answer is that of the first of its causes that holds; taken where none does
+  -- the answer is that of the first of its causes that holds; taken where none does. No cause reads the answer
   pub first : First (stepped l x .answer) (causes l x)
+  -- a step that is taken has no cause against it
+  pub taken : stepped l x .answer ≡ Taken → AllFail (causes l x)
   -- its number is one of those that the scope lists for the step, or 0
   pub listed : oneOf (answerNumber (stepped l x .answer)) (0 ∷ numbers x) ≡ true
   pub unchanged : isRefused (stepped l x .answer) ≡ true → stepped l x .load ≡ l
 
+-- of any settings: the same; no load is handed in that could change
+pub record OpeningAnswered (s : Settings) : Type 0 where
+  pub first : First (openSpec s .answer) (settingsTests s)
+  pub taken : openSpec s .answer ≡ Taken → AllFail (settingsTests s)
+  pub listed : oneOf (answerNumber (openSpec s .answer)) (0 ∷ 1 ∷ 2 ∷ []) ≡ true
+
 pub record Demand1 : Type 0 where
   -- a time text has its seconds exactly if it is of the form, and every other is refused with 16
-  pub texts : Taken × TextAnswered
-  pub opening : (s : Settings) → First (openAnswer s) (settingsTests s)
+  pub texts : TextTaken × TextAnswered
+  pub opening : (s : Settings) → OpeningAnswered s
   pub steps : (l : Load) (x : Step) → Answered l x
 
 -- ---- 2: the list holds exactly the journeys due by its horizon that none other beats, the older of equals

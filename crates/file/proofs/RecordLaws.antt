@@ -1,15 +1,18 @@
 -- A record is answered for its first cause alone, a refused one changes nothing, and a taken one opens the load or is handed to it.
 use mathlib.Core.Path.{_≡_, refl, sym, ap, _∙_, subst}
+use mathlib.Core.Logic.{_⊎_, inl, inr}
 use mathlib.Core.Bool.{Bool, true, false, not, cond, true≢false, false≢true}
-use mathlib.Core.List.{List, _++_}
+use mathlib.Core.List.{List, [], _∷_, _++_}
 use Prim.Native.Nat.{ℕ}
 use lib.Dec.{eqb}
 use lib.ListN.{length}
+use Rattle.laws.proofs.Bools.{or-true-cases, or-true-left, or-true-right, cond-by}
 use Rattle.refusal.specs.declared.Refusal.the-variants.{RecordLength, RecordKind}
 use Rattle.refusal.specs.declared.Answer.{Answer}
 use Rattle.refusal.specs.declared.Answer.the-variants.{Taken, Outside, Refused}
-use Rattle.refusal.specs.First.{First, AllFail, firstAnswer, isRefused}
+use Rattle.refusal.specs.First.{First, AllFail, firstAnswer, isRefused, answerNumber}
 use Rattle.refusal.proofs.FirstLaws.{answer-is-first, first-append, first-past}
+use Rattle.calls.specs.Sound.{oneOf}
 use Rattle.fields.specs.Numbers.{byteAt}
 use Rattle.fields.specs.Records.{settingsIn}
 use Rattle.load.specs.declared.Stepped.{Stepped}
@@ -18,7 +21,7 @@ use Rattle.comparison.specs.Steps.{stepped}
 use Rattle.comparison.proofs.Demands.{demand-1}
 use Rattle.file.specs.declared.Reader.{Reader}
 use Rattle.file.specs.declared.Took.{Took}
-use Rattle.file.specs.Record.{kindRight, filled, recordTests, stepIn, steppedBy, settled, recordSpec, causesBy, RecordAnswered}
+use Rattle.file.specs.Record.{kindRight, filled, recordTests, stepIn, steppedBy, settled, recordSpec, causesBy, numbersBy, RecordAnswered}
 
 refused-not-taken : (a : Answer) → isRefused a ≡ true → a ≡ Taken → ⊥
 refused-not-taken Taken e q = false≢true e
@@ -37,22 +40,50 @@ all-fail opened b e = go (eqb (length b) 0) (not (kindRight opened (byteAt b 0))
     go false false false e = (refl, (refl, (refl, tt)))
 
 -- what the load, or the opening, answers
-stepped-first : (r : Reader) (b : List ℕ) → First (steppedBy r b .answer) (causesBy r b)
-unfolding steppedBy openSpec
-stepped-first r b = go (r .opened)
+record Stepping (r : Reader) (b : List ℕ) (a : Answer) : Type 0 where
+  first : First a (causesBy r b)
+  taken : a ≡ Taken → AllFail (causesBy r b)
+  listed : oneOf (answerNumber a) (0 ∷ numbersBy r b) ≡ true
+
+stepping : (r : Reader) (b : List ℕ) → Stepping r b (steppedBy r b .answer)
+unfolding steppedBy
+stepping r b = go (r .opened)
   where
-    go : (o : Bool) → First ((cond o (stepped (r .load) (stepIn b)) (openSpec (settingsIn b))) .answer) (causesBy (record { opened = o; load = r .load }) b)
-    go true = demand-1 .steps (r .load) (stepIn b) .first
-    go false = demand-1 .opening (settingsIn b)
+    go : (o : Bool) → Stepping (record { opened = o; load = r .load }) b ((cond o (stepped (r .load) (stepIn b)) (openSpec (settingsIn b))) .answer)
+    go true = let w = demand-1 .steps (r .load) (stepIn b) in record { first = w .first; taken = w .taken; listed = w .listed }
+    go false = let w = demand-1 .opening (settingsIn b) in record { first = w .first; taken = w .taken; listed = w .listed }
+
+-- a record that is sent back has 18 or 19
+tests-listed : (opened : Bool) (b : List ℕ) (ns : List ℕ) → isRefused (firstAnswer (recordTests opened b)) ≡ true → oneOf (answerNumber (firstAnswer (recordTests opened b))) (0 ∷ 18 ∷ 19 ∷ ns) ≡ true
+unfolding recordTests firstAnswer
+tests-listed opened b ns e = go (eqb (length b) 0) (not (kindRight opened (byteAt b 0))) (not (filled b)) e
+  where
+    go : (x y z : Bool) → isRefused (cond x (Refused RecordLength) (cond y (Refused RecordKind) (cond z (Refused RecordLength) Taken))) ≡ true
+        → oneOf (answerNumber (cond x (Refused RecordLength) (cond y (Refused RecordKind) (cond z (Refused RecordLength) Taken)))) (0 ∷ 18 ∷ 19 ∷ ns) ≡ true
+    go true y z e = refl
+    go false true z e = refl
+    go false false true e = refl
+    go false false false e = absurd (false≢true e)
+
+listed-past : (n : ℕ) (ns : List ℕ) → oneOf n (0 ∷ ns) ≡ true → oneOf n (0 ∷ 18 ∷ 19 ∷ ns) ≡ true
+listed-past n ns e = go (or-true-cases (eqb n 0) (oneOf n ns) e)
+  where
+    go : (eqb n 0 ≡ true) ⊎ (oneOf n ns ≡ true) → oneOf n (0 ∷ 18 ∷ 19 ∷ ns) ≡ true
+    go (inl q) = or-true-left _ _ q
+    go (inr q) = or-true-right (eqb n 0) _ (or-true-right (eqb n 18) _ (or-true-right (eqb n 19) _ q))
+
+both-fail : (ts us : List (Bool × Answer)) → AllFail ts → AllFail us → AllFail (ts ++ us)
+both-fail [] us n m = m
+both-fail (t ∷ ts) us (e, n) m = (e, both-fail ts us n m)
 
 -- past the tests, what is answered is the step's
 tested : (r : Reader) (b : List ℕ) (c : Bool) → isRefused (firstAnswer (recordTests (r .opened) b)) ≡ c → recordSpec r b ≡ cond c (record { answer = firstAnswer (recordTests (r .opened) b); reader = r }) (settled r (steppedBy r b))
 unfolding recordSpec
 tested r b c e = rw e refl
 
-settled-refused : (r : Reader) (s : Stepped) → isRefused (s .answer) ≡ true → settled r s .reader ≡ r
+settled-is : (r : Reader) (s : Stepped) → settled r s ≡ record { answer = s .answer; reader = cond (isRefused (s .answer)) r (record { opened = true; load = s .load }) }
 unfolding settled
-settled-refused r s e = rw e refl
+settled-is r s = refl
 
 settled-answer : (r : Reader) (s : Stepped) → settled r s .answer ≡ s .answer
 unfolding settled
@@ -62,24 +93,34 @@ pub settled-taken : (r : Reader) (s : Stepped) → isRefused (s .answer) ≡ fal
 unfolding settled
 settled-taken r s e = rw e refl
 
-abbrev Answers : Reader → List ℕ → Took → Type 0
-Answers r b t = First (t .answer) (recordTests (r .opened) b ++ causesBy r b) × (isRefused (t .answer) ≡ true → t .reader ≡ r)
+record Answers (r : Reader) (b : List ℕ) (t : Took) : Type 0 where
+  first : First (t .answer) (recordTests (r .opened) b ++ causesBy r b)
+  taken : t .answer ≡ Taken → AllFail (recordTests (r .opened) b ++ causesBy r b)
+  listed : oneOf (answerNumber (t .answer)) (0 ∷ 18 ∷ 19 ∷ numbersBy r b) ≡ true
+  unchanged : isRefused (t .answer) ≡ true → t .reader ≡ r
 
 answers : (r : Reader) (b : List ℕ) → Answers r b (recordSpec r b)
 answers r b = go (isRefused (firstAnswer (recordTests (r .opened) b))) refl
   where
+    past : (s : Stepped) → AllFail (recordTests (r .opened) b) → Stepping r b (s .answer) → Answers r b (settled r s)
+    past s n w = subst (λ (t : Took). Answers r b t) (sym (settled-is r s)) (record {
+      first = first-past (s .answer) (recordTests (r .opened) b) (causesBy r b) n (w .first);
+      taken = λ k. both-fail (recordTests (r .opened) b) (causesBy r b) n (w .taken k);
+      listed = listed-past (answerNumber (s .answer)) (numbersBy r b) (w .listed);
+      unchanged = λ k. cond-by _ _ k;
+    })
+
     go : (c : Bool) → isRefused (firstAnswer (recordTests (r .opened) b)) ≡ c → Answers r b (recordSpec r b)
-    go true e =
-        subst (Answers r b) (sym (tested r b true e))
-        (first-append _ (recordTests (r .opened) b) (causesBy r b) (answer-is-first (recordTests (r .opened) b)) (refused-not-taken _ e), λ k. refl)
-    go false e =
-        subst (Answers r b) (sym (tested r b false e)) (
-          subst (λ (a : Answer). First a (recordTests (r .opened) b ++ causesBy r b)) (sym (settled-answer r (steppedBy r b))) (first-past (steppedBy r b .answer) (recordTests (r .opened) b) (causesBy r b) (all-fail (r .opened) b e) (stepped-first r b)),
-          λ k. settled-refused r (steppedBy r b) (sym (ap isRefused (settled-answer r (steppedBy r b))) ∙ k),
-        )
+    go true e = subst (Answers r b) (sym (tested r b true e)) (record {
+      first = first-append _ (recordTests (r .opened) b) (causesBy r b) (answer-is-first (recordTests (r .opened) b)) (refused-not-taken _ e);
+      taken = λ k. absurd (refused-not-taken _ e k);
+      listed = tests-listed (r .opened) b (numbersBy r b) e;
+      unchanged = λ k. refl;
+    })
+    go false e = subst (Answers r b) (sym (tested r b false e)) (past (steppedBy r b) (all-fail (r .opened) b e) (stepping r b))
 
 pub record-answered : RecordAnswered
-record-answered r b = record { first = answers r b .0; unchanged = answers r b .1 }
+record-answered r b = let w = answers r b in record { first = w .first; taken = w .taken; listed = w .listed; unchanged = w .unchanged }
 
 -- ---- a record that is taken
 

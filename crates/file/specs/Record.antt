@@ -7,17 +7,18 @@ use lib.Dec.{eqb, leb}
 use lib.ListN.{length}
 use Rattle.refusal.specs.declared.Refusal.the-variants.{RecordLength, RecordKind}
 use Rattle.refusal.specs.declared.Answer.{Answer}
-use Rattle.refusal.specs.declared.Answer.the-variants.{Refused}
-use Rattle.refusal.specs.First.{First, firstAnswer, isRefused}
+use Rattle.refusal.specs.declared.Answer.the-variants.{Taken, Refused}
+use Rattle.refusal.specs.First.{First, AllFail, firstAnswer, isRefused, answerNumber}
 use Rattle.fields.specs.Numbers.{byteAt}
 use Rattle.fields.specs.Layout.{textAt, optionTextAt, nameAt, parentAt, settingsFilled, stopFilled, callFilled, ruleFilled, searchFilled}
 use Rattle.fields.specs.Records.{settingsIn, stopIn, callIn, ruleIn}
 use Rattle.settings.specs.Settings.{settingsTests}
+use Rattle.calls.specs.Sound.{oneOf}
 use Rattle.load.specs.declared.Stepped.{Stepped}
 use Rattle.load.specs.Load.{emptyLoad, blankSettings}
 use Rattle.load.specs.Steps.{openSpec}
 use Rattle.load.specs.Filling.{stop, call, rule}
-use Rattle.comparison.specs.Steps.{Step, filling, search, stepped, causes}
+use Rattle.comparison.specs.Steps.{Step, filling, search, stepped, causes, numbers}
 use Rattle.file.specs.declared.Reader.{Reader}
 use Rattle.file.specs.declared.Took.{Took}
 
@@ -64,12 +65,19 @@ recordSpec r b =
     (record { answer = firstAnswer (recordTests (r .opened) b); reader = r })
     (settled r (steppedBy r b))
 
--- the answer is that of the first cause that holds: the record's, then the opening's or the step's own; a refused record changes nothing
+-- the tests of the opening or of the step, and the numbers of their answers
 abbrev pub causesBy : Reader → List ℕ → List (Bool × Answer)
 causesBy r b = cond (r .opened) (causes (r .load) (stepIn b)) (settingsTests (settingsIn b))
 
+abbrev pub numbersBy : Reader → List ℕ → List ℕ
+numbersBy r b = cond (r .opened) (numbers (stepIn b)) (1 ∷ 2 ∷ [])
+
+-- the answer is that of the first cause that holds: the record's, then the opening's or the step's own; a taken record has none, and a refused one changes nothing
 pub record Answered (r : Reader) (b : List ℕ) : Type 0 where
   pub first : First (recordSpec r b .answer) (recordTests (r .opened) b ++ causesBy r b)
+  pub taken : recordSpec r b .answer ≡ Taken → AllFail (recordTests (r .opened) b ++ causesBy r b)
+  -- its number is 18, 19, one that the scope lists for the opening or the step, or 0
+  pub listed : oneOf (answerNumber (recordSpec r b .answer)) (0 ∷ 18 ∷ 19 ∷ numbersBy r b) ≡ true
   pub unchanged : isRefused (recordSpec r b .answer) ≡ true → recordSpec r b .reader ≡ r
 
 abbrev pub RecordAnswered : Type 0

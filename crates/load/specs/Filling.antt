@@ -1,16 +1,15 @@
 -- The steps that fill a load, as one type, and a list of them: each gets the load that the one before it returned.
 use Prim.Native.Nat.{ℕ}
 use mathlib.Core.Path.{_≡_}
-use mathlib.Core.Bool.{Bool, true, false}
-use mathlib.Core.List.{List, [], _∷_, _++_}
-use Rattle.refusal.specs.declared.Refusal.the-variants.{NoRoom}
+use mathlib.Core.Bool.{Bool, true}
+use mathlib.Core.List.{List, [], _∷_}
 use Rattle.refusal.specs.declared.Answer.{Answer}
-use Rattle.refusal.specs.declared.Answer.the-variants.{Taken, Outside, Refused}
-use Rattle.refusal.specs.First.{First, isRefused}
+use Rattle.refusal.specs.declared.Answer.the-variants.{Taken}
+use Rattle.refusal.specs.First.{First, AllFail, isRefused}
 use Rattle.stops.specs.declared.StopInput.{StopInput}
 use Rattle.stops.specs.Answer.{stopTests}
 use Rattle.calls.specs.declared.CallInput.{CallInput}
-use Rattle.calls.specs.Calls.{callTests, callFit}
+use Rattle.calls.specs.Reached.{callCauses}
 use Rattle.rules.specs.declared.RuleInput.{RuleInput}
 use Rattle.rules.specs.Rules.{ruleTests}
 use Rattle.load.specs.declared.Load.{Load}
@@ -34,26 +33,17 @@ abbrev pub filledBy : Load → List Filling → Load
 filledBy l [] = l
 filledBy l (x ∷ xs) = filledBy (filled l x .load) xs
 
--- a call is outside by its times, or refused at a full table
-abbrev pub isOutside : Answer → Bool
-isOutside Taken = false
-isOutside Outside = true
-isOutside (Refused r) = false
-
--- the tests of a step, each with its answer, in the scope's order:
+-- the tests of a step, each with its answer, in the scope's order; no test reads the answer:
 -- stop 15, 3, 5, 6, 7, 8, 4; call 15, 9, absent time, 10, outside, 11; rule 15, 9, 12, 13, 11
 abbrev pub causes : Load → Filling → List (Bool × Answer)
 causes l (stop id name parent i) = stopTests (l .searched) (l .stops) (l .«stop_count») (stationIn l parent i) id name i
-causes l (call i) =
-    callTests (l .searched) (l .«stop_count») i
-    ++ (isOutside (callFit (l .settings) (tableOf l) i .answer), Outside)
-    ∷ (isRefused (callFit (l .settings) (tableOf l) i .answer), Refused NoRoom)
-    ∷ []
+causes l (call i) = callCauses (l .settings) (l .searched) (l .«stop_count») (tableOf l) i
 causes l (rule i) = ruleTests (l .searched) (l .«stop_count») (l .rules) (l .«rule_count») i
 
--- each step's answer is that of the first of its causes that holds, and a refused load comes back unchanged
+-- each step's answer is that of the first of its causes that holds, a taken step has none, and a refused load comes back unchanged
 pub record Answered (l : Load) (x : Filling) : Type 0 where
   pub first : First (filled l x .answer) (causes l x)
+  pub taken : filled l x .answer ≡ Taken → AllFail (causes l x)
   pub unchanged : isRefused (filled l x .answer) ≡ true → filled l x .load ≡ l
 
 abbrev pub StepAnswered : Type 0

@@ -1,10 +1,10 @@
 -- The laws of `firstAnswer`: it is the answer of the first test that holds, and a taken step failed every test.
-use mathlib.Core.Path.{_≡_, refl}
-use mathlib.Core.Bool.{Bool, true, false, cond, false≢true}
+use mathlib.Core.Path.{_≡_, refl, sym, ap, _∙_}
+use mathlib.Core.Bool.{Bool, true, false, not, cond, _&&_, false≢true}
 use mathlib.Core.List.{List, [], _∷_, _++_}
 use Rattle.refusal.specs.declared.Answer.{Answer}
 use Rattle.refusal.specs.declared.Answer.the-variants.{Taken, Outside, Refused}
-use Rattle.refusal.specs.First.{isTaken, firstAnswer, First, none, hit, miss, AllFail, FirstIsAnswer, AnswerIsFirst, TakenAllFail}
+use Rattle.refusal.specs.First.{isTaken, firstAnswer, First, none, hit, miss, AllFail, FirstIsAnswer, AnswerIsFirst, NeverTaken, TakenAllFail}
 
 pub first-is-answer : FirstIsAnswer
 unfolding firstAnswer
@@ -34,6 +34,21 @@ pub taken-is : (a : Answer) → isTaken a ≡ true → a ≡ Taken
 taken-is Taken e = refl
 taken-is Outside e = absurd (false≢true e)
 taken-is (Refused r) e = absurd (false≢true e)
+
+-- no test of a list answers `Taken`
+abbrev pub takesNone : List (Bool × Answer) → Bool
+takesNone [] = true
+takesNone (t ∷ ts) = not (isTaken (t .1)) && takesNone ts
+
+never-taken : (ts : List (Bool × Answer)) → takesNone ts ≡ true → NeverTaken ts
+never-taken [] e = tt
+never-taken ((b, Taken) ∷ ts) e = absurd (false≢true e)
+never-taken ((b, Outside) ∷ ts) e = (λ q. false≢true (ap isTaken q), never-taken ts e)
+never-taken ((b, Refused r) ∷ ts) e = (λ q. false≢true (ap isTaken q), never-taken ts e)
+
+-- so a taken step failed every test
+pub first-taken : (a : Answer) (ts : List (Bool × Answer)) → takesNone ts ≡ true → First a ts → a ≡ Taken → AllFail ts
+first-taken a ts n f e = taken-all-fail ts (never-taken ts n) (sym (first-is-answer a ts f) ∙ e)
 
 -- an answer of the first tests is that of all, unless it is `Taken`
 pub first-append : (a : Answer) (ts us : List (Bool × Answer)) → First a ts → (a ≡ Taken → ⊥) → First a (ts ++ us)

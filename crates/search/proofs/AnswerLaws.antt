@@ -1,32 +1,36 @@
--- The search's answer is that of the first of its causes that holds, and a refused load comes back unchanged.
+-- The search's answer is that of the first of its causes that holds, a taken one has none, and a refused load comes back unchanged.
 use mathlib.Core.Path.{_≡_, refl}
 use mathlib.Core.Bool.{Bool, true, false, cond, false≢true}
 use mathlib.Core.List.{[], _∷_}
 use Rattle.refusal.specs.declared.Refusal.the-variants.{AlreadySearched, Neighbours, NoRoom}
 use Rattle.refusal.specs.declared.Answer.the-variants.{Refused}
 use Rattle.refusal.specs.First.{First, none, hit, miss, isRefused}
-use Rattle.profile.specs.declared.Journey.{Journey}
+use Rattle.refusal.proofs.FirstLaws.{first-taken}
+use Rattle.profile.specs.Figures.{covᶠ, dueᶠ}
+use Rattle.profile.specs.Fall.{Ends, upTo, never, fall}
 use Rattle.profile.specs.Journeys.{journeyFigures}
-use Rattle.profile.specs.Kept.{St, going, refused, searched}
 use Rattle.offers.specs.Order.{clashes}
 use Rattle.offers.specs.Offers.{sorted, offers}
-use Rattle.offers.specs.Search.{Outcome, clashing, falling, found, answerOf, foundBy, searchOf}
+use Rattle.offers.specs.Search.{Outcome, clashing, falling, found, answerOf, endsBy}
+use Rattle.offers.proofs.SearchLaws.{search-by-offers}
 use Rattle.load.specs.declared.Load.{Load}
 use Rattle.load.specs.declared.Stepped.{Stepped}
 use Rattle.search.specs.Timetable.{timetableOf}
-use Rattle.search.specs.Search.{outcomeOf, settled, searchSpec, isFalling, searchCauses, SearchAnswered}
+use Rattle.search.specs.Search.{outcomeOf, settled, searchSpec, isNever, wouldFall, searchCauses, SearchAnswered}
 
 module _ (l : Load) where
   -- 14, then 11
-  outcome-first : First (answerOf (outcomeOf l)) ((clashes (sorted (timetableOf l)), Refused Neighbours) ∷ (isFalling (outcomeOf l), Refused NoRoom) ∷ [])
-  unfolding outcomeOf searchOf
-  outcome-first = go (clashes (sorted (timetableOf l))) refl (searched journeyFigures 64 3600 (l .«table_horizon») (l .«table_limits») (offers (timetableOf l)))
+  outcome-first : First (answerOf (outcomeOf l)) ((clashes (sorted (timetableOf l)), Refused Neighbours) ∷ (wouldFall l, Refused NoRoom) ∷ [])
+  unfolding outcomeOf wouldFall
+  outcome-first =
+      rw (search-by-offers (timetableOf l) (l .«table_horizon») (l .«table_limits»))
+      (go (clashes (sorted (timetableOf l))) refl (fall (covᶠ journeyFigures) (dueᶠ journeyFigures) 64 3600 (l .«table_horizon») (l .«table_limits») [] (offers (timetableOf l))))
     where
-      go : (b : Bool) → clashes (sorted (timetableOf l)) ≡ b → (s : St Journey)
-          → First (answerOf (cond b clashing (foundBy s))) ((clashes (sorted (timetableOf l)), Refused Neighbours) ∷ (isFalling (cond b clashing (foundBy s)), Refused NoRoom) ∷ [])
-      go true e s = hit e
-      go false e refused = miss e (hit refl)
-      go false e (going ks h m) = miss e (miss refl none)
+      go : (b : Bool) → clashes (sorted (timetableOf l)) ≡ b → (f : Ends)
+          → First (answerOf (cond b clashing (endsBy (offers (timetableOf l)) f))) ((clashes (sorted (timetableOf l)), Refused Neighbours) ∷ (isNever f, Refused NoRoom) ∷ [])
+      go true e f = hit e
+      go false e never = miss e (hit refl)
+      go false e (upTo h m) = miss e (miss refl none)
 
   settled-same : (o : Outcome) → isRefused (answerOf o) ≡ true → settled l o ≡ l
   settled-same clashing e = refl
@@ -47,4 +51,8 @@ module _ (l : Load) where
 
   pub search-answered : SearchAnswered l
   unfolding searchSpec
-  search-answered = record { first = returned-first (l .searched) refl; unchanged = returned-same (l .searched) }
+  search-answered = record {
+    first = returned-first (l .searched) refl;
+    taken = first-taken _ _ refl (returned-first (l .searched) refl);
+    unchanged = returned-same (l .searched);
+  }

@@ -7,12 +7,14 @@ use lib.ListN.{length}
 use Rattle.laws.specs.Lists.{padded}
 use Rattle.refusal.specs.declared.Refusal.the-variants.{AlreadySearched, Neighbours, NoRoom}
 use Rattle.refusal.specs.declared.Answer.{Answer}
-use Rattle.refusal.specs.declared.Answer.the-variants.{Refused}
-use Rattle.refusal.specs.First.{First, isRefused}
+use Rattle.refusal.specs.declared.Answer.the-variants.{Taken, Refused}
+use Rattle.refusal.specs.First.{First, AllFail, isRefused}
 use Rattle.profile.specs.declared.Journey.{Journey}
-use Rattle.profile.specs.Journeys.{noJourney}
+use Rattle.profile.specs.Figures.{covᶠ, dueᶠ}
+use Rattle.profile.specs.Fall.{Ends, upTo, never, fall}
+use Rattle.profile.specs.Journeys.{noJourney, journeyFigures}
 use Rattle.offers.specs.Order.{sortFirst, clashes}
-use Rattle.offers.specs.Offers.{sorted}
+use Rattle.offers.specs.Offers.{sorted, offers}
 use Rattle.offers.specs.Search.{Outcome, clashing, falling, found, answerOf, searchOf}
 use Rattle.load.specs.declared.Load.{Load}
 use Rattle.load.specs.declared.Stepped.{Stepped}
@@ -51,19 +53,24 @@ unfoldable pub searchSpec : Load → Stepped
 searchSpec l =
     cond (l .searched) (record { answer = Refused AlreadySearched; load = l }) (record { answer = answerOf (outcomeOf l); load = settled l (outcomeOf l) })
 
--- the tests in the scope's order: 15, 14, 11
-abbrev pub isFalling : Outcome → Bool
-isFalling clashing = false
-isFalling falling = true
-isFalling (found ks h m) = false
+-- a fall with no end that a search may have
+abbrev pub isNever : Ends → Bool
+isNever (upTo h l) = false
+isNever never = true
 
+-- the horizon would fall below 3600, by the offers in order, from the table's horizon and mark
+unfoldable pub wouldFall : Load → Bool
+wouldFall l = isNever (fall (covᶠ journeyFigures) (dueᶠ journeyFigures) 64 3600 (l .«table_horizon») (l .«table_limits») [] (offers (timetableOf l)))
+
+-- the tests in the scope's order, each with its answer: 15, 14, 11; no test reads the answer
 abbrev pub searchCauses : Load → List (Bool × Answer)
 searchCauses l =
     (l .searched, Refused AlreadySearched)
     ∷ (clashes (sorted (timetableOf l)), Refused Neighbours)
-    ∷ (isFalling (outcomeOf l), Refused NoRoom)
+    ∷ (wouldFall l, Refused NoRoom)
     ∷ []
 
 pub record SearchAnswered (l : Load) : Type 0 where
   pub first : First (searchSpec l .answer) (searchCauses l)
+  pub taken : searchSpec l .answer ≡ Taken → AllFail (searchCauses l)
   pub unchanged : isRefused (searchSpec l .answer) ≡ true → searchSpec l .load ≡ l
