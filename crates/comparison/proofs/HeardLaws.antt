@@ -43,7 +43,7 @@ search-settings l = go (l .searched) refl
     go true e = ap (λ (m : Load). m .settings) (searched-stays l search e)
     go false e = ap (λ (r : Stepped). r .load .settings) (search-runs l e) ∙ settled-settings l (outcomeOf l)
 
-step-settings : (l : Load) (x : Step) → stepped l x .load .settings ≡ l .settings
+pub step-settings : (l : Load) (x : Step) → stepped l x .load .settings ≡ l .settings
 step-settings l (filling x) = fill-settings l x
 step-settings l search = search-settings l
 

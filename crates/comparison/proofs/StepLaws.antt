@@ -22,6 +22,7 @@ use Rattle.profile.specs.Journeys.{noJourney, journeyFigures}
 use Rattle.profile.specs.Best.{bestℤ}
 use Rattle.calls.specs.Calls.{callTests}
 use Rattle.calls.specs.Sound.{All, oneOf, horizons, CallSound}
+use Rattle.calls.proofs.SoundLaws.{all-mem}
 use Rattle.rules.specs.Rules.{ruleTests}
 use Rattle.stops.specs.Answer.{stopTests}
 use Rattle.transfer.specs.declared.Change.{Change}
@@ -44,7 +45,6 @@ use Rattle.search.specs.Search.{outcomeOf, settled, searchSpec}
 use Rattle.best.specs.Best as best
 use Rattle.comparison.specs.Steps.{Step, filling, search, stepped}
 use Rattle.comparison.specs.Demands as demands
-use Rattle.comparison.proofs.SearchSound.{all-mem}
 
 -- ---- a searched load stays
 
