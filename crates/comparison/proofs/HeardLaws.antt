@@ -1,16 +1,14 @@
 -- The table at the accepted search is the calls not refused before it, as the window shows them at its horizon.
 use mathlib.Core.Path.{_≡_, refl, sym, ap, subst, _∙_}
-use mathlib.Core.Bool.{Bool, true, false, not, cond, _&&_, true≢false, false≢true}
+use mathlib.Core.Bool.{Bool, true, false, not, cond, true≢false, false≢true}
 use mathlib.Core.List.{List, [], _∷_, _++_, append-nil}
-use Rattle.laws.proofs.Bools.{cond-by, cond-not, and-true-left}
+use Rattle.laws.proofs.Bools.{and-true-left}
 use Rattle.settings.specs.declared.Settings.{Settings}
-use Rattle.settings.specs.Settings.{canonicalOf}
 use Rattle.calls.specs.declared.CallInput.{CallInput}
-use Rattle.calls.specs.Shown.{windowed, tableCalls}
+use Rattle.calls.specs.Shown.{windowed}
 use Rattle.offers.specs.Search.{Outcome, clashing, falling, found}
 use Rattle.load.specs.declared.Load.{Load}
 use Rattle.load.specs.declared.Stepped.{Stepped}
-use Rattle.load.specs.Load.{tableOf}
 use Rattle.load.specs.Steps.{opened}
 use Rattle.load.specs.Sound.{Sound}
 use Rattle.load.proofs.SoundLaws.{open-sound}
