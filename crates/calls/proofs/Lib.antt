@@ -5,6 +5,7 @@ pub mod FitLaws
 pub mod UncutLaws
 pub mod Fits
 pub mod SoundLaws
+pub mod KnownLaws
 pub mod ShownLaws
 pub mod FallLaws
 pub mod ReachedLaws

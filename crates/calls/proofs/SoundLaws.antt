@@ -1,12 +1,13 @@
 -- The call step keeps a table sound.
 use Prim.Native.Nat.{ℕ, suc, _+_, _-_, _≤_, _<_}
 use mathlib.Core.Path.{_≡_, refl, sym, ap, subst, _∙_}
-use mathlib.Core.List.{List, [], _∷_, _++_, tail-eq-of-cons-eq}
-use mathlib.Core.Bool.{cond, Bool, true, false, _&&_, _||_}
+use mathlib.Core.Logic.{_⊎_, inl, inr}
+use mathlib.Core.List.{List, [], _∷_, _++_, tail-eq-of-cons-eq, List·Memᴰ, List·Memᴰ·head, List·Memᴰ·tail, List·Memᴰ·not-nil, List·Memᴰ·cases-cons}
+use mathlib.Core.Bool.{cond, Bool, true, false, not, _&&_, _||_}
 use native.Mathlib.Numerals.{add-one}
 use native.Mathlib.Omega.{arith}
-use borrow.Author.Tests.{leb-true, leb-false, ltb-false, eqb-true}
-use lib.Dec.{leb, eqb}
+use borrow.Author.Tests.{leb-true, leb-false, ltb-true, ltb-false, eqb-true}
+use lib.Dec.{leb, ltb, eqb}
 use lib.ListN.{length, getD, take, drop, set, replicate, length-set, length-append, length-replicate, length-take}
 use lib.Seq.{drop-cons, drop-set-lt, take-suc-set, take-append-seam, drop-append-seam}
 use lib.IntN.{ℤ, pos, negsuc, negℤ, _+ℤ_, _-ℤ_, +ℤ-assoc, +ℤ-comm}
@@ -32,17 +33,29 @@ use Rattle.laws.proofs.Pack.{length-gather}
 use Rattle.calls.proofs.Fits.{Ends, stands, enters, turned, Keeps, ends}
 
 -- ---- what has P
-all-append : {A : Type 0} (P : A → Type 0) (xs ys : List A) → All P xs → All P ys → All P (xs ++ ys)
+pub all-append : {A : Type 0} (P : A → Type 0) (xs ys : List A) → All P xs → All P ys → All P (xs ++ ys)
 all-append P [] ys p q = q
 all-append P (x ∷ xs) ys p q = (p .0, all-append P xs ys (p .1) q)
 
-all-gather : {A B : Type 0} (P : A → Type 0) (Q : B → Type 0) (p : A → Bool) (f : A → B) → ((x : A) → P x → p x ≡ true → Q (f x)) → (xs : List A) → All P xs → All Q (gather p f xs)
+pub all-gather : {A B : Type 0} (P : A → Type 0) (Q : B → Type 0) (p : A → Bool) (f : A → B) → ((x : A) → P x → p x ≡ true → Q (f x)) → (xs : List A) → All P xs → All Q (gather p f xs)
 all-gather P Q p f k [] h = tt
 all-gather P Q p f k (x ∷ xs) h = go (all-gather P Q p f k xs (h .1)) (p x) refl
   where
     go : All Q (gather p f xs) → (b : Bool) → p x ≡ b → All Q (cond b (f x ∷ gather p f xs) (gather p f xs))
     go r true e = (k x (h .0) e, r)
     go r false e = r
+
+pub all-mem : {A : Type 0} (P : A → Type 0) (xs : List A) → All P xs → (x : A) → List·Memᴰ x xs → P x
+all-mem P [] h x m = absurd (List·Memᴰ·not-nil m)
+all-mem P (y ∷ ys) h x m = go (List·Memᴰ·cases-cons m) (all-mem P ys (h .1) x)
+  where
+    go : (x ≡ y) ⊎ List·Memᴰ x ys → (List·Memᴰ x ys → P x) → P x
+    go (inl e) ih = subst P (sym e) (h .0)
+    go (inr k) ih = ih k
+
+pub mem-all : {A : Type 0} (P : A → Type 0) (xs : List A) → ((x : A) → List·Memᴰ x xs → P x) → All P xs
+mem-all P [] h = tt
+mem-all P (y ∷ ys) h = (h y (List·Memᴰ·head refl), mem-all P ys (λ x m. h x (List·Memᴰ·tail m)))
 
 -- ---- horizons
 found : (h : ℕ) (P : ℕ → Type 0) (ms : List ℕ) → oneOf h ms ≡ true → All P ms → P h
@@ -209,6 +222,7 @@ module _ (h : ℕ) (a d : Offset) (i : CallInput) where
 -- ---- the tests before the table
 pub record Passed (b : Bool) (n : ℕ) (i : CallInput) : Type 0 where
   pub unsearched : b ≡ false
+  pub at-stop : i .stop < n
   pub present : unTimed i ≡ false
   pub ordered : secondsOf (i .arrival) ≤ secondsOf (i .departure)
 
@@ -218,11 +232,20 @@ unfolding callTests
 call-tests-fail b n i e = taken-all-fail (callTests b n i)
     ((λ q. let z : _≡_ {A = ℕ} 0 1 = cc in omega arith), ((λ q. let z : _≡_ {A = ℕ} 0 1 = cc in omega arith), ((λ q. let z : _≡_ {A = ℕ} 0 1 = cc in omega arith), ((λ q. let z : _≡_ {A = ℕ} 0 1 = cc in omega arith), tt)))) e
 
+first-true : (a b c d e : Bool) → (a && b && c && d && e) ≡ true → a ≡ true
+first-true true b c d e q = refl
+first-true false b c d e q = q
+
+not-false : (b : Bool) → not b ≡ false → b ≡ true
+not-false true e = refl
+not-false false e = sym e
+
 pub passed : (b : Bool) (n : ℕ) (i : CallInput) → firstAnswer (callTests b n i) ≡ Taken → Passed b n i
-unfolding callTests
+unfolding callTests known
 passed b n i e =
     let f = call-tests-fail b n i e in
-    record { unsearched = f .0; present = f .1 .1 .0; ordered = ltb-false (secondsOf (i .departure)) (secondsOf (i .arrival)) (f .1 .1 .1 .0) }
+    let k : known n i ≡ true = not-false (known n i) (f .1 .0) in
+    record { unsearched = f .0; at-stop = ltb-true (i .stop) n (first-true (ltb (i .stop) n) (ltb (i .trip) 65535) (leb (i .day) 2) (leb (i .pickup) 3) (leb (i .«drop_off») 3) k); present = f .1 .1 .0; ordered = ltb-false (secondsOf (i .departure)) (secondsOf (i .arrival)) (f .1 .1 .1 .0) }
 
 -- ---- the step
 pub sound-keeps : (a d : Offset) (i : CallInput) → Keeps TableSound a d i

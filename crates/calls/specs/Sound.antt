@@ -1,5 +1,5 @@
 -- A table that the steps make: its count is in range, the tail blank, calls ordered and within the horizon, marks only where they mean something.
-use Prim.Native.Nat.{ℕ, _-_, _≤_}
+use Prim.Native.Nat.{ℕ, _-_, _≤_, _<_}
 use mathlib.Core.Path.{_≡_}
 use mathlib.Core.Bool.{Bool, true, false, cond, _||_}
 use mathlib.Core.List.{List, [], _∷_}
@@ -40,6 +40,13 @@ pub record TableSound (t : Table) : Type 0 where
   -- limits is 1 exactly where the horizon fell
   pub limited : t .limits ≡ cond (eqb (t .horizon) 21600) 0 1
 
+-- every call of the table is at one of the first n stops
+abbrev pub AtStop : ℕ → Call → Type 0
+AtStop n c = c .stop < n
+
+abbrev pub StopsKnown : ℕ → Table → Type 0
+StopsKnown n t = All (AtStop n) (take (t .count) (t .calls))
+
 -- nothing taken yet
 abbrev pub emptyTable : Table
 emptyTable = record { calls = replicate 512 blankCall; count = 0; horizon = 21600; limits = 0 }
@@ -50,3 +57,10 @@ EmptySound = TableSound emptyTable
 
 abbrev pub CallKeepsSound : Type 0
 CallKeepsSound = (s : Settings) (b : Bool) (n : ℕ) (t : Table) (i : CallInput) → TableSound t → TableSound (callOn s b n t i .table)
+
+-- the call step, of a load with n stops, keeps its calls at these; and so do more stops
+abbrev pub CallKeepsKnown : Type 0
+CallKeepsKnown = (s : Settings) (b : Bool) (n : ℕ) (t : Table) (i : CallInput) → TableSound t → StopsKnown n t → StopsKnown n (callOn s b n t i .table)
+
+abbrev pub MoreStopsKnown : Type 0
+MoreStopsKnown = (n m : ℕ) (t : Table) → n ≤ m → StopsKnown n t → StopsKnown m t

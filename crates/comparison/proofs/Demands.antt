@@ -25,6 +25,7 @@ use Rattle.rules.specs.Rules.{ruleTests}
 use Rattle.stops.specs.Answer.{stopTests}
 use Rattle.offers.specs.Offers.{offers}
 use Rattle.offers.specs.Admitted as by
+use Rattle.offers.specs.Covered.{I64, CoveredBy}
 use Rattle.offers.specs.Machine as machines
 use Rattle.offers.proofs.MachineLaws.{meets-2, meets-3}
 use Rattle.load.specs.declared.Load.{Load}
@@ -38,11 +39,11 @@ use Rattle.search.specs.Timetable.{timetableOf}
 use Rattle.best.specs.Best.{keptOf}
 use Rattle.search.proofs.AnswerLaws.{search-answered}
 use Rattle.comparison.specs.Steps.{Step, filling, search, stepped, causes, numbers}
-use Rattle.comparison.specs.Lists.{handed, endOf, accepts, start, startOf, Admitted}
-use Rattle.comparison.specs.Demands.{Answered, OpeningAnswered, Demand1, CoveredBy, Holds, Demand2, I64, read, Demand3}
+use Rattle.comparison.specs.Lists.{handed, endOf, accepts, start, startOf}
+use Rattle.comparison.specs.Demands.{Answered, OpeningAnswered, Demand1, Holds, Demand2, read, Demand3}
 use Rattle.comparison.specs.Machine.{machine}
 use Rattle.comparison.proofs.SearchSound.{search-sound}
-use Rattle.comparison.proofs.StepLaws.{searched-stays, sound-timed, sound-in-time, sound-near, step-finds, best-asks}
+use Rattle.comparison.proofs.StepLaws.{searched-stays, sound-timed, sound-in-time, sound-near, sound-near-new, step-finds, best-asks, best-none}
 
 -- ---- demand 1
 
@@ -118,6 +119,8 @@ steps = record {
   stays = λ l x s e. inl (searched-stays l x e);
   searches = λ l x s u d. step-finds l x u d .is;
   asks = λ l s e z. best-asks l e z;
+  asks-none = λ l s e z. best-none l e z;
+  near-new = sound-near-new;
 }
 
 same-handed : (xs : List Step) (l : Load) → machines.handed machine l xs ≡ handed l xs
@@ -137,13 +140,17 @@ moved s xs Q q =
 back : (s : Settings) (xs : List Step) → endOf s xs .searched ≡ true → machines.endOf machine s xs .searched ≡ true
 back s xs d = subst (λ (l : Load). l .searched ≡ true) (sym (same-handed xs (opened s))) d
 
+-- admitted, by the load at the end and that which its search was handed
+abbrev Admits : Load → Load → Journey → Type 0
+Admits l p j = (l .searched ≡ true) × by.Admitted (timetableOf p) j
+
 -- ---- demand 2
 
 pub demand-2 : Demand2
 demand-2 s xs o d = record {
   unbeaten = moved s xs (λ l p. keptOf l ≡ front (covᶠ journeyFigures) (dueᶠ journeyFigures) (l .horizon) (offers (timetableOf p))) (w .unbeaten);
-  admitted = moved s xs (λ l p. (j : Journey) → List·Memᴰ j (offers (timetableOf p)) ↔ by.Admitted (timetableOf p) j) (w .admitted);
-  complete = moved s xs (λ l p. CoveredBy (l .horizon) (by.Admitted (timetableOf p)) (λ j. List·Memᴰ j (keptOf l))) (w .complete);
+  admitted = moved s xs (λ l p. (j : Journey) → List·Memᴰ j (offers (timetableOf p)) ↔ Admits l p j) (w .admitted);
+  complete = moved s xs (λ l p. CoveredBy (l .horizon) (Admits l p) (λ j. List·Memᴰ j (keptOf l))) (w .complete);
   fell = moved s xs (λ l p. fall (covᶠ journeyFigures) (dueᶠ journeyFigures) 64 3600 (p .«table_horizon») (p .«table_limits») [] (offers (timetableOf p)) ≡ upTo (l .horizon) (l .limits)) (w .fell);
 }
   where
@@ -155,11 +162,10 @@ demand-2 s xs o d = record {
 -- the claim, of the two loads at the end and of those that their searches were handed
 abbrev Claim : Load → Load → Load → Load → Type 0
 Claim l p l′ p′ = ((z : ℤ) → I64 z → read (min (l .horizon) (l′ .horizon)) l z ≡ read (min (l .horizon) (l′ .horizon)) l′ z)
-    ↔ (CoveredBy (min (l .horizon) (l′ .horizon)) (by.Admitted (timetableOf p)) (by.Admitted (timetableOf p′))
-    × CoveredBy (min (l .horizon) (l′ .horizon)) (by.Admitted (timetableOf p′)) (by.Admitted (timetableOf p)))
+    ↔ (CoveredBy (min (l .horizon) (l′ .horizon)) (Admits l p) (Admits l′ p′) × CoveredBy (min (l .horizon) (l′ .horizon)) (Admits l′ p′) (Admits l p))
 
 pub demand-3 : Demand3
-demand-3 s s′ xs xs′ n o o′ d d′ =
+demand-3 s s′ xs xs′ n o o′ =
     moved s xs (λ l p. Claim l p (endOf s′ xs′) (startOf s′ xs′))
     (moved s′ xs′ (λ l′ p′. Claim (machines.endOf machine s xs) (machines.startOf machine s xs) l′ p′)
-    (meets-3 machine steps s s′ xs xs′ n o o′ (back s xs d) (back s′ xs′ d′)))
+    (meets-3 machine steps s s′ xs xs′ n o o′))

@@ -1,16 +1,14 @@
 -- The table at the accepted search is the calls not refused before it, as the window shows them at its horizon.
 use mathlib.Core.Path.{_≡_, refl, sym, ap, subst, _∙_}
-use mathlib.Core.Bool.{Bool, true, false, not, cond, _&&_, true≢false, false≢true}
+use mathlib.Core.Bool.{Bool, true, false, not, cond, true≢false, false≢true}
 use mathlib.Core.List.{List, [], _∷_, _++_, append-nil}
-use Rattle.laws.proofs.Bools.{cond-by, cond-not, and-true-left}
+use Rattle.laws.proofs.Bools.{and-true-left}
 use Rattle.settings.specs.declared.Settings.{Settings}
-use Rattle.settings.specs.Settings.{canonicalOf}
 use Rattle.calls.specs.declared.CallInput.{CallInput}
-use Rattle.calls.specs.Shown.{windowed, tableCalls}
+use Rattle.calls.specs.Shown.{windowed}
 use Rattle.offers.specs.Search.{Outcome, clashing, falling, found}
 use Rattle.load.specs.declared.Load.{Load}
 use Rattle.load.specs.declared.Stepped.{Stepped}
-use Rattle.load.specs.Load.{tableOf}
 use Rattle.load.specs.Steps.{opened}
 use Rattle.load.specs.Sound.{Sound}
 use Rattle.load.proofs.SoundLaws.{open-sound}
@@ -43,7 +41,7 @@ search-settings l = go (l .searched) refl
     go true e = ap (λ (m : Load). m .settings) (searched-stays l search e)
     go false e = ap (λ (r : Stepped). r .load .settings) (search-runs l e) ∙ settled-settings l (outcomeOf l)
 
-step-settings : (l : Load) (x : Step) → stepped l x .load .settings ≡ l .settings
+pub step-settings : (l : Load) (x : Step) → stepped l x .load .settings ≡ l .settings
 step-settings l (filling x) = fill-settings l x
 step-settings l search = search-settings l
 

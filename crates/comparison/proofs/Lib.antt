@@ -3,3 +3,4 @@ pub mod StepLaws
 pub mod Demands
 pub mod Marked
 pub mod HeardLaws
+pub mod HandedLaws

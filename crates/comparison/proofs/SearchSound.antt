@@ -1,9 +1,8 @@
 -- A search keeps a load sound: its calls are the same calls in order, and at most 64 journeys are kept.
 use Prim.Native.Nat.{ℕ, _+_, _-_, _≤_}
-use mathlib.Core.Path.{_≡_, refl, sym, subst, _∙_}
-use mathlib.Core.Logic.{_⊎_, inl, inr}
+use mathlib.Core.Path.{_≡_, refl, subst, _∙_}
 use mathlib.Core.Bool.{Bool, true, false, cond, true≢false}
-use mathlib.Core.List.{List, [], _∷_, List·Memᴰ, List·Memᴰ·head, List·Memᴰ·tail, List·Memᴰ·not-nil, List·Memᴰ·cases-cons}
+use mathlib.Core.List.{List, List·Memᴰ}
 use native.Mathlib.Omega.{arith}
 use lib.ListN.{length, take, drop, replicate, length-append, length-replicate, length-take, length-drop}
 use lib.Seq.{drop-append-seam, drop-at}
@@ -13,7 +12,8 @@ use Rattle.profile.specs.declared.Journey.{Journey}
 use Rattle.profile.specs.Journeys.{noJourney, journeyFigures}
 use Rattle.profile.proofs.ClaimLaws.{kept-is-front}
 use Rattle.calls.specs.declared.Call.{Call}
-use Rattle.calls.specs.Sound.{All, CallSound}
+use Rattle.calls.specs.Sound.{All, CallSound, AtStop}
+use Rattle.calls.proofs.SoundLaws.{all-mem, mem-all}
 use Rattle.offers.specs.Order.{earlier, sortFirst}
 use Rattle.offers.specs.Offers.{offers}
 use Rattle.offers.specs.Search.{Outcome, clashing, falling, found, answerOf}
@@ -27,23 +27,9 @@ use Rattle.load.specs.Sound.{Sound}
 use Rattle.search.specs.Timetable.{timetableOf}
 use Rattle.search.specs.Search.{outcomeOf, withJourneys, settled, searchSpec}
 
--- ---- what holds of each member
-
-pub all-mem : (P : Call → Type 0) (l : List Call) → All P l → (x : Call) → List·Memᴰ x l → P x
-all-mem P [] h x m = absurd (List·Memᴰ·not-nil m)
-all-mem P (y ∷ ys) h x m = go (List·Memᴰ·cases-cons m) (all-mem P ys (h .1) x)
-  where
-    go : (x ≡ y) ⊎ List·Memᴰ x ys → (List·Memᴰ x ys → P x) → P x
-    go (inl e) ih = subst P (sym e) (h .0)
-    go (inr k) ih = ih k
-
-mem-all : (P : Call → Type 0) (l : List Call) → ((x : Call) → List·Memᴰ x l → P x) → All P l
-mem-all P [] h = tt
-mem-all P (y ∷ ys) h = (h y (List·Memᴰ·head refl), mem-all P ys (λ x m. h x (List·Memᴰ·tail m)))
-
 -- ---- the table in order
 
-module _ (n : ℕ) (l : List Call) (h : ℕ) (few : n ≤ 512) (long : length l ≡ 512) where
+module _ (n : ℕ) (l : List Call) (few : n ≤ 512) (long : length l ≡ 512) where
   front-long : length (sort earlier (take n l)) ≡ n
   front-long = length-sort earlier (take n l) ∙ simp length-take (omega arith)
 
@@ -53,9 +39,9 @@ module _ (n : ℕ) (l : List Call) (h : ℕ) (few : n ≤ 512) (long : length l 
   sorted-rest : drop n (sortFirst n l) ≡ drop n l
   sorted-rest = drop-at (sort earlier (take n l)) (drop n l) n front-long
 
-  sorted-each : All (CallSound h) (take n l) → All (CallSound h) (take n (sortFirst n l))
-  sorted-each a = mem-all (CallSound h) (take n (sortFirst n l))
-      (λ x m. all-mem (CallSound h) (take n l) a x (sort-mem earlier (take n l) (subst (List·Memᴰ x) (sorted-front n l) m)))
+  sorted-each : (P : Call → Type 0) → All P (take n l) → All P (take n (sortFirst n l))
+  sorted-each P a = mem-all P (take n (sortFirst n l))
+      (λ x m. all-mem P (take n l) a x (sort-mem earlier (take n l) (subst (List·Memᴰ x) (sorted-front n l) m)))
 
 -- ---- the journeys kept
 
@@ -76,12 +62,13 @@ searched-sound l ks h m e s =
       stops = s .stops;
       table = record {
         few = few;
-        long = sorted-long (l .«call_count») (l .calls) (l .«table_horizon») few long;
-        blank = sorted-rest (l .«call_count») (l .calls) (l .«table_horizon») few long ∙ s .table .blank;
-        each = sorted-each (l .«call_count») (l .calls) (l .«table_horizon») few long (s .table .each);
+        long = sorted-long (l .«call_count») (l .calls) few long;
+        blank = sorted-rest (l .«call_count») (l .calls) few long ∙ s .table .blank;
+        each = sorted-each (l .«call_count») (l .calls) few long (CallSound (l .«table_horizon»)) (s .table .each);
         known = s .table .known;
         limited = s .table .limited;
       };
+      calls-known = sorted-each (l .«call_count») (l .calls) few long (AtStop (l .«stop_count»)) (s .calls-known);
       rules = s .rules;
       few = kept-few l ks h m e;
       long = length-append ks (replicate (64 - length ks) noJourney) ∙ rw length-replicate (fill-up (length ks) (kept-few l ks h m e));

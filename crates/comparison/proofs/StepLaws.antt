@@ -22,6 +22,7 @@ use Rattle.profile.specs.Journeys.{noJourney, journeyFigures}
 use Rattle.profile.specs.Best.{bestℤ}
 use Rattle.calls.specs.Calls.{callTests}
 use Rattle.calls.specs.Sound.{All, oneOf, horizons, CallSound}
+use Rattle.calls.proofs.SoundLaws.{all-mem}
 use Rattle.rules.specs.Rules.{ruleTests}
 use Rattle.stops.specs.Answer.{stopTests}
 use Rattle.transfer.specs.declared.Change.{Change}
@@ -44,7 +45,6 @@ use Rattle.search.specs.Search.{outcomeOf, settled, searchSpec}
 use Rattle.best.specs.Best as best
 use Rattle.comparison.specs.Steps.{Step, filling, search, stepped}
 use Rattle.comparison.specs.Demands as demands
-use Rattle.comparison.proofs.SearchSound.{all-mem}
 
 -- ---- a searched load stays
 
@@ -111,6 +111,9 @@ one-of-below h b (m ∷ ms) a e = go (or-true-cases (eqb h m) (oneOf h ms) e) (o
 pub sound-near : (l : Load) → Sound l → l .«table_horizon» ≤ 21600
 sound-near l s = one-of-below (l .«table_horizon») 21600 horizons (omega arith, (omega arith, (omega arith, (omega arith, (omega arith, (omega arith, (omega arith, tt))))))) (s .table .known)
 
+pub sound-near-new : (l : Load) → Sound l → l .searched ≡ false → l .horizon ≤ 21600
+sound-near-new l s e = omega (arith, s .same-horizon e, sound-near l s)
+
 -- ---- best
 
 answer-found : (o : Option Journey) → demands.answerOf (best.foundOf o) ≡ o
@@ -121,6 +124,10 @@ answer-found (some j) = refl
 pub best-asks : (l : Load) → l .searched ≡ true → (z : ℤ) → demands.answerOf (best.bestSpec l z) ≡ bestℤ journeyFigures (best.keptOf l) (l .horizon) z
 unfolding best.bestSpec
 best-asks l e z = ap demands.answerOf (cond-by _ _ e) ∙ answer-found (bestℤ journeyFigures (best.keptOf l) (l .horizon) z)
+
+pub best-none : (l : Load) → l .searched ≡ false → (z : ℤ) → demands.answerOf (best.bestSpec l z) ≡ none
+unfolding best.bestSpec
+best-none l e z = ap demands.answerOf (cond-not _ _ e)
 
 -- ---- only a search searches
 

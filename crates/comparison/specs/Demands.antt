@@ -4,20 +4,21 @@ use mathlib.Core.Logic.{_↔_}
 use mathlib.Core.Bool.{true}
 use mathlib.Core.Option.{Option, none, some}
 use mathlib.Core.List.{List, [], _∷_, List·Memᴰ}
-use Prim.Native.Nat.{ℕ, _≤_, _<_, min}
-use lib.IntN.{ℤ, pos, negsuc}
+use Prim.Native.Nat.{ℕ, min}
+use lib.IntN.{ℤ}
 use Rattle.refusal.specs.declared.Answer.the-variants.{Taken}
 use Rattle.refusal.specs.First.{First, AllFail, isRefused, answerNumber}
 use Rattle.settings.specs.declared.Settings.{Settings}
 use Rattle.settings.specs.Settings.{settingsTests}
 use Rattle.profile.specs.declared.Journey.{Journey}
-use Rattle.profile.specs.Figures.{Figures, covers, covᶠ, dueᶠ}
+use Rattle.profile.specs.Figures.{Figures, covᶠ, dueᶠ}
 use Rattle.profile.specs.Front.{front}
 use Rattle.profile.specs.Fall.{upTo, fall}
 use Rattle.profile.specs.Best.{readBy}
 use Rattle.profile.specs.Journeys.{journeyFigures}
 use Rattle.time.specs.Promises.{Taken as TextTaken, Answered as TextAnswered}
 use Rattle.calls.specs.Sound.{oneOf}
+use Rattle.offers.specs.Covered.{I64, CoveredBy}
 use Rattle.load.specs.declared.Load.{Load}
 use Rattle.load.specs.Steps.{openSpec}
 use Rattle.load.specs.Sound.{Opens}
@@ -52,10 +53,6 @@ pub record Demand1 : Type 0 where
 
 -- ---- 2: the list holds exactly the journeys due by its horizon that none other beats, the older of equals
 
--- each journey of A due by g is equalled or beaten by one of B
-abbrev pub CoveredBy : ℕ → (Journey → Type 0) → (Journey → Type 0) → Type 0
-CoveredBy g A B = (j : Journey) → A j → j .arrival ≤ g → (j′ : Journey) × B j′ × (covers (journeyFigures j′) (journeyFigures j) ≡ true)
-
 pub record Holds (s : Settings) (xs : List Step) : Type 0 where
   -- the list is the unbeaten offers due by the horizon, the older of equals, in offer order
   pub unbeaten : keptOf (endOf s xs) ≡ front (covᶠ journeyFigures) (dueᶠ journeyFigures) (endOf s xs .horizon) (offersOf s xs)
@@ -70,12 +67,7 @@ pub record Holds (s : Settings) (xs : List Step) : Type 0 where
 abbrev pub Demand2 : Type 0
 Demand2 = (s : Settings) (xs : List Step) → Opens s → endOf s xs .searched ≡ true → Holds s xs
 
--- ---- 3: one claim about two whole lists of steps handed to two fresh loads of one start
-
--- the seconds that can be asked
-abbrev pub I64 : ℤ → Type 0
-I64 (pos n) = n < 9223372036854775808
-I64 (negsuc n) = n < 9223372036854775808
+-- ---- 3: one claim about any two whole lists of steps handed to two fresh loads of one start, searched or not
 
 abbrev pub answerOf : Found → Option Journey
 answerOf (Found.Best j) = some j
@@ -87,7 +79,6 @@ read g l z = readBy journeyFigures g (answerOf (bestSpec l z))
 
 abbrev pub Demand3 : Type 0
 Demand3 = (s s′ : Settings) (xs xs′ : List Step) → s .now ≡ s′ .now → Opens s → Opens s′
-    → endOf s xs .searched ≡ true → endOf s′ xs′ .searched ≡ true
     → let g = min (endOf s xs .horizon) (endOf s′ xs′ .horizon) in
     ((z : ℤ) → I64 z → read g (endOf s xs) z ≡ read g (endOf s′ xs′) z)
     ↔ (CoveredBy g (Admitted s xs) (Admitted s′ xs′) × CoveredBy g (Admitted s′ xs′) (Admitted s xs))

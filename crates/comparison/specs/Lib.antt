@@ -1,5 +1,6 @@
 pub mod Steps
 pub mod Lists
+pub mod Sound
 pub mod Demands
 pub mod Machine
 pub mod Marked

@@ -1,5 +1,6 @@
 -- A whole list of steps, handed to a fresh load: each entry gets the load that the one before it returned, those sent back included.
-use mathlib.Core.Bool.{Bool, not, cond, _&&_}
+use mathlib.Core.Path.{_≡_}
+use mathlib.Core.Bool.{Bool, true, not, cond, _&&_}
 use mathlib.Core.List.{List, [], _∷_}
 use Rattle.settings.specs.declared.Settings.{Settings}
 use Rattle.profile.specs.declared.Journey.{Journey}
@@ -32,10 +33,10 @@ abbrev pub startOf : Settings → List Step → Load
 startOf s xs = start (opened s) (opened s) xs
 
 -- the journeys that are admitted: those of the stops and rules taken and the calls answered taken, as the window and the table's cuts
--- leave them when the accepted search starts
+-- leave them when the accepted search starts. A list with no accepted search, whose load is not searched at the end, admits none
 abbrev pub Admitted : Settings → List Step → Journey → Type 0
-Admitted s xs j = by.Admitted (timetableOf (startOf s xs)) j
+Admitted s xs j = (endOf s xs .searched ≡ true) × by.Admitted (timetableOf (startOf s xs)) j
 
--- the same in the order in which the search offers them
+-- those of the timetable, in the order in which the search offers them
 abbrev pub offersOf : Settings → List Step → List Journey
 offersOf s xs = offers (timetableOf (startOf s xs))

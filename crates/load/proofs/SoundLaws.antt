@@ -11,6 +11,7 @@ use Rattle.stops.specs.Taken.{stopOf}
 use Rattle.stops.proofs.SoundLaws.{no-stops-sound, stop-keeps-sound}
 use Rattle.calls.specs.declared.CallInput.{CallInput}
 use Rattle.calls.proofs.SoundLaws.{empty-sound, call-keeps-sound}
+use Rattle.calls.proofs.KnownLaws.{call-keeps-known, more-stops-known}
 use Rattle.rules.specs.declared.RuleInput.{RuleInput}
 use Rattle.rules.proofs.SoundLaws.{no-rules-sound, rule-keeps-sound, more-stops-sound}
 use Rattle.load.specs.declared.Load.{Load}
@@ -24,6 +25,7 @@ unfolding emptyLoad
 open-sound s = record {
   stops = no-stops-sound;
   table = empty-sound;
+  calls-known = tt;
   rules = no-rules-sound 0;
   few = omega arith;
   long = refl;
@@ -41,6 +43,7 @@ stop-sound l id name parent i s = go (isTaken (stopAnswer l id name parent i)) r
     go true e = rw e (record {
       stops = stop-keeps-sound (l .searched) (l .stops) (l .«stop_count») id name parent i (s .stops) (taken-is (stopAnswer l id name parent i) e);
       table = s .table;
+      calls-known = more-stops-known (l .«stop_count») (l .«stop_count» + 1) (tableOf l) (omega arith) (s .calls-known);
       rules = more-stops-sound (l .«stop_count») (l .«stop_count» + 1) (l .rules) (l .«rule_count») (omega arith) (s .rules);
       few = s .few;
       long = s .long;
@@ -60,6 +63,7 @@ call-sound l i s = go (isRefused (callFitted l i .answer)) refl
     go false e = record {
       stops = s .stops;
       table = call-keeps-sound (l .settings) (l .searched) (l .«stop_count») (tableOf l) i (s .table);
+      calls-known = call-keeps-known (l .settings) (l .searched) (l .«stop_count») (tableOf l) i (s .table) (s .calls-known);
       rules = s .rules;
       few = s .few;
       long = s .long;
@@ -77,6 +81,7 @@ rule-sound l i s = go (isTaken (ruleAnswer l i)) refl
     go true e = rw e (record {
       stops = s .stops;
       table = s .table;
+      calls-known = s .calls-known;
       rules = rule-keeps-sound (l .searched) (l .«stop_count») (l .rules) (l .«rule_count») i (s .rules) (taken-is (ruleAnswer l i) e);
       few = s .few;
       long = s .long;

@@ -1,4 +1,4 @@
--- A load that the steps make: settings that open, sound stops, calls and rules, no journey before the search, and one horizon until then.
+-- A load that the steps make: sound stops, calls and rules, every call at one of its stops, no journey before the search, and one horizon until then.
 use Prim.Native.Nat.{_-_, _≤_}
 use mathlib.Core.Path.{_≡_}
 use mathlib.Core.Bool.{false}
@@ -6,7 +6,7 @@ use lib.ListN.{length, drop, replicate}
 use Rattle.refusal.specs.declared.Answer.the-variants.{Taken}
 use Rattle.settings.specs.declared.Settings.{Settings}
 use Rattle.stops.specs.Sound.{StopsSound}
-use Rattle.calls.specs.Sound.{TableSound}
+use Rattle.calls.specs.Sound.{TableSound, StopsKnown}
 use Rattle.rules.specs.Sound.{RulesSound}
 use Rattle.profile.specs.Journeys.{noJourney}
 use Rattle.load.specs.declared.Load.{Load}
@@ -21,6 +21,7 @@ Opens s = openAnswer s ≡ Taken
 pub record Sound (l : Load) : Type 0 where
   pub stops : StopsSound (l .stops) (l .«stop_count»)
   pub table : TableSound (tableOf l)
+  pub calls-known : StopsKnown (l .«stop_count») (tableOf l)
   pub rules : RulesSound (l .«stop_count») (l .rules) (l .«rule_count»)
   pub few : l .«journey_count» ≤ 64
   pub long : length (l .journeys) ≡ 64

@@ -2,30 +2,38 @@
 use mathlib.Core.Path.{_≡_, refl, sym, ap, _∙_}
 use mathlib.Core.Logic.{_⊎_, inl, inr, _↔_}
 use mathlib.Core.Bool.{Bool, true, false, not, cond, _&&_, true≢false}
-use mathlib.Core.List.{List, [], _∷_}
+use mathlib.Core.Option.{Option, none}
+use mathlib.Core.List.{List, [], _∷_, List·Memᴰ, List·Memᴰ·not-nil}
 use Prim.Native.Nat.{ℕ, _≤_, min}
 use native.Mathlib.Omega.{arith}
-use lib.IntN.{ℤ}
+use lib.Dec.{ltb}
+use lib.IntN.{ℤ, pos, negsuc}
 use Rattle.profile.specs.declared.Journey.{Journey}
 use Rattle.profile.specs.Figures.{covᶠ, dueᶠ}
 use Rattle.profile.specs.Kept.{going}
 use Rattle.profile.specs.Fall.{Ends, upTo, never, fall, keeping}
-use Rattle.profile.specs.Best.{bestℤ, readBy, Covers}
+use Rattle.profile.specs.Best.{bestℤ, readBy, Covers, Complete}
 use Rattle.profile.specs.Claims.{Keeps}
 use Rattle.profile.specs.Journeys.{journeyFigures}
 use Rattle.profile.proofs.ClaimLaws.{kept-is-front, kept-covers, kept-complete, search-is-fall, alike}
-use Rattle.offers.specs.Offers.{Timetable, offers}
-use Rattle.offers.specs.Admitted.{Admitted, Clear}
-use Rattle.offers.specs.Machine.{I64, CoveredBy, Machine, handed, accepts, start, endOf, startOf, Demand2, Demand3, Steps, DemandsMet}
+use Rattle.offers.specs.Offers.{offers}
+use Rattle.offers.specs.Admitted.{Clear}
+use Rattle.offers.specs.Covered.{I64, CoveredBy}
+use Rattle.offers.specs.Machine.{Machine, handed, accepts, start, endOf, startOf, offersOf, AdmittedOf, Demand2, Demand3, Steps, DemandsMet}
 use Rattle.offers.proofs.OfferLaws.{offers-admitted, offers-ahead}
 use Rattle.offers.proofs.SearchLaws.{search-found}
 
--- what is covered in the offers is covered among the admitted, and back
-covered-by : (g : ℕ) (t t′ : Timetable) → Clear t → Clear t′ → Covers journeyFigures g (offers t) (offers t′) ↔ CoveredBy g (Admitted t) (Admitted t′)
-covered-by g t t′ e e′ = (
-  λ c j a d. let (k, m, x) = c j (offers-admitted t e j .1 a) d in (k, offers-admitted t′ e′ k .0 m, x),
-  λ c j m d. let (k, a, x) = c j (offers-admitted t e j .0 m) d in (k, offers-admitted t′ e′ k .1 a, x),
-)
+-- of a list that is empty best is none
+best-of-none : (h : ℕ) (z : ℤ) → bestℤ {A = Journey} journeyFigures [] h z ≡ none
+best-of-none h (negsuc n) = refl
+best-of-none h (pos n) = go (ltb h n)
+  where
+    go : (b : Bool) → cond {A = Option Journey} b none none ≡ none
+    go true = refl
+    go false = refl
+
+none-complete : (h : ℕ) → Complete {A = Journey} journeyFigures [] [] h
+none-complete h = record { kept = λ k m. m; covered = λ o m d. absurd (List·Memᴰ·not-nil m); ahead = λ o m. absurd (List·Memᴰ·not-nil m) }
 
 -- what a search comes to, by the offers alone
 reached : (h₀ l₀ h l : ℕ) (os ks : List Journey) → Keeps journeyFigures h₀ l₀ os ks h l → fall (covᶠ journeyFigures) (dueᶠ journeyFigures) 64 3600 h₀ l₀ [] os ≡ upTo h l
@@ -68,6 +76,14 @@ module _ (M : Machine) (w : Steps M) where
   searched-end s xs o e =
       came xs (M .opened s) (M .opened s) (w .opened-sound s o) (λ d. absurd (true≢false (sym d ∙ w .opened-new s o))) e
 
+  -- what is admitted: nothing, before a search; then what was offered
+  admits-none : (s : M .Settings) (xs : List (M .Step)) → M .done (endOf M s xs) ≡ false → (j : Journey) → AdmittedOf M s xs j → ⊥
+  admits-none s xs e j a = true≢false (sym (a .0) ∙ e)
+
+  admits-offers : (s : M .Settings) (xs : List (M .Step)) → M .done (endOf M s xs) ≡ true → Clear (M .timetable (startOf M s xs))
+      → (j : Journey) → List·Memᴰ j (offersOf M s xs) ↔ AdmittedOf M s xs j
+  admits-offers s xs e c j = let a = offers-admitted (M .timetable (startOf M s xs)) c j in (λ m. (e, a .0 m), λ x. a .1 (x .1))
+
   pub meets-2 : Demand2 M
   meets-2 s xs o e =
       let c = searched-end s xs o e in
@@ -78,8 +94,8 @@ module _ (M : Machine) (w : Steps M) where
       let l₀ = M .table-limits p in
       record {
         unbeaten = kept-is-front journeyFigures h₀ l₀ (offers t) (M .kept l) (M .horizon l) (M .limits l) (c .ran) .0;
-        admitted = offers-admitted t (c .clear);
-        complete = λ j a d. kept-covers journeyFigures h₀ l₀ (offers t) (M .kept l) (M .horizon l) (M .limits l) (c .ran) j (offers-admitted t (c .clear) j .1 a) d;
+        admitted = admits-offers s xs e (c .clear);
+        complete = λ j a d. kept-covers journeyFigures h₀ l₀ (offers t) (M .kept l) (M .horizon l) (M .limits l) (c .ran) j (admits-offers s xs e (c .clear) j .1 a) d;
         fell = reached h₀ l₀ (M .horizon l) (M .limits l) (offers t) (M .kept l) (c .ran);
       }
 
@@ -89,37 +105,87 @@ module _ (M : Machine) (w : Steps M) where
       let h = kept-is-front journeyFigures (M .table-horizon p) (M .table-limits p) (offers (M .timetable p)) (M .kept l) (M .horizon l) (M .limits l) (c .ran) .2 in
       omega (arith, w .near p (c .from))
 
-  -- the same over two loads that searches gave
-  alike-loads : (p p′ l l′ : M .Load) → Came p l → Came p′ l′ → w .Sound l → w .Sound l′ → M .done l ≡ true → M .done l′ ≡ true
-      → let g = min (M .horizon l) (M .horizon l′) in
-      ((z : ℤ) → I64 z → readBy journeyFigures g (M .best l z) ≡ readBy journeyFigures g (M .best l′ z))
-      ↔ (CoveredBy g (Admitted (M .timetable p)) (Admitted (M .timetable p′)) × CoveredBy g (Admitted (M .timetable p′)) (Admitted (M .timetable p)))
-  alike-loads p p′ l l′ c c′ s s′ d d′ = (
-    λ f. let (x, y) = core .0 (λ z i. sym (ap (readBy journeyFigures g) (w .asks l s d z)) ∙ f z i ∙ ap (readBy journeyFigures g) (w .asks l′ s′ d′ z)) in (there .0 x, back .0 y),
-    λ (x, y) z i. ap (readBy journeyFigures g) (w .asks l s d z) ∙ core .1 (there .1 x, back .1 y) z i ∙ sym (ap (readBy journeyFigures g) (w .asks l′ s′ d′ z)),
-  )
+  -- what the load at the end of a list stands for: offers that are the journeys admitted, and a list that best reads
+  record Stands (s : M .Settings) (xs : List (M .Step)) : Type 0 where
+    offered : List Journey
+    listed : List Journey
+    complete : Complete journeyFigures offered listed (M .horizon (endOf M s xs))
+    admits : (j : Journey) → List·Memᴰ j offered ↔ AdmittedOf M s xs j
+    asked : (z : ℤ) → M .best (endOf M s xs) z ≡ bestℤ journeyFigures listed (M .horizon (endOf M s xs)) z
+    early : M .horizon (endOf M s xs) ≤ 21600
+
+  -- searched or not
+  stands : (s : M .Settings) (xs : List (M .Step)) → M .Opens s → Stands s xs
+  stands s xs o = go (M .done (endOf M s xs)) refl
     where
-      g : ℕ
-      g = min (M .horizon l) (M .horizon l′)
+      p : M .Load
+      p = startOf M s xs
 
-      there : Covers journeyFigures g (offers (M .timetable p)) (offers (M .timetable p′)) ↔ CoveredBy g (Admitted (M .timetable p)) (Admitted (M .timetable p′))
-      there = covered-by g (M .timetable p) (M .timetable p′) (c .clear) (c′ .clear)
+      l : M .Load
+      l = endOf M s xs
 
-      back : Covers journeyFigures g (offers (M .timetable p′)) (offers (M .timetable p)) ↔ CoveredBy g (Admitted (M .timetable p′)) (Admitted (M .timetable p))
-      back = covered-by g (M .timetable p′) (M .timetable p) (c′ .clear) (c .clear)
+      sound : w .Sound l
+      sound = handed-sound xs (M .opened s) (w .opened-sound s o)
 
-      core : ((z : ℤ) → I64 z → readBy journeyFigures g (bestℤ journeyFigures (M .kept l) (M .horizon l) z) ≡ readBy journeyFigures g (bestℤ journeyFigures (M .kept l′) (M .horizon l′) z))
-          ↔ (Covers journeyFigures g (offers (M .timetable p)) (offers (M .timetable p′)) × Covers journeyFigures g (offers (M .timetable p′)) (offers (M .timetable p)))
-      core = alike journeyFigures I64 (offers (M .timetable p)) (offers (M .timetable p′)) (M .kept l) (M .kept l′) (M .horizon l) (M .horizon l′)
-          (λ n h. omega (arith, near-end p l c))
-          (kept-complete journeyFigures _ _ _ _ _ _ (c .ran) (offers-ahead (M .timetable p) (c .clear) (w .timed p (c .from)) (w .in-time p (c .from))))
-          (kept-complete journeyFigures _ _ _ _ _ _ (c′ .ran) (offers-ahead (M .timetable p′) (c′ .clear) (w .timed p′ (c′ .from)) (w .in-time p′ (c′ .from))))
+      go : (b : Bool) → M .done l ≡ b → Stands s xs
+      go true e =
+          let c = searched-end s xs o e in
+          let t = M .timetable p in
+          record {
+            offered = offers t;
+            listed = M .kept l;
+            complete = kept-complete journeyFigures _ _ _ _ _ _ (c .ran) (offers-ahead t (c .clear) (w .timed p (c .from)) (w .in-time p (c .from)));
+            admits = admits-offers s xs e (c .clear);
+            asked = w .asks l sound e;
+            early = near-end p l c;
+          }
+      go false e = record {
+        offered = [];
+        listed = [];
+        complete = none-complete (M .horizon l);
+        admits = λ j. (λ m. absurd (List·Memᴰ·not-nil m), λ a. absurd (admits-none s xs e j a));
+        asked = λ z. w .asks-none l sound e z ∙ sym (best-of-none (M .horizon l) z);
+        early = w .near-new l sound e;
+      }
+
+  -- what is covered in the offers is covered among the admitted, and back
+  covered-by : (g : ℕ) (s s′ : M .Settings) (xs xs′ : List (M .Step)) (a : Stands s xs) (b : Stands s′ xs′)
+      → Covers journeyFigures g (a .offered) (b .offered) ↔ CoveredBy g (AdmittedOf M s xs) (AdmittedOf M s′ xs′)
+  covered-by g s s′ xs xs′ a b = (
+    λ c j x d. let (k, m, q) = c j (a .admits j .1 x) d in (k, b .admits k .0 m, q),
+    λ c j m d. let (k, x, q) = c j (a .admits j .0 m) d in (k, b .admits k .1 x, q),
+  )
 
   pub meets-3 : Demand3 M
-  meets-3 s s′ xs xs′ n o o′ e e′ =
-      alike-loads (startOf M s xs) (startOf M s′ xs′) (endOf M s xs) (endOf M s′ xs′)
-      (searched-end s xs o e) (searched-end s′ xs′ o′ e′)
-      (handed-sound xs (M .opened s) (w .opened-sound s o)) (handed-sound xs′ (M .opened s′) (w .opened-sound s′ o′)) e e′
+  meets-3 s s′ xs xs′ n o o′ = (
+    λ f. let (x, y) = core .0 (λ z i. sym (ap (readBy journeyFigures g) (a .asked z)) ∙ f z i ∙ ap (readBy journeyFigures g) (b .asked z)) in (there .0 x, back .0 y),
+    λ (x, y) z i. ap (readBy journeyFigures g) (a .asked z) ∙ core .1 (there .1 x, back .1 y) z i ∙ sym (ap (readBy journeyFigures g) (b .asked z)),
+  )
+    where
+      a : Stands s xs
+      a = stands s xs o
+
+      b : Stands s′ xs′
+      b = stands s′ xs′ o′
+
+      h : ℕ
+      h = M .horizon (endOf M s xs)
+
+      h′ : ℕ
+      h′ = M .horizon (endOf M s′ xs′)
+
+      g : ℕ
+      g = min h h′
+
+      there : Covers journeyFigures g (a .offered) (b .offered) ↔ CoveredBy g (AdmittedOf M s xs) (AdmittedOf M s′ xs′)
+      there = covered-by g s s′ xs xs′ a b
+
+      back : Covers journeyFigures g (b .offered) (a .offered) ↔ CoveredBy g (AdmittedOf M s′ xs′) (AdmittedOf M s xs)
+      back = covered-by g s′ s xs′ xs b a
+
+      core : ((z : ℤ) → I64 z → readBy journeyFigures g (bestℤ journeyFigures (a .listed) h z) ≡ readBy journeyFigures g (bestℤ journeyFigures (b .listed) h′ z))
+          ↔ (Covers journeyFigures g (a .offered) (b .offered) × Covers journeyFigures g (b .offered) (a .offered))
+      core = alike journeyFigures I64 (a .offered) (b .offered) (a .listed) (b .listed) h h′ (λ m q. omega (arith, a .early)) (a .complete) (b .complete)
 
 pub demands-met : DemandsMet
 demands-met M w = (meets-2 M w, meets-3 M w)

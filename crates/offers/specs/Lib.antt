@@ -3,5 +3,6 @@ pub mod Offers
 pub mod Admitted
 pub mod Indexed
 pub mod Search
+pub mod Covered
 pub mod Machine
 pub mod Marked

@@ -3,12 +3,12 @@
 use mathlib.Core.Path.{_≡_}
 use mathlib.Core.Logic.{_⊎_, _↔_}
 use mathlib.Core.Bool.{Bool, true, false, not, cond, _&&_}
-use mathlib.Core.Option.{Option}
+use mathlib.Core.Option.{Option, none}
 use mathlib.Core.List.{List, [], _∷_, List·Memᴰ}
-use Prim.Native.Nat.{ℕ, _≤_, _<_, min}
-use lib.IntN.{ℤ, pos, negsuc}
+use Prim.Native.Nat.{ℕ, _≤_, min}
+use lib.IntN.{ℤ}
 use Rattle.profile.specs.declared.Journey.{Journey}
-use Rattle.profile.specs.Figures.{covers, covᶠ, dueᶠ}
+use Rattle.profile.specs.Figures.{covᶠ, dueᶠ}
 use Rattle.profile.specs.Front.{front}
 use Rattle.profile.specs.Fall.{upTo, fall}
 use Rattle.profile.specs.Best.{bestℤ, readBy}
@@ -17,15 +17,7 @@ use Rattle.offers.specs.Order.{Timed}
 use Rattle.offers.specs.Offers.{Timetable, offers}
 use Rattle.offers.specs.Admitted.{Admitted, InTime}
 use Rattle.offers.specs.Search.{found, searchOf}
-
--- the seconds that can be asked
-abbrev pub I64 : ℤ → Type 0
-I64 (pos n) = n < 9223372036854775808
-I64 (negsuc n) = n < 9223372036854775808
-
--- each journey of A due by g is equalled or beaten by one of B
-abbrev pub CoveredBy : ℕ → (Journey → Type 0) → (Journey → Type 0) → Type 0
-CoveredBy g A B = (j : Journey) → A j → j .arrival ≤ g → (j′ : Journey) × B j′ × (covers (journeyFigures j′) (journeyFigures j) ≡ true)
+use Rattle.offers.specs.Covered.{I64, CoveredBy}
 
 -- what opens, alters and asks a load
 pub record Machine : Type 1 where
@@ -72,8 +64,9 @@ startOf M s xs = start M (M .opened s) (M .opened s) xs
 abbrev pub offersOf : (M : Machine) → M .Settings → List (M .Step) → List Journey
 offersOf M s xs = offers (M .timetable (startOf M s xs))
 
+-- the journeys that a list admits: those of that timetable; none if the load at the end is not searched
 abbrev pub AdmittedOf : (M : Machine) → M .Settings → List (M .Step) → Journey → Type 0
-AdmittedOf M s xs j = Admitted (M .timetable (startOf M s xs)) j
+AdmittedOf M s xs j = (M .done (endOf M s xs) ≡ true) × Admitted (M .timetable (startOf M s xs)) j
 
 -- what a searched load holds
 pub record Holds (M : Machine) (s : M .Settings) (xs : List (M .Step)) : Type 0 where
@@ -92,7 +85,6 @@ Demand2 M = (s : M .Settings) (xs : List (M .Step)) → M .Opens s → M .done (
 
 abbrev pub Demand3 : Machine → Type 0
 Demand3 M = (s s′ : M .Settings) (xs xs′ : List (M .Step)) → M .now s ≡ M .now s′ → M .Opens s → M .Opens s′
-    → M .done (endOf M s xs) ≡ true → M .done (endOf M s′ xs′) ≡ true
     → let g = min (M .horizon (endOf M s xs)) (M .horizon (endOf M s′ xs′)) in
     ((z : ℤ) → I64 z → readBy journeyFigures g (M .best (endOf M s xs) z) ≡ readBy journeyFigures g (M .best (endOf M s′ xs′) z))
     ↔ (CoveredBy g (AdmittedOf M s xs) (AdmittedOf M s′ xs′) × CoveredBy g (AdmittedOf M s′ xs′) (AdmittedOf M s xs))
@@ -114,6 +106,9 @@ pub record Steps (M : Machine) : Type 1 where
       → searchOf (M .timetable l) (M .table-horizon l) (M .table-limits l) ≡ found (M .kept (M .step l x)) (M .horizon (M .step l x)) (M .limits (M .step l x))
   -- best over what is kept
   pub asks : (l : M .Load) → Sound l → M .done l ≡ true → (z : ℤ) → M .best l z ≡ bestℤ journeyFigures (M .kept l) (M .horizon l) z
+  -- before the search best is none, and the horizon no later than at the opening
+  pub asks-none : (l : M .Load) → Sound l → M .done l ≡ false → (z : ℤ) → M .best l z ≡ none
+  pub near-new : (l : M .Load) → Sound l → M .done l ≡ false → M .horizon l ≤ 21600
 
 -- so much is enough
 abbrev pub DemandsMet : Type 1

@@ -5,3 +5,4 @@ pub mod SmallLaws
 pub mod SearchLaws
 pub mod Known
 pub mod MarkedLaws
+pub mod JoinLaws

@@ -1,4 +1,5 @@
 pub mod Timetable
+pub mod Joins
 pub mod Offered
 pub mod Search
 pub mod Rows

@@ -24,7 +24,7 @@ changeIn l from to =
 abbrev pub oneRun : Ride → Call → Bool
 oneRun f b = eqb (f .trip) (b .trip) && eqb (f .day) (b .day)
 
--- `join`; a stop past the 128th, which no step takes, joins nothing
+-- `join`; a stop past the 128th, which no step takes (`JoinsKnown`), joins nothing
 abbrev pub joinsIn : Load → Ride → Call → Bool
 joinsIn l f b = cond (ltb (f .to) 128 && ltb (b .stop) 128) (joinOf (changeIn l (f .to) (b .stop)) (oneRun f b) (f .arrival) (b .departure)) false
 
