@@ -1,4 +1,4 @@
 pub mod LoopLaws
 pub mod AgreeLaws
-pub mod ForwardLaws
+pub mod BoundLaws
 pub mod SkipLaws

@@ -106,15 +106,15 @@ module _ {l₀ l : List ℕ} {all : List Row} (g : ℕ → List Row) (n i : ℕ)
 
 -- ---- a loop over the calls of a run
 module _ (at : ℕ → FeedCall) (n i j : ℕ) {b a : FeedCall} {t : Bool} (h : j < n) (eb : b ≡ at i) (ea : a ≡ at j) (et : t ≡ sameRun b a) where
-  later-cons : t ≡ true → laterFrom at n i j ≡ j ∷ laterFrom at n i (j + 1)
+  pub later-cons : t ≡ true → laterFrom at n i j ≡ j ∷ laterFrom at n i (j + 1)
   unfolding laterFrom
   later-cons e = rw (span-cons j n h, ← ea, ← eb, ← et, e)
 
-  later-other : t ≡ false → laterFrom at n i j ≡ []
+  pub later-other : t ≡ false → laterFrom at n i j ≡ []
   unfolding laterFrom
   later-other e = rw (span-cons j n h, ← ea, ← eb, ← et, e)
 
-later-nil : (at : ℕ → FeedCall) (n i j : ℕ) → n ≤ j → laterFrom at n i j ≡ []
+pub later-nil : (at : ℕ → FeedCall) (n i j : ℕ) → n ≤ j → laterFrom at n i j ≡ []
 unfolding laterFrom
 later-nil at n i j h = rw (span-nil j n h)
 

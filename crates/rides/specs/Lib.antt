@@ -2,4 +2,4 @@ pub mod Rows
 pub mod Sheets
 pub mod Offered
 pub mod Agree
-pub mod Forward
+pub mod Bounds

@@ -4,11 +4,12 @@ ghost use Prim.Native.Nat.{_+_, _≤_, _<_};
 ghost use Rattle.rides.specs.Rows.{overBits, overCalls, overRun, lastAt, lastAlightRows, lastBoardRows, changeRows};
 ghost use Rattle.feed.specs.Feed.{callAt};
 ghost use Rattle.rides.specs.Sheets.{joinsOf, sheetOf};
-ghost use Rattle.rides.specs.Forward.{ForwardIf};
+ghost use Rattle.rides.specs.Bounds.{Bounds};
 ghost use Rattle.rides.specs.Offered.{Offered};
 use crate::bits::clear_lowest;
 use crate::bits::lowest;
-use crate::forward::bound;
+use crate::bounds::bound_at;
+use crate::bounds::bucket_of;
 use crate::reads::call_at;
 use crate::reads::target_walk;
 use candidate::candidate;
@@ -84,23 +85,23 @@ fn last_alightings(st: &mut [u16; 654], feed: &[u16; 3208], n: usize, f: FirstRi
     }
 }
 
-// The rides that board at j, if the first ride joins them; unless one due when they depart would be passed over.
+// The rides that board at j, if the first ride joins them; unless one as early as any of them could be would be passed over.
 fn last_board(
     st: &mut [u16; 654],
     feed: &[u16; 3208],
     changes: &[u32; 16384],
     n: usize,
     f: FirstRide,
-    forward: bool,
+    bounds: &[u16; 1024],
     j: usize,
 )
-    requires { ⌜ (n ≤ 512) × (j < n) × ForwardIf forward (now feed) n ⌝ }
+    requires { ⌜ (n ≤ 512) × (j < n) × Bounds (now bounds) (now feed) n ⌝ }
     ensures { λ _. ⌜ Offered (now (st .entry)) (now (st .exit)) (lastBoardRows (sheetOf (now (feed .entry))) (joinsOf (now (feed .entry)) (now (changes .entry))) n f j) ⌝ }
 {
     let b = call_at(feed, j);
     if b.board {
         if join(f, b, change_at(changes, f.stop, b.stop)) {
-            if passes_over(st, f.leave, bound(forward, b.departure), 2, f.walk) {
+            if passes_over(st, f.leave, bound_at(bounds, j), 2, f.walk) {
                 return;
             }
             last_alightings(st, feed, n, f, j);
@@ -115,9 +116,9 @@ fn last_rides(
     changes: &[u32; 16384],
     n: usize,
     f: FirstRide,
-    forward: bool,
+    bounds: &[u16; 1024],
 )
-    requires { ⌜ (n ≤ 512) × ForwardIf forward (now feed) n ⌝ }
+    requires { ⌜ (n ≤ 512) × Bounds (now bounds) (now feed) n ⌝ }
     ensures { λ _. ⌜ Offered (now (st .entry)) (now (st .exit)) (overCalls (lastBoardRows (sheetOf (now (feed .entry))) (joinsOf (now (feed .entry)) (now (changes .entry))) n f) n 0) ⌝ }
 {
     let mut j = 0;
@@ -125,12 +126,12 @@ fn last_rides(
         if is_refused(st) {
             return;
         }
-        last_board(st, feed, changes, n, f, forward, j);
+        last_board(st, feed, changes, n, f, bounds, j);
         j += 1;
     }
 }
 
-// With depth 1, every last ride; else none. None either if one due when the first ride arrives would be passed over.
+// With depth 1, every last ride; else none. None either if one as early as any that departs after f arrives would be passed over.
 pub fn change_rides(
     st: &mut [u16; 654],
     feed: &[u16; 3208],
@@ -138,15 +139,16 @@ pub fn change_rides(
     n: usize,
     depth: u16,
     f: FirstRide,
-    forward: bool,
+    bounds: &[u16; 1024],
 )
-    requires { ⌜ (n ≤ 512) × ForwardIf forward (now feed) n ⌝ }
+    requires { ⌜ (n ≤ 512) × Bounds (now bounds) (now feed) n ⌝ }
     ensures { λ _. ⌜ Offered (now (st .entry)) (now (st .exit)) (changeRows (sheetOf (now (feed .entry))) (joinsOf (now (feed .entry)) (now (changes .entry))) depth n f) ⌝ }
 {
     if depth == 1 {
-        if passes_over(st, f.leave, bound(forward, f.arrival), 2, f.walk) {
+        let t = bound_at(bounds, bucket_of(f.arrival));
+        if passes_over(st, f.leave, t, 2, f.walk) {
             return;
         }
-        last_rides(st, feed, changes, n, f, forward);
+        last_rides(st, feed, changes, n, f, bounds);
     }
 }

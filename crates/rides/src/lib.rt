@@ -1,6 +1,6 @@
 // The nested loops of a search over lent arrays of numbers: each journey by one ride or two is offered to the running state, in order.
 mod bits;
-mod forward;
+mod bounds;
 mod last;
 pub mod paths;
 mod reads;

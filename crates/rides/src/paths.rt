@@ -5,11 +5,11 @@ ghost use Rattle.state.specs.View.{view};
 ghost use Rattle.rides.specs.Rows.{overBits, overRun, directAt, directRows, alightRows, originRows, boardRows};
 ghost use Rattle.feed.specs.Feed.{callAt};
 ghost use Rattle.rides.specs.Sheets.{joinsOf, sheetOf, rowsOf};
-ghost use Rattle.rides.specs.Forward.{ForwardIf};
+ghost use Rattle.rides.specs.Bounds.{Bounds};
 ghost use Rattle.rides.specs.Offered.{offerAll, Offered};
 use crate::bits::clear_lowest;
 use crate::bits::lowest;
-use crate::forward::forward_at;
+use crate::bounds::bounds_of;
 use crate::last::change_rides;
 use crate::reads::call_at;
 use crate::reads::first_of;
@@ -64,19 +64,19 @@ fn alight_at(
     changes: &[u32; 16384],
     n: usize,
     depth: u16,
-    forward: bool,
+    bounds: &[u16; 1024],
     i: usize,
     o: u8,
     k: usize,
 )
-    requires { ⌜ (n ≤ 512) × (i < 512) × (o < 4) × (k < 512) × ForwardIf forward (now feed) n ⌝ }
+    requires { ⌜ (n ≤ 512) × (i < 512) × (o < 4) × (k < 512) × Bounds (now bounds) (now feed) n ⌝ }
     ensures { λ _. ⌜ Offered (now (st .entry)) (now (st .exit)) (alightRows (sheetOf (now (feed .entry))) (joinsOf (now (feed .entry)) (now (changes .entry))) depth n i o k) ⌝ }
 {
     let a = call_at(feed, k);
     if a.alight {
         let f = first_of(feed, i, o, k);
         directs(st, feed, f);
-        change_rides(st, feed, changes, n, depth, f, forward);
+        change_rides(st, feed, changes, n, depth, f, bounds);
     }
 }
 
@@ -87,11 +87,11 @@ fn first_rides(
     changes: &[u32; 16384],
     n: usize,
     depth: u16,
-    forward: bool,
+    bounds: &[u16; 1024],
     i: usize,
     o: u8,
 )
-    requires { ⌜ (n ≤ 512) × (i < n) × (o < 4) × ForwardIf forward (now feed) n ⌝ }
+    requires { ⌜ (n ≤ 512) × (i < n) × (o < 4) × Bounds (now bounds) (now feed) n ⌝ }
     ensures { λ _. ⌜ Offered (now (st .entry)) (now (st .exit)) (overRun (alightRows (sheetOf (now (feed .entry))) (joinsOf (now (feed .entry)) (now (changes .entry))) depth n i o) (callAt (now (feed .entry))) n i (i + 1)) ⌝ }
 {
     let b = call_at(feed, i);
@@ -99,7 +99,7 @@ fn first_rides(
     while k < n {
         let a = call_at(feed, k);
         if same_run(b, a) {
-            alight_at(st, feed, changes, n, depth, forward, i, o, k);
+            alight_at(st, feed, changes, n, depth, bounds, i, o, k);
             k += 1;
         } else {
             return;
@@ -114,17 +114,17 @@ fn origin_at(
     changes: &[u32; 16384],
     n: usize,
     depth: u16,
-    forward: bool,
+    bounds: &[u16; 1024],
     i: usize,
     o: u8,
 )
-    requires { ⌜ (n ≤ 512) × (i < n) × (o < 4) × ForwardIf forward (now feed) n ⌝ }
+    requires { ⌜ (n ≤ 512) × (i < n) × (o < 4) × Bounds (now bounds) (now feed) n ⌝ }
     ensures { λ _. ⌜ Offered (now (st .entry)) (now (st .exit)) (originRows (sheetOf (now (feed .entry))) (joinsOf (now (feed .entry)) (now (changes .entry))) depth n i o) ⌝ }
 {
     let b = call_at(feed, i);
     let walk = origin_walk(feed, o);
     if can_walk(walk, b.departure) {
-        first_rides(st, feed, changes, n, depth, forward, i, o);
+        first_rides(st, feed, changes, n, depth, bounds, i, o);
     }
 }
 
@@ -135,17 +135,17 @@ fn origins(
     changes: &[u32; 16384],
     n: usize,
     depth: u16,
-    forward: bool,
+    bounds: &[u16; 1024],
     i: usize,
     mask: u8,
 )
-    requires { ⌜ (n ≤ 512) × (i < n) × (mask < 16) × ForwardIf forward (now feed) n ⌝ }
+    requires { ⌜ (n ≤ 512) × (i < n) × (mask < 16) × Bounds (now bounds) (now feed) n ⌝ }
     ensures { λ _. ⌜ Offered (now (st .entry)) (now (st .exit)) (overBits (originRows (sheetOf (now (feed .entry))) (joinsOf (now (feed .entry)) (now (changes .entry))) depth n i) mask) ⌝ }
 {
     let mut left = mask;
     while left != 0 {
         let o = lowest(left);
-        origin_at(st, feed, changes, n, depth, forward, i, o);
+        origin_at(st, feed, changes, n, depth, bounds, i, o);
         left = clear_lowest(left);
     }
 }
@@ -156,10 +156,10 @@ fn board_at(
     changes: &[u32; 16384],
     n: usize,
     depth: u16,
-    forward: bool,
+    bounds: &[u16; 1024],
     i: usize,
 )
-    requires { ⌜ (n ≤ 512) × (i < n) × ForwardIf forward (now feed) n ⌝ }
+    requires { ⌜ (n ≤ 512) × (i < n) × Bounds (now bounds) (now feed) n ⌝ }
     ensures { λ _. ⌜ Offered (now (st .entry)) (now (st .exit)) (boardRows (sheetOf (now (feed .entry))) (joinsOf (now (feed .entry)) (now (changes .entry))) depth n i) ⌝ }
 {
     let b = call_at(feed, i);
@@ -170,7 +170,7 @@ fn board_at(
             changes,
             n,
             depth,
-            forward,
+            bounds,
             i,
             origins_of(feed, b.stop),
         );
@@ -189,13 +189,13 @@ pub fn endpoint_paths(
     ensures { λ _. ⌜ view (now (st .exit)) ≡ offerAll (view (now (st .entry))) (rowsOf (now (feed .entry)) (now (changes .entry)) n depth) ⌝ }
 {
     let count = at_most_512(n);
-    let forward = forward_at(feed, count, depth);
+    let bounds = bounds_of(feed, count, depth);
     let mut i = 0;
     while i < count {
         if is_refused(st) {
             return;
         }
-        board_at(st, feed, changes, count, depth, forward, i);
+        board_at(st, feed, changes, count, depth, &bounds, i);
         i += 1;
     }
 }

@@ -7,21 +7,26 @@ use Rattle.rides.proofs.SkipLaws.{skip-changes}
 use Rattle.rides.proofs.last.change_rides.Statement.{statement}
 use Rattle.rides.proofs.last.change_rides.Tie as tie
 
-bound-requires : tie.Need-bound-requires
-bound-requires c κs = search needs
+bucket-of-requires : tie.Need-bucket-of-requires
+bucket-of-requires c κs = search needs
+
+bound-at-requires : tie.Need-bound-at-requires
+bound-at-requires c κs = c .bucket-of .ensures .1
 
 passes-over-requires : tie.Need-passes-over-requires
 passes-over-requires c κs = search needs
 
 returns : tie.Need-returns
-returns c = skip-changes _ _ _ _ (c .before .before .before .before .before .pre .1) _ _ (c .before .before .bound .ensures) (c .before .passes-over .ensures) (c .if2 .taken)
+returns c =
+    let p = c .before .before .before in
+    skip-changes _ _ _ (p .before .before .before .pre .1) _ _ (p .before .bucket-of .ensures .0) (p .bound-at .ensures) (c .before .passes-over .ensures) (c .if2 .taken)
 
 last-rides-requires : tie.Need-last-rides-requires
 last-rides-requires c κs = search needs
 
 returns-2 : tie.Need-returns-2
 unfolding changeRows
-returns-2 c = rw (eq-eqb _ _ (c .before .before .before .before .before .before .if1 .taken)) (c .last-rides .ensures)
+returns-2 c = rw (eq-eqb _ _ (c .before .before .before .before .before .before .before .if1 .taken)) (c .last-rides .ensures)
 
 returns-3 : tie.Need-returns-3
 unfolding changeRows
@@ -31,7 +36,8 @@ pub change-rides-spec : {M : Type 1} → statement M
 change-rides-spec =
     tie.close
     (tie.spec
-    bound-requires
+    bucket-of-requires
+    bound-at-requires
     passes-over-requires
     returns
     last-rides-requires

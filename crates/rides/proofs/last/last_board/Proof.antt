@@ -1,5 +1,5 @@
--- `last_board` meets its contract: the run's later calls, if the call is boardable, the first ride joins it and one due when
--- it departs would not be passed over.
+-- `last_board` meets its contract: the run's later calls, if the call is boardable, the first ride joins it and one due at its
+-- bound would not be passed over.
 use borrow.Author.Needs.{needs}
 use Rattle.rides.specs.Rows.{lastBoardRows}
 use Rattle.feed.specs.Feed.{joined}
@@ -18,8 +18,8 @@ change-at-requires c κs = search needs
 join-requires : tie.Need-join-requires
 join-requires c κs = search needs
 
-bound-requires : tie.Need-bound-requires
-bound-requires c κs = search needs
+bound-at-requires : tie.Need-bound-at-requires
+bound-at-requires c κs = search needs
 
 passes-over-requires : tie.Need-passes-over-requires
 passes-over-requires c κs = search needs
@@ -30,7 +30,7 @@ returns c =
     let p = c .before .before .before .before .before in
     let q = p .before .before in
     rw (← q .before .call-at .ensures, q .if1 .taken, ← p .before .change-at .ensures, ← p .join .ensures, c .before .before .before .before .if2 .taken)
-    (skip-run _ _ _ _ (q .before .before .pre .2) _ (q .before .call-at .ensures) (c .before .before .bound .ensures) (c .before .passes-over .ensures) (c .if3 .taken))
+    (skip-run _ _ _ (q .before .before .pre .2) _ (q .before .before .pre .1) (c .before .before .bound-at .ensures) (c .before .passes-over .ensures) (c .if3 .taken))
 
 last-alightings-requires : tie.Need-last-alightings-requires
 last-alightings-requires c κs = search needs
@@ -59,7 +59,7 @@ last-board-spec =
     call-at-requires
     change-at-requires
     join-requires
-    bound-requires
+    bound-at-requires
     passes-over-requires
     returns
     last-alightings-requires

@@ -9,11 +9,11 @@ use Rattle.rides.proofs.last.last_rides.Statement.{statement}
 use Rattle.rides.proofs.last.last_rides.Tie as tie
 
 abbrev Inv-loop : tie.InvT-loop
-Inv-loop st₀ feed changes n f forward j₀ st j =
+Inv-loop st₀ feed changes n f bounds j₀ st j =
     Left st₀ st (overCalls (lastBoardRows (sheetOf feed) (joinsOf feed changes) n f) n j₀) (overCalls (lastBoardRows (sheetOf feed) (joinsOf feed changes) n f) n j)
 
 abbrev μ-loop : tie.MeasureT-loop
-μ-loop st₀ feed changes n f forward j₀ st j = n - j
+μ-loop st₀ feed changes n f bounds j₀ st j = n - j
 
 loop-holds : tie.Need-loop-holds Inv-loop μ-loop
 loop-holds c = starts

@@ -9,17 +9,17 @@ use Rattle.rides.proofs.paths.endpoint_paths.Statement.{statement}
 use Rattle.rides.proofs.paths.endpoint_paths.Tie as tie
 
 abbrev Inv-loop : tie.InvT-loop
-Inv-loop st₀ feed changes n depth count forward i₀ st i =
+Inv-loop st₀ feed changes n depth count bounds i₀ st i =
     (count ≤ 512) × Left st₀ st (rowsOf feed changes n depth) (overCalls (boardRows (sheetOf feed) (joinsOf feed changes) depth count) count i)
 
 abbrev μ-loop : tie.MeasureT-loop
-μ-loop st₀ feed changes n depth count forward i₀ st i = count - i
+μ-loop st₀ feed changes n depth count bounds i₀ st i = count - i
 
 at-most-512-requires : tie.Need-at-most-512-requires Inv-loop μ-loop
 at-most-512-requires c κs = search needs
 
-forward-at-requires : tie.Need-forward-at-requires Inv-loop μ-loop
-forward-at-requires c κs = omega (arith, c .at-most-512 .ensures)
+bounds-of-requires : tie.Need-bounds-of-requires Inv-loop μ-loop
+bounds-of-requires c κs = omega (arith, c .at-most-512 .ensures)
 
 loop-holds : tie.Need-loop-holds Inv-loop μ-loop
 unfolding rowsOf rows
@@ -42,7 +42,7 @@ loop-less c = omega arith
 
 loop-again : tie.Need-loop-again Inv-loop μ-loop
 loop-again c =
-    let p = c .before .before .before .before .before in
+    let p = c .before .before .before .before .before .before in
     (p .before .loop .inv .0, calls-turn _ _ _ (p .loop-test .taken) (c .board-at .ensures) (p .before .loop .inv .1))
 
 returns-2 : tie.Need-returns-2 Inv-loop μ-loop
@@ -55,7 +55,7 @@ endpoint-paths-spec =
     Inv-loop
     μ-loop
     at-most-512-requires
-    forward-at-requires
+    bounds-of-requires
     loop-holds
     is-refused-requires
     returns

@@ -10,11 +10,11 @@ use Rattle.rides.proofs.paths.first_rides.Statement.{statement}
 use Rattle.rides.proofs.paths.first_rides.Tie as tie
 
 abbrev Inv-loop : tie.InvT-loop
-Inv-loop st₀ feed changes n depth forward i o b k₀ st k =
+Inv-loop st₀ feed changes n depth bounds i o b k₀ st k =
     Left st₀ st (overRun (alightRows (sheetOf feed) (joinsOf feed changes) depth n i o) (callAt feed) n i k₀) (overRun (alightRows (sheetOf feed) (joinsOf feed changes) depth n i o) (callAt feed) n i k)
 
 abbrev μ-loop : tie.MeasureT-loop
-μ-loop st₀ feed changes n depth forward i o b k₀ st k = n - k
+μ-loop st₀ feed changes n depth bounds i o b k₀ st k = n - k
 
 call-at-requires : tie.Need-call-at-requires Inv-loop μ-loop
 call-at-requires c κs = search needs

@@ -7,10 +7,10 @@ use Rattle.rides.proofs.paths.origins.Statement.{statement}
 use Rattle.rides.proofs.paths.origins.Tie as tie
 
 abbrev Inv-loop : tie.InvT-loop
-Inv-loop st₀ feed changes n depth forward i mask left₀ st left = InBits st₀ st (overBits (originRows (sheetOf feed) (joinsOf feed changes) depth n i) left₀) (originRows (sheetOf feed) (joinsOf feed changes) depth n i) left
+Inv-loop st₀ feed changes n depth bounds i mask left₀ st left = InBits st₀ st (overBits (originRows (sheetOf feed) (joinsOf feed changes) depth n i) left₀) (originRows (sheetOf feed) (joinsOf feed changes) depth n i) left
 
 abbrev μ-loop : tie.MeasureT-loop
-μ-loop st₀ feed changes n depth forward i mask left₀ st left = left
+μ-loop st₀ feed changes n depth bounds i mask left₀ st left = left
 
 loop-holds : tie.Need-loop-holds Inv-loop μ-loop
 loop-holds c = bits-start (c .pre .2)

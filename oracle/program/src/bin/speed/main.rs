@@ -60,17 +60,21 @@ fn growth(paths: &[String]) {
             search(format!("{name}, {} calls", 16 * trips), &tables::first_trips(&bytes, trips));
         }
     }
-    for calls in [16, 32, 64, 128] {
-        search(format!("two trips, {calls} calls"), &tables::two_trips(calls));
-    }
-    for calls in [16, 32, 64, 128] {
-        search(format!("near at last, {calls} calls"), &tables::near_at_last(calls));
+    for (name, table) in WORST {
+        for calls in [16, 32, 64, 128] {
+            search(format!("{name}, {calls} calls"), &table(calls));
+        }
     }
 }
-/// The worst cases with as many calls as a load holds, once, without the Rust.
+type Table = fn(u16) -> Vec<u8>;
+const WORST: [(&str, Table); 3] =
+    [("two trips", tables::two_trips), ("near at last", tables::near_at_last), ("out of reach", tables::out_of_reach)];
+/// The search of the worst cases with as many calls as a load holds, without the Rust.
 fn worst() {
-    for (name, bytes) in [("two trips", tables::two_trips(512)), ("near at last", tables::near_at_last(512))] {
-        println!("{name}, 512 calls: {:.1} s", rounds::timed(|| _ = port::best(&bytes)));
+    for (name, table) in WORST {
+        let bytes = tables::unsearched(&table(512));
+        let [one, none] = [1, 0].map(|times| rounds::least(5, || port::searches(&bytes, times)));
+        println!("{name}, 512 calls: {} ms", ms(one - none));
     }
 }
 /// A load of 128 stops, 128 rules and 512 calls, as a file and step by step, in a thread with 1 MB of stack.

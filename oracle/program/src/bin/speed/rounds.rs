@@ -39,12 +39,12 @@ fn now() -> f64 {
     assert!(clock_gettime(THREAD, &mut time) == 0, "a processor clock");
     time.seconds as f64 + time.nanoseconds as f64 * 1e-9
 }
-pub fn timed(work: impl FnOnce()) -> f64 {
+fn timed(work: impl FnOnce()) -> f64 {
     let start = now();
     work();
     now() - start
 }
-fn least(times: usize, mut work: impl FnMut()) -> f64 {
+pub fn least(times: usize, mut work: impl FnMut()) -> f64 {
     (0..times).map(|_| timed(&mut work)).fold(f64::INFINITY, f64::min)
 }
 /// The port's and the Rust's times, a round of one after a round of the other: about half a second each, at least 5 rounds and at

@@ -31,30 +31,35 @@ fn settings(walks: &[u8], target_walks: &[u8]) -> Settings {
 /// The most journeys that so many calls can make: two trips, one after the other, from stops of four origins to stops of four
 /// targets, which are one place. So each ride of the first is followed by each of the second.
 pub fn two_trips(calls: u16) -> Vec<u8> {
-    trips(calls, [0x0f, 0xf0, 0xf0], &[0, 1, 2, 3])
+    trips(calls, &[0x0f, 0xf0, 0xf0], &[0, 1, 2, 3])
 }
-/// The same where no ride can be left out: only the last call is at a target that is near, all others of the second trip at targets
-/// four hours away on foot, so that whatever departs earlier might still be the best.
+/// The same where what departs early is no worse than the rest: only the last call is at a target that is near, all others of the
+/// second trip at targets four hours away on foot.
 pub fn near_at_last(calls: u16) -> Vec<u8> {
-    trips(calls, [0x0f, 0xe0, 0x10], &[0, 240, 240, 240])
+    trips(calls, &[0x0f, 0xe0, 0x10], &[0, 240, 240, 240])
 }
-fn trips(calls: u16, members: [u8; 3], target_walks: &[u8]) -> Vec<u8> {
-    let stop = |i: u8| Stop {
-        id: vec![b'a' + i],
-        name: Some(b"Stop".to_vec()),
-        position: Some((52.0, 16.9)),
-        members: members[usize::from(i)],
-        ..Stop::default()
+/// Two trips and a third between them, which is at a target before the second and which no ride joins, since it is elsewhere. So no
+/// first ride's changes can be left out before they are looked at.
+pub fn out_of_reach(calls: u16) -> Vec<u8> {
+    trips(calls, &[0x0f, 0xf0, 0xf0, 0x10], &[0, 1, 2, 3])
+}
+fn trips(calls: u16, members: &[u8], target_walks: &[u8]) -> Vec<u8> {
+    let stop = |(i, members): (u8, &u8)| {
+        let (name, latitude) = if i < 3 { ("Stop", 52.0) } else { ("Elsewhere", 53.0) };
+        let (name, position) = (Some(name.into()), Some((latitude, 16.9)));
+        Step::Stop(Stop { id: vec![b'a' + i], name, position, members: *members, ..Stop::default() })
     };
-    let call = |i: u16| {
-        let trip = i / (calls / 2);
-        let at = Some(u32::from(300 + 40 * i + 300 * trip));
-        let stop = trip + u16::from(i + 1 == calls);
+    let call = |trip, i, stop, at| {
+        let at = Some(u32::from(at));
         Step::Call(Call { trip, sequence: u32::from(i), stop, arrival: at, departure: at, ..Call::default() })
     };
-    let stops = (0..3).map(|i| Step::Stop(stop(i)));
-    let steps: Vec<Step> = stops.chain((0..calls).map(call)).chain([Step::Search]).collect();
-    file(&settings(&[0, 1, 2, 3], target_walks), &steps)
+    let between = if members.len() > 3 { 2 } else { 0 };
+    let (calls, half) = (calls - between, (calls - between) / 2);
+    let steps = (0u8..).zip(members).map(stop);
+    let steps =
+        steps.chain((0..calls).map(|i| call(i / half, i, i / half + u16::from(i + 1 == calls), 300 + 40 * i + 300 * (i / half))));
+    let steps = steps.chain((0..between).map(|i| call(2, i, 3, 300 + 40 * (half + i))));
+    file(&settings(&[0, 1, 2, 3], target_walks), &steps.chain([Step::Search]).collect::<Vec<_>>())
 }
 /// 128 stops, every second one in a station; 128 rules; 512 calls of 32 trips. Ids have 32 bytes and differ in the last three,
 /// names have 64, so that tests which read every earlier record read much of it.
