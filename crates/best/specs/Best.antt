@@ -17,6 +17,11 @@ unfoldable pub foundOf : Option Journey → Found
 foundOf none = Found.Nothing
 foundOf (some j) = Found.Best j
 
+-- the scope's value of each case: a journey, or none
+abbrev pub answerOf : Found → Option Journey
+answerOf (Found.Best j) = some j
+answerOf Found.Nothing = none
+
 -- over a list, up to a horizon; of full ties the first
 abbrev pub bestOf : List Journey → ℕ → ℤ → Found
 bestOf ks h s = foundOf (bestℤ journeyFigures ks h s)

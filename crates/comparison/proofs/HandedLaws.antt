@@ -10,7 +10,7 @@ use Rattle.comparison.specs.Steps.{Step, stepped}
 use Rattle.comparison.specs.Lists.{handed}
 use Rattle.comparison.specs.Sound.{HandedSound}
 use Rattle.comparison.proofs.Demands.{step-sound}
-use Rattle.comparison.proofs.HeardLaws.{step-settings}
+use Rattle.comparison.proofs.AcceptedLaws.{step-settings}
 
 list-sound : (xs : List Step) (l : Load) → Sound l → Sound (handed l xs)
 list-sound [] l s = s

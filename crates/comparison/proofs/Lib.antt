@@ -2,5 +2,5 @@ pub mod SearchSound
 pub mod StepLaws
 pub mod Demands
 pub mod Marked
-pub mod HeardLaws
+pub mod AcceptedLaws
 pub mod HandedLaws

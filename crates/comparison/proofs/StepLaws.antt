@@ -44,7 +44,6 @@ use Rattle.search.specs.Timetable.{changeIn, oneRun, timetableOf}
 use Rattle.search.specs.Search.{outcomeOf, settled, searchSpec}
 use Rattle.best.specs.Best as best
 use Rattle.comparison.specs.Steps.{Step, filling, search, stepped}
-use Rattle.comparison.specs.Demands as demands
 
 -- ---- a searched load stays
 
@@ -116,18 +115,18 @@ sound-near-new l s e = omega (arith, s .same-horizon e, sound-near l s)
 
 -- ---- best
 
-answer-found : (o : Option Journey) → demands.answerOf (best.foundOf o) ≡ o
+answer-found : (o : Option Journey) → best.answerOf (best.foundOf o) ≡ o
 unfolding best.foundOf
 answer-found none = refl
 answer-found (some j) = refl
 
-pub best-asks : (l : Load) → l .searched ≡ true → (z : ℤ) → demands.answerOf (best.bestSpec l z) ≡ bestℤ journeyFigures (best.keptOf l) (l .horizon) z
+pub best-asks : (l : Load) → l .searched ≡ true → (z : ℤ) → best.answerOf (best.bestSpec l z) ≡ bestℤ journeyFigures (best.keptOf l) (l .horizon) z
 unfolding best.bestSpec
-best-asks l e z = ap demands.answerOf (cond-by _ _ e) ∙ answer-found (bestℤ journeyFigures (best.keptOf l) (l .horizon) z)
+best-asks l e z = ap best.answerOf (cond-by _ _ e) ∙ answer-found (bestℤ journeyFigures (best.keptOf l) (l .horizon) z)
 
-pub best-none : (l : Load) → l .searched ≡ false → (z : ℤ) → demands.answerOf (best.bestSpec l z) ≡ none
+pub best-none : (l : Load) → l .searched ≡ false → (z : ℤ) → best.answerOf (best.bestSpec l z) ≡ none
 unfolding best.bestSpec
-best-none l e z = ap demands.answerOf (cond-not _ _ e)
+best-none l e z = ap best.answerOf (cond-not _ _ e)
 
 -- ---- only a search searches
 

@@ -2,7 +2,7 @@
 use mathlib.Core.Path.{_≡_}
 use mathlib.Core.Logic.{_↔_}
 use mathlib.Core.Bool.{true}
-use mathlib.Core.Option.{Option, none, some}
+use mathlib.Core.Option.{Option}
 use mathlib.Core.List.{List, [], _∷_, List·Memᴰ}
 use Prim.Native.Nat.{ℕ, min}
 use lib.IntN.{ℤ}
@@ -22,8 +22,7 @@ use Rattle.offers.specs.Covered.{I64, CoveredBy}
 use Rattle.load.specs.declared.Load.{Load}
 use Rattle.load.specs.Steps.{openSpec}
 use Rattle.load.specs.Sound.{Opens}
-use Rattle.best.specs.declared.Found.{Found}
-use Rattle.best.specs.Best.{keptOf, bestSpec}
+use Rattle.best.specs.Best.{answerOf, keptOf, bestSpec}
 use Rattle.comparison.specs.Steps.{Step, stepped, causes, numbers}
 use Rattle.comparison.specs.Lists.{endOf, startOf, Admitted, offersOf}
 
@@ -68,10 +67,6 @@ abbrev pub Demand2 : Type 0
 Demand2 = (s : Settings) (xs : List Step) → Opens s → endOf s xs .searched ≡ true → Holds s xs
 
 -- ---- 3: one claim about any two whole lists of steps handed to two fresh loads of one start, searched or not
-
-abbrev pub answerOf : Found → Option Journey
-answerOf (Found.Best j) = some j
-answerOf Found.Nothing = none
 
 -- best's answer, read as none if it is due after g, by its leave, arrival, rides and walk
 abbrev pub read : ℕ → Load → ℤ → Option Figures

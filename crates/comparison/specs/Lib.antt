@@ -4,4 +4,4 @@ pub mod Sound
 pub mod Demands
 pub mod Machine
 pub mod Marked
-pub mod Heard
+pub mod Accepted

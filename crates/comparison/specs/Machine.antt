@@ -5,9 +5,8 @@ use Rattle.load.specs.declared.Load.{Load}
 use Rattle.load.specs.Steps.{opened}
 use Rattle.load.specs.Sound.{Opens}
 use Rattle.search.specs.Timetable.{timetableOf}
-use Rattle.best.specs.Best.{keptOf, bestSpec}
+use Rattle.best.specs.Best.{answerOf, keptOf, bestSpec}
 use Rattle.comparison.specs.Steps.{Step, stepped}
-use Rattle.comparison.specs.Demands.{answerOf}
 
 abbrev pub machine : Machine
 machine = record {

@@ -4,3 +4,4 @@ pub mod FedLaws
 pub mod RecordLaws
 pub mod AnsweredLaws
 pub mod HandedLaws
+pub mod ListedLaws

@@ -2,12 +2,13 @@
 use Prim.Native.Nat.{ℕ, _+_}
 use mathlib.Core.Path.{_≡_}
 use mathlib.Core.Bool.{true, false}
-use mathlib.Core.List.{List, _++_}
+use mathlib.Core.List.{List, [], _∷_, _++_}
 use lib.ListN.{length, drop}
 use Rattle.refusal.specs.declared.Refusal.the-variants.{FileVersion}
 use Rattle.refusal.specs.declared.Answer.{Answer}
 use Rattle.refusal.specs.declared.Answer.the-variants.{Refused}
-use Rattle.refusal.specs.First.{First, isRefused}
+use Rattle.refusal.specs.First.{First, isRefused, answerNumber}
+use Rattle.calls.specs.Sound.{oneOf}
 use Rattle.fields.specs.Numbers.{byteAt}
 use Rattle.file.specs.declared.Reader.{Reader}
 use Rattle.file.specs.declared.Took.{Took}
@@ -31,3 +32,10 @@ pub data FileAnswered (xs : List ℕ) : Took → Type 0 where
 
 abbrev pub ReadAnswered : Type 0
 ReadAnswered = (xs : List ℕ) → FileAnswered xs (readSpec xs)
+
+-- the numbers of a file: those of the scope's steps, without the time text's 16, and those of request 01; 0 where it is not sent back
+abbrev pub fileNumbers : List ℕ
+fileNumbers = 0 ∷ 1 ∷ 2 ∷ 3 ∷ 4 ∷ 5 ∷ 6 ∷ 7 ∷ 8 ∷ 9 ∷ 10 ∷ 11 ∷ 12 ∷ 13 ∷ 14 ∷ 15 ∷ 17 ∷ 18 ∷ 19 ∷ []
+
+abbrev pub ReadListed : Type 0
+ReadListed = (xs : List ℕ) → oneOf (answerNumber (readSpec xs .answer)) fileNumbers ≡ true

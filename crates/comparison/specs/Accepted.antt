@@ -14,16 +14,16 @@ use Rattle.comparison.specs.Steps.{Step, filling, search, stepped}
 use Rattle.comparison.specs.Lists.{accepts, startOf}
 
 -- the call of a step, unless it is refused
-abbrev pub heardOne : Load → Step → List CallInput
-heardOne l (filling x) = acceptedCall l x
-heardOne l search = []
+abbrev pub acceptedOf : Load → Step → List CallInput
+acceptedOf l (filling x) = acceptedCall l x
+acceptedOf l search = []
 
 -- the calls not refused so far (`is`), as they were when the last accepted search started (`ps`)
-abbrev pub heard : List CallInput → List CallInput → Load → List Step → List CallInput
-heard ps is l [] = ps
-heard ps is l (x ∷ xs) = heard (cond (accepts l x) is ps) (is ++ heardOne l x) (stepped l x .load) xs
+abbrev pub acceptedBefore : List CallInput → List CallInput → Load → List Step → List CallInput
+acceptedBefore ps is l [] = ps
+acceptedBefore ps is l (x ∷ xs) = acceptedBefore (cond (accepts l x) is ps) (is ++ acceptedOf l x) (stepped l x .load) xs
 
 -- the table that the admitted journeys are read from is those calls, each seen through the window at the table's horizon
-abbrev pub TableHeard : Type 0
-TableHeard = (s : Settings) (xs : List Step)
-    → tableCalls (tableOf (startOf s xs)) ≡ windowed (canonicalOf s) (startOf s xs .«table_horizon») (heard [] [] (opened s) xs)
+abbrev pub TableAccepted : Type 0
+TableAccepted = (s : Settings) (xs : List Step)
+    → tableCalls (tableOf (startOf s xs)) ≡ windowed (canonicalOf s) (startOf s xs .«table_horizon») (acceptedBefore [] [] (opened s) xs)

@@ -16,7 +16,7 @@ use Rattle.load.proofs.TableLaws.{ShowsIn, fill-shows, fill-settings, opened-se
 use Rattle.search.specs.Search.{outcomeOf, settled, searchSpec}
 use Rattle.comparison.specs.Steps.{Step, filling, search, stepped}
 use Rattle.comparison.specs.Lists.{accepts, start, startOf}
-use Rattle.comparison.specs.Heard.{heardOne, heard, TableHeard}
+use Rattle.comparison.specs.Accepted.{acceptedOf, acceptedBefore, TableAccepted}
 use Rattle.comparison.proofs.StepLaws.{searched-stays, search-runs, filled-searched}
 use Rattle.comparison.proofs.Demands.{step-sound}
 
@@ -58,7 +58,7 @@ search-unsearched l is q u = go (l .searched) refl
         let same : searchSpec l .load ≡ l = ap loadOf (search-runs l e) ∙ settled-stays l (outcomeOf l) (sym (ap (λ (r : Stepped). r .load .searched) (search-runs l e)) ∙ u) in
         subst (λ (m : Load). ShowsIn m (is ++ [])) (sym same) (subst (ShowsIn l) (sym (append-nil is)) (q e))
 
-step-unsearched : (l : Load) (x : Step) (is : List CallInput) → Sound l → Unsearched l is → Unsearched (stepped l x .load) (is ++ heardOne l x)
+step-unsearched : (l : Load) (x : Step) (is : List CallInput) → Sound l → Unsearched l is → Unsearched (stepped l x .load) (is ++ acceptedOf l x)
 step-unsearched l (filling x) is s q u = fill-shows l x is s (q (sym (filled-searched l x) ∙ u))
 step-unsearched l search is s q u = search-unsearched l is q u
 
@@ -67,10 +67,10 @@ not-true true e = absurd (false≢true e)
 not-true false e = refl
 
 -- along the list: the load shows the calls so far, and the load of the last accepted search those before it
-heard-shows : (xs : List Step) (p l : Load) (ps is : List CallInput) → Sound l → ShowsIn p ps → Unsearched l is → ShowsIn (start p l xs) (heard ps is l xs)
-heard-shows [] p l ps is s h q = h
-heard-shows (x ∷ xs) p l ps is s h q =
-    heard-shows xs (cond (accepts l x) l p) (stepped l x .load) (cond (accepts l x) is ps) (is ++ heardOne l x) (step-sound l x s) (by (accepts l x) refl) (step-unsearched l x is s q)
+accepted-shows : (xs : List Step) (p l : Load) (ps is : List CallInput) → Sound l → ShowsIn p ps → Unsearched l is → ShowsIn (start p l xs) (acceptedBefore ps is l xs)
+accepted-shows [] p l ps is s h q = h
+accepted-shows (x ∷ xs) p l ps is s h q =
+    accepted-shows xs (cond (accepts l x) l p) (stepped l x .load) (cond (accepts l x) is ps) (is ++ acceptedOf l x) (step-sound l x s) (by (accepts l x) refl) (step-unsearched l x is s q)
   where
     by : (b : Bool) → accepts l x ≡ b → ShowsIn (cond b l p) (cond b is ps)
     by true e = q (not-true (l .searched) (and-true-left (not (l .searched)) (stepped l x .load .searched) e))
@@ -84,7 +84,7 @@ start-settings (x ∷ xs) p l e = start-settings xs (cond (accepts l x) l p) (st
     by true = sym (step-settings l x)
     by false = e ∙ sym (step-settings l x)
 
-pub table-heard : TableHeard
-table-heard s xs =
-    heard-shows xs (opened s) (opened s) [] [] (open-sound s) (opened-shows s) (λ u. opened-shows s)
-    ∙ ap (λ (x : Settings). windowed x (startOf s xs .«table_horizon») (heard [] [] (opened s) xs)) (start-settings xs (opened s) (opened s) refl ∙ opened-settings s)
+pub table-accepted : TableAccepted
+table-accepted s xs =
+    accepted-shows xs (opened s) (opened s) [] [] (open-sound s) (opened-shows s) (λ u. opened-shows s)
+    ∙ ap (λ (x : Settings). windowed x (startOf s xs .«table_horizon») (acceptedBefore [] [] (opened s) xs)) (start-settings xs (opened s) (opened s) refl ∙ opened-settings s)
