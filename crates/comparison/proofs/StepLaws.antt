@@ -130,9 +130,6 @@ best-none l e z = ap best.answerOf (cond-not _ _ e)
 
 -- ---- only a search searches
 
-abbrev searchedOf : Load → Bool
-searchedOf l = l .searched
-
 either-searched : (m l : Load) (b : Bool) → m .searched ≡ l .searched → cond b m l .searched ≡ l .searched
 either-searched m l true e = e
 either-searched m l false e = refl

@@ -1,6 +1,6 @@
 -- Which calls the table of a searched load holds: those answered taken or outside before the accepted search, as the window shows them.
 use mathlib.Core.Path.{_≡_}
-use mathlib.Core.Bool.{Bool, true, cond}
+use mathlib.Core.Bool.{cond}
 use mathlib.Core.List.{List, [], _∷_, _++_}
 use Rattle.settings.specs.declared.Settings.{Settings}
 use Rattle.settings.specs.Settings.{canonicalOf}

@@ -61,15 +61,6 @@ module _ {A : Type 0} (f : ℕ → A) where
         ext-getD d now (table n f) (g .long ∙ sym (length-table n))
         (λ k b. g .done k (omega (arith, g .long)) ∙ sym (getD-table d n k (omega (arith, g .long))))
 
--- two tables are one if they agree at each place
-pub table-same : {A : Type 0} (n : ℕ) (f g : ℕ → A) → ((k : ℕ) → k < n → f k ≡ g k) → table n f ≡ table n g
-unfolding table
-table-same n f g h = go 0 n (λ k a b. h k (omega arith))
-  where
-    go : (a m : ℕ) → ((k : ℕ) → a ≤ k → k < a + m → f k ≡ g k) → map f (span a m) ≡ map g (span a m)
-    go a zero e = refl
-    go a (suc m) e = λ t. e a (omega arith) (omega arith) t ∷ go (suc a) m (λ k b c. e k (omega arith) (omega arith)) t
-
 -- sorting by f and then taking f is taking f and then sorting
 module _ {A B : Type 0} (lt : B → B → Bool) (f : A → B) where
   insertBy-map : (x : A) (l : List A) → map f (insertBy (λ a b. lt (f a) (f b)) x l) ≡ insertBy lt (f x) (map f l)

@@ -90,11 +90,6 @@ module _ (l : Load) (id name parent : List ℕ) (i : StopInput) (a : Answer) (h 
       let same : l ≡ stopLoad l (stopOf id name (stationIn l parent i) i) (stopAnswer l id name parent i) = sym (cond-not _ _ (ap isTaken (sym h) ∙ e)) in
       λ k. record { answer = h k; load = same k }
 
--- a stop that no test sends back
-pub stop-goes-in : (l : Load) (id name parent : List ℕ) (i : StopInput) → stopAnswer l id name parent i ≡ Taken
-    → stopSpec l id name parent i ≡ record { answer = Taken; load = withStops l (set (l .stops) (l .«stop_count») (stopOf id name (stationIn l parent i) i)) (l .«stop_count» + 1) }
-stop-goes-in l id name parent i e = sym (stop-taken l id name parent i Taken (sym e) (stopOf id name (stationIn l parent i) i) refl refl)
-
 -- ---- call
 
 module _ (l : Load) (i : CallInput) (f : Fitted) (h : f ≡ callFitted l i) where
@@ -146,7 +141,3 @@ module _ (l : Load) (i : RuleInput) (a : Answer) (h : a ≡ ruleAnswer l i) wher
   rule-refused e =
       let same : l ≡ ruleLoad l i (ruleAnswer l i) = sym (cond-not _ _ (ap isTaken (sym h) ∙ e)) in
       λ k. record { answer = h k; load = same k }
-
--- a rule that no test sends back
-pub rule-goes-in : (l : Load) (i : RuleInput) → ruleAnswer l i ≡ Taken → ruleSpec l i ≡ record { answer = Taken; load = withRules l (set (l .rules) (l .«rule_count») (ruleOf i)) (l .«rule_count» + 1) }
-rule-goes-in l i e = sym (rule-taken l i Taken (sym e) (ruleOf i) refl refl)

@@ -1,7 +1,7 @@
 -- The horizon and the mark after any list of offers: they change exactly where more than `cap` count, and come to what `fall` says.
 use mathlib.Core.Path.{_≡_, refl, sym, _∙_}
 use mathlib.Core.Logic.{inl, inr}
-use mathlib.Core.Bool.{Bool, true, false, cond, _&&_, true≢false, and-assoc}
+use mathlib.Core.Bool.{Bool, true, false, cond, _&&_, and-assoc}
 use mathlib.Core.List.{List, [], _∷_, _++_, append-assoc, append-nil}
 use Prim.Native.Nat.{ℕ, _+_, _-_, _≤_, _<_}
 use native.Mathlib.Omega.{arith}
@@ -53,15 +53,6 @@ module _ {A : Type 0} {cov : A → A → Bool} {due : A → ℕ} (ord : Order co
   pub run-marked : (h₀ l₀ : ℕ) (os : List A) → Marked cov due cap h₀ l₀ os (run cov due cap floor h₀ l₀ os)
   run-marked h₀ l₀ os = snoc-ind (λ xs. Marked cov due cap h₀ l₀ xs (run cov due cap floor h₀ l₀ xs)) (inl (le-leb 0 cap (omega arith), refl, refl))
       (λ xs x w. rw (foldl-append (offer cov due cap floor) (going [] h₀ l₀) xs (x ∷ [])) (offer-marked h₀ l₀ xs x (run cov due cap floor h₀ l₀ xs) (run-holds ord cap floor floor-pos h₀ l₀ xs) w)) os
-
-  -- if of no beginning of `os` more than `cap` count, the search is not refused, and horizon and mark are as they were
-  pub run-fits : (h₀ l₀ : ℕ) (os : List A) → fits cov due cap h₀ [] os ≡ true → run cov due cap floor h₀ l₀ os ≡ going (front cov due h₀ os) h₀ l₀
-  run-fits h₀ l₀ os f = go (run cov due cap floor h₀ l₀ os) (run-holds ord cap floor floor-pos h₀ l₀ os) (run-marked h₀ l₀ os)
-    where
-      go : (s : St A) → Holds cov due cap h₀ os s → Marked cov due cap h₀ l₀ os s → s ≡ going (front cov due h₀ os) h₀ l₀
-      go refused w m = absurd (true≢false (sym f ∙ m))
-      go (going ks h l) (e, len, le) (inl (f′, eh, el)) = rw (e, eh, el)
-      go (going ks h l) w (inr (f′, lt, el)) = absurd (true≢false (sym f ∙ f′))
 
   -- ---- by the offers alone
 

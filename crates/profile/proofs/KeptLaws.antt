@@ -1,5 +1,5 @@
 -- What a search keeps after any list of offers: the unbeaten list at the horizon reached, which covers every offer due by it.
-use mathlib.Core.Path.{_≡_, refl, _∙_}
+use mathlib.Core.Path.{_≡_, refl}
 use mathlib.Core.Logic.{_⊎_, inl, inr}
 use mathlib.Core.Bool.{Bool, true, false, not, cond}
 use mathlib.Core.List.{List, [], _∷_, _++_, List·Memᴰ, List·Memᴰ·head, List·Memᴰ·tail}
@@ -116,11 +116,3 @@ module _ {A : Type 0} {cov : A → A → Bool} {due : A → ℕ} (ord : Order co
   pub run-covers : (h₀ l₀ : ℕ) (os ks : List A) (h l : ℕ) → run cov due cap floor h₀ l₀ os ≡ going ks h l
       → (o : A) → List·Memᴰ o os → due o ≤ h → (k : A) × List·Memᴰ k ks × (cov k o ≡ true)
   run-covers h₀ l₀ os ks h l e o m d = rw (run-kept h₀ l₀ os ks h l e .0) (front-covers ord h os o m d)
-
-  -- the offer after `os` settles what then counts at the horizon reached. So the horizon and the mark stay unless that is more than `cap`, and it is then cap + 1
-  pub run-step : (h₀ l₀ : ℕ) (os ks : List A) (h l : ℕ) (o : A) → run cov due cap floor h₀ l₀ os ≡ going ks h l
-      → (run cov due cap floor h₀ l₀ (os ++ o ∷ []) ≡ settle due cap floor (front cov due h (os ++ o ∷ [])) h l) × (length (front cov due h (os ++ o ∷ [])) ≤ suc cap)
-  run-step h₀ l₀ os ks h l o e =
-      let w = run-kept h₀ l₀ os ks h l e in
-      let len : length (front cov due h os) ≤ cap = rw (w .0) at (w .1) in
-      (foldl-append (offer cov due cap floor) (going [] h₀ l₀) os (o ∷ []) ∙ rw (e, w .0) (offer-settles h l os o len), omega (arith, front-one-more ord h os o))

@@ -2,9 +2,7 @@
 use mathlib.Core.Path.{_≡_, refl}
 use mathlib.Core.Bool.{Bool, true}
 use mathlib.Core.List.{List, [], _∷_, List·Memᴰ, List·Memᴰ·head, List·Memᴰ·tail}
-use Prim.Native.Nat.{ℕ, _≤_}
-use native.Mathlib.Omega.{arith}
-use borrow.Author.Tests.{ltb-true, lt-ltb}
+use Prim.Native.Nat.{ℕ}
 use Rattle.laws.specs.Lists.{foldl}
 use Rattle.profile.specs.Kept.{St, going, refused, offer, tooLate}
 
@@ -22,8 +20,3 @@ module _ {A : Type 0} (cov : A → A → Bool) (due : A → ℕ) (cap floor : �
   pub offers-late : (s : St A) (os : List A) → ((o : A) → List·Memᴰ o os → tooLate s (due o) ≡ true) → foldl (offer cov due cap floor) s os ≡ s
   offers-late s [] f = refl
   offers-late s (o ∷ os) f = rw (offer-late s o (f o (List·Memᴰ·head refl))) (offers-late s os (λ x m. f x (List·Memᴰ·tail m)))
-
--- what is due later than one that is too late is too late
-pub late-later : {A : Type 0} (s : St A) (a b : ℕ) → a ≤ b → tooLate s a ≡ true → tooLate s b ≡ true
-late-later (going ks h l) a b le e = lt-ltb h b (omega (arith, ltb-true h a e))
-late-later refused a b le e = refl

@@ -1,7 +1,7 @@
 -- Steps of one kind handed to a load one after another.
 use Prim.Native.Nat.{ℕ, zero, suc}
 use mathlib.Core.Bool.{false}
-use mathlib.Core.List.{List, [], _∷_}
+use mathlib.Core.List.{[], _∷_}
 use lib.IntN.{pos}
 use lib.ListN.{replicate}
 use lib.Ieee.{binary64, ofBits}

@@ -1,7 +1,5 @@
 -- Leave and arrival in one number; 2^32 for none.
 use borrow.Author.Needs.{needs}
-use mathlib.Core.Path.{_≡_, sym, ap, _∙_}
-use Prim.Native.Nat.{ℕ, _+_, _*_}
 use Rattle.load_c.specs.Best.{timesOf}
 use Rattle.load_c.proofs.times_of.Statement.{statement}
 use Rattle.load_c.proofs.times_of.Tie as tie
