@@ -3,7 +3,6 @@ pub mod RunLaws
 pub mod OfferLaws
 pub mod AnyOrder
 pub mod IndexedLaws
-pub mod LoopLaws
 pub mod SearchLaws
 pub mod MachineLaws
 pub mod MarkedLaws
