@@ -2,8 +2,7 @@ pub mod OrderLaws
 pub mod RunLaws
 pub mod OfferLaws
 pub mod AnyOrder
-pub mod IndexedLaws
-pub mod LoopLaws
+pub mod PlacesLaws
 pub mod SearchLaws
 pub mod MachineLaws
 pub mod MarkedLaws

@@ -1,7 +1,7 @@
 pub mod Order
 pub mod Offers
 pub mod Admitted
-pub mod Indexed
+pub mod Places
 pub mod Search
 pub mod Covered
 pub mod Machine

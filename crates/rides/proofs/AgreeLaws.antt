@@ -1,94 +1,97 @@
 -- Sheets that agree give the same rows: loop by loop, from the innermost.
-use mathlib.Core.Path.{_≡_, ap, _∙_}
-use mathlib.Core.List.{List}
-use Prim.Native.Nat.{ℕ, _+_, _-_, _<_}
+use mathlib.Core.Path.{_≡_, refl, ap, _∙_}
+use mathlib.Core.Bool.{Bool, true, false, cond, _&&_}
+use mathlib.Core.List.{List, [], _∷_, List·Memᴰ}
+use Prim.Native.Nat.{ℕ, _+_, _-_, _*_, _<_}
+use borrow.Author.Tests.{eqb-true}
+use lib.Dec.{eqb, leb}
 use Rattle.laws.specs.Lists.{concatMap, span}
 use Rattle.laws.specs.Bits.{bitsOf}
 use Rattle.laws.proofs.Bits.{bits-set}
 use Rattle.laws.proofs.Agree.{concatMap-agree, takeWhile-agree, takeWhile-member, span-below}
 use Rattle.profile.specs.declared.Row.{Row}
-use Rattle.feed.specs.declared.FeedCall.{FeedCall}
-use Rattle.feed.specs.declared.FirstRide.{FirstRide}
-use Rattle.feed.specs.Feed.{sameRun}
+use Rattle.profile.specs.Journeys.{row, rowOf}
+use Rattle.feed.specs.Feed.{sameRun, leaveOf, arrivalOf}
 use Rattle.rides.specs.Rows.{Sheet, Joins, overBits, overCalls, overRun, laterFrom, firstOf, directRow, changeRow, lastAt, lastAlightRows, lastBoardRows, changeRows, directAt, directRows, alightRows, originRows, boardRows, rows}
 use Rattle.rides.specs.Agree.{Agree, RowsAgree}
 
--- ---- the three ways that a loop goes
-overBits-agree : (g h : ℕ → List Row) (m : ℕ) → ((x : ℕ) → x < 4 → g x ≡ h x) → overBits g m ≡ overBits h m
-unfolding overBits bitsOf
-overBits-agree g h m e = concatMap-agree g h (bitsOf m) (λ x w. e x (bits-set 4 m w .0))
+module _ (s t : Sheet) (joins joins′ : Joins) (depth n : ℕ) (a : Agree s t joins joins′ depth n) where
+  -- ---- the three ways that a loop goes
 
-overCalls-agree : (g h : ℕ → List Row) (n i : ℕ) → ((k : ℕ) → k < n → g k ≡ h k) → overCalls g n i ≡ overCalls h n i
-unfolding overCalls
-overCalls-agree g h n i e = concatMap-agree g h (span i (n - i)) (λ k w. e k (span-below i n w))
+  same-bits : (f g : ℕ → List Row) (m m′ : ℕ) → m ≡ m′ → ((x : ℕ) → x < 4 → f x ≡ g x) → overBits f m ≡ overBits g m′
+  unfolding overBits bitsOf
+  same-bits f g m m′ e h = concatMap-agree f g (bitsOf m) (λ x k. h x (bits-set 4 m k .0)) ∙ ap (λ (z : ℕ). concatMap g (bitsOf z)) e
 
-later-agree : (at at′ : ℕ → FeedCall) (n i j : ℕ) → ((k : ℕ) → k < n → at k ≡ at′ k) → i < n → laterFrom at n i j ≡ laterFrom at′ n i j
-unfolding laterFrom
-later-agree at at′ n i j e h =
-    takeWhile-agree (λ k. sameRun (at i) (at k)) (λ k. sameRun (at′ i) (at′ k)) (span j (n - j)) (λ k w. rw (e i h, e k (span-below j n w)))
+  same-calls : (f g : ℕ → List Row) (i : ℕ) → ((k : ℕ) → k < n → f k ≡ g k) → overCalls f n i ≡ overCalls g n i
+  unfolding overCalls
+  same-calls f g i h = concatMap-agree f g (span i (n - i)) (λ k m. h k (span-below i n m))
 
-overRun-agree : (g h : ℕ → List Row) (at at′ : ℕ → FeedCall) (n i j : ℕ) → ((k : ℕ) → k < n → at k ≡ at′ k) → i < n → ((k : ℕ) → k < n → g k ≡ h k)
-    → overRun g at n i j ≡ overRun h at′ n i j
-unfolding overRun laterFrom
-overRun-agree g h at at′ n i j e l f =
-    concatMap-agree g h (laterFrom at n i j) (λ k w. f k (span-below j n (takeWhile-member (λ k. sameRun (at i) (at k)) (span j (n - j)) w)))
-    ∙ ap (concatMap h) (later-agree at at′ n i j e l)
+  same-later : (i j : ℕ) → i < n → laterFrom (s .at) n i j ≡ laterFrom (t .at) n i j
+  unfolding laterFrom sameRun
+  same-later i j l =
+      takeWhile-agree _ _ (span j (n - j)) (λ k m. λ p. eqb (a .trip i l p) (a .trip k (span-below j n m) p) && eqb (a .day i l p) (a .day k (span-below j n m) p))
 
--- ---- the rows
-module _ (s t : Sheet) (joins joins′ : Joins) (depth n : ℕ) (a : Agree s t joins joins′ n) where
-  first-agree : (i o k : ℕ) → i < n → o < 4 → k < n → firstOf s i o k ≡ firstOf t i o k
-  unfolding firstOf
-  first-agree i o k hi ho hk = rw (a .at i hi, a .at k hk, a .origin-walk o ho)
+  later-below : (i j : ℕ) {k : ℕ} → List·Memᴰ k (laterFrom (s .at) n i j) → k < n
+  unfolding laterFrom
+  later-below i j m = span-below j n (takeWhile-member _ _ m)
 
-  lastAt-agree : (f : FirstRide) (j m x : ℕ) → m < n → x < 4 → lastAt s f j m x ≡ lastAt t f j m x
-  unfolding lastAt changeRow
-  lastAt-agree f j m x hm hx = rw (a .target-walk x hx, a .at m hm)
+  same-run : (f g : ℕ → List Row) (i j : ℕ) → i < n → ((k : ℕ) → k < n → f k ≡ g k) → overRun f (s .at) n i j ≡ overRun g (t .at) n i j
+  unfolding overRun
+  same-run f g i j l h = concatMap-agree f g (laterFrom (s .at) n i j) (λ k m. h k (later-below i j m)) ∙ ap (concatMap g) (same-later i j l)
 
-  lastAlight-agree : (f : FirstRide) (j m : ℕ) → m < n → lastAlightRows s f j m ≡ lastAlightRows t f j m
-  unfolding lastAlightRows
-  lastAlight-agree f j m hm =
-      rw (overBits-agree (lastAt s f j m) (lastAt t f j m) (s .targets (s .at m .stop)) (λ x h. lastAt-agree f j m x hm h), a .targets m hm, a .at m hm)
+  -- ---- the loops, from the innermost
 
-  module _ (i o k : ℕ) (hi : i < n) (ho : o < 4) (hk : k < n) where
-    lastBoard-agree : (j : ℕ) → j < n → lastBoardRows s joins n (firstOf s i o k) j ≡ lastBoardRows t joins′ n (firstOf s i o k) j
+  module _ (i o k : ℕ) (li : i < n) (lo : o < 4) (lk : k < n) where
+    same-direct : (x : ℕ) → x < 4 → directAt s (firstOf s i o k) x ≡ directAt t (firstOf t i o k) x
+    unfolding directAt directRow rowOf firstOf leaveOf arrivalOf
+    same-direct x lx = λ p. row (a .departure i li p - a .origin-walk o lo p * 60) (a .arrival k lk p + a .target-walk x lx p * 60) 1 (a .origin-walk o lo p) o x i k 0 0 ∷ []
+
+    same-change : (j m x : ℕ) → m < n → x < 4 → lastAt s (firstOf s i o k) j m x ≡ lastAt t (firstOf t i o k) j m x
+    unfolding lastAt changeRow rowOf firstOf leaveOf arrivalOf
+    same-change j m x lm lx = λ p. row (a .departure i li p - a .origin-walk o lo p * 60) (a .arrival m lm p + a .target-walk x lx p * 60) 2 (a .origin-walk o lo p) o x i k j m ∷ []
+
+    same-last-alight : (j m : ℕ) → m < n → lastAlightRows s (firstOf s i o k) j m ≡ lastAlightRows t (firstOf t i o k) j m
+    unfolding lastAlightRows
+    same-last-alight j m lm =
+        λ p. cond (a .alight m lm p) (same-bits (lastAt s (firstOf s i o k) j m) (lastAt t (firstOf t i o k) j m) _ _ (a .targets m lm) (λ x lx. same-change j m x lm lx) p) []
+
+    same-last-board : depth ≡ 1 → (j : ℕ) → j < n → lastBoardRows s joins n (firstOf s i o k) j ≡ lastBoardRows t joins′ n (firstOf t i o k) j
     unfolding lastBoardRows
-    lastBoard-agree j hj =
-        let f = firstOf s i o k in
-        rw (overRun-agree (lastAlightRows s f j) (lastAlightRows t f j) (s .at) (t .at) n j (j + 1) (a .at) hj (lastAlight-agree f j), a .joined i o k j hi ho hk hj, a .at j hj)
+    same-last-board one j lj =
+        λ p. cond (a .board j lj p) (cond (a .joined one i o k j li lo lk lj p) (same-run (lastAlightRows s (firstOf s i o k) j) (lastAlightRows t (firstOf t i o k) j) j (j + 1) lj (λ m lm. same-last-alight j m lm) p) []) []
 
-    changes-agree : changeRows s joins depth n (firstOf s i o k) ≡ changeRows t joins′ depth n (firstOf s i o k)
+    same-changes : changeRows s joins depth n (firstOf s i o k) ≡ changeRows t joins′ depth n (firstOf t i o k)
     unfolding changeRows
-    changes-agree = rw (overCalls-agree (lastBoardRows s joins n (firstOf s i o k)) (lastBoardRows t joins′ n (firstOf s i o k)) n 0 lastBoard-agree)
+    same-changes = go (eqb depth 1) refl
+      where
+        go : (b : Bool) → eqb depth 1 ≡ b
+            → cond b (overCalls (lastBoardRows s joins n (firstOf s i o k)) n 0) [] ≡ cond b (overCalls (lastBoardRows t joins′ n (firstOf t i o k)) n 0) []
+        go true q = same-calls (lastBoardRows s joins n (firstOf s i o k)) (lastBoardRows t joins′ n (firstOf t i o k)) 0 (λ j lj. same-last-board (eqb-true depth 1 q) j lj)
+        go false q = refl
 
-    directs-agree : directRows s (firstOf s i o k) ≡ directRows t (firstOf s i o k)
-    unfolding directRows directAt directRow firstOf
-    directs-agree =
-        let f = firstOf s i o k in
-        overBits-agree (directAt s f) (directAt t f) (s .targets (s .at k .stop)) (λ x h. rw (a .target-walk x h)) ∙ ap (overBits (directAt t f)) (a .targets k hk)
+    target-stop : s .targets (firstOf s i o k .stop) ≡ t .targets (firstOf t i o k .stop)
+    unfolding firstOf
+    target-stop = a .targets k lk
 
-    alight-agree : alightRows s joins depth n i o k ≡ alightRows t joins′ depth n i o k
+    same-directs : directRows s (firstOf s i o k) ≡ directRows t (firstOf t i o k)
+    unfolding directRows
+    same-directs = same-bits (directAt s (firstOf s i o k)) (directAt t (firstOf t i o k)) _ _ target-stop (λ x lx. same-direct x lx)
+
+    same-alight : alightRows s joins depth n i o k ≡ alightRows t joins′ depth n i o k
     unfolding alightRows
-    alight-agree = rw (directs-agree, changes-agree, first-agree i o k hi ho hk, a .at k hk)
+    same-alight = rw (a .alight k lk, same-directs, same-changes)
 
-  origin-agree : (i o : ℕ) → i < n → o < 4 → originRows s joins depth n i o ≡ originRows t joins′ depth n i o
+  same-origin : (i o : ℕ) → i < n → o < 4 → originRows s joins depth n i o ≡ originRows t joins′ depth n i o
   unfolding originRows
-  origin-agree i o hi ho =
-      rw (
-        overRun-agree (alightRows s joins depth n i o) (alightRows t joins′ depth n i o) (s .at) (t .at) n i (i + 1) (a .at) hi (λ k h. alight-agree i o k hi ho h),
-        a .origin-walk o ho,
-        a .at i hi,
-      )
+  same-origin i o li lo =
+      λ p. cond (leb (a .origin-walk o lo p * 60) (a .departure i li p)) (same-run (alightRows s joins depth n i o) (alightRows t joins′ depth n i o) i (i + 1) li (λ k lk. same-alight i o k li lo lk) p) []
 
-  board-agree : (i : ℕ) → i < n → boardRows s joins depth n i ≡ boardRows t joins′ depth n i
+  same-board : (i : ℕ) → i < n → boardRows s joins depth n i ≡ boardRows t joins′ depth n i
   unfolding boardRows
-  board-agree i hi =
-      rw (
-        overBits-agree (originRows s joins depth n i) (originRows t joins′ depth n i) (s .origins (s .at i .stop)) (λ o h. origin-agree i o hi h),
-        a .origins i hi,
-        a .at i hi,
-      )
+  same-board i li =
+      λ p. cond (a .board i li p) (same-bits (originRows s joins depth n i) (originRows t joins′ depth n i) _ _ (a .origins i li) (λ o lo. same-origin i o li lo) p) []
 
 pub rows-agree : RowsAgree
 unfolding rows
 rows-agree s t joins joins′ depth n a =
-    overCalls-agree (boardRows s joins depth n) (boardRows t joins′ depth n) n 0 (board-agree s t joins joins′ depth n a)
+    same-calls s t joins joins′ depth n a (boardRows s joins depth n) (boardRows t joins′ depth n) 0 (λ i li. same-board s t joins joins′ depth n a i li)

@@ -29,7 +29,7 @@ use Rattle.transfer.specs.Changes.{transferOf, joinsBy, joinOf, changeNumber}
 use Rattle.transfer.specs.Copied.{rulesOf, parentsOf}
 use Rattle.transfer.specs.Rows.{entryOf}
 use Rattle.offers.specs.Offers.{rideOf}
-use Rattle.offers.specs.Indexed as by
+use Rattle.offers.specs.Places as by
 use Rattle.feed.specs.Feed.{callAt, memberAt, originMask, targetMask, originWalk, targetWalk, changeAt, joined}
 use Rattle.rides.specs.Sheets.{joinsOf, sheetOf, rowsOf}
 use Rattle.rides.specs.Offered.{offerAll}
@@ -39,7 +39,7 @@ use Rattle.change_array.specs.Named.{stopIn, HoldsChanges}
 use Rattle.load.specs.declared.Load.{Load}
 use Rattle.search.specs.Timetable.{changeIn, joinsIn, timetableOf}
 use Rattle.search.specs.Offered.{placed, offeredOf}
-use Rattle.search.specs.Rows.{Agrees}
+use Rattle.search.specs.Rows.{feedCall, sheetFrom, joinsFrom, rowOffers, Agrees}
 use Rattle.search.proofs.RowsLaws.{same-rows}
 
 -- an empty array
@@ -164,7 +164,7 @@ module _ (l : Load) (calls : List Call) (f g : List ℕ) (w : Feeds f calls (l .
       go false e c q = far (change-far-from g (placed calls k .stop) (placed calls j .stop) (stopIn f k) (stopIn f j) (stop-of k hk) (stop-of j hj) e)
 
   pub agrees : Agrees (sheetOf f) (joinsOf f g) (timetableOf l) (placed calls) n
-  unfolding sheetOf callAt originMask targetMask originWalk targetWalk timetableOf by.originMask by.targetMask by.maskOf
+  unfolding sheetOf callAt originMask targetMask originWalk targetWalk timetableOf by.originMask by.targetMask by.maskOf feedCall sheetFrom joinsFrom firstOf
   agrees = record {
     trip = λ i k. w .trip i (omega arith);
     day = λ i k. w .day i (omega arith);
@@ -176,7 +176,7 @@ module _ (l : Load) (calls : List Call) (f g : List ℕ) (w : Feeds f calls (l .
     targets = λ i k. member-of f (l .stops) long (λ x. x / 16) (zero-div 16) (l .settings .targets) (w .targets) (placed calls i .stop) (getD f (i * 6 + 2) 0) (w .stop i (omega arith));
     origin-walk = λ o k. w .origin-walk o k;
     target-walk = λ x k. w .target-walk x k;
-    joined = λ one i o k j a b c. tested i o k j (omega arith) (omega arith) (omega arith) ∙ joins-right one i k j b c;
+    joined = λ one i o k j a lo b c. tested i o k j (omega arith) (omega arith) (omega arith) ∙ joins-right one i k j b c;
   }
 
 -- ---- the state after every offer
@@ -205,6 +205,6 @@ module _ (l : Load) (calls : List Call) (f g flat parents places st st′ : List
       let numbered : HoldsChanges g f (min (l .«call_count») 512) (l .settings .«max_transfers») (λ p q. changeNumber (changeIn l p q)) =
       λ one k q hk few near hq. here (ed ∙ one) k q (omega arith) few near hq
       ∙ (λ i. entryOf (rulesOf flat (least (l .«rule_count») 128)) (ep i) (el i) (stopIn f k) (ec i) q) ∙ entry-number l (rulesOf flat (least (l .«rule_count») 128)) (stopIn f k) q rs in
-      let same : rows (sheetOf f) (joinsOf f g) depth (min (l .«call_count») 512) ≡ by.rowOffers (timetableOf l) (placed calls) (min (l .«call_count») 512) =
+      let same : rows (sheetOf f) (joinsOf f g) depth (min (l .«call_count») 512) ≡ rowOffers (timetableOf l) (placed calls) (min (l .«call_count») 512) =
       same-rows (sheetOf f) (joinsOf f g) (timetableOf l) (placed calls) (min (l .«call_count») 512) depth (agrees l calls f g w small long (min (l .«call_count») 512) (omega arith) numbered) (ed ∙ max-is l) in
-      e1 ∙ (λ i. foldl offerTo (e0 i) (same i)) ∙ offers-search (l .«table_horizon») (l .«table_limits») (by.rowOffers (timetableOf l) (placed calls) (min (l .«call_count») 512))
+      e1 ∙ (λ i. foldl offerTo (e0 i) (same i)) ∙ offers-search (l .«table_horizon») (l .«table_limits») (rowOffers (timetableOf l) (placed calls) (min (l .«call_count») 512))

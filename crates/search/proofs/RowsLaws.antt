@@ -1,118 +1,139 @@
--- The rows that the loops offer are those of the offers by places, loop by loop from the innermost.
-use mathlib.Core.Path.{_≡_, refl, ap, _∙_}
-use mathlib.Core.Bool.{Bool, true, false, cond, _&&_}
-use mathlib.Core.List.{List, [], _∷_, _++_, List·Memᴰ, List·Memᴰ·head, List·Memᴰ·tail}
-use Prim.Native.Nat.{ℕ, _+_, _-_, _*_, _<_}
+-- The rows of a timetable are its offers, a search of them is the search, and a sheet that holds the timetable gives them.
+use mathlib.Core.Path.{_≡_, refl, sym, ap, _∙_}
+use mathlib.Core.Bool.{Bool, true, false, cond}
+use mathlib.Core.List.{List, [], _∷_, map, map-append}
+use Prim.Native.Nat.{ℕ, _+_, _-_, _*_, _/_, min}
 use native.Mathlib.Omega.{arith}
-use borrow.Author.Tests.{eqb-true}
 use lib.Dec.{eqb, leb}
 use Rattle.laws.specs.Lists.{concatMap, takeWhile, span}
-use Rattle.laws.specs.Bits.{bitsOf}
-use Rattle.laws.proofs.Folds.{span-mem}
-use Rattle.laws.proofs.Tails.{takeWhile-mem}
-use Rattle.laws.proofs.Bits.{bits-set}
+use Rattle.laws.specs.Tails.{overTails}
+use Rattle.laws.specs.Bits.{bitsFrom, bitsOf}
+use Rattle.laws.proofs.Places.{concatMap-cong, concatMap-cond, concatMap-map, map-concatMap, map-cond, takeWhile-map, tails-span}
 use Rattle.calls.specs.declared.Call.{Call}
 use Rattle.profile.specs.declared.Row.{Row}
-use Rattle.profile.specs.Journeys.{row, rowOf}
-use Rattle.offers.specs.Offers.{Timetable}
-use Rattle.offers.specs.Indexed as by
-use Rattle.feed.specs.Feed.{sameRun, leaveOf, arrivalOf}
-use Rattle.rides.specs.Rows.{Sheet, Joins, overBits, overCalls, overRun, laterFrom, firstOf, directRow, changeRow, lastAt, lastAlightRows, lastBoardRows, changeRows, directAt, directRows, alightRows, originRows, boardRows, rows}
-use Rattle.search.specs.Rows.{Agrees, SameRows}
+use Rattle.profile.specs.declared.Ride.{Ride}
+use Rattle.profile.specs.declared.Journey.{Journey}
+use Rattle.profile.specs.Journeys.{journeyFigures, rowFigures, rowOf}
+use Rattle.profile.specs.Kept.{searched}
+use Rattle.profile.proofs.ClaimLaws.{search-maps}
+use Rattle.offers.specs.Offers.{Timetable, rideOf, changeOf, runOf, sameRun, targetsOf, lastAt, lastAlight, lastBoard, directAt, changesAt, alightAt, originAt, boardAt, offersIn, offers}
+use Rattle.offers.specs.Places.{maskOf, originMask, targetMask, journeyAt}
+use Rattle.offers.proofs.PlacesLaws.{mask-bits, row-figures}
+use Rattle.feed.specs.Feed as feed
+use Rattle.feed.specs.declared.FirstRide.{FirstRide}
+use Rattle.rides.specs.Rows as by
+use Rattle.rides.specs.Rows.{Sheet, overBits, overCalls, laterFrom, overRun, firstOf, directRow, changeRow, lastAlightRows, lastBoardRows, changeRows, directRows, alightRows, originRows, boardRows, rows}
+use Rattle.rides.proofs.AgreeLaws.{rows-agree}
+use Rattle.search.specs.Rows.{feedCall, sheetFrom, joinsFrom, rowOffers, OffersByPlaces, SearchByRows, SameRows}
 
--- ---- lists
+-- the three ways that a loop goes, in journeys
+module _ (at : ℕ → Call) where
+  bits-places : (g : ℕ → List Row) (f : ℕ → List Journey) → ((x : ℕ) → map (journeyAt at) (g x) ≡ f x) → (c m : ℕ)
+      → map (journeyAt at) (overBits g (maskOf c m)) ≡ concatMap f (bitsFrom (min c 4) 0 m)
+  unfolding overBits
+  bits-places g f e c m =
+      map-concatMap (journeyAt at) g (bitsOf (maskOf c m)) ∙ concatMap-cong (λ x. map (journeyAt at) (g x)) f e (bitsOf (maskOf c m)) ∙ ap (concatMap f) (mask-bits c m)
 
-module _ {A B : Type 0} where
-  concatMap-on : (f g : B → List A) (xs : List B) → ((x : B) → List·Memᴰ x xs → f x ≡ g x) → concatMap f xs ≡ concatMap g xs
-  concatMap-on f g [] e = refl
-  concatMap-on f g (x ∷ xs) e = rw (e x (List·Memᴰ·head refl), concatMap-on f g xs (λ y m. e y (List·Memᴰ·tail m)))
+  run-places : (g : ℕ → List Row) (f : Call → List Journey) → ((k : ℕ) → map (journeyAt at) (g k) ≡ f (at k)) → (n i j : ℕ)
+      → map (journeyAt at) (overRun g (λ m. feedCall (at m)) n i j) ≡ concatMap f (runOf (at i) (map at (span j (n - j))))
+  unfolding overRun laterFrom feed.sameRun feedCall
+  run-places g f e n i j =
+      let ks = takeWhile (λ k. sameRun (at i) (at k)) (span j (n - j)) in
+      map-concatMap (journeyAt at) g ks ∙ concatMap-cong (λ k. map (journeyAt at) (g k)) (λ k. f (at k)) e ks
+      ∙ sym (concatMap-map at f ks) ∙ ap (concatMap f) (sym (takeWhile-map at (sameRun (at i)) (span j (n - j))))
 
-takeWhile-on : (p q : ℕ → Bool) (xs : List ℕ) → ((x : ℕ) → List·Memᴰ x xs → p x ≡ q x) → takeWhile p xs ≡ takeWhile q xs
-takeWhile-on p q [] e = refl
-takeWhile-on p q (x ∷ xs) e = rw (e x (List·Memᴰ·head refl), takeWhile-on p q xs (λ y m. e y (List·Memᴰ·tail m)))
+  calls-places : (n : ℕ) (g : ℕ → List Row) (f : Call → List Call → List Journey) → ((i : ℕ) → map (journeyAt at) (g i) ≡ f (at i) (map at (span (i + 1) (n - (i + 1)))))
+      → map (journeyAt at) (overCalls g n 0) ≡ overTails f (map at (span 0 n))
+  unfolding overCalls
+  calls-places n g f e =
+      let q : n - 0 ≡ n = omega arith in
+      ap (λ (k : ℕ). map (journeyAt at) (concatMap g (span 0 k))) q
+      ∙ map-concatMap (journeyAt at) g (span 0 n) ∙ concatMap-cong (λ i. map (journeyAt at) (g i)) (λ i. f (at i) (map at (span (i + 1) (n - (i + 1))))) e (span 0 n)
+      ∙ sym (tails-span at f n n 0 (omega arith))
 
--- the places from j up to n are below n
-in-span : (n j : ℕ) {k : ℕ} → List·Memᴰ k (span j (n - j)) → k < n
-in-span n j m = let (a, b) = span-mem j (n - j) m in omega arith
+  cond-places : (c : Bool) (rs : List Row) (js : List Journey) → map (journeyAt at) rs ≡ js → map (journeyAt at) (cond c rs []) ≡ cond c js []
+  cond-places c rs js e = map-cond c (journeyAt at) rs ∙ ap (λ (l : List Journey). cond c l []) e
 
-module _ (s : Sheet) (joins : Joins) (t : Timetable) (at : ℕ → Call) (n : ℕ) (a : Agrees s joins t at n) where
-  -- ---- the three ways that a loop goes
+-- a last ride with the join left out
+abbrev freeAlight : Timetable → ℕ → Ride → Call → Call → List Journey
+freeAlight t o f b a = cond (a .alight) (concatMap (λ x. changeOf t f (rideOf b a) o x ∷ []) (targetsOf t a)) []
 
-  same-bits : (f g : ℕ → List Row) (m m′ : ℕ) → m ≡ m′ → ((x : ℕ) → x < 4 → f x ≡ g x) → overBits f m ≡ by.overBits g m′
-  unfolding overBits by.overBits bitsOf
-  same-bits f g m m′ e h = concatMap-on f g (bitsOf m) (λ x k. h x (bits-set 4 m k .0)) ∙ ap (λ (z : ℕ). concatMap g (bitsOf z)) e
+cond-swap : {A : Type 0} (c d : Bool) (xs : List A) → cond c (cond d xs []) [] ≡ cond d (cond c xs []) []
+cond-swap true true xs = refl
+cond-swap true false xs = refl
+cond-swap false true xs = refl
+cond-swap false false xs = refl
 
-  same-calls : (f g : ℕ → List Row) (i : ℕ) → ((k : ℕ) → k < n → f k ≡ g k) → overCalls f n i ≡ by.overCalls g n i
-  unfolding overCalls by.overCalls
-  same-calls f g i h = concatMap-on f g (span i (n - i)) (λ k m. h k (in-span n i m))
+-- the join is the same for every target and every alighting call
+alight-joins : (t : Timetable) (o : ℕ) (f : Ride) (b a : Call) → lastAlight t o f b a ≡ cond (t .joins f b) (freeAlight t o f b a) []
+unfolding lastAlight lastAt
+alight-joins t o f b a =
+    ap (λ (l : List Journey). cond (a .alight) l []) (concatMap-cond (t .joins f b) (λ x. changeOf t f (rideOf b a) o x ∷ []) (targetsOf t a))
+    ∙ cond-swap (a .alight) (t .joins f b) (concatMap (λ x. changeOf t f (rideOf b a) o x ∷ []) (targetsOf t a))
 
-  same-later : (i j : ℕ) → i < n → laterFrom (s .at) n i j ≡ by.laterFrom at n i j
-  unfolding laterFrom by.laterFrom sameRun
-  same-later i j l = takeWhile-on _ _ (span j (n - j)) (λ k m. λ p. eqb (a .trip i l p) (a .trip k (in-span n j m) p) && eqb (a .day i l p) (a .day k (in-span n j m) p))
+run-joins : (t : Timetable) (o : ℕ) (f : Ride) (b : Call) (cs : List Call) → concatMap (lastAlight t o f b) cs ≡ cond (t .joins f b) (concatMap (freeAlight t o f b) cs) []
+run-joins t o f b cs =
+    concatMap-cong (lastAlight t o f b) (λ a. cond (t .joins f b) (freeAlight t o f b a) []) (alight-joins t o f b) cs ∙ concatMap-cond (t .joins f b) (freeAlight t o f b) cs
 
-  later-below : (i j : ℕ) {k : ℕ} → List·Memᴰ k (laterFrom (s .at) n i j) → k < n
-  unfolding laterFrom
-  later-below i j m = in-span n j (takeWhile-mem _ _ m .0)
+-- ---- level by level
 
-  same-run : (f g : ℕ → List Row) (i j : ℕ) → i < n → ((k : ℕ) → k < n → f k ≡ g k) → overRun f (s .at) n i j ≡ by.overRun g at n i j
-  unfolding overRun by.overRun
-  same-run f g i j l h = concatMap-on f g (laterFrom (s .at) n i j) (λ k m. h k (later-below i j m)) ∙ ap (concatMap g) (same-later i j l)
+module _ (t : Timetable) (at : ℕ → Call) (n : ℕ) where
+  abbrev sheet : Sheet
+  sheet = sheetFrom t at
 
-  -- ---- rows
+  abbrev ride : ℕ → ℕ → ℕ → FirstRide
+  ride i o k = firstOf (sheetFrom t at) i o k
 
-  module _ (i o k : ℕ) (li : i < n) (lo : o < 4) (lk : k < n) where
-    same-direct : (x : ℕ) → x < 4 → directAt s (firstOf s i o k) x ≡ by.directRow t at o i k x ∷ []
-    unfolding directAt directRow by.directRow rowOf firstOf leaveOf arrivalOf
-    same-direct x lx = λ p. row (a .departure i li p - a .origin-walk o lo p * 60) (a .arrival k lk p + a .target-walk x lx p * 60) 1 (a .origin-walk o lo p) o x i k 0 0 ∷ []
+  last-alight : (o i k j m : ℕ) → map (journeyAt at) (lastAlightRows sheet (ride i o k) j m) ≡ freeAlight t o (rideOf (at i) (at k)) (at j) (at m)
+  unfolding lastAlightRows by.lastAt changeRow rowOf firstOf sheetFrom feedCall feed.leaveOf feed.arrivalOf targetMask journeyAt
+  last-alight o i k j m =
+      cond-places at (at m .alight) _ _
+      (bits-places at (by.lastAt sheet (ride i o k) j m) (λ x. changeOf t (rideOf (at i) (at k)) (rideOf (at j) (at m)) o x ∷ []) (λ x. refl) (t .targets) (t .members (at m .stop) / 16))
 
-    same-change : (j m x : ℕ) → m < n → x < 4 → lastAt s (firstOf s i o k) j m x ≡ by.changeRow t at o i k j m x ∷ []
-    unfolding lastAt changeRow by.changeRow rowOf firstOf leaveOf arrivalOf
-    same-change j m x lm lx = λ p. row (a .departure i li p - a .origin-walk o lo p * 60) (a .arrival m lm p + a .target-walk x lx p * 60) 2 (a .origin-walk o lo p) o x i k j m ∷ []
+  last-board : (o i k j : ℕ) → map (journeyAt at) (lastBoardRows sheet (joinsFrom t at) n (ride i o k) j) ≡ lastBoard t o (rideOf (at i) (at k)) (at j) (map at (span (j + 1) (n - (j + 1))))
+  unfolding lastBoardRows lastBoard sheetFrom feedCall joinsFrom firstOf
+  last-board o i k j =
+      let f = rideOf (at i) (at k) in
+      cond-places at (at j .board) _ _
+      (cond-places at (t .joins f (at j)) _ _ (run-places at (lastAlightRows sheet (ride i o k) j) (freeAlight t o f (at j)) (last-alight o i k j) n j (j + 1))
+      ∙ sym (run-joins t o f (at j) (runOf (at j) (map at (span (j + 1) (n - (j + 1)))))))
 
-    -- ---- the loops, from the innermost
+  changes : (o i k : ℕ) → map (journeyAt at) (changeRows sheet (joinsFrom t at) (t .max-transfers) n (ride i o k)) ≡ changesAt t (map at (span 0 n)) o (rideOf (at i) (at k))
+  unfolding changeRows changesAt
+  changes o i k =
+      cond-places at (eqb (t .max-transfers) 1) _ _ (calls-places at n (lastBoardRows sheet (joinsFrom t at) n (ride i o k)) (lastBoard t o (rideOf (at i) (at k))) (last-board o i k))
 
-    same-last-alight : (j m : ℕ) → m < n → lastAlightRows s (firstOf s i o k) j m ≡ by.lastAlightRows t at o i k j m
-    unfolding lastAlightRows by.lastAlightRows
-    same-last-alight j m lm =
-        λ p. cond (a .alight m lm p) (same-bits (lastAt s (firstOf s i o k) j m) (λ x. by.changeRow t at o i k j m x ∷ []) _ _ (a .targets m lm) (λ x lx. same-change j m x lm lx) p) []
+  directs : (o i k : ℕ) → map (journeyAt at) (directRows sheet (ride i o k)) ≡ concatMap (directAt t o (rideOf (at i) (at k))) (targetsOf t (at k))
+  unfolding directRows by.directAt directRow rowOf firstOf sheetFrom feedCall feed.leaveOf feed.arrivalOf targetMask journeyAt directAt
+  directs o i k = bits-places at (by.directAt sheet (ride i o k)) (directAt t o (rideOf (at i) (at k))) (λ x. refl) (t .targets) (t .members (at k .stop) / 16)
 
-    same-last-board : t .max-transfers ≡ 1 → (j : ℕ) → j < n → lastBoardRows s joins n (firstOf s i o k) j ≡ by.lastBoardRows t at n o i k j
-    unfolding lastBoardRows by.lastBoardRows
-    same-last-board one j lj =
-        λ p. cond (a .board j lj p) (cond (a .joined one i o k j li lk lj p) (same-run (lastAlightRows s (firstOf s i o k) j) (by.lastAlightRows t at o i k j) j (j + 1) lj (λ m lm. same-last-alight j m lm) p) []) []
+  alights : (o i k : ℕ) → map (journeyAt at) (alightRows sheet (joinsFrom t at) (t .max-transfers) n i o k) ≡ alightAt t (map at (span 0 n)) o (at i) (at k)
+  unfolding alightRows alightAt sheetFrom feedCall
+  alights o i k =
+      cond-places at (at k .alight) _ _
+      (map-append (journeyAt at) (directRows sheet (ride i o k)) (changeRows sheet (joinsFrom t at) (t .max-transfers) n (ride i o k)) ∙ rw (directs o i k, changes o i k))
 
-    same-changes : (depth : ℕ) → depth ≡ t .max-transfers → changeRows s joins depth n (firstOf s i o k) ≡ by.changeRows t at n o i k
-    unfolding changeRows by.changeRows
-    same-changes depth e = ap (λ (d : ℕ). cond (eqb d 1) (overCalls (lastBoardRows s joins n (firstOf s i o k)) n 0) []) e ∙ go (eqb (t .max-transfers) 1) refl
-      where
-        go : (b : Bool) → eqb (t .max-transfers) 1 ≡ b
-            → cond b (overCalls (lastBoardRows s joins n (firstOf s i o k)) n 0) [] ≡ cond b (by.overCalls (by.lastBoardRows t at n o i k) n 0) []
-        go true q = same-calls (lastBoardRows s joins n (firstOf s i o k)) (by.lastBoardRows t at n o i k) 0 (λ j lj. same-last-board (eqb-true (t .max-transfers) 1 q) j lj)
-        go false q = refl
+  origin : (i o : ℕ) → map (journeyAt at) (originRows sheet (joinsFrom t at) (t .max-transfers) n i o) ≡ originAt t (map at (span 0 n)) (at i) (map at (span (i + 1) (n - (i + 1)))) o
+  unfolding originRows originAt sheetFrom feedCall
+  origin i o =
+      cond-places at (leb (t .origin-walk o * 60) (at i .departure)) _ _
+      (run-places at (alightRows sheet (joinsFrom t at) (t .max-transfers) n i o) (alightAt t (map at (span 0 n)) o (at i)) (alights o i) n i (i + 1))
 
-    target-stop : s .targets (firstOf s i o k .stop) ≡ by.targetMask t (at k .stop)
-    unfolding firstOf
-    target-stop = a .targets k lk
+  board : (i : ℕ) → map (journeyAt at) (boardRows sheet (joinsFrom t at) (t .max-transfers) n i) ≡ boardAt t (map at (span 0 n)) (at i) (map at (span (i + 1) (n - (i + 1))))
+  unfolding boardRows boardAt originMask sheetFrom feedCall
+  board i =
+      cond-places at (at i .board) _ _
+      (bits-places at (originRows sheet (joinsFrom t at) (t .max-transfers) n i) (originAt t (map at (span 0 n)) (at i) (map at (span (i + 1) (n - (i + 1))))) (origin i) (t .origins) (t .members (at i .stop)))
 
-    same-directs : directRows s (firstOf s i o k) ≡ by.directRows t at o i k
-    unfolding directRows by.directRows
-    same-directs = same-bits (directAt s (firstOf s i o k)) (λ x. by.directRow t at o i k x ∷ []) _ _ target-stop (λ x lx. same-direct x lx)
+pub offers-by-places : OffersByPlaces
+unfolding offers offersIn rowOffers rows
+offers-by-places t at n e =
+    ap (offersIn t) e ∙ sym (calls-places at n (boardRows (sheetFrom t at) (joinsFrom t at) (t .max-transfers) n) (boardAt t (map at (span 0 n))) (board t at n))
 
-    same-alight : (depth : ℕ) → depth ≡ t .max-transfers → alightRows s joins depth n i o k ≡ by.alightRows t at n o i k
-    unfolding alightRows by.alightRows
-    same-alight depth e = λ p. cond (a .alight k lk p) (same-directs p ++ same-changes depth e p) []
-
-  module _ (depth : ℕ) (e : depth ≡ t .max-transfers) where
-    same-origin : (i o : ℕ) → i < n → o < 4 → originRows s joins depth n i o ≡ by.originRows t at n i o
-    unfolding originRows by.originRows
-    same-origin i o li lo =
-        λ p. cond (leb (a .origin-walk o lo p * 60) (a .departure i li p)) (same-run (alightRows s joins depth n i o) (by.alightRows t at n o i) i (i + 1) li (λ k lk. same-alight i o k li lo lk depth e) p) []
-
-    same-board : (i : ℕ) → i < n → boardRows s joins depth n i ≡ by.boardRows t at n i
-    unfolding boardRows by.boardRows
-    same-board i li =
-        λ p. cond (a .board i li p) (same-bits (originRows s joins depth n i) (by.originRows t at n i) _ _ (a .origins i li) (λ o lo. same-origin i o li lo) p) []
+pub search-by-rows : SearchByRows
+search-by-rows t at n h l e =
+    ap (searched journeyFigures 64 3600 h l) (offers-by-places t at n e) ∙ search-maps (journeyAt at) rowFigures journeyFigures h l (rowOffers t at n) (λ o m. row-figures at o)
 
 pub same-rows : SameRows
-unfolding rows by.rowOffers
-same-rows s joins t at n depth a e = same-calls s joins t at n a (boardRows s joins depth n) (by.boardRows t at n) 0 (λ i li. same-board s joins t at n a depth e i li)
+unfolding rowOffers
+same-rows s joins t at n depth a e = ap (λ (d : ℕ). rows s joins d n) e ∙ rows-agree s (sheetFrom t at) joins (joinsFrom t at) (t .max-transfers) n a

@@ -25,17 +25,19 @@ use Rattle.state.proofs.ViewLaws.{view-parts, view-is-refused}
 use Rattle.profile.proofs.ClaimLaws.{kept-is-front, front-unbeaten}
 use Rattle.offers.specs.Order.{earlier, sortFirst, clashes}
 use Rattle.offers.specs.Offers.{sorted}
-use Rattle.offers.specs.Indexed.{journeyAt, rowOffers, InPlaces}
+use Rattle.offers.specs.Places.{journeyAt, InPlaces}
 use Rattle.offers.specs.Search.{Outcome, clashing, falling, found, answerOf, foundBy, searchOf}
 use Rattle.offers.proofs.OrderLaws.{sorted-front}
-use Rattle.offers.proofs.IndexedLaws.{search-by-rows, array-in-places}
+use Rattle.offers.proofs.PlacesLaws.{array-in-places}
 use Rattle.read_back.specs.Kept.{Small, journeyOf}
 use Rattle.read_back.proofs.KeptLaws.{journeys-right}
 use Rattle.load.specs.declared.Load.{Load}
 use Rattle.load.specs.declared.Stepped.{Stepped}
 use Rattle.search.specs.Timetable.{timetableOf}
+use Rattle.search.specs.Rows.{sheetFrom, joinsFrom, rowOffers}
 use Rattle.search.specs.Offered.{placed, offeredOf}
 use Rattle.search.specs.Search.{outcomeOf, settled, searchSpec}
+use Rattle.search.proofs.RowsLaws.{search-by-rows}
 use Rattle.search.proofs.SmallLaws.{rows-small}
 
 -- ---- what is returned, by the outcome
@@ -106,9 +108,9 @@ module _ (l : Load) (cs : List Call) (order : cs ≡ sortFirst (l .«call_count�
 
     -- the rows kept are rows offered, so their journeys hold their numbers as they are
     kept-small : ((o : ℕ) → getD (l .settings .«origin_walks») o 0 < 256) → (ks : List Row) (h m : ℕ) → offeredOf l cs ≡ going ks h m → (r : Row) → List·Memᴰ r ks → Small r
-    unfolding offeredOf timetableOf
+    unfolding offeredOf rowOffers sheetFrom timetableOf
     kept-small walks ks h m v r i =
-        rows-small (timetableOf l) (placed cs) (min (l .«call_count») 512) (λ o lo. walks o) r
+        rows-small (sheetFrom (timetableOf l) (placed cs)) (joinsFrom (timetableOf l) (placed cs)) (l .settings .«max_transfers») (min (l .«call_count») 512) (λ o lo. walks o) r
         (front-unbeaten rowFigures h (rowOffers (timetableOf l) (placed cs) (min (l .«call_count») 512)) r
         (subst (List·Memᴰ r) (kept-is-front rowFigures (l .«table_horizon») (l .«table_limits») (rowOffers (timetableOf l) (placed cs) (min (l .«call_count») 512)) ks h m v .0) i) .0)
 

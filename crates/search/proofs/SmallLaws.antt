@@ -10,10 +10,11 @@ use Rattle.laws.specs.Lists.{concatMap, span}
 use Rattle.laws.specs.Bits.{bitsOf}
 use Rattle.laws.proofs.Folds.{concatMap-mem}
 use Rattle.laws.proofs.Bits.{bits-set}
-use Rattle.calls.specs.declared.Call.{Call}
 use Rattle.profile.specs.declared.Row.{Row}
-use Rattle.offers.specs.Offers.{Timetable, rideOf}
-use Rattle.offers.specs.Indexed as by
+use Rattle.profile.specs.Journeys.{rowOf}
+use Rattle.feed.specs.declared.FeedCall.{FeedCall}
+use Rattle.feed.specs.declared.FirstRide.{FirstRide}
+use Rattle.rides.specs.Rows.{Sheet, Joins, overBits, overCalls, overRun, laterFrom, firstOf, directRow, changeRow, lastAt, lastAlightRows, lastBoardRows, changeRows, directAt, directRows, alightRows, originRows, boardRows, rows}
 use Rattle.read_back.specs.Kept.{Small}
 
 abbrev pub AllSmall : List Row → Type 0
@@ -41,58 +42,62 @@ map-small g xs h r m = let (x, i, k) = concatMap-mem g xs m in h x i r k
 one-small : (q : Row) → Small q → AllSmall (q ∷ [])
 one-small q s r m = subst Small (sym (List·Memᴰ·eq-of-singleton m)) s
 
-bits-small : (g : ℕ → List Row) (m : ℕ) → ((x : ℕ) → x < 4 → AllSmall (g x)) → AllSmall (by.overBits g m)
-unfolding by.overBits bitsOf
+bits-small : (g : ℕ → List Row) (m : ℕ) → ((x : ℕ) → x < 4 → AllSmall (g x)) → AllSmall (overBits g m)
+unfolding overBits bitsOf
 bits-small g m h = map-small g (bitsOf m) (λ x i. h x (bits-set 4 m i .0))
 
-calls-small : (g : ℕ → List Row) (n i : ℕ) → ((k : ℕ) → AllSmall (g k)) → AllSmall (by.overCalls g n i)
-unfolding by.overCalls
+calls-small : (g : ℕ → List Row) (n i : ℕ) → ((k : ℕ) → AllSmall (g k)) → AllSmall (overCalls g n i)
+unfolding overCalls
 calls-small g n i h = map-small g (span i (n - i)) (λ k m. h k)
 
-run-small : (g : ℕ → List Row) (at : ℕ → Call) (n i j : ℕ) → ((k : ℕ) → AllSmall (g k)) → AllSmall (by.overRun g at n i j)
-unfolding by.overRun
-run-small g at n i j h = map-small g (by.laterFrom at n i j) (λ k m. h k)
+run-small : (g : ℕ → List Row) (at : ℕ → FeedCall) (n i j : ℕ) → ((k : ℕ) → AllSmall (g k)) → AllSmall (overRun g at n i j)
+unfolding overRun
+run-small g at n i j h = map-small g (laterFrom at n i j) (λ k m. h k)
 
 -- ---- the loops
 
-module _ (t : Timetable) (at : ℕ → Call) (n : ℕ) (walks : (o : ℕ) → o < 4 → t .origin-walk o < 256) where
-  module _ (o : ℕ) (lo : o < 4) (i k : ℕ) where
-    direct-small : (x : ℕ) → x < 4 → Small (by.directRow t at o i k x)
-    unfolding by.directRow
-    direct-small x lx = record { rides = omega arith; walk = walks o lo; origin = omega arith; target = omega arith }
+module _ (s : Sheet) (joins : Joins) (depth n : ℕ) (walks : (o : ℕ) → o < 4 → s .origin-walk o < 256) where
+  module _ (f : FirstRide) (walk : f .walk < 256) (origin : f .origin < 256) where
+    direct-small : (x : ℕ) → x < 4 → AllSmall (directAt s f x)
+    unfolding directAt directRow rowOf
+    direct-small x lx = one-small _ (record { rides = omega arith; walk = walk; origin = origin; target = omega arith })
 
-    change-small : (j m x : ℕ) → x < 4 → Small (by.changeRow t at o i k j m x)
-    unfolding by.changeRow
-    change-small j m x lx = record { rides = omega arith; walk = walks o lo; origin = omega arith; target = omega arith }
+    change-small : (j m x : ℕ) → x < 4 → AllSmall (lastAt s f j m x)
+    unfolding lastAt changeRow rowOf
+    change-small j m x lx = one-small _ (record { rides = omega arith; walk = walk; origin = origin; target = omega arith })
 
-    last-alight-small : (j m : ℕ) → AllSmall (by.lastAlightRows t at o i k j m)
-    unfolding by.lastAlightRows
-    last-alight-small j m = cond-small (at m .alight) _ (bits-small (λ x. by.changeRow t at o i k j m x ∷ []) _ (λ x lx. one-small (by.changeRow t at o i k j m x) (change-small j m x lx)))
+    last-alight-small : (j m : ℕ) → AllSmall (lastAlightRows s f j m)
+    unfolding lastAlightRows
+    last-alight-small j m = cond-small (s .at m .alight) _ (bits-small (lastAt s f j m) _ (change-small j m))
 
-    last-board-small : (j : ℕ) → AllSmall (by.lastBoardRows t at n o i k j)
-    unfolding by.lastBoardRows
-    last-board-small j = cond-small (at j .board) _ (cond-small (t .joins (rideOf (at i) (at k)) (at j)) _ (run-small (by.lastAlightRows t at o i k j) at n j (j + 1) (λ m. last-alight-small j m)))
+    last-board-small : (j : ℕ) → AllSmall (lastBoardRows s joins n f j)
+    unfolding lastBoardRows
+    last-board-small j = cond-small (s .at j .board) _ (cond-small (joins f j) _ (run-small (lastAlightRows s f j) (s .at) n j (j + 1) (last-alight-small j)))
 
-    changes-small : AllSmall (by.changeRows t at n o i k)
-    unfolding by.changeRows
-    changes-small = cond-small (eqb (t .max-transfers) 1) _ (calls-small (by.lastBoardRows t at n o i k) n 0 (λ j. last-board-small j))
+    changes-small : AllSmall (changeRows s joins depth n f)
+    unfolding changeRows
+    changes-small = cond-small (eqb depth 1) _ (calls-small (lastBoardRows s joins n f) n 0 last-board-small)
 
-    directs-small : AllSmall (by.directRows t at o i k)
-    unfolding by.directRows
-    directs-small = bits-small (λ x. by.directRow t at o i k x ∷ []) _ (λ x lx. one-small (by.directRow t at o i k x) (direct-small x lx))
+    directs-small : AllSmall (directRows s f)
+    unfolding directRows
+    directs-small = bits-small (directAt s f) _ direct-small
 
-    alight-small : AllSmall (by.alightRows t at n o i k)
-    unfolding by.alightRows
-    alight-small = cond-small (at k .alight) _ (append-small (by.directRows t at o i k) (by.changeRows t at n o i k) directs-small changes-small)
+    ride-small : AllSmall (directRows s f ++ changeRows s joins depth n f)
+    ride-small = append-small (directRows s f) (changeRows s joins depth n f) directs-small changes-small
 
-  origin-small : (i o : ℕ) → o < 4 → AllSmall (by.originRows t at n i o)
-  unfolding by.originRows
-  origin-small i o lo = cond-small (leb (t .origin-walk o * 60) (at i .departure)) _ (run-small (by.alightRows t at n o i) at n i (i + 1) (λ k. alight-small o lo i k))
+  alight-small : (i o k : ℕ) → o < 4 → AllSmall (alightRows s joins depth n i o k)
+  unfolding alightRows firstOf
+  alight-small i o k lo = cond-small (s .at k .alight) _ (ride-small (firstOf s i o k) (walks o lo) (omega arith))
 
-  board-small : (i : ℕ) → AllSmall (by.boardRows t at n i)
-  unfolding by.boardRows
-  board-small i = cond-small (at i .board) _ (bits-small (by.originRows t at n i) _ (λ o lo. origin-small i o lo))
+  origin-small : (i o : ℕ) → o < 4 → AllSmall (originRows s joins depth n i o)
+  unfolding originRows
+  origin-small i o lo =
+      cond-small (leb (s .origin-walk o * 60) (s .at i .departure)) _ (run-small (alightRows s joins depth n i o) (s .at) n i (i + 1) (λ k. alight-small i o k lo))
 
-  pub rows-small : AllSmall (by.rowOffers t at n)
-  unfolding by.rowOffers
-  rows-small = calls-small (by.boardRows t at n) n 0 (λ i. board-small i)
+  board-small : (i : ℕ) → AllSmall (boardRows s joins depth n i)
+  unfolding boardRows
+  board-small i = cond-small (s .at i .board) _ (bits-small (originRows s joins depth n i) _ (origin-small i))
+
+  pub rows-small : AllSmall (rows s joins depth n)
+  unfolding rows
+  rows-small = calls-small (boardRows s joins depth n) n 0 board-small

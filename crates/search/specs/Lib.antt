@@ -1,6 +1,6 @@
 pub mod Timetable
 pub mod Joins
+pub mod Rows
 pub mod Offered
 pub mod Search
-pub mod Rows
 pub mod Marked

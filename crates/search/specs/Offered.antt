@@ -7,9 +7,9 @@ use Rattle.calls.specs.Tables.{blankCall}
 use Rattle.profile.specs.declared.Row.{Row}
 use Rattle.profile.specs.Journeys.{rowFigures}
 use Rattle.profile.specs.Kept.{St, searched}
-use Rattle.offers.specs.Indexed.{rowOffers}
 use Rattle.load.specs.declared.Load.{Load}
 use Rattle.search.specs.Timetable.{timetableOf}
+use Rattle.search.specs.Rows.{rowOffers}
 
 -- the call at a place
 abbrev pub placed : List Call → ℕ → Call

@@ -1,25 +1,51 @@
--- When the loops' arrays hold a timetable: then the rows that the loops offer are those of the offers by places.
+-- A timetable and its calls by places as what the loops read, and the rows that they then offer: those of the offers.
 use mathlib.Core.Path.{_≡_}
-use Prim.Native.Nat.{ℕ, _<_}
+use mathlib.Core.Bool.{Bool}
+use mathlib.Core.List.{List, map}
+use Prim.Native.Nat.{ℕ}
 use Rattle.calls.specs.declared.Call.{Call}
-use Rattle.offers.specs.Offers.{Timetable, rideOf}
-use Rattle.offers.specs.Indexed.{originMask, targetMask, rowOffers}
-use Rattle.rides.specs.Rows.{Sheet, Joins, firstOf, rows}
+use Rattle.profile.specs.declared.Row.{Row}
+use Rattle.profile.specs.Journeys.{journeyFigures, rowFigures}
+use Rattle.profile.specs.Kept.{searched, mapSt}
+use Rattle.offers.specs.Offers.{Timetable, rideOf, offers}
+use Rattle.offers.specs.Places.{originMask, targetMask, journeyAt, InPlaces}
+use Rattle.feed.specs.declared.FeedCall.{FeedCall}
+use Rattle.feed.specs.declared.FirstRide.{FirstRide}
+use Rattle.rides.specs.Rows.{Sheet, Joins, rows}
+use Rattle.rides.specs.Agree.{Agree}
 
--- `at` gives the call at each of the n places; joins are read only where there are changes
-pub record Agrees (s : Sheet) (joins : Joins) (t : Timetable) (at : ℕ → Call) (n : ℕ) : Type 0 where
-  pub trip : (i : ℕ) → i < n → s .at i .trip ≡ at i .trip
-  pub day : (i : ℕ) → i < n → s .at i .day ≡ at i .day
-  pub arrival : (i : ℕ) → i < n → s .at i .arrival ≡ at i .arrival
-  pub departure : (i : ℕ) → i < n → s .at i .departure ≡ at i .departure
-  pub board : (i : ℕ) → i < n → s .at i .board ≡ at i .board
-  pub alight : (i : ℕ) → i < n → s .at i .alight ≡ at i .alight
-  pub origins : (i : ℕ) → i < n → s .origins (s .at i .stop) ≡ originMask t (at i .stop)
-  pub targets : (i : ℕ) → i < n → s .targets (s .at i .stop) ≡ targetMask t (at i .stop)
-  pub origin-walk : (o : ℕ) → o < 4 → s .origin-walk o ≡ t .origin-walk o
-  pub target-walk : (x : ℕ) → x < 4 → s .target-walk x ≡ t .target-walk x
-  pub joined : t .max-transfers ≡ 1 → (i o k j : ℕ) → i < n → k < n → j < n → joins (firstOf s i o k) j ≡ t .joins (rideOf (at i) (at k)) (at j)
+-- what the loops read of a call
+unfoldable pub feedCall : Call → FeedCall
+feedCall c = record { trip = c .trip; day = c .day; stop = c .stop; arrival = c .arrival; departure = c .departure; board = c .board; alight = c .alight }
 
+unfoldable pub sheetFrom : Timetable → (ℕ → Call) → Sheet
+sheetFrom t at =
+    record { at = λ i. feedCall (at i); origins = originMask t; targets = targetMask t; origin-walk = t .origin-walk; target-walk = t .target-walk }
+
+-- a first ride joins as the ride between its calls does
+unfoldable pub joinsFrom : Timetable → (ℕ → Call) → FirstRide → ℕ → Bool
+joinsFrom t at f j = t .joins (rideOf (at (f .board)) (at (f .alight))) (at j)
+
+-- every offer as a row, in order. n: how many calls there are
+unfoldable pub rowOffers : Timetable → (ℕ → Call) → ℕ → List Row
+rowOffers t at n = rows (sheetFrom t at) (joinsFrom t at) (t .max-transfers) n
+
+-- ---- what is claimed
+
+-- the loops offer what is offered
+abbrev pub OffersByPlaces : Type 0
+OffersByPlaces = (t : Timetable) (at : ℕ → Call) (n : ℕ) → InPlaces t at n → offers t ≡ map (journeyAt at) (rowOffers t at n)
+
+-- a search of the rows keeps the rows of what a search of the offers keeps
+abbrev pub SearchByRows : Type 0
+SearchByRows = (t : Timetable) (at : ℕ → Call) (n h l : ℕ) → InPlaces t at n
+    → searched journeyFigures 64 3600 h l (offers t) ≡ mapSt (journeyAt at) (searched rowFigures 64 3600 h l (rowOffers t at n))
+
+-- a sheet holds the timetable, with `at` the call at each of the n places
+abbrev pub Agrees : Sheet → Joins → Timetable → (ℕ → Call) → ℕ → Type 0
+Agrees s joins t at n = Agree s (sheetFrom t at) joins (joinsFrom t at) (t .max-transfers) n
+
+-- then its rows are those of the offers
 abbrev pub SameRows : Type 0
 SameRows = (s : Sheet) (joins : Joins) (t : Timetable) (at : ℕ → Call) (n depth : ℕ) → Agrees s joins t at n → depth ≡ t .max-transfers
     → rows s joins depth n ≡ rowOffers t at n
