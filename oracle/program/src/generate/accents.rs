@@ -122,48 +122,42 @@ pub fn accents(rng: &mut Rng) -> Vec<u8> {
     file(&plain(vec![0], vec![0], 0), &steps)
 }
 
-/// A file of stops at one position, each with a name, or with an id alone where the name is none.
-fn at_one_position(texts: &[(&[u8], Option<&[u8]>)]) -> Vec<u8> {
-    let stop = |&(id, name): &(&[u8], Option<&[u8]>)| {
-        Step::Stop(Stop { id: id.to_vec(), name: name.map(<[u8]>::to_vec), position: Some((1.0, 1.0)), ..Stop::default() })
-    };
-    let mut steps: Vec<Step> = texts.iter().map(stop).collect();
+/// A file of stops at one position, each with an id and a name, or with an id alone.
+fn at_one_position(texts: Vec<(Vec<u8>, Option<Vec<u8>>)>) -> Vec<u8> {
+    let stop = |(id, name)| Step::Stop(Stop { id, name, position: Some((1.0, 1.0)), ..Stop::default() });
+    let mut steps: Vec<Step> = texts.into_iter().map(stop).collect();
     steps.push(Step::Search);
     file(&plain(vec![0], vec![0], 0), &steps)
 }
+/// Such a file of names alone.
+fn named(names: Vec<Vec<u8>>) -> Vec<u8> {
+    at_one_position(names.into_iter().enumerate().map(|(i, name)| (format!("{i:03}").into(), Some(name))).collect())
+}
+/// Every code point up to 255 after a letter: each control in a file of its own, the others in two files.
+fn each_point(files: &mut Vec<Vec<u8>>) {
+    let control = |p: &u8| char::from(*p).is_control() && !char::from(*p).is_whitespace();
+    let name = |p: &u8| written(&[b'x', *p]);
+    for points in [0..=127u8, 128..=255] {
+        let (bad, good): (Vec<u8>, Vec<u8>) = points.partition(control);
+        files.push(named(good.iter().map(name).collect()));
+        files.extend(bad.iter().map(|p| named(vec![name(p)])));
+    }
+}
 /// Single files, for the places where request 07 could be read two ways.
 pub fn instances(files: &mut Vec<Vec<u8>>) {
-    let pairs = "B\u{e9}con|B\u{c9}CON|Becon \u{c0}|\u{e0}| \u{de}|\u{fe}| \u{d7}|\u{f7}| \u{df}|\u{ff}| \u{bf}|\u{df}| \u{df}|ss| \
-                 a\u{ad}b|ab| \u{b5}|u";
-    for names in pairs.split(' ') {
-        let names: Vec<&[u8]> = names.split('|').map(str::as_bytes).filter(|name| !name.is_empty()).collect();
-        let ids: Vec<[u8; 1]> = (b'p'..).take(names.len()).map(|b| [b]).collect();
-        let stops: Vec<(&[u8], Option<&[u8]>)> = ids.iter().map(|id| &id[..]).zip(names.into_iter().map(Some)).collect();
-        files.push(at_one_position(&stops));
-    }
-    // White space between words and at the ends; the same names as ids.
-    for (one, other) in
-        [("a\u{85}b", "a b"), ("a\u{a0}b", "a b"), ("\u{85}a\u{a0}", "a"), ("a\u{a0}b", "ab"), ("a\u{ad}b", "a b")]
-    {
-        files.push(at_one_position(&[(b"p", Some(one.as_bytes())), (b"q", Some(other.as_bytes()))]));
-    }
-    files.push(at_one_position(&[("\u{e9}".as_bytes(), None), ("\u{c9}".as_bytes(), None), (b"e", None)]));
-    // Controls and no word; bytes that are no code point up to 255, after a letter and as an id.
-    for name in ["a\u{80}", "a\u{84}", "a\u{86}", "a\u{9f}", "\u{85}", "\u{a0}"] {
-        files.push(at_one_position(&[(b"p", Some(name.as_bytes()))]));
-    }
-    for bytes in damage() {
-        files.push(at_one_position(&[(b"p", Some(&[b"a".to_vec(), bytes].concat()))]));
-    }
-    files.push(at_one_position(&[(b"\xc1\x81", None)]));
-    // 64 and 65 bytes of 32 and 33 code points; a name that is not needed.
-    for name in [vec![233; 32], [vec![b'n'], vec![233; 32]].concat()] {
-        files.push(at_one_position(&[(b"p", Some(&written(&name)))]));
-    }
-    files.push(file(
-        &plain(vec![0], vec![0], 0),
-        &[Step::Stop(Stop { id: b"p".to_vec(), name: Some(vec![0xff]), ..Stop::default() }), Step::Search],
-    ));
+    each_point(files);
+    // Names that differ in case, an accent, white space, or a code point that stays.
+    let spellings = "B\u{e9}con|B\u{c9}CON|Becon,\u{df}|ss,a\u{85}b|a b,a\u{a0}b|a b|ab,\u{85}a\u{a0}|a,a\u{ad}b|a b|ab,\u{b5}|u";
+    files.extend(spellings.split(',').map(|names| named(names.split('|').map(|name| name.as_bytes().to_vec()).collect())));
+    // No word; bytes that are no code point up to 255; 64 and 65 bytes of 32 and 33 code points.
+    files.extend([133, 160].map(|p| named(vec![written(&[p])])));
+    files.extend(damage().into_iter().map(|bytes| named(vec![[b"a".to_vec(), bytes].concat()])));
+    files.extend([vec![233; 32], [vec![b'n'], vec![233; 32]].concat()].map(|points| named(vec![written(&points)])));
+    // Ids in place of names; a name that is not needed.
+    let ids = |ids: &[&[u8]]| at_one_position(ids.iter().map(|id| (id.to_vec(), None)).collect());
+    files.extend([ids(&["\u{e9}".as_bytes(), "\u{c9}".as_bytes(), b"e"]), ids(&[b"\xc1\x81"])]);
+    let unneeded = Stop { id: b"p".to_vec(), name: Some(vec![0xff]), ..Stop::default() };
+    files.push(file(&plain(vec![0], vec![0], 0), &[Step::Stop(unneeded), Step::Search]));
     // Two stations whose ids differ in case: their hashes are of the bytes as they stand.
     let station = |id: &str| Step::Stop(Stop { id: id.into(), location_type: 1, ..Stop::default() });
     let platform = |id: &str, parent: &str| Step::Stop(Stop { id: id.into(), parent: Some(parent.into()), ..Stop::default() });
