@@ -47,7 +47,7 @@ pair-none b = go (leb 194 b && leb b 195)
     go true = refl
     go false = refl
 
-one : (p : ℕ) → p < 128 → widthOf p ≡ 1
+pub one : (p : ℕ) → p < 128 → widthOf p ≡ 1
 unfolding widthOf
 one p h = rw (lt-ltb p 128 h) refl
 
