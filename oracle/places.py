@@ -1,4 +1,4 @@
-"""Document 01, "Transfers and places": hash, names, positions, place keys and the grouping of stops."""
+"""Document 01, "Transfers and places", with request 07's names: hash, names, positions, place keys and the grouping of stops."""
 import math
 from collections import namedtuple
 
@@ -12,26 +12,36 @@ class Places:
             value = (value ^ byte) * 0x100000001b3 % 2**64
         return value
 
-    def parts(self, byte):
-        return 9 <= byte <= 13 or byte == 32
+    def points(self, name):
+        """The code points of a text; a byte that is ill-formed stands as one above 255."""
+        return [ord(letter) for letter in name.decode("utf-8", "surrogateescape")]
+
+    def written(self, points):
+        return "".join(map(chr, points)).encode("utf-8", "surrogateescape")
+
+    def parts(self, point):
+        return 9 <= point <= 13 or point in (32, 133, 160)
 
     def words(self, name):
         found, word = [], []
-        for byte in name:
-            if self.parts(byte):
+        for point in self.points(name):
+            if self.parts(point):
                 found, word = found + [word] * bool(word), []
             else:
-                word = word + [byte]
+                word = word + [point]
         return found + [word] * bool(word)
 
-    def lower(self, byte):
-        return byte + 32 if 65 <= byte <= 90 else byte
+    def lower(self, point):
+        return point + 32 if 65 <= point <= 90 or 192 <= point <= 222 and point != 215 else point
 
     def folded(self, name):
-        return b" ".join(bytes(self.lower(b) for b in word) for word in self.words(name))
+        return b" ".join(self.written(map(self.lower, word)) for word in self.words(name))
 
-    def bad_byte(self, byte):
-        return byte > 126 or (byte < 32 and not 9 <= byte <= 13)
+    def control(self, point):
+        return point < 9 or 14 <= point <= 31 or 127 <= point <= 159 and point != 133
+
+    def bad_point(self, point):
+        return point > 255 or self.control(point)
 
     def usable(self, position):
         if position is None:

@@ -1,4 +1,4 @@
-"""Document 01, read slowly: one method for each of its sentences, so that wrong.py can misread one at a time.
+"""Document 01 and request 07, read slowly: a method for each sentence, so that wrong.py can misread one at a time.
 
 Written from the words of 01, its constants for the place test from `same_place_keys`, which 01 names as the definition.
 """
@@ -40,10 +40,13 @@ class Reading(Places):
     def known_parent(self, load, parent):
         return any(t.id == parent and t.location_type == 1 for t in load.stops)
 
+    def long(self, name):
+        return len(name) > self.NAME
+
     def bad_name(self, s):
-        if s.name is not None and len(s.name) > self.NAME:
+        if s.name is not None and self.long(s.name):
             return True
-        return self.needed(s) and (not self.words(self.shown(s)) or any(self.bad_byte(b) for b in self.shown(s)))
+        return self.needed(s) and (not self.words(self.shown(s)) or any(map(self.bad_point, self.points(self.shown(s)))))
 
     def stop(self, load, s):
         self.refuse("stop", [

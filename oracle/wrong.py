@@ -125,17 +125,8 @@ misread("name-not-folded", place_key=key_with("N", lambda self, stop: self.shown
 misread("missing-name-not-folded", place_key=key_with("N", lambda self, s: s.id if s.name is None else self.folded(s.name)))
 misread("parent-folded", place_key=key_with("P", lambda self, stop: self.folded(stop.parent)))
 misread("id-folded", place_key=key_with("I", lambda self, stop: self.folded(stop.id)))
-misread("not-lower-case", lower=lambda self, byte: byte)
-misread("lower-case-past-z", lower=lambda self, byte: byte | 32 if 64 <= byte < 96 else byte)
-misread("words-joined-by-nothing", folded=lambda self, name: Reading.folded(self, name).replace(b" ", b""))
-misread("space-alone-parts-words", parts=lambda self, byte: byte == 32)
-misread("separators-28-to-31-part-words", parts=lambda self, byte: Reading.parts(self, byte) or 28 <= byte <= 31)
-misread("delete-is-no-control", bad_byte=lambda self, byte: byte != 127 and Reading.bad_byte(self, byte))
-misread("bytes-14-to-31-allowed", bad_byte=lambda self, byte: byte > 126 or byte < 9)
-misread("bytes-above-127-allowed", bad_byte=lambda self, byte: byte < 128 and Reading.bad_byte(self, byte))
-misread("tab-is-a-control", bad_byte=lambda self, byte: byte == 9 or Reading.bad_byte(self, byte))
 misread("empty-name-is-none", shown=lambda self, stop: stop.name or stop.id)
 misread("every-name-needed", needed=lambda self, s: True)
 misread("name-needed-without-position", needed=lambda self, s: s.location_type == 0 and s.parent is None)
 
-import wrong_search, wrong_file  # the rest of the readings
+import wrong_names, wrong_search, wrong_file  # the rest of the readings

@@ -73,7 +73,7 @@ class StopNumber(Number):
 
 
 class Text:
-    """Bytes, in quotes: \\" and \\\\ for these two, \\xNN for a byte by its hexadecimal digits."""
+    """Bytes, in quotes: \\" and \\\\ for these two, \\xNN for a byte by its hexadecimal digits; letters in UTF-8."""
     PART = re.compile(r'\\x([0-9a-fA-F]{2})|\\(["\\])|([^"\\])')
 
     def get(self, record):
@@ -93,8 +93,10 @@ class Text:
         return value
 
     def show(self, value):
-        plain = lambda b: chr(b) if 32 <= b < 127 else f"\\x{b:02x}"
-        return '"' + "".join("\\" + chr(b) if b in b'"\\' else plain(b) for b in value) + '"'
+        """Printable letters as they are, every other byte by its digits."""
+        digits = lambda c: "".join(f"\\x{b:02x}" for b in c.encode("utf-8", "surrogateescape"))
+        plain = lambda c: "\\" + c if c in '"\\' else c if c.isprintable() else digits(c)
+        return '"' + "".join(map(plain, value.decode("utf-8", "surrogateescape"))) + '"'
 
 
 class Optional:

@@ -1,4 +1,6 @@
+pub mod Points
+pub mod Decoding
 pub mod Stream
-pub mod Bytes
 pub mod Words
 pub mod Names
+pub mod Ascii

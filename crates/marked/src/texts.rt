@@ -20,7 +20,7 @@ fn name(bytes: &[u8]) {
         NameKey::Hash(h) => show::hash(h),
         NameKey::NoWord => show::text(b"no word\n"),
         NameKey::Control => show::text(b"control\n"),
-        NameKey::NotAscii => show::text(b"not ascii\n"),
+        NameKey::NotLatin => show::text(b"not latin\n"),
     }
 }
 
@@ -71,7 +71,7 @@ pub fn hashes() {
     product(b"largest * prime", 0xffffffffffffffff, 0x100000001b3);
 }
 
-// Spellings of one name, and names that can't be used: the first bad byte says why.
+// Spellings of one name, accents that count and letters that don't fold, and names that can't be used: the first bad code point says why.
 pub fn names() {
     each(
         NAME,
@@ -80,6 +80,18 @@ pub fn names() {
     each(
         NAME,
         b"| \t\x0b |a\x08|a\x0e|a\x1f|\x7f|B\xc3\xa9con\0|\0\x80|",
+    );
+    each(
+        NAME,
+        b"B\xc3\xa9con|B\xc3\x89CON|\xc2\xa0b\xc3\xa9Con\xc2\x85|Becon|\xc3\x80\xc3\x96\xc3\x98\xc3\x9e|\xc3\xa0\xc3\xb6\xc3\xb8\xc3\xbe|",
+    );
+    each(
+        NAME,
+        b"\xc3\x97\xc3\x9f|\xc3\xb7\xc3\xbf|\xc2\xa1\xc2\xad\xc2\xb5\xc2\xbf|\xc2\x85\xc2\xa0|a\xc2\x80|a\xc2\x84|a\xc2\x86|a\xc2\x9f|",
+    );
+    each(
+        NAME,
+        b"a\xc3|a\x80|\xc1\x81|\xc3\xc3\xa9|\xe9|\xc4\x80|\xe2\x84\xaa|\xc2\x80\xff|\xff\xc2\x80|",
     );
 }
 

@@ -7,7 +7,7 @@ use native.Mathlib.Omega.{arith}
 use lib.Dec.{lit≤}
 use lib.IntN.{ℤ, natAbs}
 use Rattle.key.specs.declared.NameKey.{NameKey}
-use Rattle.key.specs.declared.NameKey.the-variants.{Hash, NoWord, Control, NotAscii}
+use Rattle.key.specs.declared.NameKey.the-variants.{Hash, NoWord, Control, NotLatin}
 use Rattle.place.specs.declared.PlaceKey.{PlaceKey}
 use Rattle.place.specs.declared.Position.{Position}
 use Rattle.place.specs.declared.Micro.{Micro}
@@ -30,7 +30,7 @@ every P p f g h false parent named name id = at-micro (microOf p) refl
     at-name (Hash x) lat lon e = h x lat lon e
     at-name NoWord lat lon e = g id
     at-name Control lat lon e = g id
-    at-name NotAscii lat lon e = g id
+    at-name NotLatin lat lon e = g id
 
     at-micro : (m : Micro) → microOf p ≡ m → P (locatedKey m (shownKey named name id) id)
     at-micro (At lat lon) e = at-name (shownKey named name id) lat lon e

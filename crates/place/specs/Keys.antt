@@ -7,7 +7,7 @@ use lib.IntN.{ℤ, pos}
 use Rattle.key.specs.Hash.{keyOf}
 use Rattle.key.specs.Name.{nameKey}
 use Rattle.key.specs.declared.NameKey.{NameKey}
-use Rattle.key.specs.declared.NameKey.the-variants.{Hash, NoWord, Control, NotAscii}
+use Rattle.key.specs.declared.NameKey.the-variants.{Hash, NoWord, Control, NotLatin}
 use Rattle.place.specs.Positions.{microOf}
 use Rattle.place.specs.declared.Position.{Position}
 use Rattle.place.specs.declared.Micro.{Micro}
@@ -39,7 +39,7 @@ abbrev pub namedKey : NameKey → ℤ → ℤ → List ℕ → PlaceKey
 namedKey (Hash h) lat lon id = record { tag = tagN; hash = h; lat = lat; lon = lon }
 namedKey NoWord lat lon id = idKey id
 namedKey Control lat lon id = idKey id
-namedKey NotAscii lat lon id = idKey id
+namedKey NotLatin lat lon id = idKey id
 
 abbrev pub locatedKey : Micro → NameKey → List ℕ → PlaceKey
 locatedKey (At lat lon) k id = namedKey k lat lon id

@@ -8,7 +8,8 @@ use lib.Dec.{leb, lit≤}
 use lib.Ieee.{ofBits, le, toSigned, mul, round}
 use lib.IntN.{pos, natAbs, _-ℤ_}
 use Rattle.key.specs.Hash.{keyOf}
-use Rattle.key.specs.Name.{isSpace, isControl, isAscii, lowerOf, isBad, nameKey}
+use Rattle.key.specs.Utf8.{encodedOf, pointOf, isLatin}
+use Rattle.key.specs.Name.{isSpace, isControl, isCapital, lowerOf, isBad, pointsKey, nameKey}
 use Rattle.place.specs.declared.PlaceKey.{PlaceKey}
 use Rattle.place.specs.Keys.{tagN}
 use Rattle.place.specs.Near.{sameKeys}
@@ -25,15 +26,15 @@ abbrev at : ℕ → PlaceKey
 at lat = record { tag = tagN; hash = keyOf (120 ∷ []); lat = pos lat; lon = pos 0 }
 
 key-a : keyAt chain 0 ≡ at 0
-unfolding keyAt stopKey stopAt nameKey isBad isAscii isControl isSpace lowerOf microOf usableDegrees inReach micro ofBits le toSigned mul round
+unfolding keyAt stopKey stopAt nameKey pointsKey encodedOf pointOf isBad isLatin isControl isSpace isCapital lowerOf microOf usableDegrees inReach micro ofBits le toSigned mul round
 key-a = refl
 
 key-b : keyAt chain 1 ≡ at 1000
-unfolding keyAt stopKey stopAt nameKey isBad isAscii isControl isSpace lowerOf microOf usableDegrees inReach micro ofBits le toSigned mul round
+unfolding keyAt stopKey stopAt nameKey pointsKey encodedOf pointOf isBad isLatin isControl isSpace isCapital lowerOf microOf usableDegrees inReach micro ofBits le toSigned mul round
 key-b = refl
 
 key-c : keyAt chain 2 ≡ at 2000
-unfolding keyAt stopKey stopAt nameKey isBad isAscii isControl isSpace lowerOf microOf usableDegrees inReach micro ofBits le toSigned mul round
+unfolding keyAt stopKey stopAt nameKey pointsKey encodedOf pointOf isBad isLatin isControl isSpace isCapital lowerOf microOf usableDegrees inReach micro ofBits le toSigned mul round
 key-c = refl
 
 by-keys : (i j m n : ℕ) → keyAt chain i ≡ at m → keyAt chain j ≡ at n → LatFits (at m) → LatFits (at n) → samePlace chain i j ≡ leb (natAbs (pos m -ℤ pos n)) 1124

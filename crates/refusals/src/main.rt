@@ -18,6 +18,7 @@ fn main() {
     words::opens();
     faults::each(STOP, [NOTHING, 15, 3, 5, 6, 7, 8, 4]);
     words::stops();
+    words::accents();
     show::held(STOP, loads::full_of(STOP).stop_count);
     faults::each(CALL, [NOTHING, 15, 9, ABSENT, 10, OUTSIDE, 11, NOTHING]);
     words::calls();

@@ -98,9 +98,26 @@ pub fn stops() {
     stop(b"needed name of 65 bytes", NAME, &[97u8; 65], 52.5);
     stop(b"needed name without a word", NAME, b" \t ", 52.5);
     stop(b"needed name with a control", NAME, b"a\x1f", 52.5);
-    stop(b"needed name with a byte above 127", NAME, b"a\x80", 52.5);
     stop(b"name without a word, latitude 91", NAME, b" \t ", 91.0);
-    stop(b"needed id with a byte above 127", ID, b"\x80", 52.5);
+}
+
+// Names and ids in place of names that are not ASCII.
+pub fn accents() {
+    stop(b"needed name with an accent", NAME, b"B\xc3\xa9con", 52.5);
+    stop(b"needed name with control 128", NAME, b"a\xc2\x80", 52.5);
+    stop(
+        b"needed name of 133 and 160",
+        NAME,
+        b"\xc2\x85\xc2\xa0",
+        52.5,
+    );
+    stop(b"needed name, ill-formed", NAME, b"a\x80", 52.5);
+    stop(b"needed name, overlong", NAME, b"\xc1\x81", 52.5);
+    stop(b"needed name cut short", NAME, b"a\xc3", 52.5);
+    stop(b"needed name with code point 256", NAME, b"\xc4\x80", 52.5);
+    stop(b"ill-formed name, latitude 91", NAME, b"a\x80", 91.0);
+    stop(b"needed id with an accent", ID, b"\xc3\xa9", 52.5);
+    stop(b"needed id, ill-formed", ID, b"\x80", 52.5);
 }
 
 fn call(

@@ -76,7 +76,7 @@ fn is_unusable(text: &[u8]) -> bool
         NameKey::Hash(_) => false,
         NameKey::NoWord => true,
         NameKey::Control => true,
-        NameKey::NotAscii => true,
+        NameKey::NotLatin => true,
     }
 }
 

@@ -8,7 +8,7 @@ use Rattle.refusal.specs.declared.Refusal.the-variants.{AlreadySearched, IdLeng
 use Rattle.refusal.specs.declared.Answer.{Answer}
 use Rattle.refusal.specs.declared.Answer.the-variants.{Refused}
 use Rattle.key.specs.declared.NameKey.{NameKey}
-use Rattle.key.specs.declared.NameKey.the-variants.{Hash, NoWord, Control, NotAscii}
+use Rattle.key.specs.declared.NameKey.the-variants.{Hash, NoWord, Control, NotLatin}
 use Rattle.key.specs.Name.{nameKey}
 use Rattle.place.specs.Positions.{positionOf, isUsable}
 use Rattle.stops.specs.declared.Stop.{Stop}
@@ -41,9 +41,9 @@ abbrev pub noHash : NameKey → Bool
 noHash (Hash h) = false
 noHash NoWord = true
 noHash Control = true
-noHash NotAscii = true
+noHash NotLatin = true
 
--- without a word, with a control or with a byte above 127
+-- without a word, with a control, ill-formed or with a code point above 255
 unfoldable pub unusable : List ℕ → Bool
 unusable s = noHash (nameKey s)
 

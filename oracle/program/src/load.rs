@@ -89,8 +89,9 @@ impl Load {
             let shown = name.unwrap_or(id);
             let readable = row.as_ref().filter(|_| text(shown).is_some());
             test(readable.is_some_and(|row| self.run.place_key(row).is_err()), Refused(8))?;
-            test(shown.iter().any(|&b| b > 127), Beyond(8))?;
-            test(readable.is_none() && !named(shown), Beyond(8))?;
+            // Request 07: ill-formed UTF-8 is 8, and so is a code point above 255, where the Rust would go on.
+            let letters = text(shown).filter(|shown| shown.chars().all(|c| u32::from(c) < 256));
+            test(letters.is_none_or(|letters| readable.is_none() && !named(&letters)), Beyond(8))?;
         }
         match row {
             Some(row) => self.run.stop(row, members).map_err(|_| Refused(4))?,
@@ -123,7 +124,6 @@ impl Load {
 }
 
 /// A word and no control, for a name that can't be handed to the Rust because the stop's id is not UTF-8.
-fn named(name: &[u8]) -> bool {
-    let parts = |b: &u8| (9..=13).contains(b) || *b == 32;
-    name.iter().any(|b| !parts(b)) && name.iter().all(|b| parts(b) || (33..=126).contains(b))
+fn named(name: &str) -> bool {
+    name.chars().any(|c| !c.is_whitespace()) && name.chars().all(|c| c.is_whitespace() || !c.is_control())
 }

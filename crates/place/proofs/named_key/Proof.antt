@@ -11,7 +11,7 @@ use denote.Enum.Declared.{tagOf}
 use types.Run.{OneOf}
 use Rattle.laws.proofs.Ints.{again}
 use Rattle.key.specs.declared.NameKey.{NameKey}
-use Rattle.key.specs.declared.NameKey.the-variants.{Hash, NoWord, Control, NotAscii}
+use Rattle.key.specs.declared.NameKey.the-variants.{Hash, NoWord, Control, NotLatin}
 use Rattle.key.proofs.NameKey.{the-type}
 use Rattle.place.specs.Keys.{tagN, idKey, namedKey}
 use Rattle.place.proofs.named_key.Statement.{statement}
@@ -22,7 +22,7 @@ other : (k : NameKey) (lat lon : ℤ) (id : List ℕ) → OneOf (1 ∷ 2 ∷ 3 �
 other (Hash h) lat lon id o = absurd (⊎-elim (λ e. omega arith) (⊎-elim (λ e. omega arith) (λ e. omega arith)) o)
 other NoWord lat lon id o = refl
 other Control lat lon id o = refl
-other NotAscii lat lon id o = refl
+other NotLatin lat lon id o = refl
 
 enum-known-k : tie.Need-enum-known-k
 enum-known-k c = search needs

@@ -1,4 +1,5 @@
 //! Single files: 01's marked instances, and one for each place where 01 could be read two ways.
+use super::accents;
 use super::writer::{Call, Rule, Settings, Step, Stop, file};
 
 fn settings(walks: &[u8], egress: &[u8], minutes: u8) -> Settings {
@@ -154,5 +155,6 @@ pub fn instances() -> Vec<Vec<u8>> {
     seldom(&mut files);
     of_01(&mut files);
     two_readings(&mut files);
+    accents::instances(&mut files);
     files
 }

@@ -1,4 +1,5 @@
 //! Load files from a seed: one profile for each group of rules that could go wrong.
+pub mod accents;
 pub mod changes;
 pub mod combined;
 pub mod damaged;
@@ -16,19 +17,20 @@ use rng::Rng;
 pub type Profile = fn(&mut Rng) -> Vec<u8>;
 /// Name, generator, and how many of a hundred files of `all` are drawn from it.
 pub const PROFILES: &[(&str, Profile, u64)] = &[
-    ("small", world::small, 5),
+    ("small", world::small, 4),
     ("window", world::window, 7),
     ("types", world::types, 5),
     ("days", world::days, 7),
     ("neighbours", world::neighbours, 6),
     ("ties", world::ties, 4),
-    ("changes", changes::changes, 8),
+    ("changes", changes::changes, 7),
     ("change-ties", changes::ties, 6),
     ("figures", changes::figures, 6),
-    ("rules", places::rules, 10),
-    ("places", places::places, 8),
+    ("rules", places::rules, 9),
+    ("places", places::places, 7),
     ("names", places::names, 5),
     ("ids", places::ids, 3),
+    ("accents", accents::accents, 4),
     ("list", limits::list, 2),
     ("brim", limits::brim, 1),
     ("cut", limits::cut, 1),

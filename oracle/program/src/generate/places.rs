@@ -3,7 +3,7 @@ use super::rng::Rng;
 use super::world::{Draw, settings};
 use super::writer::{Call, Rule, Settings, Step, Stop, file};
 
-fn plain(origins: Vec<u8>, targets: Vec<u8>, minutes: u8) -> Settings {
+pub fn plain(origins: Vec<u8>, targets: Vec<u8>, minutes: u8) -> Settings {
     Settings { origin_walks: origins, target_walks: targets, transfer_minutes: minutes, max_transfers: 1, ..Settings::default() }
 }
 fn ride(trip: u16, from: u16, to: u16, departure: u32, arrival: u32) -> [Step; 2] {
@@ -72,7 +72,7 @@ pub fn rules(rng: &mut Rng) -> Vec<u8> {
 }
 
 /// A few rides between any of so many stops.
-fn rides(rng: &mut Rng, steps: &mut Vec<Step>, stops: u64) {
+pub fn rides(rng: &mut Rng, steps: &mut Vec<Step>, stops: u64) {
     for trip in 0..rng.range(0, 4) as u16 {
         let (a, b) = (rng.below(stops) as u16, rng.below(stops) as u16);
         let start = 600 + rng.below(6) as u32 * 200;
