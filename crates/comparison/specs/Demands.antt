@@ -1,48 +1,30 @@
 -- The three demands.
 use mathlib.Core.Path.{_≡_}
-use mathlib.Core.Logic.{_↔_}
+use mathlib.Core.Logic.{_⊎_, _↔_}
 use mathlib.Core.Bool.{true}
-use mathlib.Core.Option.{Option}
-use mathlib.Core.List.{List, [], _∷_, List·Memᴰ}
-use Prim.Native.Nat.{ℕ, min}
-use lib.IntN.{ℤ}
-use Rattle.refusal.specs.declared.Answer.the-variants.{Taken}
-use Rattle.refusal.specs.First.{First, AllFail, isRefused, answerNumber}
+use mathlib.Core.Option.{Option, none, some}
+use mathlib.Core.List.{List, [], List·Memᴰ}
+use Prim.Native.Nat.{ℕ, _≤_, _<_}
+use lib.IntN.{ℤ, pos, negsuc}
 use Rattle.settings.specs.declared.Settings.{Settings}
-use Rattle.settings.specs.Settings.{settingsTests}
 use Rattle.profile.specs.declared.Journey.{Journey}
-use Rattle.profile.specs.Figures.{Figures, covᶠ, dueᶠ}
-use Rattle.profile.specs.Front.{front}
-use Rattle.profile.specs.Fall.{upTo, fall}
-use Rattle.profile.specs.Best.{readBy}
-use Rattle.profile.specs.Journeys.{journeyFigures}
-use Rattle.time.specs.Promises.{Taken as TextTaken, Answered as TextAnswered}
-use Rattle.calls.specs.Sound.{oneOf}
-use Rattle.offers.specs.Covered.{I64, CoveredBy}
 use Rattle.load.specs.declared.Load.{Load}
-use Rattle.load.specs.Steps.{openSpec}
+use Rattle.load.specs.Steps.{opened}
 use Rattle.load.specs.Sound.{Opens}
 use Rattle.best.specs.Best.{answerOf, keptOf, bestSpec}
-use Rattle.comparison.specs.Steps.{Step, stepped, causes, numbers}
-use Rattle.comparison.specs.Lists.{endOf, startOf, Admitted, offersOf}
+use Rattle.steps.specs.Steps.{Step}
+use Rattle.steps.specs.Lists.{endOf}
+use Rattle.steps.specs.Answered.{Answered, OpeningAnswered}
+use Rattle.time.specs.Promises.{Taken as TextTaken, Answered as TextAnswered}
+use Rattle.comparison.specs.Order.{EqualsOrBeats, Same}
+use Rattle.comparison.specs.Kept.{Holds}
+use Rattle.comparison.specs.Falls.{Falls}
+use Rattle.comparison.specs.OfferOrder.{Offered}
+use Rattle.comparison.specs.Best.{BestAt}
+use Rattle.comparison.specs.Feeds.{Admitted}
+use Rattle.comparison.specs.Horizon.{Horizon}
 
 -- ---- 1: a result, or one of the refusals for its stated cause alone; a refused load comes back unchanged
-
--- of any load and any step
-pub record Answered (l : Load) (x : Step) : Type 0 where
-  -- the answer is that of the first of its causes that holds; taken where none does. No cause reads the answer
-  pub first : First (stepped l x .answer) (causes l x)
-  -- a step that is taken has no cause against it
-  pub taken : stepped l x .answer ≡ Taken → AllFail (causes l x)
-  -- its number is one of those that the scope lists for the step, or 0
-  pub listed : oneOf (answerNumber (stepped l x .answer)) (0 ∷ numbers x) ≡ true
-  pub unchanged : isRefused (stepped l x .answer) ≡ true → stepped l x .load ≡ l
-
--- of any settings: the same; no load is handed in that could change
-pub record OpeningAnswered (s : Settings) : Type 0 where
-  pub first : First (openSpec s .answer) (settingsTests s)
-  pub taken : openSpec s .answer ≡ Taken → AllFail (settingsTests s)
-  pub listed : oneOf (answerNumber (openSpec s .answer)) (0 ∷ 1 ∷ 2 ∷ []) ≡ true
 
 pub record Demand1 : Type 0 where
   -- a time text has its seconds exactly if it is of the form, and every other is refused with 16
@@ -50,30 +32,69 @@ pub record Demand1 : Type 0 where
   pub opening : (s : Settings) → OpeningAnswered s
   pub steps : (l : Load) (x : Step) → Answered l x
 
--- ---- 2: the list holds exactly the journeys due by its horizon that none other beats, the older of equals
+-- the list ends in a searched load
+abbrev pub Searched : Settings → List Step → Type 0
+Searched s xs = endOf s xs .searched ≡ true
 
-pub record Holds (s : Settings) (xs : List Step) : Type 0 where
-  -- the list is the unbeaten offers due by the horizon, the older of equals, in offer order
-  pub unbeaten : keptOf (endOf s xs) ≡ front (covᶠ journeyFigures) (dueᶠ journeyFigures) (endOf s xs .horizon) (offersOf s xs)
-  -- what is offered is what is admitted
-  pub admitted : (j : Journey) → List·Memᴰ j (offersOf s xs) ↔ Admitted s xs j
-  -- each admitted journey due by the horizon is equalled or beaten by one of the list
-  pub complete : CoveredBy (endOf s xs .horizon) (Admitted s xs) (λ j. List·Memᴰ j (keptOf (endOf s xs)))
-  -- horizon and mark fall from the table's by the offers alone: at a 65th that none beats, to the latest arrival less 1
-  pub fell : fall (covᶠ journeyFigures) (dueᶠ journeyFigures) 64 3600 (startOf s xs .«table_horizon») (startOf s xs .«table_limits») [] (offersOf s xs)
-      ≡ upTo (endOf s xs .horizon) (endOf s xs .limits)
+-- what the program's best answers
+abbrev pub answer : Settings → List Step → ℤ → Option Journey
+answer s xs z = answerOf (bestSpec (endOf s xs) z)
+
+-- ---- 2
+
+pub record Lists (s : Settings) (xs : List Step) : Type 0 where
+  pub offers : List Journey
+  -- an admitted journey is one so offered
+  pub admitted : (j : Journey) → List·Memᴰ j offers ↔ Admitted s xs j
+  -- in the paper's order: it says which of equals is the older
+  pub order : Offered offers
+  -- "the list holds exactly the journeys due by its horizon that none other beats, the older of equals"
+  pub holds : Holds (endOf s xs .horizon) offers (keptOf (endOf s xs))
+  -- "the horizon falling only by 01's rule": the table's, and its mark, while calls are handed in; then the list's, while journeys are offered
+  pub table : ℕ
+  pub mark : ℕ
+  pub cuts : Horizon s (opened s) [] 21600 xs table
+  pub marked : ((table ≡ 21600) × (mark ≡ 0)) ⊎ ((table ≡ 21600 → ⊥) × (mark ≡ 1))
+  pub falls : Falls [] table mark offers (endOf s xs .horizon) (endOf s xs .limits)
+  -- best of that list, at every second
+  pub best : (z : ℤ) → BestAt (keptOf (endOf s xs)) (endOf s xs .horizon) z (answer s xs z)
 
 abbrev pub Demand2 : Type 0
-Demand2 = (s : Settings) (xs : List Step) → Opens s → endOf s xs .searched ≡ true → Holds s xs
+Demand2 = (s : Settings) (xs : List Step) → Opens s → Searched s xs → Lists s xs
 
--- ---- 3: one claim about any two whole lists of steps handed to two fresh loads of one start, searched or not
+-- ---- 3
 
--- best's answer, read as none if it is due after g, by its leave, arrival, rides and walk
-abbrev pub read : ℕ → Load → ℤ → Option Figures
-read g l z = readBy journeyFigures g (answerOf (bestSpec l z))
+-- every i64 second
+abbrev pub Second : ℤ → Type 0
+Second (pos n) = n ≤ 9223372036854775807
+Second (negsuc n) = n ≤ 9223372036854775807
+
+-- no answer by g: none, or a journey due after it
+abbrev pub NoneBy : ℕ → Option Journey → Type 0
+NoneBy g none = Unit {0}
+NoneBy g (some j) = g < j .arrival
+
+-- "the same leave, arrival, rides and walk in both or none in both, journeys due after the earlier of their horizons counting as none"
+pub record Both (g : ℕ) (r r′ : Option Journey) : Type 0 where
+  pub j : Journey
+  pub j′ : Journey
+  pub is : r ≡ some j
+  pub is′ : r′ ≡ some j′
+  pub due : j .arrival ≤ g
+  pub same : Same j j′
+
+abbrev pub Alike : ℕ → Option Journey → Option Journey → Type 0
+Alike g r r′ = (NoneBy g r × NoneBy g r′) ⊎ Both g r r′
+
+-- "each journey that 01 admits in either load by that horizon is equalled or beaten by one admitted in the other"
+abbrev pub MatchedBy : ℕ → Settings → List Step → Settings → List Step → Type 0
+MatchedBy g s xs s′ xs′ = (j : Journey) → Admitted s xs j → j .arrival ≤ g → (j′ : Journey) × Admitted s′ xs′ j′ × EqualsOrBeats j′ j
+
+-- g is the earlier of two horizons
+abbrev pub Earlier : ℕ → ℕ → ℕ → Type 0
+Earlier g h h′ = (g ≤ h) × (g ≤ h′) × ((g ≡ h) ⊎ (g ≡ h′))
 
 abbrev pub Demand3 : Type 0
-Demand3 = (s s′ : Settings) (xs xs′ : List Step) → s .now ≡ s′ .now → Opens s → Opens s′
-    → let g = min (endOf s xs .horizon) (endOf s′ xs′ .horizon) in
-    ((z : ℤ) → I64 z → read g (endOf s xs) z ≡ read g (endOf s′ xs′) z)
-    ↔ (CoveredBy g (Admitted s xs) (Admitted s′ xs′) × CoveredBy g (Admitted s′ xs′) (Admitted s xs))
+Demand3 = (s s′ : Settings) (xs xs′ : List Step) (g : ℕ) → s .now ≡ s′ .now → Opens s → Opens s′ → Searched s xs → Searched s′ xs′
+    → Earlier g (endOf s xs .horizon) (endOf s′ xs′ .horizon)
+    → ((z : ℤ) → Second z → Alike g (answer s xs z) (answer s′ xs′ z)) ↔ (MatchedBy g s xs s′ xs′ × MatchedBy g s′ xs′ s xs)

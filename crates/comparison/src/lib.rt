@@ -1,1 +1,1 @@
-// The three demands, as propositions over whole lists of steps, and their proofs. There is no code here.
+// The demands, as relations over what was handed in, and their proofs. There is no code here.

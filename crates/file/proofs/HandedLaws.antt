@@ -14,8 +14,8 @@ use Rattle.settings.specs.Settings.{overCounts, allNear, settingsTests}
 use Rattle.fields.specs.Records.{settingsIn}
 use Rattle.load.specs.Steps.{openAnswer, opened, openSpec}
 use Rattle.load.specs.Sound.{Opens}
-use Rattle.comparison.specs.Steps.{stepped}
-use Rattle.comparison.specs.Lists.{handed, endOf}
+use Rattle.steps.specs.Steps.{stepped}
+use Rattle.steps.specs.Lists.{handed, endOf}
 use Rattle.file.specs.declared.Reader.{Reader}
 use Rattle.file.specs.declared.Took.{Took}
 use Rattle.file.specs.declared.Fed.{Fed}

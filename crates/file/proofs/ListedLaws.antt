@@ -15,7 +15,7 @@ use Rattle.refusal.specs.First.{firstAnswer, First, answerNumber}
 use Rattle.refusal.proofs.FirstLaws.{first-is-answer}
 use Rattle.calls.specs.Sound.{oneOf}
 use Rattle.load.specs.Filling.{stop, call, rule}
-use Rattle.comparison.specs.Steps.{Step, filling, search, numbers}
+use Rattle.steps.specs.Steps.{Step, filling, search, numbers}
 use Rattle.file.specs.declared.Reader.{Reader}
 use Rattle.file.specs.declared.Took.{Took}
 use Rattle.file.specs.Record.{recordTests, stepIn, recordSpec, causesBy, numbersBy}

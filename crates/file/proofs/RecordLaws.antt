@@ -17,8 +17,8 @@ use Rattle.fields.specs.Numbers.{byteAt}
 use Rattle.fields.specs.Records.{settingsIn}
 use Rattle.load.specs.declared.Stepped.{Stepped}
 use Rattle.load.specs.Steps.{opened, openSpec}
-use Rattle.comparison.specs.Steps.{stepped}
-use Rattle.comparison.proofs.Demands.{demand-1}
+use Rattle.steps.specs.Steps.{stepped}
+use Rattle.steps.proofs.AnsweredLaws.{step-answered, opening-answered}
 use Rattle.file.specs.declared.Reader.{Reader}
 use Rattle.file.specs.declared.Took.{Took}
 use Rattle.file.specs.Record.{kindRight, filled, recordTests, stepIn, steppedBy, settled, recordSpec, causesBy, numbersBy, RecordAnswered}
@@ -50,8 +50,8 @@ unfolding steppedBy
 stepping r b = go (r .opened)
   where
     go : (o : Bool) → Stepping (record { opened = o; load = r .load }) b ((cond o (stepped (r .load) (stepIn b)) (openSpec (settingsIn b))) .answer)
-    go true = let w = demand-1 .steps (r .load) (stepIn b) in record { first = w .first; taken = w .taken; listed = w .listed }
-    go false = let w = demand-1 .opening (settingsIn b) in record { first = w .first; taken = w .taken; listed = w .listed }
+    go true = let w = step-answered (r .load) (stepIn b) in record { first = w .first; taken = w .taken; listed = w .listed }
+    go false = let w = opening-answered (settingsIn b) in record { first = w .first; taken = w .taken; listed = w .listed }
 
 -- a record that is sent back has 18 or 19
 tests-listed : (opened : Bool) (b : List ℕ) (ns : List ℕ) → isRefused (firstAnswer (recordTests opened b)) ≡ true → oneOf (answerNumber (firstAnswer (recordTests opened b))) (0 ∷ 18 ∷ 19 ∷ ns) ≡ true

@@ -7,7 +7,7 @@ use lib.ListN.{length, drop}
 use Rattle.refusal.specs.declared.Answer.the-variants.{Taken}
 use Rattle.fields.specs.Records.{settingsIn}
 use Rattle.load.specs.Sound.{Opens}
-use Rattle.comparison.specs.Lists.{endOf}
+use Rattle.steps.specs.Lists.{endOf}
 use Rattle.file.specs.Record.{stepIn}
 use Rattle.file.specs.File.{startsWhole, sizeOf, bodyOf, readSpec}
 

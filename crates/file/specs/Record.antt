@@ -18,7 +18,7 @@ use Rattle.load.specs.declared.Stepped.{Stepped}
 use Rattle.load.specs.Load.{emptyLoad, blankSettings}
 use Rattle.load.specs.Steps.{openSpec}
 use Rattle.load.specs.Filling.{stop, call, rule}
-use Rattle.comparison.specs.Steps.{Step, filling, search, stepped, causes, numbers}
+use Rattle.steps.specs.Steps.{Step, filling, search, stepped, causes, numbers}
 use Rattle.file.specs.declared.Reader.{Reader}
 use Rattle.file.specs.declared.Took.{Took}
 

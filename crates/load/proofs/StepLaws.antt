@@ -3,7 +3,7 @@ use Prim.Native.Nat.{ℕ, _+_, _<_}
 use mathlib.Core.Path.{_≡_, refl, sym, ap, _∙_}
 use mathlib.Core.Bool.{true, false, cond}
 use mathlib.Core.List.{List}
-use lib.ListN.{set, replicate}
+use lib.ListN.{set}
 use Rattle.laws.proofs.Bools.{cond-by, cond-not}
 use Rattle.refusal.specs.declared.Answer.{Answer}
 use Rattle.refusal.specs.declared.Answer.the-variants.{Taken, Outside}
@@ -30,32 +30,14 @@ use Rattle.profile.specs.declared.Journey.{Journey}
 use Rattle.profile.specs.Journeys.{noJourney}
 use Rattle.load.specs.declared.Load.{Load}
 use Rattle.load.specs.declared.Stepped.{Stepped}
-use Rattle.load.specs.Load.{emptyLoad, blankSettings, tableOf, withTable, withStops, withRules}
+use Rattle.load.specs.Load.{emptyWith, emptyLoad, blankSettings, tableOf, withTable, withStops, withRules}
 use Rattle.load.specs.Steps.{openAnswer, opened, openSpec, stationIn, stopAnswer, stopLoad, stopSpec, callFitted, callLoad, callSpec, ruleAnswer, ruleLoad, ruleSpec}
 
 -- ---- opening
 
-abbrev filled : Settings → Stop → Call → Rule → Journey → Load
-filled s a b r j = record {
-  settings = s;
-  stops = replicate 128 a;
-  «stop_count» = 0;
-  calls = replicate 512 b;
-  «call_count» = 0;
-  rules = replicate 128 r;
-  «rule_count» = 0;
-  journeys = replicate 64 j;
-  «journey_count» = 0;
-  «table_horizon» = 21600;
-  «table_limits» = 0;
-  horizon = 21600;
-  limits = 0;
-  searched = false;
-}
-
-pub empty-made : (s : Settings) (a : Stop) (b : Call) (r : Rule) (j : Journey) → a ≡ blankStop → b ≡ blankCall → r ≡ blankRule → j ≡ noJourney → filled s a b r j ≡ emptyLoad s
+pub empty-made : (s : Settings) (a : Stop) (b : Call) (r : Rule) (j : Journey) → a ≡ blankStop → b ≡ blankCall → r ≡ blankRule → j ≡ noJourney → emptyWith s a b r j ≡ emptyLoad s
 unfolding emptyLoad
-empty-made s a b r j ea eb er ej = λ k. filled s (ea k) (eb k) (er k) (ej k)
+empty-made s a b r j ea eb er ej = λ k. emptyWith s (ea k) (eb k) (er k) (ej k)
 
 module _ (s : Settings) (a : Answer) (h : a ≡ openAnswer s) where
   pub open-refused : (l : Load) → isRefused a ≡ true → l ≡ emptyLoad blankSettings → _≡_ {A = Stepped} (record { answer = a; load = l }) (openSpec s)

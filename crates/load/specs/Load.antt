@@ -1,30 +1,33 @@
--- The parts of a load, and a load with some of them changed.
+-- The parts of a load, and a load with some of them changed. Two definitions name every field, `emptyWith` and `remade`: a field that is added
+-- touches these.
 use Prim.Native.Nat.{ℕ}
-use mathlib.Core.Bool.{false}
+use mathlib.Core.Bool.{Bool, false}
 use mathlib.Core.List.{List, [], _∷_}
 use lib.IntN.{pos}
 use lib.ListN.{replicate}
 use Rattle.settings.specs.declared.Settings.{Settings}
+use Rattle.calls.specs.declared.Call.{Call}
 use Rattle.calls.specs.declared.Table.{Table}
 use Rattle.calls.specs.Tables.{blankCall}
 use Rattle.rules.specs.declared.Rule.{Rule}
 use Rattle.rules.specs.Rules.{blankRule}
 use Rattle.stops.specs.declared.Stop.{Stop}
 use Rattle.stops.specs.Taken.{blankStop}
+use Rattle.profile.specs.declared.Journey.{Journey}
 use Rattle.profile.specs.Journeys.{noJourney}
 use Rattle.load.specs.declared.Load.{Load}
 
--- nothing taken yet: horizon 21600, limits 0
-unfoldable pub emptyLoad : Settings → Load
-emptyLoad s = record {
+-- nothing taken yet, every slot the record given for it: horizon 21600, limits 0
+abbrev pub emptyWith : Settings → Stop → Call → Rule → Journey → Load
+emptyWith s a b r j = record {
   settings = s;
-  stops = replicate 128 blankStop;
+  stops = replicate 128 a;
   «stop_count» = 0;
-  calls = replicate 512 blankCall;
+  calls = replicate 512 b;
   «call_count» = 0;
-  rules = replicate 128 blankRule;
+  rules = replicate 128 r;
   «rule_count» = 0;
-  journeys = replicate 64 noJourney;
+  journeys = replicate 64 j;
   «journey_count» = 0;
   «table_horizon» = 21600;
   «table_limits» = 0;
@@ -32,6 +35,9 @@ emptyLoad s = record {
   limits = 0;
   searched = false;
 }
+
+unfoldable pub emptyLoad : Settings → Load
+emptyLoad s = emptyWith s blankStop blankCall blankRule noJourney
 
 -- the settings of the load that stands beside a refused opening
 abbrev pub blankSettings : Settings
@@ -50,59 +56,49 @@ blankSettings = record {
 abbrev pub tableOf : Load → Table
 tableOf l = record { calls = l .calls; count = l .«call_count»; horizon = l .«table_horizon»; limits = l .«table_limits» }
 
--- the load with this table; until the search its horizon and limits are the table's
-abbrev pub withTable : Load → Table → Load
-withTable l t = record {
-  settings = l .settings;
-  stops = l .stops;
-  «stop_count» = l .«stop_count»;
-  calls = t .calls;
-  «call_count» = t .count;
-  rules = l .rules;
-  «rule_count» = l .«rule_count»;
-  journeys = l .journeys;
-  «journey_count» = l .«journey_count»;
-  «table_horizon» = t .horizon;
-  «table_limits» = t .limits;
-  horizon = t .horizon;
-  limits = t .limits;
-  searched = l .searched;
-}
+-- what a query sees: the journeys, of which so many are kept, the horizon, the mark, and whether the load is searched
+pub record Seen : Type 0 where
+  pub journeys : List Journey
+  pub count : ℕ
+  pub horizon : ℕ
+  pub limits : ℕ
+  pub searched : Bool
 
--- the load with these stops, of which n are taken
-abbrev pub withStops : Load → List Stop → ℕ → Load
-withStops l ss n = record {
+abbrev pub seenOf : Load → Seen
+seenOf l = record { journeys = l .journeys; count = l .«journey_count»; horizon = l .horizon; limits = l .limits; searched = l .searched }
+
+-- the load with these stops, of which n are taken, this table, these rules, of which m are taken, and this to be seen; the rest is l's
+abbrev pub remade : Load → List Stop → ℕ → Table → List Rule → ℕ → Seen → Load
+remade l ss n t rs m k = record {
   settings = l .settings;
   stops = ss;
   «stop_count» = n;
-  calls = l .calls;
-  «call_count» = l .«call_count»;
-  rules = l .rules;
-  «rule_count» = l .«rule_count»;
-  journeys = l .journeys;
-  «journey_count» = l .«journey_count»;
-  «table_horizon» = l .«table_horizon»;
-  «table_limits» = l .«table_limits»;
-  horizon = l .horizon;
-  limits = l .limits;
-  searched = l .searched;
+  calls = t .calls;
+  «call_count» = t .count;
+  rules = rs;
+  «rule_count» = m;
+  journeys = k .journeys;
+  «journey_count» = k .count;
+  «table_horizon» = t .horizon;
+  «table_limits» = t .limits;
+  horizon = k .horizon;
+  limits = k .limits;
+  searched = k .searched;
 }
+
+-- the same, with l's stops and rules
+abbrev pub withSeen : Load → Table → Seen → Load
+withSeen l t k = remade l (l .stops) (l .«stop_count») t (l .rules) (l .«rule_count») k
+
+-- the load with this table; until the search its horizon and limits are the table's
+abbrev pub withTable : Load → Table → Load
+withTable l t =
+    withSeen l t (record { journeys = l .journeys; count = l .«journey_count»; horizon = t .horizon; limits = t .limits; searched = l .searched })
+
+-- the load with these stops, of which n are taken
+abbrev pub withStops : Load → List Stop → ℕ → Load
+withStops l ss n = remade l ss n (tableOf l) (l .rules) (l .«rule_count») (seenOf l)
 
 -- the load with these rules, of which n are taken
 abbrev pub withRules : Load → List Rule → ℕ → Load
-withRules l rs n = record {
-  settings = l .settings;
-  stops = l .stops;
-  «stop_count» = l .«stop_count»;
-  calls = l .calls;
-  «call_count» = l .«call_count»;
-  rules = rs;
-  «rule_count» = n;
-  journeys = l .journeys;
-  «journey_count» = l .«journey_count»;
-  «table_horizon» = l .«table_horizon»;
-  «table_limits» = l .«table_limits»;
-  horizon = l .horizon;
-  limits = l .limits;
-  searched = l .searched;
-}
+withRules l rs n = remade l (l .stops) (l .«stop_count») (tableOf l) rs n (seenOf l)

@@ -1,26 +1,12 @@
 -- A load searched many times.
 use Prim.Native.Nat.{ℕ, zero, suc, _+_, _%_}
 use Rattle.load.specs.declared.Load.{Load}
+use Rattle.load.specs.Load.{seenOf, withSeen}
 use Rattle.search.specs.Search.{searchSpec}
 
 -- the load with another mark of its table
 abbrev pub withMark : Load → ℕ → Load
-withMark l m = record {
-  settings = l .settings;
-  stops = l .stops;
-  «stop_count» = l .«stop_count»;
-  calls = l .calls;
-  «call_count» = l .«call_count»;
-  rules = l .rules;
-  «rule_count» = l .«rule_count»;
-  journeys = l .journeys;
-  «journey_count» = l .«journey_count»;
-  «table_horizon» = l .«table_horizon»;
-  «table_limits» = m;
-  horizon = l .horizon;
-  limits = l .limits;
-  searched = l .searched;
-}
+withMark l m = withSeen l (record { calls = l .calls; count = l .«call_count»; horizon = l .«table_horizon»; limits = m }) (seenOf l)
 
 -- the horizon that a search leaves
 unfoldable pub horizonAfter : Load → ℕ

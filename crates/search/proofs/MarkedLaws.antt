@@ -1,8 +1,7 @@
 -- The starred instance on joins: with no rule, a change at one stop takes the settings' change time.
-use mathlib.Core.Path.{_≡_, refl, sym, ap, _∙_}
-use mathlib.Core.Bool.{true, false}
+use mathlib.Core.Path.{_≡_, refl, ap, _∙_}
 use mathlib.Core.List.{List, []}
-use Prim.Native.Nat.{ℕ, _+_, _<_}
+use Prim.Native.Nat.{ℕ}
 use lib.Dec.{leb}
 use borrow.Author.Tests.{eq-eqb, lt-ltb}
 use Rattle.transfer.specs.declared.Change.the-variants.{Takes}

@@ -32,6 +32,7 @@ use Rattle.offers.proofs.PlacesLaws.{array-in-places}
 use Rattle.read_back.specs.Kept.{Small, journeyOf}
 use Rattle.read_back.proofs.KeptLaws.{journeys-right}
 use Rattle.load.specs.declared.Load.{Load}
+use Rattle.load.specs.Load.{withSeen}
 use Rattle.load.specs.declared.Stepped.{Stepped}
 use Rattle.search.specs.Timetable.{timetableOf}
 use Rattle.search.specs.Rows.{sheetFrom, joinsFrom, rowOffers}
@@ -117,22 +118,8 @@ module _ (l : Load) (cs : List Call) (order : cs ≡ sortFirst (l .«call_count�
     module _ (walks : (o : ℕ) → getD (l .settings .«origin_walks») o 0 < 256) (st : List ℕ) (js : List Journey) (n h′ m′ : ℕ) (v : view st ≡ offeredOf l cs)
         (ej : js ≡ padded noJourney 64 (map (journeyOf cs) (keptOf st))) (en : n ≡ countOf st) (eh : h′ ≡ horizonOf st) (em : m′ ≡ limitsOf st) where
       abbrev kept : List Call → List Journey → ℕ → ℕ → ℕ → Load
-      kept c j k h m = record {
-        settings = l .settings;
-        stops = l .stops;
-        «stop_count» = l .«stop_count»;
-        calls = c;
-        «call_count» = l .«call_count»;
-        rules = l .rules;
-        «rule_count» = l .«rule_count»;
-        journeys = j;
-        «journey_count» = k;
-        «table_horizon» = l .«table_horizon»;
-        «table_limits» = l .«table_limits»;
-        horizon = h;
-        limits = m;
-        searched = true;
-      }
+      kept c j k h m =
+          withSeen l (record { calls = c; count = l .«call_count»; horizon = l .«table_horizon»; limits = l .«table_limits» }) (record { journeys = j; count = k; horizon = h; limits = m; searched = true })
 
       -- the journeys of the rows kept
       going-returned : (ks : List Row) (h m : ℕ) → view st ≡ going ks h m → _≡_ {A = Stepped} (record { answer = Taken; load = kept cs js n h′ m′ }) (searchSpec l)

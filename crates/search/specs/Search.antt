@@ -9,6 +9,7 @@ use Rattle.refusal.specs.declared.Refusal.the-variants.{AlreadySearched, Neighb
 use Rattle.refusal.specs.declared.Answer.{Answer}
 use Rattle.refusal.specs.declared.Answer.the-variants.{Taken, Refused}
 use Rattle.refusal.specs.First.{First, AllFail, isRefused}
+use Rattle.calls.specs.declared.Table.{Table}
 use Rattle.profile.specs.declared.Journey.{Journey}
 use Rattle.profile.specs.Figures.{covᶠ, dueᶠ}
 use Rattle.profile.specs.Fall.{Ends, upTo, never, fall}
@@ -18,30 +19,21 @@ use Rattle.offers.specs.Offers.{sorted, offers}
 use Rattle.offers.specs.Search.{Outcome, clashing, falling, found, answerOf, searchOf}
 use Rattle.load.specs.declared.Load.{Load}
 use Rattle.load.specs.declared.Stepped.{Stepped}
+use Rattle.load.specs.Load.{withSeen}
 use Rattle.search.specs.Timetable.{timetableOf}
 
 -- every offer of the load in order, from the table's horizon and mark
 unfoldable pub outcomeOf : Load → Outcome
 outcomeOf l = searchOf (timetableOf l) (l .«table_horizon») (l .«table_limits»)
 
+-- the call table of a load, its calls in order
+abbrev pub sortedTable : Load → Table
+sortedTable l = record { calls = sortFirst (l .«call_count») (l .calls); count = l .«call_count»; horizon = l .«table_horizon»; limits = l .«table_limits» }
+
 -- the load, searched: its calls in order, these journeys, this horizon and mark
 abbrev pub withJourneys : Load → List Journey → ℕ → ℕ → Load
-withJourneys l ks h m = record {
-  settings = l .settings;
-  stops = l .stops;
-  «stop_count» = l .«stop_count»;
-  calls = sortFirst (l .«call_count») (l .calls);
-  «call_count» = l .«call_count»;
-  rules = l .rules;
-  «rule_count» = l .«rule_count»;
-  journeys = padded noJourney 64 ks;
-  «journey_count» = length ks;
-  «table_horizon» = l .«table_horizon»;
-  «table_limits» = l .«table_limits»;
-  horizon = h;
-  limits = m;
-  searched = true;
-}
+withJourneys l ks h m =
+    withSeen l (sortedTable l) (record { journeys = padded noJourney 64 ks; count = length ks; horizon = h; limits = m; searched = true })
 
 -- refused: the load as it was, unsorted
 abbrev pub settled : Load → Outcome → Load

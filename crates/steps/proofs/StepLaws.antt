@@ -1,0 +1,192 @@
+-- What the machine's steps do to a load: a searched load stays, only a search searches, and best reads what is kept.
+use Prim.Native.Nat.{ℕ, _+_, _-_, _≤_}
+use mathlib.Core.Path.{_≡_, refl, sym, ap, _∙_}
+use mathlib.Core.Logic.{_⊎_, inl, inr}
+use mathlib.Core.Bool.{Bool, true, false, cond, _&&_, true≢false, false≢true}
+use mathlib.Core.Option.{Option, none, some}
+use mathlib.Core.List.{List, [], _∷_}
+use native.Mathlib.Omega.{arith}
+use borrow.Author.Tests.{eqb-true, leb-true}
+use lib.Dec.{eqb, ltb}
+use lib.IntN.{ℤ}
+use lib.ListN.{length, take, set, replicate}
+use lib.Seq.{take-append-seam}
+use Rattle.laws.specs.Lists.{padded}
+use Rattle.laws.proofs.Bools.{cond-by, cond-not, or-true-cases}
+use Rattle.refusal.specs.declared.Refusal.the-variants.{AlreadySearched}
+use Rattle.refusal.specs.declared.Answer.{Answer}
+use Rattle.refusal.specs.declared.Answer.the-variants.{Refused}
+use Rattle.refusal.specs.First.{First, hit, miss, isRefused, isTaken}
+use Rattle.profile.specs.declared.Journey.{Journey}
+use Rattle.profile.specs.Journeys.{noJourney, journeyFigures}
+use Rattle.profile.specs.Best.{bestℤ}
+use Rattle.calls.specs.Calls.{callTests}
+use Rattle.calls.specs.Sound.{All, oneOf, horizons, CallSound}
+use Rattle.calls.proofs.SoundLaws.{all-mem}
+use Rattle.rules.specs.Rules.{ruleTests}
+use Rattle.stops.specs.Answer.{stopTests}
+use Rattle.transfer.specs.declared.Change.{Change}
+use Rattle.transfer.specs.declared.Change.the-variants.{Takes, Never}
+use Rattle.transfer.specs.Changes.{joinsBy, joinOf}
+use Rattle.offers.specs.Order.{Timed}
+use Rattle.offers.specs.Admitted.{InTime}
+use Rattle.offers.specs.Search.{Outcome, clashing, falling, found, answerOf, searchOf}
+use Rattle.load.specs.declared.Load.{Load}
+use Rattle.load.specs.declared.Stepped.{Stepped}
+use Rattle.stops.specs.Taken.{stopOf}
+use Rattle.rules.specs.Rules.{ruleOf}
+use Rattle.load.specs.Load.{withStops, withRules, withTable}
+use Rattle.load.specs.Steps.{stationIn, stopAnswer, stopSpec, callFitted, callSpec, ruleAnswer, ruleSpec}
+use Rattle.load.specs.Filling.{Filling, stop, call, rule, filled}
+use Rattle.load.specs.Sound.{Sound}
+use Rattle.load.proofs.AnswerLaws.{step-answered}
+use Rattle.search.specs.Timetable.{changeIn, oneRun, timetableOf}
+use Rattle.search.specs.Search.{outcomeOf, settled, searchSpec}
+use Rattle.best.specs.Best as best
+use Rattle.steps.specs.Steps.{Step, filling, search, stepped}
+
+-- ---- a searched load stays
+
+first-holds : {a c : Answer} {b : Bool} {ts : List (Bool × Answer)} → First a ((b, c) ∷ ts) → b ≡ true → a ≡ c
+first-holds (hit e) q = refl
+first-holds (miss e f) q = absurd (true≢false (sym q ∙ e))
+
+filled-stays : (l : Load) (x : Filling) → l .searched ≡ true → filled l x .load ≡ l
+unfolding stopTests callTests ruleTests
+filled-stays l (stop id name parent i) e = let w = step-answered l (stop id name parent i) in w .unchanged (ap isRefused (first-holds (w .first) e))
+filled-stays l (call i) e = let w = step-answered l (call i) in w .unchanged (ap isRefused (first-holds (w .first) e))
+filled-stays l (rule i) e = let w = step-answered l (rule i) in w .unchanged (ap isRefused (first-holds (w .first) e))
+
+abbrev again : Load → Stepped
+again l = record { answer = Refused AlreadySearched; load = l }
+
+abbrev ran : Load → Stepped
+ran l = record { answer = answerOf (outcomeOf l); load = settled l (outcomeOf l) }
+
+search-again : (l : Load) → l .searched ≡ true → searchSpec l ≡ again l
+unfolding searchSpec
+search-again l e = cond-by (again l) (ran l) e
+
+pub search-runs : (l : Load) → l .searched ≡ false → searchSpec l ≡ ran l
+unfolding searchSpec
+search-runs l e = cond-not (again l) (ran l) e
+
+pub searched-stays : (l : Load) (x : Step) → l .searched ≡ true → stepped l x .load ≡ l
+searched-stays l (filling x) e = filled-stays l x e
+searched-stays l search e = ap (λ (r : Stepped). r .load) (search-again l e)
+
+-- ---- the demands on a sound load
+
+pub sound-timed : (l : Load) → Sound l → Timed (timetableOf l .calls)
+unfolding timetableOf
+sound-timed l s x m = all-mem (CallSound (l .«table_horizon»)) (take (l .«call_count») (l .calls)) (s .table .each) x m .ordered
+
+joins-late : (c : Change) (a d : ℕ) → joinsBy c a d ≡ true → a ≤ d
+joins-late (Takes s) a d e = omega (arith, leb-true (a + s) d e)
+joins-late Never a d e = absurd (false≢true e)
+
+cond-true : (b c : Bool) → cond b c false ≡ true → c ≡ true
+cond-true true c e = e
+cond-true false c e = absurd (false≢true e)
+
+cond-false : (b c : Bool) → cond b false c ≡ true → c ≡ true
+cond-false true c e = absurd (false≢true e)
+cond-false false c e = e
+
+pub sound-in-time : (l : Load) → InTime (timetableOf l)
+unfolding timetableOf
+sound-in-time l f b e =
+    joins-late (changeIn l (f .to) (b .stop)) (f .arrival) (b .departure)
+    (cond-false (oneRun f b) (joinsBy (changeIn l (f .to) (b .stop)) (f .arrival) (b .departure)) (cond-true (ltb (f .to) 128 && ltb (b .stop) 128) (joinOf (changeIn l (f .to) (b .stop)) (oneRun f b) (f .arrival) (b .departure)) e))
+
+one-of-below : (h b : ℕ) (ms : List ℕ) → All (λ m. m ≤ b) ms → oneOf h ms ≡ true → h ≤ b
+one-of-below h b [] a e = absurd (false≢true e)
+one-of-below h b (m ∷ ms) a e = go (or-true-cases (eqb h m) (oneOf h ms) e) (one-of-below h b ms (a .1))
+  where
+    go : (eqb h m ≡ true) ⊎ (oneOf h ms ≡ true) → (oneOf h ms ≡ true → h ≤ b) → h ≤ b
+    go (inl q) ih = omega (arith, eqb-true h m q, a .0)
+    go (inr q) ih = ih q
+
+pub sound-near : (l : Load) → Sound l → l .«table_horizon» ≤ 21600
+sound-near l s = one-of-below (l .«table_horizon») 21600 horizons (omega arith, (omega arith, (omega arith, (omega arith, (omega arith, (omega arith, (omega arith, tt))))))) (s .table .known)
+
+pub sound-near-new : (l : Load) → Sound l → l .searched ≡ false → l .horizon ≤ 21600
+sound-near-new l s e = omega (arith, s .same-horizon e, sound-near l s)
+
+-- ---- best
+
+answer-found : (o : Option Journey) → best.answerOf (best.foundOf o) ≡ o
+unfolding best.foundOf
+answer-found none = refl
+answer-found (some j) = refl
+
+pub best-asks : (l : Load) → l .searched ≡ true → (z : ℤ) → best.answerOf (best.bestSpec l z) ≡ bestℤ journeyFigures (best.keptOf l) (l .horizon) z
+unfolding best.bestSpec
+best-asks l e z = ap best.answerOf (cond-by _ _ e) ∙ answer-found (bestℤ journeyFigures (best.keptOf l) (l .horizon) z)
+
+pub best-none : (l : Load) → l .searched ≡ false → (z : ℤ) → best.answerOf (best.bestSpec l z) ≡ none
+unfolding best.bestSpec
+best-none l e z = ap best.answerOf (cond-not _ _ e)
+
+-- ---- only a search searches
+
+either-searched : (m l : Load) (b : Bool) → m .searched ≡ l .searched → cond b m l .searched ≡ l .searched
+either-searched m l true e = e
+either-searched m l false e = refl
+
+pub filled-searched : (l : Load) (x : Filling) → filled l x .load .searched ≡ l .searched
+unfolding stopSpec callSpec ruleSpec
+filled-searched l (stop id name parent i) =
+    either-searched (withStops l (set (l .stops) (l .«stop_count») (stopOf id name (stationIn l parent i) i)) (l .«stop_count» + 1)) l (isTaken (stopAnswer l id name parent i)) refl
+filled-searched l (call i) = either-searched l (withTable l (callFitted l i .table)) (isRefused (callFitted l i .answer)) refl
+filled-searched l (rule i) = either-searched (withRules l (set (l .rules) (l .«rule_count») (ruleOf i)) (l .«rule_count» + 1)) l (isTaken (ruleAnswer l i)) refl
+
+-- what an accepted search found
+pub record Finds (l m : Load) : Type 0 where
+  pub is : searchOf (timetableOf l) (l .«table_horizon») (l .«table_limits») ≡ found (best.keptOf m) (m .horizon) (m .limits)
+
+kept-back : (ks : List Journey) → take (length ks) (padded noJourney 64 ks) ≡ ks
+kept-back ks = take-append-seam ks (replicate (64 - length ks) noJourney)
+
+search-finds : (l : Load) → l .searched ≡ false → searchSpec l .load .searched ≡ true → Finds l (searchSpec l .load)
+unfolding outcomeOf
+search-finds l u d = rw (search-runs l u) (go (outcomeOf l) refl (rw (search-runs l u) at d))
+  where
+    go : (o : Outcome) → searchOf (timetableOf l) (l .«table_horizon») (l .«table_limits») ≡ o → settled l o .searched ≡ true → Finds l (settled l o)
+    go clashing e q = absurd (true≢false (sym q ∙ u))
+    go falling e q = absurd (true≢false (sym q ∙ u))
+    go (found ks h m) e q = record { is = e ∙ (λ i. found (sym (kept-back ks) i) h m) }
+
+-- a search that is answered taken ran on a load not searched before, and leaves it searched
+pub record Searches (l : Load) : Type 0 where
+  pub new : l .searched ≡ false
+  pub searched : searchSpec l .load .searched ≡ true
+  pub finds : Finds l (searchSpec l .load)
+
+outcome-searched : (l : Load) (o : Outcome) → isTaken (answerOf o) ≡ true → settled l o .searched ≡ true
+outcome-searched l clashing e = absurd (false≢true e)
+outcome-searched l falling e = absurd (false≢true e)
+outcome-searched l (found ks h m) e = refl
+
+outcome-stays : (l : Load) (o : Outcome) → isTaken (answerOf o) ≡ false → settled l o ≡ l
+outcome-stays l clashing e = refl
+outcome-stays l falling e = refl
+outcome-stays l (found ks h m) e = absurd (true≢false e)
+
+pub taken-searches : (l : Load) → isTaken (searchSpec l .answer) ≡ true → Searches l
+taken-searches l t = go (l .searched) refl
+  where
+    go : (b : Bool) → l .searched ≡ b → Searches l
+    go true e = absurd (true≢false (sym t ∙ ap (λ (r : Stepped). isTaken (r .answer)) (search-again l e)))
+    go false e =
+        let s : searchSpec l .load .searched ≡ true =
+        ap (λ (r : Stepped). r .load .searched) (search-runs l e) ∙ outcome-searched l (outcomeOf l) (sym (ap (λ (r : Stepped). isTaken (r .answer)) (search-runs l e)) ∙ t) in
+        record { new = e; searched = s; finds = search-finds l e s }
+
+-- and one that is not leaves the load
+pub untaken-stays : (l : Load) → isTaken (searchSpec l .answer) ≡ false → searchSpec l .load ≡ l
+untaken-stays l t = go (l .searched) refl
+  where
+    go : (b : Bool) → l .searched ≡ b → searchSpec l .load ≡ l
+    go true e = searched-stays l search e
+    go false e = ap (λ (r : Stepped). r .load) (search-runs l e) ∙ outcome-stays l (outcomeOf l) (sym (ap (λ (r : Stepped). isTaken (r .answer)) (search-runs l e)) ∙ t)
