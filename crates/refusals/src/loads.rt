@@ -1,4 +1,6 @@
 // Loads that a step is tried on: a small one, and one full of stops, calls or rules.
+ghost use mathlib.Core.Path.{_≡_};
+ghost use Rattle.refusals.specs.Inputs.{timeIn, callOf, minTimeIn, ruleOf};
 use crate::show;
 use crate::show::CALL;
 use crate::show::RULE;
@@ -52,7 +54,9 @@ fn stop(i: u16) -> StopInput {
 // No time
 pub const NONE: u32 = 65535;
 
-fn seconds(n: u32) -> Seconds {
+fn seconds(n: u32) -> Seconds
+    ensures { λ r. ⌜ r ≡ timeIn n ⌝ }
+{
     if n == NONE {
         return Seconds::Absent;
     }
@@ -60,7 +64,9 @@ fn seconds(n: u32) -> Seconds {
 }
 
 // A call of day 0.
-pub fn call(trip: u16, sequence: u32, stop: u16, arrival: u32, departure: u32) -> CallInput {
+pub fn call(trip: u16, sequence: u32, stop: u16, arrival: u32, departure: u32) -> CallInput
+    ensures { λ r. ⌜ r ≡ callOf trip sequence stop arrival departure ⌝ }
+{
     CallInput {
         trip,
         day: 0,
@@ -86,16 +92,23 @@ fn leg(i: u16) -> CallInput {
     call(trip, 1, 2, 1000 + trip as u32, 1000 + trip as u32)
 }
 
-pub fn rule(from: u16, to: u16, kind: u8, timed: bool) -> RuleInput {
+fn min_time(timed: bool) -> MinTime
+    ensures { λ r. ⌜ r ≡ minTimeIn timed ⌝ }
+{
+    if timed {
+        return MinTime::Given(0);
+    }
+    MinTime::Absent
+}
+
+pub fn rule(from: u16, to: u16, kind: u8, timed: bool) -> RuleInput
+    ensures { λ r. ⌜ r ≡ ruleOf from to kind timed ⌝ }
+{
     RuleInput {
         from,
         to,
         transfer_type: kind,
-        seconds: if timed {
-            MinTime::Given(0)
-        } else {
-            MinTime::Absent
-        },
+        seconds: min_time(timed),
     }
 }
 
@@ -121,7 +134,7 @@ fn next(step: u8, load: Load, i: u16) -> Load {
 }
 
 // So many good steps; those that are refused leave the load as it was.
-pub fn with(step: u8, n: u16, first: Load) -> Load {
+fn with(step: u8, n: u16, first: Load) -> Load {
     let mut load = first;
     for i in 0u16..n {
         let one = next(step, load, i);

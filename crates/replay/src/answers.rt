@@ -1,4 +1,5 @@
 // One load file: read whole, and its records handed in one by one, each call's answer noted.
+ghost use Prim.Native.Nat.{_≤_};
 use crate::load_lines;
 use crate::out;
 use reader::fresh;
@@ -26,7 +27,9 @@ fn cause(a: Answer) -> u8 {
 }
 
 // The line of a file that is refused, in place of its answers.
-fn refused(out: &mut [u8; 65536], a: Answer) -> usize {
+fn refused(out: &mut [u8; 65536], a: Answer) -> usize
+    ensures { λ r. ⌜ r ≤ 65536 ⌝ }
+{
     let to = out::text(out, 0, b"refused");
     let end = out::spaced(out, to, cause(a) as u64);
     out::line(out, end)
@@ -41,7 +44,10 @@ fn is_call(bytes: &[u8]) -> bool {
 }
 
 // A space after `answers`, before the first letter.
-fn parted(out: &mut [u8; 65536], at: usize) -> usize {
+fn parted(out: &mut [u8; 65536], at: usize) -> usize
+    requires { ⌜ at ≤ 65536 ⌝ }
+    ensures { λ r. ⌜ r ≤ 65536 ⌝ }
+{
     if at == 7 {
         return out::put(out, at, b' ');
     }
@@ -49,7 +55,10 @@ fn parted(out: &mut [u8; 65536], at: usize) -> usize {
 }
 
 // Notes the answer to a record: a call's letter.
-fn noted(out: &mut [u8; 65536], at: usize, call: bool, a: Answer) -> usize {
+fn noted(out: &mut [u8; 65536], at: usize, call: bool, a: Answer) -> usize
+    requires { ⌜ at ≤ 65536 ⌝ }
+    ensures { λ r. ⌜ r ≤ 65536 ⌝ }
+{
     if call {
         let to = parted(out, at);
         return out::put(out, to, letter(a));
@@ -58,7 +67,9 @@ fn noted(out: &mut [u8; 65536], at: usize, call: bool, a: Answer) -> usize {
 }
 
 // Notes the answers to the records after the version, up to one that is refused.
-fn records(out: &mut [u8; 65536], bytes: &[u8]) -> usize {
+fn records(out: &mut [u8; 65536], bytes: &[u8]) -> usize
+    ensures { λ r. ⌜ r ≤ 65536 ⌝ }
+{
     let mut to = out::text(out, 0, b"answers");
     let mut reader = fresh();
     let mut at: usize = 0;
@@ -81,7 +92,9 @@ fn records(out: &mut [u8; 65536], bytes: &[u8]) -> usize {
 }
 
 // The answers are those of the records handed in one by one; all else is of the file read whole, which goes by runs.
-pub fn file(out: &mut [u8; 65536], bytes: &[u8]) -> usize {
+pub fn file(out: &mut [u8; 65536], bytes: &[u8]) -> usize
+    ensures { λ r. ⌜ r ≤ 65536 ⌝ }
+{
     let first = version(bytes);
     if is_refused(first) {
         return refused(out, first);

@@ -1,5 +1,6 @@
 // The lines of a load: table, places, journeys, horizon and limits; then the queries.
-ghost use Prim.Native.Nat.{_≤_};
+ghost use mathlib.Core.Path.{_≡_};
+ghost use Prim.Native.Nat.{_≤_, min};
 use crate::out;
 use crate::queries;
 use calls::Call;
@@ -12,12 +13,15 @@ use stops::Stop;
 
 // A count, and at most `most`.
 pub fn least(count: usize, most: usize) -> usize
-    ensures { λ r. ⌜ r ≤ most ⌝ }
+    ensures { λ r. ⌜ r ≡ min count most ⌝ }
 {
     if count < most { count } else { most }
 }
 
-fn call(out: &mut [u8; 65536], at: usize, c: Call) -> usize {
+fn call(out: &mut [u8; 65536], at: usize, c: Call) -> usize
+    requires { ⌜ at ≤ 65536 ⌝ }
+    ensures { λ r. ⌜ r ≤ 65536 ⌝ }
+{
     let a = out::text(out, at, b"call");
     let b = out::spaced(out, a, c.trip as u64);
     let d = out::spaced(out, b, c.day as u64);
@@ -33,7 +37,10 @@ fn call(out: &mut [u8; 65536], at: usize, c: Call) -> usize {
 }
 
 // The table by trip, day, sequence, equals as taken.
-fn table(out: &mut [u8; 65536], at: usize, given: [Call; 512], count: usize) -> usize {
+fn table(out: &mut [u8; 65536], at: usize, given: [Call; 512], count: usize) -> usize
+    requires { ⌜ at ≤ 65536 ⌝ }
+    ensures { λ r. ⌜ r ≤ 65536 ⌝ }
+{
     let calls = sorted(given, count);
     let n = least(count, 512);
     let mut to = at;
@@ -44,7 +51,10 @@ fn table(out: &mut [u8; 65536], at: usize, given: [Call; 512], count: usize) -> 
     to
 }
 
-fn place(out: &mut [u8; 65536], at: usize, p: u16) -> usize {
+fn place(out: &mut [u8; 65536], at: usize, p: u16) -> usize
+    requires { ⌜ at ≤ 65536 ⌝ }
+    ensures { λ r. ⌜ r ≤ 65536 ⌝ }
+{
     if p == 65535 {
         return out::text(out, at, b" -");
     }
@@ -52,7 +62,10 @@ fn place(out: &mut [u8; 65536], at: usize, p: u16) -> usize {
 }
 
 // Each stop's place.
-fn places(out: &mut [u8; 65536], at: usize, stops: [Stop; 128], count: usize) -> usize {
+fn places(out: &mut [u8; 65536], at: usize, stops: [Stop; 128], count: usize) -> usize
+    requires { ⌜ at ≤ 65536 ⌝ }
+    ensures { λ r. ⌜ r ≤ 65536 ⌝ }
+{
     let given = group_places(stops, count);
     let n = least(count, 128);
     let mut to = out::text(out, at, b"places");
@@ -62,7 +75,10 @@ fn places(out: &mut [u8; 65536], at: usize, stops: [Stop; 128], count: usize) ->
     out::line(out, to)
 }
 
-fn searched_places(out: &mut [u8; 65536], at: usize, load: Load) -> usize {
+fn searched_places(out: &mut [u8; 65536], at: usize, load: Load) -> usize
+    requires { ⌜ at ≤ 65536 ⌝ }
+    ensures { λ r. ⌜ r ≤ 65536 ⌝ }
+{
     if load.searched {
         let stops = load.stops;
         return places(out, at, stops, load.stop_count);
@@ -70,7 +86,10 @@ fn searched_places(out: &mut [u8; 65536], at: usize, load: Load) -> usize {
     at
 }
 
-fn ride(out: &mut [u8; 65536], at: usize, r: Ride) -> usize {
+fn ride(out: &mut [u8; 65536], at: usize, r: Ride) -> usize
+    requires { ⌜ at ≤ 65536 ⌝ }
+    ensures { λ r. ⌜ r ≤ 65536 ⌝ }
+{
     let a = out::text(out, at, b" |");
     let b = out::spaced(out, a, r.trip as u64);
     let c = out::spaced(out, b, r.day as u64);
@@ -82,7 +101,10 @@ fn ride(out: &mut [u8; 65536], at: usize, r: Ride) -> usize {
     out::flag(out, h, r.alight_request)
 }
 
-fn last_ride(out: &mut [u8; 65536], at: usize, j: Journey) -> usize {
+fn last_ride(out: &mut [u8; 65536], at: usize, j: Journey) -> usize
+    requires { ⌜ at ≤ 65536 ⌝ }
+    ensures { λ r. ⌜ r ≤ 65536 ⌝ }
+{
     if j.rides == 2 {
         let last = j.last;
         return ride(out, at, last);
@@ -90,7 +112,10 @@ fn last_ride(out: &mut [u8; 65536], at: usize, j: Journey) -> usize {
     at
 }
 
-fn journey(out: &mut [u8; 65536], at: usize, j: Journey) -> usize {
+fn journey(out: &mut [u8; 65536], at: usize, j: Journey) -> usize
+    requires { ⌜ at ≤ 65536 ⌝ }
+    ensures { λ r. ⌜ r ≤ 65536 ⌝ }
+{
     let a = out::text(out, at, b"journey");
     let b = queries::figures(out, a, j);
     let first = j.first;
@@ -99,7 +124,10 @@ fn journey(out: &mut [u8; 65536], at: usize, j: Journey) -> usize {
     out::line(out, d)
 }
 
-fn journeys(out: &mut [u8; 65536], at: usize, kept: [Journey; 64], count: usize) -> usize {
+fn journeys(out: &mut [u8; 65536], at: usize, kept: [Journey; 64], count: usize) -> usize
+    requires { ⌜ at ≤ 65536 ⌝ }
+    ensures { λ r. ⌜ r ≤ 65536 ⌝ }
+{
     let n = least(count, 64);
     let mut to = at;
     for i in 0usize..n {
@@ -109,7 +137,10 @@ fn journeys(out: &mut [u8; 65536], at: usize, kept: [Journey; 64], count: usize)
     to
 }
 
-fn horizon(out: &mut [u8; 65536], at: usize, horizon: u16, limits: u8) -> usize {
+fn horizon(out: &mut [u8; 65536], at: usize, horizon: u16, limits: u8) -> usize
+    requires { ⌜ at ≤ 65536 ⌝ }
+    ensures { λ r. ⌜ r ≤ 65536 ⌝ }
+{
     let a = out::text(out, at, b"horizon");
     let b = out::spaced(out, a, horizon as u64);
     let c = out::text(out, b, b" limits");
@@ -117,7 +148,10 @@ fn horizon(out: &mut [u8; 65536], at: usize, horizon: u16, limits: u8) -> usize 
     out::line(out, d)
 }
 
-pub fn lines(out: &mut [u8; 65536], at: usize, load: Load) -> usize {
+pub fn lines(out: &mut [u8; 65536], at: usize, load: Load) -> usize
+    requires { ⌜ at ≤ 65536 ⌝ }
+    ensures { λ r. ⌜ r ≤ 65536 ⌝ }
+{
     let calls = load.calls;
     let kept = load.journeys;
     let a = table(out, at, calls, load.call_count);

@@ -10,9 +10,9 @@ mod queries;
 
 use libc::STDIN_FILENO;
 
-// As long as the longest file.
-fn buffer() -> [u8; 1048576] {
-    [0u8; 1048576]
+// As long as the longest file: so many bytes hold at most 62,500 calls, of 16 bytes at least, and a letter for each fits in a line.
+fn buffer() -> [u8; 1000000] {
+    [0u8; 1000000]
 }
 
 fn wide(x: u8) -> u32

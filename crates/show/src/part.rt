@@ -50,7 +50,9 @@ fn move_down(buf: &mut [u8], from: usize, end: usize) -> usize
 }
 
 // The version; the records begin after it.
-pub fn first(buf: &mut [u8]) -> Reading {
+pub fn first(buf: &mut [u8]) -> Reading
+    ensures { λ r. ⌜ (r .at ≡ 1) × (r .held ≤ length (now (buf .exit))) ⌝ }
+{
     let held = fill(buf, 0);
     let answer = version(&buf[..held]);
     let over = is_refused(answer);
@@ -72,7 +74,9 @@ fn smaller(a: usize, b: usize) -> usize
 }
 
 // The whole records that the buffer holds; then the end, or more bytes.
-pub fn turn(buf: &mut [u8], r: Reading) -> Reading {
+pub fn turn(buf: &mut [u8], r: Reading) -> Reading
+    ensures { λ n. ⌜ n .held ≤ length (now (buf .exit)) ⌝ }
+{
     let held = smaller(r.held, buf.len());
     let at = smaller(r.at, held);
     let before = r.reader;

@@ -3,10 +3,12 @@ pub mod accents;
 pub mod changes;
 pub mod combined;
 pub mod damaged;
+pub mod dense;
 pub mod faults;
 pub mod limits;
 pub mod marked;
 pub mod places;
+pub mod pruned;
 pub mod rng;
 pub mod tables;
 pub mod world;
@@ -18,16 +20,16 @@ pub type Profile = fn(&mut Rng) -> Vec<u8>;
 /// Name, generator, and how many of a hundred files of `all` are drawn from it.
 pub const PROFILES: &[(&str, Profile, u64)] = &[
     ("small", world::small, 4),
-    ("window", world::window, 7),
+    ("window", world::window, 6),
     ("types", world::types, 5),
     ("days", world::days, 7),
     ("neighbours", world::neighbours, 6),
     ("ties", world::ties, 4),
     ("changes", changes::changes, 7),
-    ("change-ties", changes::ties, 6),
-    ("figures", changes::figures, 6),
-    ("rules", places::rules, 9),
-    ("places", places::places, 7),
+    ("change-ties", changes::ties, 5),
+    ("figures", changes::figures, 5),
+    ("rules", places::rules, 8),
+    ("places", places::places, 6),
     ("names", places::names, 5),
     ("ids", places::ids, 3),
     ("accents", accents::accents, 4),
@@ -36,11 +38,14 @@ pub const PROFILES: &[(&str, Profile, u64)] = &[
     ("cut", limits::cut, 1),
     ("counts", limits::counts, 1),
     ("settings", faults::settings, 2),
-    ("refusals", faults::refusals, 7),
+    ("refusals", faults::refusals, 6),
     ("damage", faults::damage, 4),
     ("after", faults::after, 2),
     ("paper", tables::paper, 0),
     ("full", tables::full, 0),
+    ("dense", dense::dense, 3),
+    ("edge", dense::edge, 2),
+    ("crowd", dense::crowd, 1),
 ];
 
 /// The i-th file of a profile and seed. It does not depend on the files before it.

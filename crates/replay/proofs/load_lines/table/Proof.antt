@@ -6,7 +6,7 @@ use Rattle.replay.proofs.load_lines.table.Statement.{statement}
 use Rattle.replay.proofs.load_lines.table.Tie as tie
 
 abbrev Inv-loop : tie.InvT-loop
-Inv-loop out₀ at count calls n to₀ i₀ out to i = i ≤ n
+Inv-loop out₀ at count calls n to₀ i₀ out to i = (i ≤ n) × (to ≤ 65536)
 
 abbrev μ-loop : tie.MeasureT-loop
 μ-loop out₀ at count calls n to₀ i₀ out to i = n - i
@@ -27,7 +27,7 @@ array-copy-out-c : tie.Need-array-copy-out-c Inv-loop μ-loop
 array-copy-out-c c = omega arith
 
 call-requires : tie.Need-call-requires Inv-loop μ-loop
-call-requires c κs = search needs
+call-requires c κs = omega arith
 
 add-i : tie.Need-add-i Inv-loop μ-loop
 add-i c = omega arith
@@ -39,7 +39,7 @@ loop-again : tie.Need-loop-again Inv-loop μ-loop
 loop-again c = omega arith
 
 returns : tie.Need-returns Inv-loop μ-loop
-returns c = search needs
+returns c = omega arith
 
 pub table-spec : {M : Type 1} → statement M
 table-spec =

@@ -6,7 +6,7 @@ use Rattle.replay.proofs.out.text.Statement.{statement}
 use Rattle.replay.proofs.out.text.Tie as tie
 
 abbrev Inv-loop : tie.InvT-loop
-Inv-loop out₀ at word to₀ i₀ i-end out to i = i ≤ i-end
+Inv-loop out₀ at word to₀ i₀ i-end out to i = (i ≤ i-end) × (to ≤ 65536)
 
 abbrev μ-loop : tie.MeasureT-loop
 μ-loop out₀ at word to₀ i₀ i-end out to i = i-end - i
@@ -18,7 +18,7 @@ shared-slice-read-put : tie.Need-shared-slice-read-put Inv-loop μ-loop
 shared-slice-read-put c = omega arith
 
 put-requires : tie.Need-put-requires Inv-loop μ-loop
-put-requires c κs = search needs
+put-requires c κs = omega arith
 
 add-i : tie.Need-add-i Inv-loop μ-loop
 add-i c = omega arith
@@ -30,7 +30,7 @@ loop-again : tie.Need-loop-again Inv-loop μ-loop
 loop-again c = omega arith
 
 returns : tie.Need-returns Inv-loop μ-loop
-returns c = search needs
+returns c = omega arith
 
 pub text-spec : {M : Type 1} → statement M
 text-spec =
