@@ -1,13 +1,12 @@
 // One load file: read whole, and its records handed in one by one, each call's answer noted.
-ghost use Prim.Native.Nat.{_≤_};
 use crate::load_lines;
-use crate::out;
 use reader::fresh;
 use reader::next;
 use reader::read;
 use reader::version;
 use refusal::Answer;
 use refusal::is_refused;
+use stdio::out;
 
 // The letter of a call's answer.
 fn letter(a: Answer) -> u8 {
@@ -27,9 +26,7 @@ fn cause(a: Answer) -> u8 {
 }
 
 // The line of a file that is refused, in place of its answers.
-fn refused(out: &mut [u8; 65536], a: Answer) -> usize
-    ensures { λ r. ⌜ r ≤ 65536 ⌝ }
-{
+fn refused(out: &mut [u8; 65536], a: Answer) -> usize {
     let to = out::text(out, 0, b"refused");
     let end = out::spaced(out, to, cause(a) as u64);
     out::line(out, end)
@@ -44,10 +41,7 @@ fn is_call(bytes: &[u8]) -> bool {
 }
 
 // A space after `answers`, before the first letter.
-fn parted(out: &mut [u8; 65536], at: usize) -> usize
-    requires { ⌜ at ≤ 65536 ⌝ }
-    ensures { λ r. ⌜ r ≤ 65536 ⌝ }
-{
+fn parted(out: &mut [u8; 65536], at: usize) -> usize {
     if at == 7 {
         return out::put(out, at, b' ');
     }
@@ -55,10 +49,7 @@ fn parted(out: &mut [u8; 65536], at: usize) -> usize
 }
 
 // Notes the answer to a record: a call's letter.
-fn noted(out: &mut [u8; 65536], at: usize, call: bool, a: Answer) -> usize
-    requires { ⌜ at ≤ 65536 ⌝ }
-    ensures { λ r. ⌜ r ≤ 65536 ⌝ }
-{
+fn noted(out: &mut [u8; 65536], at: usize, call: bool, a: Answer) -> usize {
     if call {
         let to = parted(out, at);
         return out::put(out, to, letter(a));
@@ -67,9 +58,7 @@ fn noted(out: &mut [u8; 65536], at: usize, call: bool, a: Answer) -> usize
 }
 
 // Notes the answers to the records after the version, up to one that is refused.
-fn records(out: &mut [u8; 65536], bytes: &[u8]) -> usize
-    ensures { λ r. ⌜ r ≤ 65536 ⌝ }
-{
+fn records(out: &mut [u8; 65536], bytes: &[u8]) -> usize {
     let mut to = out::text(out, 0, b"answers");
     let mut reader = fresh();
     let mut at: usize = 0;
@@ -92,9 +81,7 @@ fn records(out: &mut [u8; 65536], bytes: &[u8]) -> usize
 }
 
 // The answers are those of the records handed in one by one; all else is of the file read whole, which goes by runs.
-pub fn file(out: &mut [u8; 65536], bytes: &[u8]) -> usize
-    ensures { λ r. ⌜ r ≤ 65536 ⌝ }
-{
+pub fn file(out: &mut [u8; 65536], bytes: &[u8]) -> usize {
     let first = version(bytes);
     if is_refused(first) {
         return refused(out, first);

@@ -1,32 +1,17 @@
 // Best at -1, 0, each leave, each leave + 1, the horizon and the horizon + 1, in rising order and once each; then next
 // after each kept journey, at second 0.
 ghost use Prim.Native.Nat.{_≤_};
-use crate::load_lines::least;
-use crate::out;
 use best::Found;
 use load::Load;
 use profile::Journey;
+use stdio::load_lines::figures;
+use stdio::out;
+use stdio::out::least;
 
 // Past every second that is asked.
 const NONE: u32 = 65537;
 
-// Leave, arrival, rides, walk, origin and target, a space before each.
-pub fn figures(out: &mut [u8; 65536], at: usize, j: Journey) -> usize
-    requires { ⌜ at ≤ 65536 ⌝ }
-    ensures { λ r. ⌜ r ≤ 65536 ⌝ }
-{
-    let a = out::spaced(out, at, j.leave as u64);
-    let b = out::spaced(out, a, j.arrival as u64);
-    let c = out::spaced(out, b, j.rides as u64);
-    let d = out::spaced(out, c, j.walk as u64);
-    let e = out::spaced(out, d, j.origin as u64);
-    out::spaced(out, e, j.target as u64)
-}
-
-fn found(out: &mut [u8; 65536], at: usize, f: Found) -> usize
-    requires { ⌜ at ≤ 65536 ⌝ }
-    ensures { λ r. ⌜ r ≤ 65536 ⌝ }
-{
+fn found(out: &mut [u8; 65536], at: usize, f: Found) -> usize {
     match f {
         Found::Best(j) => {
             let a = figures(out, at, j);
@@ -74,19 +59,13 @@ fn asked(kept: [Journey; 64], count: usize, horizon: u16, from: u32) -> u32
     soonest
 }
 
-fn best_at(out: &mut [u8; 65536], at: usize, load: Load, second: u32) -> usize
-    requires { ⌜ at ≤ 65536 ⌝ }
-    ensures { λ r. ⌜ r ≤ 65536 ⌝ }
-{
+fn best_at(out: &mut [u8; 65536], at: usize, load: Load, second: u32) -> usize {
     let a = out::text(out, at, b"best");
     let b = out::spaced(out, a, second as u64);
     found(out, b, best::best(load, second as i64))
 }
 
-pub fn bests(out: &mut [u8; 65536], at: usize, load: Load) -> usize
-    requires { ⌜ at ≤ 65536 ⌝ }
-    ensures { λ r. ⌜ r ≤ 65536 ⌝ }
-{
+pub fn bests(out: &mut [u8; 65536], at: usize, load: Load) -> usize {
     let kept = load.journeys;
     let a = out::text(out, at, b"best -1");
     let mut to = found(out, a, best::best(load, -1));
@@ -98,19 +77,13 @@ pub fn bests(out: &mut [u8; 65536], at: usize, load: Load) -> usize
     to
 }
 
-fn next_of(out: &mut [u8; 65536], at: usize, load: Load, j: Journey) -> usize
-    requires { ⌜ at ≤ 65536 ⌝ }
-    ensures { λ r. ⌜ r ≤ 65536 ⌝ }
-{
+fn next_of(out: &mut [u8; 65536], at: usize, load: Load, j: Journey) -> usize {
     let a = out::text(out, at, b"next");
     let b = out::spaced(out, a, j.leave as u64);
     found(out, b, best::next_after(load, 0, j))
 }
 
-pub fn nexts(out: &mut [u8; 65536], at: usize, load: Load) -> usize
-    requires { ⌜ at ≤ 65536 ⌝ }
-    ensures { λ r. ⌜ r ≤ 65536 ⌝ }
-{
+pub fn nexts(out: &mut [u8; 65536], at: usize, load: Load) -> usize {
     let kept = load.journeys;
     let n = least(load.journey_count, 64);
     let mut to = at;

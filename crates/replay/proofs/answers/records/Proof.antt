@@ -1,5 +1,5 @@
 -- The place stays inside the bytes, and each turn takes two of them or more.
-use Prim.Native.Nat.{_≤_, _-_}
+use Prim.Native.Nat.{_-_}
 use lib.ListN.{length}
 use Rattle.runs.specs.Runs.{Left}
 use Rattle.runs.proofs.LeftLaws.{left-first}
@@ -10,7 +10,7 @@ use Rattle.replay.proofs.answers.records.Statement.{statement}
 use Rattle.replay.proofs.answers.records.Tie as tie
 
 abbrev Inv-loop : tie.InvT-loop
-Inv-loop out₀ bytes to₀ reader₀ at₀ out to reader at = Left reader₀ bytes reader at × (to ≤ 65536)
+Inv-loop out₀ bytes to₀ reader₀ at₀ out to reader at = Left reader₀ bytes reader at
 
 abbrev μ-loop : tie.MeasureT-loop
 μ-loop out₀ bytes to₀ reader₀ at₀ out to reader at = length bytes - at
@@ -19,13 +19,13 @@ slice-aggregate-text : tie.Need-slice-aggregate-text Inv-loop μ-loop
 slice-aggregate-text c = search needs
 
 text-requires : tie.Need-text-requires Inv-loop μ-loop
-text-requires c κs = omega arith
+text-requires c κs = search needs
 
 fresh-requires : tie.Need-fresh-requires Inv-loop μ-loop
 fresh-requires c κs = search needs
 
 loop-holds : tie.Need-loop-holds Inv-loop μ-loop
-loop-holds c = (left-first _ _, omega arith)
+loop-holds c = left-first _ _
 
 sub-next : tie.Need-sub-next Inv-loop μ-loop
 sub-next c = omega arith
@@ -43,10 +43,10 @@ is-refused-requires : tie.Need-is-refused-requires Inv-loop μ-loop
 is-refused-requires c κs = search needs
 
 returns : tie.Need-returns Inv-loop μ-loop
-returns c = omega arith
+returns c = search needs
 
 returns-2 : tie.Need-returns-2 Inv-loop μ-loop
-returns-2 c = omega arith
+returns-2 c = search needs
 
 sub-is-call : tie.Need-sub-is-call Inv-loop μ-loop
 sub-is-call c = omega arith
@@ -61,19 +61,19 @@ is-call-requires : tie.Need-is-call-requires Inv-loop μ-loop
 is-call-requires c κs = search needs
 
 noted-requires : tie.Need-noted-requires Inv-loop μ-loop
-noted-requires c κs = omega arith
+noted-requires c κs = search needs
 
 loop-again : tie.Need-loop-again Inv-loop μ-loop
-loop-again c = (left-on (c .before .before .before .before .before .before .before .before .before .before .before .loop .inv .0) (next-turned _ _ (c .before .before .before .before .before .before .before .before .next .ensures)) (c .before .before .before .before .before .before .before .is-refused .ensures) (c .before .before .before .before .before .before .if1 .left), omega arith)
+loop-again c = left-on (c .before .before .before .before .before .before .before .before .before .before .before .loop .inv) (next-turned _ _ (c .before .before .before .before .before .before .before .before .next .ensures)) (c .before .before .before .before .before .before .before .is-refused .ensures) (c .before .before .before .before .before .before .if1 .left)
 
 add-at : tie.Need-add-at Inv-loop μ-loop
-add-at c = let room = loop-again c .0 .room in omega arith
+add-at c = let room = loop-again c .room in omega arith
 
 loop-less : tie.Need-loop-less Inv-loop μ-loop
-loop-less c = let room = loop-again c .0 .room in omega arith
+loop-less c = let room = loop-again c .room in omega arith
 
 returns-3 : tie.Need-returns-3 Inv-loop μ-loop
-returns-3 c = omega arith
+returns-3 c = search needs
 
 pub records-spec : {M : Type 1} → statement M
 records-spec =

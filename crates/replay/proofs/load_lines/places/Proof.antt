@@ -6,7 +6,7 @@ use Rattle.replay.proofs.load_lines.places.Statement.{statement}
 use Rattle.replay.proofs.load_lines.places.Tie as tie
 
 abbrev Inv-loop : tie.InvT-loop
-Inv-loop out₀ at count given n to₀ i₀ out to i = (i ≤ n) × (to ≤ 65536)
+Inv-loop out₀ at count given n to₀ i₀ out to i = i ≤ n
 
 abbrev μ-loop : tie.MeasureT-loop
 μ-loop out₀ at count given n to₀ i₀ out to i = n - i
@@ -21,7 +21,7 @@ slice-aggregate-text : tie.Need-slice-aggregate-text Inv-loop μ-loop
 slice-aggregate-text c = search needs
 
 text-requires : tie.Need-text-requires Inv-loop μ-loop
-text-requires c κs = omega arith
+text-requires c κs = search needs
 
 loop-holds : tie.Need-loop-holds Inv-loop μ-loop
 loop-holds c = omega arith
@@ -33,7 +33,7 @@ array-read-place : tie.Need-array-read-place Inv-loop μ-loop
 array-read-place c = omega arith
 
 place-requires : tie.Need-place-requires Inv-loop μ-loop
-place-requires c κs = omega arith
+place-requires c κs = search needs
 
 add-i : tie.Need-add-i Inv-loop μ-loop
 add-i c = omega arith
@@ -45,10 +45,10 @@ loop-again : tie.Need-loop-again Inv-loop μ-loop
 loop-again c = omega arith
 
 line-requires : tie.Need-line-requires Inv-loop μ-loop
-line-requires c κs = omega arith
+line-requires c κs = search needs
 
 returns : tie.Need-returns Inv-loop μ-loop
-returns c = omega arith
+returns c = search needs
 
 pub places-spec : {M : Type 1} → statement M
 places-spec =

@@ -6,7 +6,7 @@ use Rattle.replay.proofs.queries.bests.Statement.{statement}
 use Rattle.replay.proofs.queries.bests.Tie as tie
 
 abbrev Inv-loop : tie.InvT-loop
-Inv-loop out₀ at load kept a to₀ second₀ out to second = to ≤ 65536
+Inv-loop out₀ at load kept a to₀ second₀ out to second = 0 ≤ second
 
 abbrev μ-loop : tie.MeasureT-loop
 μ-loop out₀ at load kept a to₀ second₀ out to second = 65537 - second
@@ -15,13 +15,13 @@ slice-aggregate-text : tie.Need-slice-aggregate-text Inv-loop μ-loop
 slice-aggregate-text c = search needs
 
 text-requires : tie.Need-text-requires Inv-loop μ-loop
-text-requires c κs = omega arith
+text-requires c κs = search needs
 
 best-requires : tie.Need-best-requires Inv-loop μ-loop
 best-requires c κs = search needs
 
 found-requires : tie.Need-found-requires Inv-loop μ-loop
-found-requires c κs = omega arith
+found-requires c κs = search needs
 
 asked-requires : tie.Need-asked-requires Inv-loop μ-loop
 asked-requires c κs = omega arith
@@ -30,7 +30,7 @@ loop-holds : tie.Need-loop-holds Inv-loop μ-loop
 loop-holds c = omega arith
 
 best-at-requires : tie.Need-best-at-requires Inv-loop μ-loop
-best-at-requires c κs = omega arith
+best-at-requires c κs = search needs
 
 add-asked : tie.Need-add-asked Inv-loop μ-loop
 add-asked c = omega arith
@@ -45,7 +45,7 @@ loop-again : tie.Need-loop-again Inv-loop μ-loop
 loop-again c = omega arith
 
 returns : tie.Need-returns Inv-loop μ-loop
-returns c = omega arith
+returns c = search needs
 
 pub bests-spec : {M : Type 1} → statement M
 bests-spec =

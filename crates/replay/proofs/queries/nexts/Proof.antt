@@ -6,7 +6,7 @@ use Rattle.replay.proofs.queries.nexts.Statement.{statement}
 use Rattle.replay.proofs.queries.nexts.Tie as tie
 
 abbrev Inv-loop : tie.InvT-loop
-Inv-loop out₀ at load kept n to₀ i₀ out to i = (i ≤ n) × (to ≤ 65536)
+Inv-loop out₀ at load kept n to₀ i₀ out to i = i ≤ n
 
 abbrev μ-loop : tie.MeasureT-loop
 μ-loop out₀ at load kept n to₀ i₀ out to i = n - i
@@ -24,7 +24,7 @@ array-copy-out-j : tie.Need-array-copy-out-j Inv-loop μ-loop
 array-copy-out-j c = omega arith
 
 next-of-requires : tie.Need-next-of-requires Inv-loop μ-loop
-next-of-requires c κs = omega arith
+next-of-requires c κs = search needs
 
 add-i : tie.Need-add-i Inv-loop μ-loop
 add-i c = omega arith
@@ -36,7 +36,7 @@ loop-again : tie.Need-loop-again Inv-loop μ-loop
 loop-again c = omega arith
 
 returns : tie.Need-returns Inv-loop μ-loop
-returns c = omega arith
+returns c = search needs
 
 pub nexts-spec : {M : Type 1} → statement M
 nexts-spec =

@@ -3,8 +3,8 @@ use mathlib.Core.Path.{sym}
 use lib.Seq.{length-take-le}
 use native.Mathlib.Omega.{arith}
 use borrow.Author.Needs.{needs}
-use Rattle.replay.proofs.out.write.Statement.{statement}
-use Rattle.replay.proofs.out.write.Tie as tie
+use Rattle.stdio.proofs.out.write.Statement.{statement}
+use Rattle.stdio.proofs.out.write.Tie as tie
 
 slice-aggregate-write-all : tie.Need-slice-aggregate-write-all
 slice-aggregate-write-all c = sym (length-take-le _ _ (omega arith))

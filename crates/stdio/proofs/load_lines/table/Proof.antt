@@ -1,9 +1,9 @@
--- The loop ends: it counts up to `n`.
+-- The loop ends: it counts up to `n`. The place stays within the buffer.
 use Prim.Native.Nat.{_≤_, _-_}
 use native.Mathlib.Omega.{arith}
 use borrow.Author.Needs.{needs}
-use Rattle.replay.proofs.load_lines.table.Statement.{statement}
-use Rattle.replay.proofs.load_lines.table.Tie as tie
+use Rattle.stdio.proofs.load_lines.table.Statement.{statement}
+use Rattle.stdio.proofs.load_lines.table.Tie as tie
 
 abbrev Inv-loop : tie.InvT-loop
 Inv-loop out₀ at count calls n to₀ i₀ out to i = (i ≤ n) × (to ≤ 65536)
@@ -17,6 +17,9 @@ sorted-requires c κs = search needs
 least-requires : tie.Need-least-requires Inv-loop μ-loop
 least-requires c κs = search needs
 
+least-requires-2 : tie.Need-least-requires-2 Inv-loop μ-loop
+least-requires-2 c κs = search needs
+
 loop-holds : tie.Need-loop-holds Inv-loop μ-loop
 loop-holds c = omega arith
 
@@ -27,7 +30,7 @@ array-copy-out-c : tie.Need-array-copy-out-c Inv-loop μ-loop
 array-copy-out-c c = omega arith
 
 call-requires : tie.Need-call-requires Inv-loop μ-loop
-call-requires c κs = omega arith
+call-requires c κs = search needs
 
 add-i : tie.Need-add-i Inv-loop μ-loop
 add-i c = omega arith
@@ -39,7 +42,7 @@ loop-again : tie.Need-loop-again Inv-loop μ-loop
 loop-again c = omega arith
 
 returns : tie.Need-returns Inv-loop μ-loop
-returns c = omega arith
+returns c = search needs
 
 pub table-spec : {M : Type 1} → statement M
 table-spec =
@@ -49,6 +52,7 @@ table-spec =
     μ-loop
     sorted-requires
     least-requires
+    least-requires-2
     loop-holds
     mul-c
     array-copy-out-c

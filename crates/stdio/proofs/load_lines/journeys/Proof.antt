@@ -1,9 +1,9 @@
--- The loop ends: it counts up to `n`.
+-- The loop ends: it counts up to `n`. The place stays within the buffer.
 use Prim.Native.Nat.{_≤_, _-_}
 use native.Mathlib.Omega.{arith}
 use borrow.Author.Needs.{needs}
-use Rattle.replay.proofs.load_lines.journeys.Statement.{statement}
-use Rattle.replay.proofs.load_lines.journeys.Tie as tie
+use Rattle.stdio.proofs.load_lines.journeys.Statement.{statement}
+use Rattle.stdio.proofs.load_lines.journeys.Tie as tie
 
 abbrev Inv-loop : tie.InvT-loop
 Inv-loop out₀ at count kept n to₀ i₀ out to i = (i ≤ n) × (to ≤ 65536)
@@ -13,6 +13,9 @@ abbrev μ-loop : tie.MeasureT-loop
 
 least-requires : tie.Need-least-requires Inv-loop μ-loop
 least-requires c κs = search needs
+
+least-requires-2 : tie.Need-least-requires-2 Inv-loop μ-loop
+least-requires-2 c κs = search needs
 
 loop-holds : tie.Need-loop-holds Inv-loop μ-loop
 loop-holds c = omega arith
@@ -24,7 +27,7 @@ array-copy-out-j : tie.Need-array-copy-out-j Inv-loop μ-loop
 array-copy-out-j c = omega arith
 
 journey-requires : tie.Need-journey-requires Inv-loop μ-loop
-journey-requires c κs = omega arith
+journey-requires c κs = search needs
 
 add-i : tie.Need-add-i Inv-loop μ-loop
 add-i c = omega arith
@@ -36,7 +39,7 @@ loop-again : tie.Need-loop-again Inv-loop μ-loop
 loop-again c = omega arith
 
 returns : tie.Need-returns Inv-loop μ-loop
-returns c = omega arith
+returns c = search needs
 
 pub journeys-spec : {M : Type 1} → statement M
 journeys-spec =
@@ -45,6 +48,7 @@ journeys-spec =
     Inv-loop
     μ-loop
     least-requires
+    least-requires-2
     loop-holds
     mul-j
     array-copy-out-j

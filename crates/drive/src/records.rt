@@ -1,0 +1,211 @@
+// The records of a step file, one by one: each is handed to the load, or asks it, and a line says what came of it.
+ghost use Prim.Native.Nat.{_≤_};
+use crate::numbers::i64_at;
+use crate::numbers::u16_at;
+use crate::settings_record;
+use best::Found;
+use fields::layout::kind_of;
+use file::Reader;
+use file::record::record;
+use load::Load;
+use profile::Journey;
+use refusal::Answer;
+use refusal::Refusal;
+use stdio::load_lines::figures;
+use stdio::out;
+
+// After a record: where the text goes on, and the load; `going` unless the record is malformed.
+pub struct Turned {
+    pub going: bool,
+    pub to: usize,
+    pub reader: Reader,
+}
+
+fn word(out: &mut [u8; 65536], at: usize, word: &[u8]) -> usize
+    ensures { λ r. ⌜ r ≤ 65536 ⌝ }
+{
+    let a = out::text(out, at, word);
+    out::line(out, a)
+}
+
+// The line of an answer; `good` is the word where the step was taken.
+fn told(out: &mut [u8; 65536], at: usize, a: Answer, good: &[u8]) -> usize
+    ensures { λ r. ⌜ r ≤ 65536 ⌝ }
+{
+    match a {
+        Answer::Taken => word(out, at, good),
+        Answer::Outside => word(out, at, b"outside"),
+        Answer::Refused(r) => refused(out, at, r),
+    }
+}
+
+fn refused(out: &mut [u8; 65536], at: usize, r: Refusal) -> usize
+    ensures { λ r. ⌜ r ≤ 65536 ⌝ }
+{
+    let a = out::text(out, at, b"refused");
+    let b = out::spaced(out, a, refusal::number(r) as u64);
+    out::line(out, b)
+}
+
+pub fn malformed(out: &mut [u8; 65536], at: usize) -> usize
+    ensures { λ r. ⌜ r ≤ 65536 ⌝ }
+{
+    word(out, at, b"malformed")
+}
+
+fn stopped(out: &mut [u8; 65536], at: usize, reader: Reader) -> Turned
+    ensures { λ r. ⌜ r .to ≤ 65536 ⌝ }
+{
+    let to = malformed(out, at);
+    Turned {
+        going: false,
+        to,
+        reader,
+    }
+}
+
+// Settings: another load in place of this one, unless they are refused.
+fn opening(out: &mut [u8; 65536], at: usize, reader: Reader, b: &[u8]) -> Turned
+    ensures { λ r. ⌜ r .to ≤ 65536 ⌝ }
+{
+    let s = Load::open(settings_record::given(b));
+    let answer = s.answer;
+    let to = told(out, at, answer, b"opened");
+    if refusal::is_refused(answer) {
+        return Turned {
+            going: true,
+            to,
+            reader,
+        };
+    }
+    let load = s.load;
+    Turned {
+        going: true,
+        to,
+        reader: Reader { opened: true, load },
+    }
+}
+
+// Whether a record was turned away before it was handed to the load.
+fn is_malformed(a: Answer) -> bool {
+    match a {
+        Answer::Taken => false,
+        Answer::Outside => false,
+        Answer::Refused(r) => 17 <= refusal::number(r),
+    }
+}
+
+// A stop, call, rule or search, as a load file has it.
+fn filling(out: &mut [u8; 65536], at: usize, reader: Reader, b: &[u8]) -> Turned
+    ensures { λ r. ⌜ r .to ≤ 65536 ⌝ }
+{
+    let t = record(reader, b);
+    let answer = t.answer;
+    if is_malformed(answer) {
+        return stopped(out, at, reader);
+    }
+    let to = told(out, at, answer, b"taken");
+    let after = t.reader;
+    Turned {
+        going: true,
+        to,
+        reader: after,
+    }
+}
+
+fn found(out: &mut [u8; 65536], at: usize, f: Found) -> usize
+    ensures { λ r. ⌜ r ≤ 65536 ⌝ }
+{
+    match f {
+        Found::Best(j) => journey(out, at, j),
+        Found::Nothing => word(out, at, b"none"),
+    }
+}
+
+fn journey(out: &mut [u8; 65536], at: usize, j: Journey) -> usize
+    ensures { λ r. ⌜ r ≤ 65536 ⌝ }
+{
+    let a = out::text(out, at, b"journey");
+    let b = figures(out, a, j);
+    out::line(out, b)
+}
+
+// Best at the second.
+fn best_record(out: &mut [u8; 65536], at: usize, load: Load, b: &[u8]) -> usize
+    ensures { λ r. ⌜ r ≤ 65536 ⌝ }
+{
+    found(out, at, best::best(load, i64_at(b, 1)))
+}
+
+// Next after the leave, at the second. Of a journey missed only its leave counts.
+fn next_record(out: &mut [u8; 65536], at: usize, load: Load, b: &[u8]) -> usize
+    ensures { λ r. ⌜ r ≤ 65536 ⌝ }
+{
+    let mut missed = profile::no_journey();
+    missed.leave = u16_at(b, 9);
+    found(out, at, best::next_after(load, i64_at(b, 1), missed))
+}
+
+// A query, which leaves the load as it is.
+fn query(out: &mut [u8; 65536], at: usize, load: Load, b: &[u8]) -> usize
+    ensures { λ r. ⌜ r ≤ 65536 ⌝ }
+{
+    if kind_of(b) == 12 {
+        return best_record(out, at, load, b);
+    }
+    next_record(out, at, load, b)
+}
+
+fn asked(out: &mut [u8; 65536], at: usize, reader: Reader, b: &[u8]) -> Turned
+    ensures { λ r. ⌜ r .to ≤ 65536 ⌝ }
+{
+    let load = reader.load;
+    let to = query(out, at, load, b);
+    Turned {
+        going: true,
+        to,
+        reader,
+    }
+}
+
+// How a record is run.
+enum Way {
+    Opening,
+    Filling,
+    Query,
+    Malformed,
+}
+
+fn way_if(good: bool, way: Way) -> Way {
+    if good { way } else { Way::Malformed }
+}
+
+// By its kind. What the load file's reader takes, that tests itself.
+fn way_of(opened: bool, b: &[u8]) -> Way {
+    let kind = kind_of(b);
+    if kind == 1 {
+        return way_if(settings_record::filled(b), Way::Opening);
+    }
+    if opened {
+        if kind == 12 {
+            return way_if(b.len() == 9, Way::Query);
+        }
+        if kind == 13 {
+            return way_if(b.len() == 11, Way::Query);
+        }
+        return way_if(kind <= 5, Way::Filling);
+    }
+    Way::Malformed
+}
+
+// The record, without its length.
+pub fn step(out: &mut [u8; 65536], at: usize, reader: Reader, b: &[u8]) -> Turned
+    ensures { λ r. ⌜ r .to ≤ 65536 ⌝ }
+{
+    match way_of(reader.opened, b) {
+        Way::Opening => opening(out, at, reader, b),
+        Way::Filling => filling(out, at, reader, b),
+        Way::Query => asked(out, at, reader, b),
+        Way::Malformed => stopped(out, at, reader),
+    }
+}

@@ -1,0 +1,94 @@
+// A step file from its first byte to the lines of its last load.
+ghost use Prim.Native.Nat.{_≤_};
+ghost use lib.ListN.{length};
+use crate::records::Turned;
+use crate::records::malformed;
+use crate::records::step;
+use fields::layout::kind_of;
+use fields::layout::length_of;
+use file::Reader;
+use load::Load;
+use reader::fresh;
+use stdio::load_lines::horizon;
+use stdio::load_lines::journeys;
+use stdio::load_lines::table;
+use stdio::out;
+
+// A load at the end. No search stops before its end until request 12.
+fn load_lines(out: &mut [u8; 65536], at: usize, load: Load) -> usize {
+    let calls = load.calls;
+    let kept = load.journeys;
+    let a = table(out, at, calls, load.call_count);
+    let b = journeys(out, a, kept, load.journey_count);
+    let c = horizon(out, b, load.horizon, load.limits);
+    let d = out::text(out, c, b"searched");
+    let e = out::flag(out, d, load.searched);
+    let f = out::text(out, e, b" stopped 0");
+    out::line(out, f)
+}
+
+fn last_lines(out: &mut [u8; 65536], at: usize, reader: Reader) -> usize {
+    if reader.opened {
+        let load = reader.load;
+        return load_lines(out, at, load);
+    }
+    at
+}
+
+// Where the record ends that starts at a place, its length included; that place, if it isn't there whole.
+fn record_end(bytes: &[u8], at: usize) -> usize
+    requires { ⌜ at ≤ length (now bytes) ⌝ }
+    ensures { λ r. ⌜ r ≤ length (now (bytes .entry)) ⌝ }
+{
+    let left = bytes.len() - at;
+    if left < 2 {
+        return at;
+    }
+    let size = length_of(&bytes[at..]) as usize;
+    if size > left - 2 {
+        return at;
+    }
+    at + 2 + size
+}
+
+// A record with its length before it.
+fn whole(out: &mut [u8; 65536], at: usize, reader: Reader, b: &[u8]) -> Turned {
+    let from = out::least(2, b.len());
+    step(out, at, reader, &b[from..])
+}
+
+// The records after the first byte, up to one that is malformed; then the load.
+fn records(out: &mut [u8; 65536], bytes: &[u8]) -> usize {
+    let mut to: usize = 0;
+    let mut reader = fresh();
+    let mut at: usize = 0;
+    while at < bytes.len() {
+        let end = record_end(bytes, at);
+        if end <= at {
+            return malformed(out, to);
+        }
+        let t = whole(out, to, reader, &bytes[at..end]);
+        to = t.to;
+        if t.going {
+            let after = t.reader;
+            reader = after;
+            at = end;
+        } else {
+            return to;
+        }
+    }
+    last_lines(out, to, reader)
+}
+
+// A file that doesn't begin with byte 83 is no step file.
+pub fn file(out: &mut [u8; 65536], bytes: &[u8]) -> usize
+    ensures { λ r. ⌜ r ≤ 65536 ⌝ }
+{
+    if bytes.len() == 0 {
+        return malformed(out, 0);
+    }
+    if kind_of(bytes) == 83 {
+        return out::least(records(out, &bytes[1..]), 65536);
+    }
+    malformed(out, 0)
+}

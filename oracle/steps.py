@@ -1,0 +1,153 @@
+#!/usr/bin/env python3
+"""A slow reader of step files (docs/STEPS.md), over the reader of documents 01 and 02.
+
+usage: steps.py      step files on standard input, what `drive` is to print on standard output
+
+Input that begins with byte 83 is one step file; other input is a batch, with a line `.` after each file.
+A kind of record is one method of Steps and one line of KINDS.
+"""
+import io, sys
+from fields import Fields, Refused, Settings, first_cause
+from reader import batch, figures, spaced
+from reading import Journey, Reading
+
+FIRST = 83
+
+
+class Malformed(Exception):
+    pass
+
+
+class StepFields(Fields):
+    """The fields of load files of version 2, as far as there are such: the transfer setting is two bytes of seconds."""
+    def settings(self):
+        origins, targets = self.numbers("BB")
+        walks = self.walks(origins), self.walks(targets)
+        seconds, transfers, now, *epochs = self.numbers("HBqqqq")
+        first_cause([(seconds % 60 != 0 or seconds > 255 * 60, 18)])   # until request 05 a load holds minutes, in a byte
+        return Settings(*walks, seconds // 60, transfers, now, epochs)
+
+    def nothing(self):
+        return []
+
+    def best(self):
+        return self.number("q")
+
+    def next_after(self):
+        return self.numbers("qH")
+
+
+class Steps:
+    """The steps of one file. A method is handed a record's fields, and says the line that is printed."""
+    # kind: the name of its fields, its method, and whether it needs a load
+    KINDS = {1: ("settings", "settings", False), 2: ("stop", "stop", True), 3: ("call", "call", True), 4: ("rule", "rule", True),
+             5: ("nothing", "search", True), 12: ("best", "best", True), 13: ("next_after", "next_after", True)}
+
+    def __init__(self, reading=None):
+        self.reading, self.load = reading or Reading(), None
+
+    def settings(self, settings):
+        self.load = self.reading.open(settings)
+        return "opened"
+
+    def stop(self, stop):
+        self.reading.stop(self.load, stop)
+        return "taken"
+
+    def call(self, call):
+        cuts = self.load.horizon, self.load.limits, self.load.table, self.load.handed
+        try:
+            self.reading.call(self.load, call)
+        except Refused:   # a call that is refused at a full table has cut nothing
+            self.load.horizon, self.load.limits, self.load.table, self.load.handed = cuts
+            raise
+        return "taken" if self.load.answers[-1] == "t" else "outside"
+
+    def rule(self, rule):
+        self.reading.rule(self.load, rule)
+        return "taken"
+
+    def search(self, _):
+        found = self.load.horizon, self.load.limits, self.load.kept
+        try:
+            self.reading.search(self.load)
+        except Refused:   # the load is as it was
+            self.load.horizon, self.load.limits, self.load.kept = found
+            raise
+        return "taken"
+
+    def told(self, journey):
+        return "journey " + figures(journey) if journey else "none"
+
+    def best(self, second):
+        return self.told(self.reading.best(self.load, second))
+
+    def next_after(self, asked):
+        second, leave = asked
+        return self.told(self.reading.next_after(self.load, second, Journey(leave, 0, 0, 0, 0, 0, [])))
+
+    # --- records ---
+    def record(self, body):
+        """The line of a record. A refusal of its fields (18) is a malformed record; the steps' own are printed."""
+        kind = body[0] if body else 0
+        if kind not in self.KINDS:
+            raise Malformed
+        name, method, needs = self.KINDS[kind]
+        fields = StepFields(body[1:])
+        try:
+            given = getattr(fields, name)()
+        except Refused:
+            raise Malformed
+        if fields.at != len(fields.data) or (needs and self.load is None):
+            raise Malformed
+        try:
+            return getattr(self, method)(given)
+        except Refused as refused:
+            return f"refused {refused.number}"
+
+    def records(self, data):
+        """A line for each record; then the last load's."""
+        if data[:1] != bytes([FIRST]):
+            raise Malformed
+        at = 1
+        while at < len(data):
+            size = int.from_bytes(data[at:at + 2], "big")
+            body = data[at + 2:at + 2 + size]
+            if at + 2 > len(data) or len(body) < size:
+                raise Malformed
+            yield self.record(body)
+            at += 2 + size
+        yield from self.last()
+
+    def last(self):
+        load = self.load
+        if load is None:
+            return
+        for c in sorted(load.table, key=self.reading.call_order):
+            yield spaced("call", *c)
+        for j in load.kept:
+            yield "journey " + figures(j) + "".join(" | " + spaced(*leg) for leg in j.legs)
+        yield f"horizon {load.horizon} limits {load.limits}"
+        yield spaced("searched", load.searched, "stopped", 0)
+
+    def lines(self, data):
+        try:
+            yield from self.records(data)
+        except Malformed:
+            yield "malformed"
+
+
+def answer(data):
+    return "".join(line + "\n" for line in Steps().lines(data))
+
+
+def main():
+    data = sys.stdin.buffer.read()
+    if data[:1] == bytes([FIRST]):
+        return print(answer(data), end="")
+    for file in batch(io.BytesIO(data)):
+        print(answer(file) + ".")
+
+
+if __name__ == "__main__":
+    main()

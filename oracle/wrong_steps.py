@@ -1,0 +1,90 @@
+#!/usr/bin/env python3
+"""Wrong readings of step files, and how many files tell each from the right one.
+
+usage: wrong_steps.py [N]      N random files (1,500 unless given), and the fixed list of crates/drive/stdin
+
+Exits with 1 if the fixed list doesn't tell one.
+"""
+import pathlib, random, sys
+sys.dont_write_bytecode = True
+from reader import batch
+from step_files import made
+from steps import Malformed, Steps
+
+FIXED = pathlib.Path(__file__).resolve().parent.parent / "crates" / "drive" / "stdin"
+
+
+class RefusedCallCuts(Steps):
+    def call(self, call):
+        self.reading.call(self.load, call)
+        return "taken" if self.load.answers[-1] == "t" else "outside"
+
+
+class RefusedSearchKeeps(Steps):
+    def search(self, _):
+        self.reading.search(self.load)
+        return "taken"
+
+
+class RefusedOpeningCloses(Steps):
+    def settings(self, settings):
+        self.load = None
+        return super().settings(settings)
+
+
+class FirstLoadStays(Steps):
+    def settings(self, settings):
+        before, line = self.load, super().settings(settings)
+        self.load = before or self.load
+        return line
+
+
+class NextAtLeave(Steps):
+    def next_after(self, asked):
+        return super().next_after((asked[0], asked[1] - 1))
+
+
+class NextWithoutSecond(Steps):
+    def next_after(self, asked):
+        return super().next_after((0, asked[1]))
+
+
+class SecondOf32Bits(Steps):
+    def best(self, second):
+        return super().best((second + 2**31) % 2**32 - 2**31)
+
+
+class MalformedPrintsLoad(Steps):
+    def lines(self, data):
+        try:
+            yield from self.records(data)
+        except Malformed:
+            yield "malformed"
+            yield from self.last()
+
+
+READINGS = [RefusedCallCuts, RefusedSearchKeeps, RefusedOpeningCloses, FirstLoadStays, NextAtLeave, NextWithoutSecond, SecondOf32Bits,
+            MalformedPrintsLoad]
+
+
+def telling(reading, files):
+    return sum(list(reading().lines(data)) != right for data, right in files)
+
+
+def read(files):
+    return [(data, list(Steps().lines(data))) for data in files]
+
+
+def main():
+    count = int(sys.argv[1]) if len(sys.argv) > 1 else 1500
+    with FIXED.open("rb") as stream:
+        fixed = read(batch(stream))
+    some = read(made(random.Random(f"wrong {i}")) for i in range(count))
+    told = [(reading.__name__, telling(reading, some), telling(reading, fixed)) for reading in READINGS]
+    for name, random_files, fixed_files in told:
+        print(f"{name}: {random_files} of {count} random files, {fixed_files} of {len(fixed)} fixed ones")
+    sys.exit(any(fixed_files == 0 for _, _, fixed_files in told))
+
+
+if __name__ == "__main__":
+    main()
