@@ -1,15 +1,13 @@
 -- What the program admits of a list is what is admitted by the relation stated here, both ways.
-use Prim.Native.Nat.{ℕ, zero, suc, _+_, _-_, _*_, _/_, _%_, _^_, _≤_, _<_, min}
-use mathlib.Core.Path.{_≡_, refl, sym, ap, ap₂, subst, _∙_}
+use Prim.Native.Nat.{ℕ, _+_, _-_, _*_, _/_, _%_, _^_, _≤_, _<_}
+use mathlib.Core.Path.{_≡_, refl, sym, ap, subst, _∙_}
 use mathlib.Core.Logic.{_⊎_, inl, inr, _↔_}
-use mathlib.Core.Bool.{Bool, true, false, cond, _&&_}
-use mathlib.Core.List.{List, [], _∷_, _++_, List·Memᴰ, List·Memᴰ·head, List·Memᴰ·tail, List·Memᴰ·not-nil, List·Memᴰ·append-cases, List·Memᴰ·eq-of-singleton, Memᴰ·append-left, Memᴰ·append-right}
+use mathlib.Core.Bool.{true}
+use mathlib.Core.List.{List, [], _∷_, List·Memᴰ, List·Memᴰ·head, List·Memᴰ·tail, List·Memᴰ·not-nil, List·Memᴰ·append-cases, List·Memᴰ·eq-of-singleton, Memᴰ·append-left, Memᴰ·append-right}
 use native.Mathlib.Omega.{arith}
-use lib.IntN.{pos}
 use lib.ListN.{getD, take}
-use Rattle.laws.specs.Bits.{digit}
 use Rattle.settings.specs.declared.Settings.{Settings}
-use Rattle.settings.specs.Settings.{near, canonicalOf}
+use Rattle.settings.specs.Settings.{canonicalOf}
 use Rattle.calls.specs.declared.CallInput.{CallInput}
 use Rattle.calls.specs.declared.Call.{Call}
 use Rattle.calls.specs.declared.View.{View}
@@ -18,7 +16,6 @@ use Rattle.calls.specs.Calls.{window}
 use Rattle.calls.specs.Shown.{shown, windowed}
 use Rattle.calls.specs.Sound.{AtStop}
 use Rattle.calls.proofs.SoundLaws.{all-mem}
-use Rattle.stops.specs.declared.Stop.{Stop}
 use Rattle.stops.specs.Sound.{stopAt}
 use Rattle.profile.specs.declared.Ride.{Ride}
 use Rattle.profile.specs.declared.Journey.{Journey}
@@ -30,11 +27,10 @@ use Rattle.offers.specs.Admitted as by-load
 use Rattle.search.specs.Timetable.{timetableOf}
 use Rattle.comparison.specs.Taken.{StopGiven, stopsIn, callsIn}
 use Rattle.comparison.specs.Window.{Seen}
-use Rattle.comparison.specs.Admitted.{Nth, Feed, Member, Leg, IsRide, Between, Direct, Changing, Admits, Joins}
+use Rattle.comparison.specs.Admitted.{Feed, Member, Leg, IsRide, Between, Direct, Changing, Admits}
 use Rattle.comparison.specs.Feeds.{feedFrom}
 use Rattle.comparison.proofs.NthLaws.{nth-below, nth-one}
 use Rattle.comparison.proofs.WindowLaws.{seen-shown, window-seen}
-use Rattle.comparison.proofs.TakenLaws.{HeldAs, Held}
 use Rattle.comparison.proofs.StartLaws.{Start}
 use Rattle.comparison.proofs.SettingLaws.{Opened, walk-kept, digit-set, set-digit, upper}
 use Rattle.comparison.proofs.JoinLaws.{joins-in, joins-out}
@@ -64,7 +60,7 @@ pub window-same : (s : Settings) (h : ℕ) (i : CallInput) → window (canonical
 unfolding canonicalOf window
 window-same s h i = refl
 
-ride-is : (b a : Call) (r : Ride) → IsRide b a r → r ≡ rideOf b a
+pub ride-is : (b a : Call) (r : Ride) → IsRide b a r → r ≡ rideOf b a
 ride-is b a r w = λ k. record {
   trip = w .trip k;
   day = w .day k;
@@ -89,7 +85,7 @@ module _ (s : Settings) (p : Load) (fs : List Filling) (w : Start s p fs) (o : O
   abbrev h : ℕ
   h = p .«table_horizon»
 
-  known : (c : Call) → List·Memᴰ c calls → c .stop < p .«stop_count»
+  pub known : (c : Call) → List·Memᴰ c calls → c .stop < p .«stop_count»
   known c m = all-mem (AtStop (p .«stop_count»)) calls (w .sound .calls-known) c m
 
   call-in : (c : Call) → List·Memᴰ c calls → (i : CallInput) × List·Memᴰ i (callsIn fs) × Seen s h i c
@@ -102,7 +98,7 @@ module _ (s : Settings) (p : Load) (fs : List Filling) (w : Start s p fs) (o : O
       let e : window (p .settings) h i ≡ In c = ap (λ (z : Settings). window z h i) (w .settings) ∙ window-same s h i ∙ seen-shown s h i (o .clock (i .day) (w .held .days i m)) c v in
       subst (List·Memᴰ c) (sym (w .held .calls)) (mem-windowed (p .settings) h c m e)
 
-  leg-in : (b a : Call) → by-load.Rides calls b a → Leg F b a
+  pub leg-in : (b a : Call) → by-load.Rides calls b a → Leg F b a
   leg-in b a r =
       let (i, m, v) = call-in b (r .from) in
       let (k, n, u) = call-in a (r .to) in
@@ -120,7 +116,7 @@ module _ (s : Settings) (p : Load) (fs : List Filling) (w : Start s p fs) (o : O
         alight = r .alight;
       }
 
-  leg-out : (b a : Call) → Leg F b a → by-load.Rides calls b a
+  pub leg-out : (b a : Call) → Leg F b a → by-load.Rides calls b a
   leg-out b a r = record {
     from = call-out (r .boards) b (r .taken) (r .seen);
     to = call-out (r .alights) a (r .taken′) (r .seen′);
@@ -154,7 +150,7 @@ module _ (s : Settings) (p : Load) (fs : List Filling) (w : Start s p fs) (o : O
   unfolding timetableOf canonicalOf
   targets = ap (λ (z : Settings). z .targets) (w .settings)
 
-  transfers : t .max-transfers ≡ s .«max_transfers»
+  pub transfers : t .max-transfers ≡ s .«max_transfers»
   unfolding timetableOf canonicalOf
   transfers = ap (λ (z : Settings). z .«max_transfers») (w .settings)
 
@@ -179,7 +175,7 @@ module _ (s : Settings) (p : Load) (fs : List Filling) (w : Start s p fs) (o : O
   ends-in a k l v =
       (omega (arith, v .count, targets), member-in (a .stop) (4 + k) 0 l (ap (λ (n : ℕ). n % 2) (sym (upper k (stopAt (p .stops) (a .stop) .members))) ∙ digit-set k (stopAt (p .stops) (a .stop) .members / 16) (v .member)))
 
-  ends-out : (a : Call) (k : ℕ) → k < s .targets → Member (stopsIn fs) (a .stop) (4 + k) → by-load.Ends t a k
+  pub ends-out : (a : Call) (k : ℕ) → k < s .targets → Member (stopsIn fs) (a .stop) (4 + k) → by-load.Ends t a k
   unfolding timetableOf
   ends-out a k l m = record {
     count = omega (arith, targets, o .targets);
@@ -189,7 +185,7 @@ module _ (s : Settings) (p : Load) (fs : List Filling) (w : Start s p fs) (o : O
   -- ---- journeys
 
   -- what stands between origin and target, of n rides
-  between-in : (n : ℕ) (b x a : Call) (l : Ride) (i k : ℕ) → b .stop < p .«stop_count» → a .stop < p .«stop_count» → by-load.Starts t b i → by-load.Ends t a k
+  pub between-in : (n : ℕ) (b x a : Call) (l : Ride) (i k : ℕ) → b .stop < p .«stop_count» → a .stop < p .«stop_count» → by-load.Starts t b i → by-load.Ends t a k
       → Between F b a (journeyOf t n (rideOf b x) l (a .arrival) i k)
   between-in n b x a l i k hb ha v u =
       let (c, m) = starts-in b i hb v in
@@ -204,7 +200,7 @@ module _ (s : Settings) (p : Load) (fs : List Filling) (w : Start s p fs) (o : O
         arrival = ap (λ (z : ℕ). a .arrival + z * 60) (target-walk k d);
       }
 
-  between-out : (n : ℕ) (b x a : Call) (j : Journey) (l : Ride) → Between F b a j → j .rides ≡ n → j .first ≡ rideOf b x → j .last ≡ l
+  pub between-out : (n : ℕ) (b x a : Call) (j : Journey) (l : Ride) → Between F b a j → j .rides ≡ n → j .first ≡ rideOf b x → j .last ≡ l
       → j ≡ journeyOf t n (rideOf b x) l (a .arrival) (j .origin) (j .target)
   between-out n b x a j l v r f e =
       let q : j .walk ≡ t .origin-walk (j .origin) = v .walk ∙ sym (origin-walk (j .origin) (v .origin)) in
@@ -215,7 +211,7 @@ module _ (s : Settings) (p : Load) (fs : List Filling) (w : Start s p fs) (o : O
       leaves : (x y z d : ℕ) → x + y * 60 ≡ d → y ≡ z → x ≡ d - z * 60
       leaves x y z d e q = omega arith
 
-  starts-of : (b a : Call) (j : Journey) → Between F b a j → by-load.Starts t b (j .origin)
+  pub starts-of : (b a : Call) (j : Journey) → Between F b a j → by-load.Starts t b (j .origin)
   starts-of b a j v = starts-out b (j .origin) (v .origin) (v .from) (late (j .leave) (j .walk) (t .origin-walk (j .origin)) (b .departure) (v .leave) (v .walk ∙ sym (origin-walk (j .origin) (v .origin))))
     where
       late : (x y z d : ℕ) → x + y * 60 ≡ d → y ≡ z → z * 60 ≤ d
@@ -223,35 +219,44 @@ module _ (s : Settings) (p : Load) (fs : List Filling) (w : Start s p fs) (o : O
 
   -- ---- both ways
 
+  unfoldable pub direct-in : (b a : Call) (i k : ℕ) → by-load.Rides calls b a → by-load.Starts t b i → by-load.Ends t a k → Direct F (directOf t (rideOf b a) i k)
+  direct-in b a i k r v u = record {
+    b = b;
+    a = a;
+    leg = leg-in b a r;
+    between = between-in 1 b a a noRide i k (known b (r .from)) (known a (r .to)) v u;
+    rides = refl;
+    first = is-ride b a;
+    last = refl;
+  }
+
+  unfoldable pub change-in : (b a c d : Call) (i k : ℕ) → t .max-transfers ≡ 1 → by-load.Rides calls b a → by-load.Rides calls c d → t .joins (rideOf b a) c ≡ true
+      → by-load.Starts t b i → by-load.Ends t d k → Changing F (changeOf t (rideOf b a) (rideOf c d) i k)
+  unfolding timetableOf
+  change-in b a c d i k e r r′ q v u = record {
+    b = b;
+    a = a;
+    c = c;
+    d = d;
+    may = sym transfers ∙ e;
+    leg = leg-in b a r;
+    leg′ = leg-in c d r′;
+    joins = joins-in s p fs w b a c (r .run .trip) (r .run .day) (known a (r .to)) (known c (r′ .from)) q;
+    between = between-in 2 b a d (rideOf c d) i k (known b (r .from)) (known d (r′ .to)) v u;
+    rides = refl;
+    first = is-ride b a;
+    last = is-ride c d;
+  }
+
   admitted-in : (j : Journey) → by-load.Admitted t j → Admits F j
   unfolding timetableOf
-  admitted-in j (inl v) = inl (subst (Direct F) (sym (v .is)) (record {
-    b = v .b;
-    a = v .a;
-    leg = leg-in (v .b) (v .a) (v .ride);
-    between = between-in 1 (v .b) (v .a) (v .a) noRide (v .o) (v .k) (known (v .b) (v .ride .from)) (known (v .a) (v .ride .to)) (v .starts) (v .ends);
-    rides = refl;
-    first = is-ride (v .b) (v .a);
-    last = refl;
-  }))
-  admitted-in j (inr v) = inr (subst (Changing F) (sym (v .is)) (record {
-    b = v .b;
-    a = v .a;
-    c = v .c;
-    d = v .d;
-    may = sym transfers ∙ v .may;
-    leg = leg-in (v .b) (v .a) (v .first);
-    leg′ = leg-in (v .c) (v .d) (v .last);
-    joins = joins-in s p fs w (v .b) (v .a) (v .c) (v .first .run .trip) (v .first .run .day) (known (v .a) (v .first .to)) (known (v .c) (v .last .from)) (v .joined);
-    between = between-in 2 (v .b) (v .a) (v .d) (rideOf (v .c) (v .d)) (v .o) (v .k) (known (v .b) (v .first .from)) (known (v .d) (v .last .to)) (v .starts) (v .ends);
-    rides = refl;
-    first = is-ride (v .b) (v .a);
-    last = is-ride (v .c) (v .d);
-  }))
+  admitted-in j (inl v) = inl (subst (Direct F) (sym (v .is)) (direct-in (v .b) (v .a) (v .o) (v .k) (v .ride) (v .starts) (v .ends)))
+  admitted-in j (inr v) =
+      inr (subst (Changing F) (sym (v .is)) (change-in (v .b) (v .a) (v .c) (v .d) (v .o) (v .k) (v .may) (v .first) (v .last) (v .joined) (v .starts) (v .ends)))
 
-  admitted-out : (j : Journey) → Admits F j → by-load.Admitted t j
+  unfoldable pub direct-out : (j : Journey) → Direct F j → by-load.Direct t j
   unfolding timetableOf
-  admitted-out j (inl v) = inl (record {
+  direct-out j v = record {
     b = v .b;
     a = v .a;
     o = j .origin;
@@ -260,11 +265,14 @@ module _ (s : Settings) (p : Load) (fs : List Filling) (w : Start s p fs) (o : O
     starts = starts-of (v .b) (v .a) j (v .between);
     ends = ends-out (v .a) (j .target) (v .between .target) (v .between .to);
     is = between-out 1 (v .b) (v .a) (v .a) j noRide (v .between) (v .rides) (ride-is (v .b) (v .a) (j .first) (v .first)) (v .last);
-  })
-  admitted-out j (inr v) =
+  }
+
+  unfoldable pub change-out : (j : Journey) → Changing F j → by-load.Change t j
+  unfolding timetableOf
+  change-out j v =
       let f = leg-out (v .b) (v .a) (v .leg) in
       let l = leg-out (v .c) (v .d) (v .leg′) in
-      inr (record {
+      record {
         b = v .b;
         a = v .a;
         c = v .c;
@@ -278,7 +286,11 @@ module _ (s : Settings) (p : Load) (fs : List Filling) (w : Start s p fs) (o : O
         ends = ends-out (v .d) (j .target) (v .between .target) (v .between .to);
         joined = joins-out s p fs w (v .b) (v .a) (v .c) (f .run .trip) (f .run .day) (known (v .a) (f .to)) (known (v .c) (l .from)) (v .joins);
         is = between-out 2 (v .b) (v .a) (v .d) j (rideOf (v .c) (v .d)) (v .between) (v .rides) (ride-is (v .b) (v .a) (j .first) (v .first)) (ride-is (v .c) (v .d) (j .last) (v .last));
-      })
+      }
+
+  admitted-out : (j : Journey) → Admits F j → by-load.Admitted t j
+  admitted-out j (inl v) = inl (direct-out j v)
+  admitted-out j (inr v) = inr (change-out j v)
 
   pub admits : (j : Journey) → by-load.Admitted (timetableOf p) j ↔ Admits (feedFrom s p fs) j
   admits j = (admitted-in j, admitted-out j)

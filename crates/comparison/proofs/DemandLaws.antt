@@ -1,76 +1,200 @@
 -- The three demands are met: demands 2 and 3 follow from what a searched load holds and when best agrees.
 use mathlib.Core.Path.{_≡_, refl, sym, ap, subst, _∙_}
 use mathlib.Core.Logic.{_⊎_, inl, inr, _↔_}
-use mathlib.Core.Bool.{Bool, true, false, cond, true≢false}
+use mathlib.Core.Bool.{Bool, true, false, cond}
 use mathlib.Core.Option.{Option, none, some}
-use mathlib.Core.List.{List, [], _∷_, List·Memᴰ}
-use Prim.Native.Nat.{ℕ, _≤_, _<_, min}
+use mathlib.Core.List.{List, [], List·Permᴰ}
+use Prim.Native.Nat.{ℕ, _+_, _≤_, min}
 use native.Mathlib.Omega.{arith}
-use lib.Dec.{leb}
+use lib.Dec.{leb, ltb}
 use lib.IntN.{ℤ, pos, negsuc}
-use borrow.Author.Tests.{leb-true, leb-false, le-leb, lt-leb}
+use lib.Signed.{ltZ}
+use lib.ListN.{take}
+use borrow.Author.Tests.{leb-true, leb-false, le-leb, lt-leb, ltb-true, ltb-false}
+use Rattle.refusal.specs.declared.Answer.{Answer}
 use Rattle.settings.specs.declared.Settings.{Settings}
+use Rattle.settings.specs.Settings.{settingsTests}
+use Rattle.calls.specs.declared.Call.{Call}
+use Rattle.calls.specs.Shown.{tableCalls}
 use Rattle.profile.specs.declared.Journey.{Journey}
 use Rattle.profile.specs.Figures.{Figures}
 use Rattle.profile.specs.Best.{readBy}
 use Rattle.profile.specs.Journeys.{journeyFigures}
 use Rattle.offers.specs.Covered.{I64, CoveredBy}
+use Rattle.offers.specs.Order.{inOrder}
+use Rattle.offers.proofs.OrderLaws.{put-in-order}
+use Rattle.load.specs.declared.Load.{Load}
 use Rattle.load.specs.Load.{tableOf}
-use Rattle.load.specs.Steps.{opened}
+use Rattle.load.specs.Steps.{opened, openSpec}
+use Rattle.load.specs.Filling.{Filling, stop, call, rule}
 use Rattle.load.specs.Sound.{Opens}
-use Rattle.search.specs.Timetable.{timetableOf}
-use Rattle.best.specs.Best.{keptOf}
-use Rattle.steps.specs.Steps.{Step}
+use Rattle.best.specs.Best.{keptOf, afterOf, nextSpec}
+use Rattle.steps.specs.Steps.{Step, filling, search, numbers}
 use Rattle.steps.specs.Lists.{endOf, startOf, offersOf}
 use Rattle.steps.specs.Lists as by-load
 use Rattle.steps.proofs.HeldLaws.{searched-holds, best-agrees}
 use Rattle.steps.proofs.AnsweredLaws.{step-answered, opening-answered}
-use Rattle.steps.proofs.StepLaws.{best-asks}
+use Rattle.steps.proofs.StepLaws.{best-asks, best-none}
 use Rattle.time.proofs.Times.{taken as text-taken, answered as text-answered}
-use Rattle.comparison.specs.Order.{EqualsOrBeats, Same}
+use Rattle.comparison.specs.Order.{Same}
 use Rattle.comparison.specs.Best.{BestAt}
-use Rattle.comparison.specs.Admitted.{Admits}
-use Rattle.comparison.specs.Taken.{taken}
-use Rattle.comparison.specs.Feeds.{feedOf, Admitted}
-use Rattle.comparison.specs.Demands.{Searched, answer, Lists, Demand1, Demand2, Second, NoneBy, Both, Alike, MatchedBy, Earlier, Demand3}
+use Rattle.comparison.specs.Taken.{callsIn, State, fresh}
+use Rattle.comparison.specs.Admitted.{Feed, Admits}
+use Rattle.comparison.specs.Feeds.{feedOf}
+use Rattle.comparison.specs.Neighbours.{InOrder, Ordered}
+use Rattle.comparison.specs.OfferOrder.{Offered}
+use Rattle.comparison.specs.Falls.{at, Falls}
+use Rattle.comparison.specs.Causes.{First, numbersOf, settingsCauses, causesOf}
+use Rattle.comparison.specs.Runs.{Runs, Admitted}
+use Rattle.comparison.specs.Demands.{answersFrom, LaterOf, Queried, answer, calls, Fills, Lists, Demand1, Demand2, Second, NoneBy, Alike, MatchedBy, Earlier, Demand3}
 use Rattle.comparison.proofs.OrderLaws.{covers-in, covers-out}
 use Rattle.comparison.proofs.KeptLaws.{front-holds}
 use Rattle.comparison.proofs.BestLaws.{best-at}
-use Rattle.comparison.proofs.FallLaws.{fall-falls}
-use Rattle.comparison.proofs.HorizonLaws.{horizon-is, mark-is}
-use Rattle.comparison.proofs.OneLaws.{one-horizon}
+use Rattle.comparison.proofs.Deciding.{first-matches}
+use Rattle.comparison.proofs.OneLaws.{one-runs}
 use Rattle.comparison.proofs.SettingLaws.{opens}
-use Rattle.comparison.proofs.StartLaws.{started, clear-start}
-use Rattle.comparison.proofs.OfferLaws.{offers-offered}
+use Rattle.comparison.proofs.CauseLaws.{settings-match}
+use Rattle.comparison.proofs.StartLaws.{stateAt, same-feed}
 use Rattle.comparison.proofs.AdmittedLaws.{admits}
+use Rattle.comparison.proofs.FallLaws.{fall-falls, endOf as ends-at}
+use Rattle.comparison.proofs.HorizonLaws.{table-shown, showing}
+use Rattle.comparison.proofs.NeighbourLaws.{order-in}
+use Rattle.comparison.proofs.OfferedLaws.{offered-is}
+use Rattle.comparison.proofs.RunLaws.{Ended, Walked, walked, opened-state}
+
+-- ---- 1
+
+queried : (l : Load) (z : ℤ) → Queried l z
+unfolding nextSpec afterOf
+queried l z = record {
+  unsearched = λ e. best-none l e z;
+  searched = λ e. subst (BestAt (keptOf l) (l .horizon) z) (sym (best-asks l e z)) (best-at (keptOf l) (l .horizon) z);
+  next = λ j. (cond (ltZ z (pos (j .leave + 1))) (pos (j .leave + 1)) z, later z (j .leave + 1), refl);
+}
+  where
+    later : (z : ℤ) (k : ℕ) → LaterOf z k (cond (ltZ z (pos k)) (pos k) z)
+    later (negsuc n) k = refl
+    later (pos n) k = go (ltb n k) refl
+      where
+        go : (b : Bool) → ltb n k ≡ b → ((n ≤ k) × (cond b (pos k) (pos n) ≡ pos k)) ⊎ ((k ≤ n) × (cond b (pos k) (pos n) ≡ pos n))
+        go true e = inl (omega (arith, ltb-true n k e), refl)
+        go false e = inr (ltb-false n k e, refl)
+
+settings-first : (s : Settings) → First (openSpec s .answer) (settingsCauses s)
+unfolding openSpec
+settings-first s = first-matches (settingsTests s) (settingsCauses s) (settings-match s)
+
+in-order : (s : Settings) (t : State) (x : Step) → numbersOf (causesOf s t x) ≡ numbers x
+in-order s t (filling (stop id name parent i)) = refl
+in-order s t (filling (call i)) = refl
+in-order s t (filling (rule i)) = refl
+in-order s t search = refl
+
+module _ (s : Settings) (o : Opens s) (xs : List Step) where
+  pub whole : Walked s (opened s) (opened s) xs []
+  whole = walked s (opens s o) xs
+
+  abbrev pub ending : State
+  ending = stateAt (endOf s xs) (whole .taken)
+
+  pub run : Runs s fresh xs (answersFrom (opened s) xs) ending
+  run = subst (λ (t : State). Runs s t xs (answersFrom (opened s) xs) ending) (opened-state s) (whole .runs)
+
+  -- the state that is related is the load's
+  pub ends-so : (rs : List Answer) (v : State) → Runs s fresh xs rs v → ending ≡ v
+  ends-so rs v w = one-runs s fresh xs (answersFrom (opened s) xs) rs ending v run w .1
 
 pub demand-1 : Demand1
-demand-1 = record { texts = (text-taken, text-answered); opening = opening-answered; steps = step-answered }
+demand-1 = record {
+  texts = (text-taken, text-answered);
+  settings = settings-first;
+  opening = opening-answered;
+  lists = λ s o xs. (ending s o xs, run s o xs);
+  only = one-runs;
+  order = in-order;
+  settings-order = λ s. refl;
+  steps = step-answered;
+  queries = queried;
+}
 
--- what the load admits is what is admitted of what was handed in
-pub same-admitted : (s : Settings) (xs : List Step) → Opens s → Searched s xs → (j : Journey) → by-load.Admitted s xs j ↔ Admitted s xs j
-same-admitted s xs o d j =
-    let a = admits s (startOf s xs) (taken s xs) (started s xs d) (opens s o) j in
-    let c = horizon-is s (opens s o) xs d in (
-      λ x. record { horizon = startOf s xs .«table_horizon»; cuts = c; admits = a .0 (x .1) },
-      λ x. (d, a .1 (subst (λ (h : ℕ). Admits (feedOf s xs h) j) (one-horizon s (opened s) [] 21600 xs (x .horizon) (startOf s xs .«table_horizon») (x .cuts) c) (x .admits))),
-    )
+-- ---- what the load admits is what is admitted of what was handed in
+
+abbrev atHorizon : List Filling → ℕ → State
+atHorizon fs h = record { taken = fs; horizon = h; limits = 0; searched = true }
+
+pub same-admitted : (s : Settings) (xs : List Step) → Opens s → (j : Journey) → by-load.Admitted s xs j ↔ Admitted s xs j
+same-admitted s xs o j = (fore, back)
+  where
+    gs : List Filling
+    gs = whole s o xs .taken
+
+    end-is : endOf s xs .searched ≡ true → Ended s (startOf s xs) (endOf s xs) (whole s o xs .taken)
+    end-is d = whole s o xs .ended d
+
+    fore : by-load.Admitted s xs j → Admitted s xs j
+    fore (d, a) =
+        let e = end-is d in
+        let f = subst (λ (G : Feed). Admits G j) (same-feed s (startOf s xs) (whole s o xs .taken) (e .start)) (admits s (startOf s xs) (whole s o xs .taken) (e .start) (opens s o) j .0 a) in
+        record {
+          answers = answersFrom (opened s) xs;
+          end = ending s o xs;
+          runs = run s o xs;
+          searched = d;
+          admits = subst (λ (h : ℕ). Admits (feedOf s (atHorizon (whole s o xs .taken) h)) j) (e .height) f;
+        }
+
+    back : Admitted s xs j → by-load.Admitted s xs j
+    back x =
+        let q = ends-so s o xs (x .answers) (x .end) (x .runs) in
+        let d : endOf s xs .searched ≡ true = ap (λ (t : State). t .searched) q ∙ x .searched in
+        let e = end-is d in
+        let f : Admits (feedOf s (ending s o xs)) j = subst (λ (t : State). Admits (feedOf s t) j) (sym q) (x .admits) in
+        let g : Admits (feedOf s (stateAt (startOf s xs) (whole s o xs .taken))) j = subst (λ (h : ℕ). Admits (feedOf s (atHorizon (whole s o xs .taken) h)) j) (sym (e .height)) f in
+        (d, admits s (startOf s xs) (whole s o xs .taken) (e .start) (opens s o) j .1 (subst (λ (G : Feed). Admits G j) (sym (same-feed s (startOf s xs) (whole s o xs .taken) (e .start))) g))
+
+-- ---- 2
+
+module _ (s : Settings) (o : Opens s) (xs : List Step) where
+  fills : endOf s xs .searched ≡ false → Fills s xs (ending s o xs)
+  fills d =
+      let w = whole s o xs .going d in
+      record {
+        shown = table-shown s (opens s o) (callsIn (whole s o xs .taken)) (w .held .days) (tableOf (endOf s xs)) (showing s (endOf s xs) (whole s o xs .taken) w);
+        kept = ap (λ (n : ℕ). take n (endOf s xs .journeys)) (w .sound .none-kept d);
+        horizon = w .sound .same-horizon d;
+        limits = w .sound .same-limits d;
+        best = λ z. best-none (endOf s xs) d z;
+      }
+
+  lists : endOf s xs .searched ≡ true → Lists s xs (ending s o xs)
+  lists d =
+      let w = searched-holds s xs o d in
+      let e = whole s o xs .ended d in
+      let p = startOf s xs in
+      let gs = whole s o xs .taken in
+      let cs = tableCalls (tableOf p) in
+      record {
+        ordered = subst (λ (h : ℕ). Ordered s h (callsIn gs) (calls s xs)) (e .height) (record {
+          seen = tableCalls (tableOf p);
+          shown = table-shown s (opens s o) (callsIn gs) (e .start .held .days) (tableOf p) (showing s p gs (e .start));
+          same = subst (λ (x : List Call). List·Permᴰ x (tableCalls (tableOf p))) (sym (e .calls)) (put-in-order (tableCalls (tableOf p)) .0);
+          in-order = subst InOrder (sym (e .calls)) (order-in (inOrder (tableCalls (tableOf p))) (put-in-order (tableCalls (tableOf p)) .1));
+        });
+        offers = offersOf s xs;
+        offered = subst (λ (h : ℕ). Offered (feedOf s (atHorizon gs h)) (offersOf s xs)) (e .height) (offered-is s p gs (e .start) (opens s o) (e .clear));
+        admitted = λ j. (λ m. same-admitted s xs o j .0 (w .admitted j .0 m), λ x. w .admitted j .1 (same-admitted s xs o j .1 x));
+        holds = front-holds (endOf s xs .horizon) (offersOf s xs) (keptOf (endOf s xs)) (w .unbeaten);
+        complete = λ j a l. let (k, b, e′) = w .complete j (same-admitted s xs o j .1 a) l in (k, b, covers-in k j e′);
+        falls = subst (λ (h : ℕ). Falls [] h (endOf s xs .«table_limits») (offersOf s xs) (at (endOf s xs .horizon) (endOf s xs .limits))) (e .height)
+            (subst (λ (m : ℕ). Falls [] (p .«table_horizon») m (offersOf s xs) (at (endOf s xs .horizon) (endOf s xs .limits))) (e .mark)
+            (subst (Falls [] (p .«table_horizon») (p .«table_limits») (offersOf s xs)) (ap ends-at (w .fell)) (fall-falls [] (offersOf s xs) (p .«table_horizon») (p .«table_limits») (omega arith))));
+        best = λ z. subst (BestAt (keptOf (endOf s xs)) (endOf s xs .horizon) z) (sym (best-asks (endOf s xs) d z)) (best-at (keptOf (endOf s xs)) (endOf s xs .horizon) z);
+      }
 
 pub demand-2 : Demand2
-demand-2 s xs o d =
-    let w = searched-holds s xs o d in
-    record {
-      offers = offersOf s xs;
-      admitted = λ j. (λ m. same-admitted s xs o d j .0 (w .admitted j .0 m), λ x. w .admitted j .1 (same-admitted s xs o d j .1 x));
-      order = offers-offered (timetableOf (startOf s xs)) (clear-start s xs d);
-      holds = front-holds (endOf s xs .horizon) (offersOf s xs) (keptOf (endOf s xs)) (w .unbeaten);
-      table = startOf s xs .«table_horizon»;
-      mark = startOf s xs .«table_limits»;
-      cuts = horizon-is s (opens s o) xs d;
-      marked = mark-is (tableOf (startOf s xs)) (started s xs d .sound .table .limited);
-      falls = fall-falls [] (offersOf s xs) (startOf s xs .«table_horizon») (startOf s xs .«table_limits») (endOf s xs .horizon) (endOf s xs .limits) (omega arith) (w .fell);
-      best = λ z. subst (BestAt (keptOf (endOf s xs)) (endOf s xs .horizon) z) (sym (best-asks (endOf s xs) d z)) (best-at (keptOf (endOf s xs)) (endOf s xs .horizon) z);
-    }
+demand-2 s xs rs v o w =
+    subst (λ (t : State). (t .searched ≡ false → Fills s xs t) × (t .searched ≡ true → Lists s xs t)) (ends-so s o xs rs v w)
+    (fills s o xs, lists s o xs)
 
 -- ---- answers
 
@@ -134,22 +258,22 @@ in-second : (z : ℤ) → I64 z → Second z
 in-second (pos n) h = omega arith
 in-second (negsuc n) h = omega arith
 
-matched : (g : ℕ) (s s′ : Settings) (xs xs′ : List Step) → Opens s → Opens s′ → Searched s xs → Searched s′ xs′
+matched : (g : ℕ) (s s′ : Settings) (xs xs′ : List Step) → Opens s → Opens s′
     → CoveredBy g (by-load.Admitted s xs) (by-load.Admitted s′ xs′) ↔ MatchedBy g s xs s′ xs′
-matched g s s′ xs xs′ o o′ d d′ = (
-  λ c j a l. let (k, b, e) = c j (same-admitted s xs o d j .1 a) l in (k, same-admitted s′ xs′ o′ d′ k .0 b, covers-in k j e),
-  λ c j a l. let (k, b, e) = c j (same-admitted s xs o d j .0 a) l in (k, same-admitted s′ xs′ o′ d′ k .1 b, covers-out k j e),
+matched g s s′ xs xs′ o o′ = (
+  λ c j a l. let (k, b, e) = c j (same-admitted s xs o j .1 a) l in (k, same-admitted s′ xs′ o′ k .0 b, covers-in k j e),
+  λ c j a l. let (k, b, e) = c j (same-admitted s xs o j .0 a) l in (k, same-admitted s′ xs′ o′ k .1 b, covers-out k j e),
 )
 
 earlier-is : (g h h′ : ℕ) → Earlier g h h′ → g ≡ min h h′
 earlier-is g h h′ (a, b, inl e) = omega arith
 earlier-is g h h′ (a, b, inr e) = omega arith
 
-at-earlier : (s s′ : Settings) (xs xs′ : List Step) (g : ℕ) → g ≡ min (endOf s xs .horizon) (endOf s′ xs′ .horizon) → s .now ≡ s′ .now → Opens s → Opens s′ → Searched s xs → Searched s′ xs′
+at-earlier : (s s′ : Settings) (xs xs′ : List Step) (g : ℕ) → g ≡ min (endOf s xs .horizon) (endOf s′ xs′ .horizon) → s .now ≡ s′ .now → Opens s → Opens s′
     → ((z : ℤ) → Second z → Alike g (answer s xs z) (answer s′ xs′ z)) ↔ (MatchedBy g s xs s′ xs′ × MatchedBy g s′ xs′ s xs)
-at-earlier s s′ xs xs′ g e n o o′ d d′ = (
-  λ f. let (a, b) = whole .0 (λ z i. alike-reads g (answer s xs z) (answer s′ xs′ z) (f z (in-second z i))) in (matched g s s′ xs xs′ o o′ d d′ .0 a, matched g s′ s xs′ xs o′ o d′ d .0 b),
-  λ (a, b) z i. reads-alike g (answer s xs z) (answer s′ xs′ z) (whole .1 (matched g s s′ xs xs′ o o′ d d′ .1 a, matched g s′ s xs′ xs o′ o d′ d .1 b) z (second-in z i)),
+at-earlier s s′ xs xs′ g e n o o′ = (
+  λ f. let (a, b) = whole .0 (λ z i. alike-reads g (answer s xs z) (answer s′ xs′ z) (f z (in-second z i))) in (matched g s s′ xs xs′ o o′ .0 a, matched g s′ s xs′ xs o′ o .0 b),
+  λ (a, b) z i. reads-alike g (answer s xs z) (answer s′ xs′ z) (whole .1 (matched g s s′ xs xs′ o o′ .1 a, matched g s′ s xs′ xs o′ o .1 b) z (second-in z i)),
 )
   where
     whole : ((z : ℤ) → I64 z → readBy journeyFigures g (answer s xs z) ≡ readBy journeyFigures g (answer s′ xs′ z))
@@ -157,4 +281,4 @@ at-earlier s s′ xs xs′ g e n o o′ d d′ = (
     whole = subst (λ (k : ℕ). ((z : ℤ) → I64 z → readBy journeyFigures k (answer s xs z) ≡ readBy journeyFigures k (answer s′ xs′ z)) ↔ (CoveredBy k (by-load.Admitted s xs) (by-load.Admitted s′ xs′) × CoveredBy k (by-load.Admitted s′ xs′) (by-load.Admitted s xs))) (sym e) (best-agrees s s′ xs xs′ n o o′)
 
 pub demand-3 : Demand3
-demand-3 s s′ xs xs′ g n o o′ d d′ e = at-earlier s s′ xs xs′ g (earlier-is g _ _ e) n o o′ d d′
+demand-3 s s′ xs xs′ g n o o′ e = at-earlier s s′ xs xs′ g (earlier-is g _ _ e) n o o′

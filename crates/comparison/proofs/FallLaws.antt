@@ -2,14 +2,14 @@
 use mathlib.Core.Path.{_≡_, refl, sym, ap, subst, _∙_}
 use mathlib.Core.Logic.{_⊎_, inl, inr}
 use mathlib.Core.Bool.{Bool, true, false, cond}
-use mathlib.Core.List.{List, [], _∷_, _++_, List·Memᴰ, List·Memᴰ·head, List·Memᴰ·tail, List·Memᴰ·not-nil, List·Memᴰ·cases-cons}
-use Prim.Native.Nat.{ℕ, zero, suc, _+_, _-_, _≤_, _<_, max}
+use mathlib.Core.List.{List, [], _∷_, _++_, map, List·Memᴰ, List·Memᴰ·head, List·Memᴰ·tail, List·Memᴰ·not-nil, List·Memᴰ·cases-cons}
+use Prim.Native.Nat.{ℕ, _+_, _-_, _≤_, _<_, max}
 use native.Mathlib.Omega.{arith}
 use lib.Dec.{leb, ltb}
 use lib.ListN.{length}
-use borrow.Author.Tests.{leb-true, leb-false, ltb-false}
+use borrow.Author.Tests.{leb-true, leb-false, ltb-true, ltb-false}
 use Rattle.laws.specs.Lists.{filterb}
-use Rattle.laws.proofs.Lists.{length-filterb-lt, filterb-mem, mem-filterb}
+use Rattle.laws.proofs.Lists.{length-filterb-lt}
 use Rattle.profile.specs.declared.Journey.{Journey}
 use Rattle.profile.specs.Figures.{covᶠ, dueᶠ}
 use Rattle.profile.specs.Front.{front}
@@ -18,10 +18,10 @@ use Rattle.profile.specs.Kept.{latest}
 use Rattle.profile.specs.Journeys.{journeyFigures}
 use Rattle.profile.proofs.FiguresLaws.{figures-order}
 use Rattle.profile.proofs.FrontLaws.{front-one-more, after-due, after-mem}
-use Rattle.comparison.specs.Kept.{Holds}
-use Rattle.comparison.specs.Falls.{Latest, Falls, done, stays, falls}
-use Rattle.comparison.proofs.OrderLaws.{cov}
+use Rattle.comparison.specs.Kept.{Holds, Rising, offered}
+use Rattle.comparison.specs.Falls.{Latest, End, at, below, Falls, done, stays, falls, sinks}
 use Rattle.comparison.proofs.KeptLaws.{front-holds}
+use Rattle.comparison.proofs.Pairs.{Pairs, one-pairs}
 
 abbrev due : Journey → ℕ
 due j = j .arrival
@@ -59,10 +59,16 @@ fewer h os a n w low =
     let l : length (filterb (λ k. leb (due k) (a - 1)) (standing h os)) < length (standing h os) = length-filterb-lt (λ k. leb (due k) (a - 1)) (w .there) f in
     omega (arith, ap length e)
 
-pub fall-falls : (pre os : List Journey) (h m g n : ℕ) → length (standing h pre) ≤ 64
-    → fall (covᶠ journeyFigures) (dueᶠ journeyFigures) 64 3600 h m pre os ≡ upTo g n → Falls pre h m os g n
-fall-falls pre [] h m g n few e = let p : h ≡ g = cc in let q : m ≡ n = cc in subst (λ (x : ℕ). Falls pre h m [] x n) p (subst (λ (y : ℕ). Falls pre h m [] h y) q done)
-fall-falls pre (o ∷ os) h m g n few e = go (leb (length f) 64) refl (λ h′ m′ l. fall-falls (pre ++ o ∷ []) os h′ m′ g n l) e
+abbrev pub endOf : Ends → End
+endOf (upTo h m) = at h m
+endOf never = below
+
+abbrev ended : ℕ → ℕ → List Journey → List Journey → Ends
+ended h m pre os = fall (covᶠ journeyFigures) (dueᶠ journeyFigures) 64 3600 h m pre os
+
+pub fall-falls : (pre os : List Journey) (h m : ℕ) → length (standing h pre) ≤ 64 → Falls pre h m os (endOf (ended h m pre os))
+fall-falls pre [] h m few = done
+fall-falls pre (o ∷ os) h m few = go (leb (length f) 64) refl (λ h′ m′ l. fall-falls (pre ++ o ∷ []) os h′ m′ l)
   where
     f : List Journey
     f = standing h (pre ++ o ∷ [])
@@ -71,18 +77,55 @@ fall-falls pre (o ∷ os) h m g n few e = go (leb (length f) 64) refl (λ h′ m
     c = latest due f - 1
 
     Later : Type 0
-    Later = (h′ m′ : ℕ) → length (standing h′ (pre ++ o ∷ [])) ≤ 64 → fall (covᶠ journeyFigures) (dueᶠ journeyFigures) 64 3600 h′ m′ (pre ++ o ∷ []) os ≡ upTo g n → Falls (pre ++ o ∷ []) h′ m′ os g n
+    Later = (h′ m′ : ℕ) → length (standing h′ (pre ++ o ∷ [])) ≤ 64 → Falls (pre ++ o ∷ []) h′ m′ os (endOf (ended h′ m′ (pre ++ o ∷ []) os))
 
-    cut : leb (length f) 64 ≡ false → (b : Bool) → ltb c 3600 ≡ b → Later → cond b never (fall (covᶠ journeyFigures) (dueᶠ journeyFigures) 64 3600 c 1 (pre ++ o ∷ []) os) ≡ upTo g n → Falls pre h m (o ∷ os) g n
-    cut p true q ih z = absurd (let y : _≡_ {A = ℕ} 0 1 = cc in omega arith)
-    cut p false q ih z =
-        let many : length f ≡ 65 = omega (arith, leb-false (length f) 64 p, front-one-more (figures-order journeyFigures) h pre o) in
-        let low : 3600 ≤ latest due f - 1 = ltb-false c 3600 q in
-        let top : Latest f (latest due f) = latest-is f (omega arith) in
-        falls {a = latest due f} (front-holds h (pre ++ o ∷ []) f refl) many top low (ih c 1 (fewer h (pre ++ o ∷ []) (latest due f) many top low) z)
+    cut : leb (length f) 64 ≡ false → (b : Bool) → ltb c 3600 ≡ b → Later → Falls pre h m (o ∷ os) (endOf (cond b never (ended c 1 (pre ++ o ∷ []) os)))
+    cut p b q ih = low b q
+      where
+        many : length f ≡ 65
+        many = omega (arith, leb-false (length f) 64 p, front-one-more (figures-order journeyFigures) h pre o)
 
-    go : (b : Bool) → leb (length f) 64 ≡ b → Later
-        → cond b (fall (covᶠ journeyFigures) (dueᶠ journeyFigures) 64 3600 h m (pre ++ o ∷ []) os) (cond (ltb c 3600) never (fall (covᶠ journeyFigures) (dueᶠ journeyFigures) 64 3600 c 1 (pre ++ o ∷ []) os)) ≡ upTo g n
-        → Falls pre h m (o ∷ os) g n
-    go true p ih z = stays (front-holds h (pre ++ o ∷ []) f refl) (leb-true (length f) 64 p) (ih h m (leb-true (length f) 64 p) z)
-    go false p ih z = cut p (ltb c 3600) refl ih z
+        top : Latest f (latest due f)
+        top = latest-is f (omega (arith, many))
+
+        low : (b : Bool) → ltb c 3600 ≡ b → Falls pre h m (o ∷ os) (endOf (cond b never (ended c 1 (pre ++ o ∷ []) os)))
+        low true q = sinks {a = latest due f} (front-holds h (pre ++ o ∷ []) f refl) many top (ltb-true c 3600 q)
+        low false q =
+            let deep : 3600 ≤ latest due f - 1 = ltb-false c 3600 q in
+            falls {a = latest due f} (front-holds h (pre ++ o ∷ []) f refl) many top deep (ih c 1 (fewer h (pre ++ o ∷ []) (latest due f) many top deep))
+
+    go : (b : Bool) → leb (length f) 64 ≡ b → Later → Falls pre h m (o ∷ os) (endOf (cond b (ended h m (pre ++ o ∷ []) os) (cond (ltb c 3600) never (ended c 1 (pre ++ o ∷ []) os))))
+    go true p ih = stays (front-holds h (pre ++ o ∷ []) f refl) (leb-true (length f) 64 p) (ih h m (leb-true (length f) 64 p))
+    go false p ih = cut p (ltb c 3600) refl ih
+
+-- ---- one end
+
+rising-pairs : (is : List ℕ) → Rising is → Pairs _<_ is
+rising-pairs [] w = tt
+rising-pairs (i ∷ is) w = (w .0, rising-pairs is (w .1))
+
+pub one-list : (h : ℕ) (os ks ls : List Journey) → Holds h os ks → Holds h os ls → ks ≡ ls
+one-list h os ks ls v w =
+    v .list
+    ∙ ap (map (offered os)) (one-pairs _<_ (λ i j l g. omega arith) (v .places) (w .places) (rising-pairs (v .places) (v .in-order)) (rising-pairs (w .places) (w .in-order))
+    (λ i m. w .exactly i .1 (v .exactly i .0 m)) (λ i m. v .exactly i .1 (w .exactly i .0 m)))
+    ∙ sym (w .list)
+
+one-latest : (ks ls : List Journey) (a b : ℕ) → ks ≡ ls → Latest ks a → Latest ls b → a ≡ b
+one-latest ks ls a b e v w =
+    let p : v .one .arrival ≤ b = w .top (v .one) (subst (List·Memᴰ (v .one)) e (v .there)) in
+    let q : w .one .arrival ≤ a = v .top (w .one) (subst (List·Memᴰ (w .one)) (sym e) (w .there)) in
+    omega (arith, v .is, w .is)
+
+pub one-fall : (pre : List Journey) (h m : ℕ) (os : List Journey) (e d : End) → Falls pre h m os e → Falls pre h m os d → e ≡ d
+one-fall pre h m _ _ _ done done = refl
+one-fall pre h m _ e d (stays {os = os} {o = o} v l w) (stays v′ l′ w′) = one-fall (pre ++ o ∷ []) h m os e d w w′
+one-fall pre h m _ e d (stays {o = o} v l w) (falls v′ n t q w′) = absurd (omega (arith, ap length (one-list h (pre ++ o ∷ []) _ _ v v′)))
+one-fall pre h m _ e d (stays {o = o} v l w) (sinks v′ n t q) = absurd (omega (arith, ap length (one-list h (pre ++ o ∷ []) _ _ v v′)))
+one-fall pre h m _ e d (falls {o = o} v n t q w) (stays v′ l′ w′) = absurd (omega (arith, ap length (one-list h (pre ++ o ∷ []) _ _ v v′)))
+one-fall pre h m _ e d (falls {os = os} {o = o} {a = a} v n t q w) (falls {a = b} v′ n′ t′ q′ w′) =
+    one-fall (pre ++ o ∷ []) (a - 1) 1 os e d w (subst (λ (x : ℕ). Falls (pre ++ o ∷ []) (x - 1) 1 os d) (one-latest _ _ b a (one-list h (pre ++ o ∷ []) _ _ v′ v) t′ t) w′)
+one-fall pre h m _ e d (falls {o = o} {a = a} v n t q w) (sinks {a = b} v′ n′ t′ q′) = absurd (omega (arith, one-latest _ _ a b (one-list h (pre ++ o ∷ []) _ _ v v′) t t′))
+one-fall pre h m _ e d (sinks {o = o} v n t q) (stays v′ l′ w′) = absurd (omega (arith, ap length (one-list h (pre ++ o ∷ []) _ _ v v′)))
+one-fall pre h m _ e d (sinks {o = o} {a = a} v n t q) (falls {a = b} v′ n′ t′ q′ w′) = absurd (omega (arith, one-latest _ _ a b (one-list h (pre ++ o ∷ []) _ _ v v′) t t′))
+one-fall pre h m _ _ _ (sinks v n t q) (sinks v′ n′ t′ q′) = refl

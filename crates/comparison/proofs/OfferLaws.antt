@@ -1,31 +1,26 @@
 -- The program's offers stand in the order stated here.
-use Prim.Native.Nat.{ℕ, zero, suc, _+_, _*_, _/_, _%_, _≤_, _<_, min}
-use mathlib.Core.Path.{_≡_, refl, sym, ap, subst, _∙_}
+use Prim.Native.Nat.{ℕ, _+_, _*_, _/_, _<_, min}
+use mathlib.Core.Path.{_≡_, refl, sym, subst, _∙_}
 use mathlib.Core.Logic.{_⊎_, inl, inr}
-use mathlib.Core.Bool.{Bool, true, false, cond, _&&_}
-use mathlib.Core.List.{List, [], _∷_, _++_, map, map-append, List·Memᴰ, List·Memᴰ·head, List·Memᴰ·tail, List·Memᴰ·not-nil, List·Memᴰ·cases-cons, List·Memᴰ·append-cases, List·Memᴰ·eq-of-singleton, Memᴰ·append-left, Memᴰ·append-right}
+use mathlib.Core.Bool.{Bool, true, false, cond}
+use mathlib.Core.List.{List, [], _∷_, _++_, map, map-append, List·Memᴰ, List·Memᴰ·not-nil, List·Memᴰ·append-cases, List·Memᴰ·eq-of-singleton}
 use native.Mathlib.Omega.{arith}
 use lib.Dec.{eqb, leb, ltb}
 use borrow.Author.Tests.{ltb-true}
-use Rattle.laws.specs.Lists.{concatMap, takeWhile}
-use Rattle.laws.specs.Tails.{overTails, Tail}
-use Rattle.laws.specs.Bits.{bitsFrom}
+use Rattle.laws.specs.Lists.{concatMap}
+use Rattle.laws.specs.Tails.{overTails}
 use Rattle.laws.proofs.Folds.{concatMap-mem}
-use Rattle.laws.proofs.Tails.{cond-mem, overTails-mem, takeWhile-mem, tail-mem, tail-rest}
-use Rattle.laws.proofs.Bits.{bits-mem}
+use Rattle.laws.proofs.Tails.{cond-mem, overTails-mem}
 use Rattle.calls.specs.declared.Call.{Call}
-use Rattle.profile.specs.declared.Ride.{Ride}
 use Rattle.profile.specs.declared.Journey.{Journey}
 use Rattle.profile.proofs.FiguresLaws.{lexb-true}
 use Rattle.offers.specs.Order.{earlier, Rising}
-use Rattle.offers.specs.Offers.{Timetable, rideOf, directOf, changeOf, sameRun, runOf, originsOf, targetsOf, lastAt, lastAlight, lastBoard, directAt, changesAt, alightAt, originAt, boardAt, offersIn, sorted, offers}
-use Rattle.offers.specs.Admitted.{Clear}
-use Rattle.offers.proofs.OfferLaws.{clear-rising}
-use Rattle.comparison.specs.Admitted.{IsRide}
-use Rattle.comparison.specs.OfferOrder.{Offer, alone, changing, CallBefore, Sooner, Before, Ascending, Of, Each, Offered}
-use Rattle.comparison.proofs.AdmittedLaws.{is-ride}
+use Rattle.offers.specs.Offers.{Timetable, rideOf, directOf, changeOf, sameRun, runOf, originsOf, targetsOf, lastAt, lastAlight, lastBoard, directAt, changesAt, alightAt, originAt, boardAt, offersIn}
+use Rattle.comparison.specs.Neighbours.{CallBefore}
+use Rattle.comparison.specs.OfferOrder.{Offer, alone, changing, Before, Ascending}
+use Rattle.comparison.proofs.Pairs.{Pairs, pairs-append, pairs-cond, pairs-concat, pairs-tails, pairs-while, pairs-bits}
 
-call-before : (b c : Call) → earlier b c ≡ true → CallBefore b c
+pub call-before : (b c : Call) → earlier b c ≡ true → CallBefore b c
 call-before b c e = one (lexb-true (b .trip) (c .trip) _ e)
   where
     two : (b .day < c .day) ⊎ ((b .day ≡ c .day) × (ltb (b .sequence) (c .sequence) ≡ true)) → (b .day < c .day) ⊎ ((b .day ≡ c .day) × (b .sequence < c .sequence))
@@ -35,56 +30,6 @@ call-before b c e = one (lexb-true (b .trip) (c .trip) _ e)
     one : (b .trip < c .trip) ⊎ ((b .trip ≡ c .trip) × (Rattle.profile.specs.Figures.lexb (b .day) (c .day) (ltb (b .sequence) (c .sequence)) ≡ true)) → CallBefore b c
     one (inl l) = inl l
     one (inr (q, l)) = inr (q, two (lexb-true (b .day) (c .day) _ l))
-
--- ---- a list each of whose elements stands so to all after it
-
-module _ {A : Type 0} (R : A → A → Type 0) where
-  abbrev Pairs : List A → Type 0
-  Pairs [] = Unit {0}
-  Pairs (x ∷ xs) = ((y : A) → List·Memᴰ y xs → R x y) × Pairs xs
-
-  pairs-append : (xs ys : List A) → Pairs xs → Pairs ys → ((x y : A) → List·Memᴰ x xs → List·Memᴰ y ys → R x y) → Pairs (xs ++ ys)
-  pairs-append [] ys p q f = q
-  pairs-append (x ∷ xs) ys p q f = (λ y m. go y (List·Memᴰ·append-cases xs m), pairs-append xs ys (p .1) q (λ z y m n. f z y (List·Memᴰ·tail m) n))
-    where
-      go : (y : A) → List·Memᴰ y xs ⊎ List·Memᴰ y ys → R x y
-      go y (inl m) = p .0 y m
-      go y (inr m) = f x y (List·Memᴰ·head refl) m
-
-  pairs-cond : (b : Bool) (xs : List A) → Pairs xs → Pairs (cond b xs [])
-  pairs-cond true xs p = p
-  pairs-cond false xs p = tt
-
-module _ {A B : Type 0} (R : A → A → Type 0) (S : B → B → Type 0) where
-  pairs-concat : (g : B → List A) (ys : List B) → Pairs S ys → ((y : B) → Pairs R (g y)) → ((y z : B) → S y z → (a b : A) → List·Memᴰ a (g y) → List·Memᴰ b (g z) → R a b) → Pairs R (concatMap g ys)
-  pairs-concat g [] p q f = tt
-  pairs-concat g (y ∷ ys) p q f =
-      pairs-append R (g y) (concatMap g ys) (q y) (pairs-concat g ys (p .1) q f)
-      (λ a b m n. let (z, i, k) = concatMap-mem g ys n in f y z (p .0 z i) a b m k)
-
-  -- over tails, where what stands after an element is known to
-  pairs-tails : (g : B → List B → List A) (ys : List B) → Pairs S ys → ((y : B) (zs : List B) → Pairs S zs → Pairs R (g y zs))
-      → ((y z : B) (ys zs : List B) → S y z → (a b : A) → List·Memᴰ a (g y ys) → List·Memᴰ b (g z zs) → R a b) → Pairs R (overTails g ys)
-  pairs-tails g [] p q f = tt
-  pairs-tails g (y ∷ ys) p q f =
-      pairs-append R (g y ys) (overTails g ys) (q y ys (p .1)) (pairs-tails g ys (p .1) q f)
-      (λ a b m n. let (z, zs, tl, k) = overTails-mem g ys n in f y z ys zs (p .0 z (tail-mem z zs ys tl)) a b m k)
-
-pairs-while : {B : Type 0} (S : B → B → Type 0) (p : B → Bool) (ys : List B) → Pairs S ys → Pairs S (takeWhile p ys)
-pairs-while S p [] w = tt
-pairs-while S p (y ∷ ys) w = go (p y) (pairs-while S p ys (w .1))
-  where
-    go : (b : Bool) → Pairs S (takeWhile p ys) → Pairs S (cond b (y ∷ takeWhile p ys) [])
-    go true v = (λ z m. w .0 z (takeWhile-mem p ys m .0), v)
-    go false v = tt
-
-pairs-bits : (n b m : ℕ) → Pairs _<_ (bitsFrom n b m)
-pairs-bits zero b m = tt
-pairs-bits (suc n) b m = go (eqb (m % 2) 1) (pairs-bits n (suc b) (m / 2))
-  where
-    go : (c : Bool) → Pairs _<_ (bitsFrom n (suc b) (m / 2)) → Pairs _<_ (cond c (b ∷ bitsFrom n (suc b) (m / 2)) (bitsFrom n (suc b) (m / 2)))
-    go true v = (λ k i. let (x, h, e, d) = bits-mem n (suc b) (m / 2) i in omega arith, v)
-    go false v = v
 
 -- ---- the offers with their calls
 
@@ -104,35 +49,27 @@ before-by : (x y e f : Offer) → x ≡ e → y ≡ f → Before e f → Before 
 before-by x y e f p q w = subst (λ (z : Offer). Before z y) (sym p) (subst (λ (z : Offer). Before e z) (sym q) w)
 
 module _ (t : Timetable) where
-  abbrev toJ : Offer → Journey
+  abbrev pub toJ : Offer → Journey
   toJ (alone b o a k) = directOf t (rideOf b a) o k
   toJ (changing b o a c d k) = changeOf t (rideOf b a) (rideOf c d) o k
 
-  of-it : (e : Offer) → Of e (toJ e)
-  of-it (alone b o a k) = (refl, refl, refl, is-ride b a)
-  of-it (changing b o a c d k) = (refl, refl, refl, is-ride b a, is-ride c d)
-
-  each-of : (es : List Offer) → Each es (map toJ es)
-  each-of [] = tt
-  each-of (e ∷ es) = (of-it e, each-of es)
-
   module _ (b : Call) (o : ℕ) (a : Call) where
-    abbrev kLastAt : Call → Call → ℕ → List Offer
+    abbrev pub kLastAt : Call → Call → ℕ → List Offer
     kLastAt c d k = cond (t .joins (rideOf b a) c) (changing b o a c d k ∷ []) []
 
-    abbrev kLastAlight : Call → Call → List Offer
+    abbrev pub kLastAlight : Call → Call → List Offer
     kLastAlight c d = cond (d .alight) (concatMap (kLastAt c d) (targetsOf t d)) []
 
-    abbrev kLastBoard : Call → List Call → List Offer
+    abbrev pub kLastBoard : Call → List Call → List Offer
     kLastBoard c later = cond (c .board) (concatMap (kLastAlight c) (runOf c later)) []
 
-    abbrev kChanges : List Call → List Offer
+    abbrev pub kChanges : List Call → List Offer
     kChanges s = cond (eqb (t .max-transfers) 1) (overTails kLastBoard s) []
 
-    abbrev kDirect : ℕ → List Offer
+    abbrev pub kDirect : ℕ → List Offer
     kDirect k = alone b o a k ∷ []
 
-    abbrev kAlight : List Call → List Offer
+    abbrev pub kAlight : List Call → List Offer
     kAlight s = cond (a .alight) (concatMap kDirect (targetsOf t a) ++ kChanges s) []
 
     -- their calls
@@ -227,13 +164,13 @@ module _ (t : Timetable) where
   by-b b b′ o o′ a a′ (changing b₁ o₁ a₁ c₁ d₁ k₁) (changing b₂ o₂ a₂ c₂ d₂ k₂) (p, q, r) (p′, q′, r′) l = inl (subst (λ (z : Call). CallBefore z b₂) p (subst (CallBefore b) p′ l))
 
   module _ (s : List Call) (p : Pairs CallBefore s) where
-    abbrev kOrigin : Call → List Call → ℕ → List Offer
+    abbrev pub kOrigin : Call → List Call → ℕ → List Offer
     kOrigin b later o = cond (leb (t .origin-walk o * 60) (b .departure)) (concatMap (λ a. kAlight b o a s) (runOf b later)) []
 
-    abbrev kBoard : Call → List Call → List Offer
+    abbrev pub kBoard : Call → List Call → List Offer
     kBoard b later = cond (b .board) (concatMap (kOrigin b later) (originsOf t b)) []
 
-    abbrev kOffers : List Offer
+    abbrev pub kOffers : List Offer
     kOffers = overTails kBoard s
 
     origin-has : (b : Call) (later : List Call) (o : ℕ) (x : Offer) → List·Memᴰ x (kOrigin b later o) → (a : Call) × HasA b o a x
@@ -255,26 +192,20 @@ module _ (t : Timetable) where
     pairs-board b later q = pairs-cond Before (b .board) _ (pairs-concat Before _<_ (kOrigin b later) (originsOf t b) (pairs-bits (min (t .origins) 4) 0 (t .members (b .stop))) (pairs-origin b later q)
         (λ o o′ l x y m n. let (a, h) = origin-has b later o x m in let (a′, h′) = origin-has b later o′ y n in by-o b o o′ a a′ x y h h′ l))
 
-    pairs-offers : Pairs Before kOffers
+    pub pairs-offers : Pairs Before kOffers
     pairs-offers = pairs-tails Before CallBefore kBoard s p pairs-board
         (λ b b′ bs bs′ l x y m n. let (o, a, h) = board-has b bs x m in let (o′, a′, h′) = board-has b′ bs′ y n in by-b b b′ o o′ a a′ x y h h′ l)
 
-    same-offers : map toJ kOffers ≡ offersIn t s
+    pub same-offers : map toJ kOffers ≡ offersIn t s
     unfolding offersIn boardAt originAt
     same-offers = map-tails toJ kBoard (boardAt t s) (λ b later. map-if toJ (b .board) _ _
         (map-each toJ (kOrigin b later) (originAt t s b later) (λ o. map-if toJ (leb (t .origin-walk o * 60) (b .departure)) _ _
         (map-each toJ (λ a. kAlight b o a s) (alightAt t s o b) (λ a. same-alight b o a s) (runOf b later))) (originsOf t b))) s
 
-ascends : (es : List Offer) → Pairs Before es → Ascending es
+pub ascends : (es : List Offer) → Pairs Before es → Ascending es
 ascends [] p = tt
 ascends (e ∷ es) p = (p .0, ascends es (p .1))
 
-rises : (s : List Call) → Rising s → Pairs CallBefore s
+pub rises : (s : List Call) → Rising s → Pairs CallBefore s
 rises [] w = tt
 rises (b ∷ s) w = (λ c m. call-before b c (w .0 c m), rises s (w .1))
-
-pub offers-offered : (t : Timetable) → Clear t → Offered (offers t)
-unfolding offers
-offers-offered t e =
-    let p = rises (sorted t) (clear-rising t e) in
-    record { keys = kOffers t (sorted t) p; ascending = ascends (kOffers t (sorted t) p) (pairs-offers t (sorted t) p); each = subst (Each (kOffers t (sorted t) p)) (same-offers t (sorted t) p) (each-of t (kOffers t (sorted t) p)) }

@@ -1,63 +1,68 @@
--- The horizon of the table is the only one that the relation allows: a count, a cut and a whole list leave one number.
-use Prim.Native.Nat.{ℕ, suc, _-_, _/_, _≤_, _<_}
-use mathlib.Core.Path.{_≡_, refl, sym, ap, subst, _∙_}
-use mathlib.Core.Bool.{true, false, true≢false, false≢true}
-use mathlib.Core.List.{List, [], _∷_, _++_}
+-- The answers are a function of the list: a call fits in one way, a step leaves one state, and a list is answered in one way.
+use Prim.Native.Nat.{ℕ, _-_, _/_}
+use mathlib.Core.Path.{_≡_, refl, sym, ap, subst}
+use mathlib.Core.List.{List, _∷_}
 use native.Mathlib.Omega.{arith}
+use lib.ListN.{length}
 use Rattle.refusal.specs.declared.Answer.{Answer}
-use Rattle.refusal.specs.declared.Answer.the-variants.{Taken, Outside}
-use Rattle.refusal.specs.First.{isTaken, isRefused}
 use Rattle.settings.specs.declared.Settings.{Settings}
 use Rattle.calls.specs.declared.CallInput.{CallInput}
 use Rattle.calls.specs.declared.Call.{Call}
-use Rattle.load.specs.declared.Load.{Load}
-use Rattle.load.specs.Filling.{stop, call, rule}
-use Rattle.steps.specs.Steps.{Step, filling, search, stepped}
-use Rattle.comparison.specs.Horizon.{Count, empty, one, pass, Cut, outside, room, full, Horizon, searched, sent-back, a-stop, a-rule, call-back, call-outside, call-taken}
+use Rattle.load.specs.Filling.{call}
+use Rattle.steps.specs.Steps.{Step}
+use Rattle.comparison.specs.Window.{Shown}
+use Rattle.comparison.specs.Taken.{callsIn, State, more, upTo}
+use Rattle.comparison.specs.Horizon.{Fits, outside, room, full, cut}
+use Rattle.comparison.specs.Causes.{causesOf}
+use Rattle.comparison.specs.Runs as runs
+use Rattle.comparison.specs.Runs.{After, sent-back, a-stop, a-rule, a-call, a-search, Runs, end, step}
+use Rattle.comparison.proofs.WindowLaws.{one-shown}
+use Rattle.comparison.proofs.Deciding.{one-first}
 
-pub one-count : (s : Settings) (h : ℕ) (is : List CallInput) (n m : ℕ) → Count s h is n → Count s h is m → n ≡ m
-one-count s h _ _ _ empty empty = refl
-one-count s h _ _ _ (one {is = is} v w) (one v′ w′) = ap suc (one-count s h is _ _ w w′)
-one-count s h _ _ _ (one {c = c} v w) (pass f w′) = absurd (f c v)
-one-count s h _ _ _ (pass f w) (one {c = c} v w′) = absurd (f c v)
-one-count s h _ _ _ (pass {is = is} f w) (pass f′ w′) = one-count s h is _ _ w w′
+-- one answer, one horizon and one mark
+pub record Alike (a b : Answer) (g k m n : ℕ) : Type 0 where
+  pub answer : a ≡ b
+  pub horizon : g ≡ k
+  pub mark : m ≡ n
 
-pub one-cut : (s : Settings) (cs : List CallInput) (i : CallInput) (h g k : ℕ) → Cut s cs i h g → Cut s cs i h k → g ≡ k
-one-cut s cs i h _ _ (outside f) (outside f′) = refl
-one-cut s cs i h _ _ (outside f) (room c l) = refl
-one-cut s cs i h _ _ (outside f) (full {c = c} v n l q w) = absurd (f c v)
-one-cut s cs i h _ _ (room c l) (outside f) = refl
-one-cut s cs i h _ _ (room c l) (room c′ l′) = refl
-one-cut s cs i h _ _ (room c l) (full v n l′ q w) = absurd (omega (arith, one-count s h cs _ _ c n))
-one-cut s cs i h _ _ (full {c = c} v n l q w) (outside f) = absurd (f c v)
-one-cut s cs i h _ _ (full v n l q w) (room c l′) = absurd (omega (arith, one-count s h cs _ _ n c))
-one-cut s cs i h _ _ (full v n l q w) (full v′ n′ l′ q′ w′) = one-cut s cs i (h - h / 4) _ _ w w′
+same-length : (s : Settings) (h : ℕ) (is : List CallInput) (cs ds : List Call) → Shown s h is cs → Shown s h is ds → length cs ≡ length ds
+same-length s h is cs ds v w = ap length (one-shown s h is cs ds v w)
 
-taken-outside : (a : Answer) → a ≡ Taken → a ≡ Outside → ⊥
-taken-outside a p q = let z : _≡_ {A = ℕ} 0 1 = cc in omega arith
+pub one-fits : (s : Settings) (is : List CallInput) (i : CallInput) (h l : ℕ) (a b : Answer) (g k m n : ℕ) → Fits s is i h l a g m → Fits s is i h l b k n → Alike a b g k m n
+one-fits s is i h l _ _ _ _ _ _ (outside f) (outside f′) = record { answer = refl; horizon = refl; mark = refl }
+one-fits s is i h l _ _ _ _ _ _ (outside f) (room {c = c} v w q) = absurd (f c v)
+one-fits s is i h l _ _ _ _ _ _ (outside f) (full {c = c} v w q r) = absurd (f c v)
+one-fits s is i h l _ _ _ _ _ _ (outside f) (cut {c = c} v w q r z) = absurd (f c v)
+one-fits s is i h l _ _ _ _ _ _ (room {c = c} v w q) (outside f) = absurd (f c v)
+one-fits s is i h l _ _ _ _ _ _ (room v w q) (room v′ w′ q′) = record { answer = refl; horizon = refl; mark = refl }
+one-fits s is i h l _ _ _ _ _ _ (room v w q) (full v′ w′ q′ r) = absurd (omega (arith, same-length s h is _ _ w w′))
+one-fits s is i h l _ _ _ _ _ _ (room v w q) (cut v′ w′ q′ r z) = absurd (omega (arith, same-length s h is _ _ w w′))
+one-fits s is i h l _ _ _ _ _ _ (full {c = c} v w q r) (outside f) = absurd (f c v)
+one-fits s is i h l _ _ _ _ _ _ (full v w q r) (room v′ w′ q′) = absurd (omega (arith, same-length s h is _ _ w w′))
+one-fits s is i h l _ _ _ _ _ _ (full v w q r) (full v′ w′ q′ r′) = record { answer = refl; horizon = refl; mark = refl }
+one-fits s is i h l _ _ _ _ _ _ (full v w q r) (cut v′ w′ q′ r′ z) = absurd (omega arith)
+one-fits s is i h l _ _ _ _ _ _ (cut {c = c} v w q r z) (outside f) = absurd (f c v)
+one-fits s is i h l _ _ _ _ _ _ (cut v w q r z) (room v′ w′ q′) = absurd (omega (arith, same-length s h is _ _ w w′))
+one-fits s is i h l _ _ _ _ _ _ (cut v w q r z) (full v′ w′ q′ r′) = absurd (omega arith)
+one-fits s is i h l a b g k m n (cut v w q r z) (cut v′ w′ q′ r′ z′) = one-fits s is i (h - h / 4) 1 a b g k m n z z′
 
-back-taken : (a : Answer) → isRefused a ≡ true → a ≡ Taken → ⊥
-back-taken a p q = true≢false (sym p ∙ ap isRefused q)
+pub one-after : (s : Settings) (t : State) (x : Step) (a : Answer) (u v : State) → After s t x a u → After s t x a v → u ≡ v
+one-after s t _ _ _ _ sent-back sent-back = refl
+one-after s t _ _ _ _ a-stop a-stop = refl
+one-after s t _ _ _ _ a-rule a-rule = refl
+one-after s t _ _ _ _ (a-call {i = i} {h = h} {m = m} f) (a-call {h = k} {m = n} f′) =
+    let w = one-fits s (callsIn (t .taken)) i (t .horizon) (t .limits) _ _ h k m n f f′ in
+    λ j. upTo (more t (call i)) (w .horizon j) (w .mark j)
+one-after s t _ _ _ _ (runs.outside {i = i} {h = h} {m = m} f) (runs.outside {h = k} {m = n} f′) =
+    let w = one-fits s (callsIn (t .taken)) i (t .horizon) (t .limits) _ _ h k m n f f′ in
+    λ j. upTo t (w .horizon j) (w .mark j)
+one-after s t _ _ _ _ a-search a-search = refl
 
-back-outside : (a : Answer) → isRefused a ≡ true → a ≡ Outside → ⊥
-back-outside a p q = true≢false (sym p ∙ ap isRefused q)
-
--- h and h′ are one, and so are the calls
-pub one-horizon : (s : Settings) (l : Load) (cs : List CallInput) (h : ℕ) (xs : List Step) (g k : ℕ) → Horizon s l cs h xs g → Horizon s l cs h xs k → g ≡ k
-one-horizon s l cs h _ _ _ (searched e) (searched e′) = refl
-one-horizon s l cs h _ _ _ (searched e) (sent-back e′ w) = absurd (true≢false (sym e ∙ e′))
-one-horizon s l cs h _ _ _ (sent-back e w) (searched e′) = absurd (true≢false (sym e′ ∙ e))
-one-horizon s l cs h _ g k (sent-back {xs = xs} e w) (sent-back e′ w′) = one-horizon s (stepped l search .load) cs h xs g k w w′
-one-horizon s l cs h _ g k (a-stop {xs = xs} {id = id} {name = name} {parent = parent} {i = i} w) (a-stop w′) = one-horizon s (stepped l (filling (stop id name parent i)) .load) cs h xs g k w w′
-one-horizon s l cs h _ g k (a-rule {xs = xs} {i = i} w) (a-rule w′) = one-horizon s (stepped l (filling (rule i)) .load) cs h xs g k w w′
-one-horizon s l cs h _ g k (call-back {xs = xs} {i = i} e w) (call-back e′ w′) = one-horizon s (stepped l (filling (call i)) .load) cs h xs g k w w′
-one-horizon s l cs h _ g k (call-back e w) (call-outside e′ c w′) = absurd (back-outside _ e e′)
-one-horizon s l cs h _ g k (call-back e w) (call-taken e′ c w′) = absurd (back-taken _ e e′)
-one-horizon s l cs h _ g k (call-outside e c w) (call-back e′ w′) = absurd (back-outside _ e′ e)
-one-horizon s l cs h _ g k (call-outside {h′ = a} {xs = xs} {i = i} e c w) (call-outside {h′ = b} e′ c′ w′) =
-    one-horizon s (stepped l (filling (call i)) .load) cs a xs g k w (subst (λ (q : ℕ). Horizon s (stepped l (filling (call i)) .load) cs q xs k) (one-cut s cs i h b a c′ c) w′)
-one-horizon s l cs h _ g k (call-outside e c w) (call-taken e′ c′ w′) = absurd (taken-outside _ e′ e)
-one-horizon s l cs h _ g k (call-taken e c w) (call-back e′ w′) = absurd (back-taken _ e′ e)
-one-horizon s l cs h _ g k (call-taken e c w) (call-outside e′ c′ w′) = absurd (taken-outside _ e e′)
-one-horizon s l cs h _ g k (call-taken {h′ = a} {xs = xs} {i = i} e c w) (call-taken {h′ = b} e′ c′ w′) =
-    one-horizon s (stepped l (filling (call i)) .load) (cs ++ i ∷ []) a xs g k w (subst (λ (q : ℕ). Horizon s (stepped l (filling (call i)) .load) (cs ++ i ∷ []) q xs k) (one-cut s cs i h b a c′ c) w′)
+-- a list of steps has one list of answers, and leaves one state
+pub one-runs : (s : Settings) (t : State) (xs : List Step) (rs qs : List Answer) (u v : State) → Runs s t xs rs u → Runs s t xs qs v → (rs ≡ qs) × (u ≡ v)
+one-runs s t _ _ _ _ _ end end = (refl, refl)
+one-runs s t _ _ _ u v (step {u = w} {x = x} {xs = xs} {a = a} {rs = rs} f g r) (step {u = w′} {a = b} {rs = qs} f′ g′ r′) =
+    let e : b ≡ a = one-first (causesOf s t x) b a f′ f in
+    let q : w′ ≡ w = one-after s t x a w′ w (subst (λ (c : Answer). After s t x c w′) e g′) g in
+    let z = one-runs s w xs rs qs u v r (subst (λ (y : State). Runs s y xs qs v) q r′) in
+    (λ k. sym e k ∷ z .0 k, z .1)

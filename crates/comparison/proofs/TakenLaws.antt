@@ -1,5 +1,5 @@
 -- The load that the accepted search is handed holds what was taken, and nothing else.
-use Prim.Native.Nat.{ℕ, zero, suc, _+_, _-_, _≤_, _<_}
+use Prim.Native.Nat.{ℕ, suc, _+_, _-_, _≤_, _<_}
 use mathlib.Core.Path.{_≡_, refl, sym, ap, subst, _∙_}
 use mathlib.Core.Logic.{_⊎_, inl, inr}
 use mathlib.Core.Bool.{Bool, true, false, not, cond, _&&_, true≢false, false≢true}
@@ -10,7 +10,7 @@ use lib.Dec.{leb, ltb, eqb}
 use lib.ListN.{length, take, getD, set, length-append, length-take}
 use lib.Seq.{take-suc-set, getD-set-same, getD-set-other, getD-take}
 use borrow.Author.Tests.{eqb-true, leb-true}
-use Rattle.laws.proofs.Bools.{and-true-left, and-true-right, cond-by, cond-not}
+use Rattle.laws.proofs.Bools.{and-true-left, and-true-right}
 use Rattle.laws.proofs.Slots.{below-cases}
 use Rattle.refusal.specs.declared.Answer.{Answer}
 use Rattle.refusal.specs.declared.Refusal.the-variants.{AlreadySearched, FieldRange, TimesReversed}
@@ -18,16 +18,14 @@ use Rattle.refusal.specs.declared.Answer.the-variants.{Taken, Outside, Refused}
 use Rattle.refusal.specs.First.{firstAnswer, isTaken, isRefused}
 use Rattle.refusal.proofs.FirstLaws.{taken-is, answer-is-first, first-taken}
 use Rattle.settings.specs.declared.Settings.{Settings}
-use Rattle.settings.specs.Settings.{canonicalOf}
 use Rattle.calls.specs.declared.CallInput.{CallInput}
 use Rattle.calls.specs.declared.Call.{Call}
 use Rattle.calls.specs.declared.Table.{Table}
 use Rattle.calls.specs.declared.Fitted.{Fitted}
 use Rattle.calls.specs.declared.Offset.{Offset}
-use Rattle.calls.specs.declared.View.{View}
-use Rattle.calls.specs.declared.View.the-variants.{In, Out}
+use Rattle.calls.specs.declared.View.the-variants.{Out}
 use Rattle.calls.specs.Windows.{seen}
-use Rattle.calls.specs.Calls.{known, unTimed, reversed, callTests, callTime, callSeen, window, callFit, ended, goesOn, callOn}
+use Rattle.calls.specs.Calls.{known, unTimed, reversed, callTests, callTime, window, callFit, ended, goesOn, callOn}
 use Rattle.calls.specs.Shown.{shown, windowed, tableCalls, Shows, accepted}
 use Rattle.calls.proofs.Fits.{Ends, stands, enters, turned, ends}
 use Rattle.calls.proofs.SoundLaws.{call-tests-fail, passed}
@@ -48,14 +46,14 @@ use Rattle.stops.specs.Sound.{stopAt}
 use Rattle.stops.proofs.SoundLaws.{id-kept}
 use Rattle.stops.proofs.Laws as stops
 use Rattle.load.specs.declared.Load.{Load}
-use Rattle.load.specs.declared.Stepped.{Stepped}
 use Rattle.load.specs.Load.{emptyLoad, tableOf, withTable, withStops, withRules}
 use Rattle.load.specs.Steps.{opened, stationIn, stopAnswer, stopSpec, callFitted, callSpec, ruleAnswer, ruleSpec}
 use Rattle.load.specs.Filling.{Filling, stop, call, rule, filled}
 use Rattle.load.specs.Sound.{Sound}
-use Rattle.comparison.specs.Taken.{StopGiven, stopsIn, callsIn, rulesIn, takenFrom}
+use Rattle.comparison.specs.Taken.{StopGiven, stopsIn, callsIn, rulesIn}
+use Rattle.comparison.specs.Feeds.{recordOf, recordsFrom}
 use Rattle.comparison.specs.Admitted.{Nth}
-use Rattle.comparison.proofs.NthLaws.{nth-below, nth-one, nth-more, nth-new, bytes-same, calls-append, rules-append, stops-append}
+use Rattle.comparison.proofs.NthLaws.{nth-more, nth-new, bytes-same, calls-append, rules-append, stops-append}
 
 -- ---- an outside call is outside up to the horizon that it leaves
 
@@ -148,10 +146,15 @@ pub record Held (l : Load) (fs : List Filling) : Type 0 where
   pub rules : take (l .«rule_count») (l .rules) ≡ map ruleOf (rulesIn fs)
   pub stops : l .«stop_count» ≡ length (stopsIn fs)
   pub each : (k : ℕ) → k < l .«stop_count» → HeldAs (stopAt (l .stops) k) (stopsIn fs) k
+  pub records : take (l .«stop_count») (l .stops) ≡ recordsFrom [] (stopsIn fs)
+
+records-append : (ss : List Stop) (gs : List StopGiven) (g : StopGiven) → recordsFrom ss (gs ++ g ∷ []) ≡ recordsFrom ss gs ++ recordOf (recordsFrom ss gs) g ∷ []
+records-append ss [] g = refl
+records-append ss (h ∷ gs) g = records-append (ss ++ recordOf ss h ∷ []) gs g
 
 pub opened-holds : (s : Settings) → Held (opened s) []
 unfolding emptyLoad
-opened-holds s = record { calls = refl; days = λ i m. absurd (List·Memᴰ·not-nil m); rules = refl; stops = refl; each = λ k h. absurd (omega arith) }
+opened-holds s = record { calls = refl; days = λ i m. absurd (List·Memᴰ·not-nil m); rules = refl; stops = refl; each = λ k h. absurd (omega arith); records = refl }
 
 -- more stops keep one
 held-more : (st : Stop) (ss ts : List StopGiven) (k : ℕ) → HeldAs st ss k → HeldAs st (ss ++ ts) k
@@ -172,7 +175,7 @@ held-more st ss ts k w = record {
     go (inr (h, (p, n, b, e, t))) = inr (h, (p, nth-more ss ts (st .parent) p n, b, e, t))
 
 -- what was found has the property
-found : (p : Stop → Bool) (l : List Stop) (k m : ℕ) → findStop p l k ≡ At m → (k ≤ m) × (m < k + length l) × (p (getD l (m - k) blankStop) ≡ true)
+pub found : (p : Stop → Bool) (l : List Stop) (k m : ℕ) → findStop p l k ≡ At m → (k ≤ m) × (m < k + length l) × (p (getD l (m - k) blankStop) ≡ true)
 found p [] k m e = let z : _≡_ {A = ℕ} 0 1 = cc in absurd (omega arith)
 found p (s ∷ ss) k m e = go (λ f. found p ss (k + 1) m f) (p s) refl e
   where
@@ -282,6 +285,15 @@ module _ (l : Load) (fs : List Filling) (sound : Sound l) (w : Held l fs) where
     rules-new : rulesIn gs ≡ rulesIn fs
     rules-new = rules-append fs (stop id name parent i ∷ []) ∙ append-nil (rulesIn fs)
 
+    one-record : take (n + 1) (set (l .stops) n st) ≡ recordsFrom [] (stopsIn gs)
+    unfolding stationOf
+    one-record =
+        ap (λ (k : ℕ). take k (set (l .stops) n st)) (add-one n)
+        ∙ take-suc-set (l .stops) n st room
+        ∙ ap (λ (r : List Stop). r ++ recordOf r new ∷ []) (w .records)
+        ∙ sym (records-append [] (stopsIn fs) new)
+        ∙ ap (recordsFrom []) (sym stops-new)
+
     stop-held : Held (withStops l (set (l .stops) n st) (n + 1)) gs
     stop-held = record {
       calls = w .calls ∙ ap (windowed (l .settings) (l .«table_horizon»)) (sym calls-new);
@@ -289,6 +301,7 @@ module _ (l : Load) (fs : List Filling) (sound : Sound l) (w : Held l fs) where
       rules = w .rules ∙ ap (map ruleOf) (sym rules-new);
       stops = ap (λ (k : ℕ). k + 1) (w .stops) ∙ sym (snoc-length (stopsIn fs) new) ∙ ap length (sym stops-new);
       each = λ k h. subst (λ (ss : List StopGiven). HeldAs (stopAt (set (l .stops) n st) k) ss k) (sym stops-new) (every k h);
+      records = one-record;
     }
 
   -- ---- a rule
@@ -321,6 +334,7 @@ module _ (l : Load) (fs : List Filling) (sound : Sound l) (w : Held l fs) where
       rules = one-more;
       stops = w .stops ∙ ap length (sym rule-stops);
       each = λ k h. subst (λ (ss : List StopGiven). HeldAs (stopAt (l .stops) k) ss k) (sym rule-stops) (w .each k h);
+      records = w .records ∙ ap (recordsFrom []) (sym rule-stops);
     }
 
   -- ---- a call
@@ -352,6 +366,7 @@ module _ (l : Load) (fs : List Filling) (sound : Sound l) (w : Held l fs) where
       rules = w .rules ∙ ap (map ruleOf) (sym call-rules);
       stops = w .stops ∙ ap length (sym call-stops);
       each = λ k h. subst (λ (ss : List StopGiven). HeldAs (stopAt (l .stops) k) ss k) (sym call-stops) (w .each k h);
+      records = w .records ∙ ap (recordsFrom []) (sym call-stops);
     }
       where
         day : (j : CallInput) → List·Memᴰ j (callsIn fs) ⊎ List·Memᴰ j (i ∷ []) → j .day ≤ 2
@@ -367,6 +382,7 @@ module _ (l : Load) (fs : List Filling) (sound : Sound l) (w : Held l fs) where
       rules = w .rules;
       stops = w .stops;
       each = w .each;
+      records = w .records;
     }
 
 -- ---- every step that fills

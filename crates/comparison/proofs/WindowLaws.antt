@@ -2,26 +2,25 @@
 use mathlib.Core.Path.{_≡_, refl, sym, ap, subst, _∙_}
 use mathlib.Core.Logic.{_⊎_, inl, inr, _↔_}
 use mathlib.Core.Bool.{Bool, true, false, not, cond, _&&_, _||_, true≢false, false≢true}
+use mathlib.Core.List.{List, _∷_}
 use Prim.Native.Nat.{ℕ, _≤_, _<_}
 use native.Mathlib.Omega.{arith}
-use lib.Dec.{leb, ltb, eqb}
-use lib.IntN.{ℤ, pos, negsuc, _+ℤ_, _-ℤ_}
+use lib.Dec.{leb, eqb}
+use lib.IntN.{ℤ, pos, negsuc}
 use lib.ListN.{getD}
-use borrow.Author.Tests.{leb-true, leb-false, le-leb, lt-leb, ltb-true, ltb-false, lt-ltb, le-ltb, eqb-true, eqb-false, eq-eqb, ne-eqb}
-use Rattle.laws.proofs.Bools.{and-true, and-true-left, and-true-right, or-true-cases, or-true-left, or-true-right, or-false-left, or-false-right, cond-by, cond-not}
+use borrow.Author.Tests.{leb-true, leb-false, le-leb, lt-leb, ltb-false, le-ltb, eqb-true, eq-eqb, ne-eqb}
+use Rattle.laws.proofs.Bools.{and-true, and-true-left, and-true-right, or-true-cases, or-true-left, or-true-right, cond-by, cond-not}
 use Rattle.settings.specs.declared.Settings.{Settings}
 use Rattle.settings.specs.Settings.{near}
 use Rattle.calls.specs.declared.CallInput.{CallInput}
 use Rattle.calls.specs.declared.Call.{Call}
 use Rattle.calls.specs.declared.Offset.{Offset}
-use Rattle.calls.specs.declared.Offset.the-variants.{Before, At}
-use Rattle.calls.specs.declared.View.{View}
 use Rattle.calls.specs.declared.View.the-variants as view
 use Rattle.calls.specs.declared.Seconds.{Seconds}
 use Rattle.calls.specs.declared.Seconds.the-variants.{Given, Absent}
-use Rattle.calls.specs.Windows.{timeOf, timeAfter, before, after, within, held, allowed, asked, seenCall, outside, seen}
-use Rattle.calls.specs.Calls.{absent, secondsOf, unTimed, callTime, callSeen, window}
-use Rattle.comparison.specs.Window.{time, NotBelow, NotAfter, In, Held, May, OnRequest, Seen}
+use Rattle.calls.specs.Windows.{timeOf, timeAfter, before, after, within, held, allowed, asked, seenCall, seen}
+use Rattle.calls.specs.Calls.{unTimed, callTime, callSeen, window}
+use Rattle.comparison.specs.Window.{time, NotBelow, NotAfter, In, Held, May, OnRequest, Seen, Shown, empty, one, pass}
 
 -- ---- a time by cases
 
@@ -218,3 +217,39 @@ module _ (s : Settings) (h : ℕ) (i : CallInput) where
       go : (b : Bool) → (near (getD (s .epochs) (i .day) (pos 0)) && near (s .now)) ≡ b → Seen s h i c
       go true e = by-times (i .arrival) (i .departure) refl refl e c w
       go false e = absurd (out-in c (sym (far-out e) ∙ w))
+
+-- a call is seen in one way, and the calls of a list too
+pub one-seen : (s : Settings) (h : ℕ) (i : CallInput) (c c′ : Call) → Seen s h i c → Seen s h i c′ → c ≡ c′
+one-seen s h i c c′ w w′ =
+    let qa : w′ .a ≡ w .a = given-one (w′ .a) (w .a) (sym (w′ .arrives) ∙ w .arrives) in
+    let qd : w′ .d ≡ w .d = given-one (w′ .d) (w .d) (sym (w′ .departs) ∙ w .departs) in
+    let za : ℤ = time s (i .day) (w .a) in
+    let zd : ℤ = time s (i .day) (w .d) in
+    let arr : c .arrival ≡ c′ .arrival = held-is h za (c .arrival) (w .arrival) ∙ sym (held-is h za (c′ .arrival) (subst (λ (n : ℕ). Held h (time s (i .day) n) (c′ .arrival)) qa (w′ .arrival))) in
+    let dep : c .departure ≡ c′ .departure = held-is h zd (c .departure) (w .departure) ∙ sym (held-is h zd (c′ .departure) (subst (λ (n : ℕ). Held h (time s (i .day) n) (c′ .departure)) qd (w′ .departure))) in
+    let brd : c .board ≡ c′ .board = iff-is (c .board) (c′ .board) (w .board) (subst (λ (n : ℕ). May h (time s (i .day) n) (i .pickup) (c′ .board)) qd (w′ .board)) in
+    let alt : c .alight ≡ c′ .alight = iff-is (c .alight) (c′ .alight) (w .alight) (subst (λ (n : ℕ). May h (time s (i .day) n) (i .«drop_off») (c′ .alight)) qa (w′ .alight)) in
+    let bra : c .«board_request» ≡ c′ .«board_request» = iff-is (c .«board_request») (c′ .«board_request») (w .board-asked) (subst (λ (b : Bool). OnRequest b (i .pickup) (c′ .«board_request»)) (sym brd) (w′ .board-asked)) in
+    let ala : c .«alight_request» ≡ c′ .«alight_request» = iff-is (c .«alight_request») (c′ .«alight_request») (w .alight-asked) (subst (λ (b : Bool). OnRequest b (i .«drop_off») (c′ .«alight_request»)) (sym alt) (w′ .alight-asked)) in
+    λ k. record {
+      trip = (w .trip ∙ sym (w′ .trip)) k;
+      day = (w .day ∙ sym (w′ .day)) k;
+      sequence = (w .sequence ∙ sym (w′ .sequence)) k;
+      stop = (w .stop ∙ sym (w′ .stop)) k;
+      arrival = arr k;
+      departure = dep k;
+      board = brd k;
+      alight = alt k;
+      «board_request» = bra k;
+      «alight_request» = ala k;
+    }
+  where
+    given-one : (m n : ℕ) → Given m ≡ Given n → m ≡ n
+    given-one m n e = cc
+
+pub one-shown : (s : Settings) (h : ℕ) (is : List CallInput) (cs ds : List Call) → Shown s h is cs → Shown s h is ds → cs ≡ ds
+one-shown s h _ _ _ empty empty = refl
+one-shown s h _ _ _ (one {i = i} {is = is} {c = c} v w) (one {c = d} v′ w′) = λ k. one-seen s h i c d v v′ k ∷ one-shown s h is _ _ w w′ k
+one-shown s h _ _ _ (one {c = c} v w) (pass f w′) = absurd (f c v)
+one-shown s h _ _ _ (pass f w) (one {c = c} v w′) = absurd (f c v)
+one-shown s h _ _ _ (pass {is = is} f w) (pass f′ w′) = one-shown s h is _ _ w w′

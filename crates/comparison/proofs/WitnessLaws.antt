@@ -1,5 +1,12 @@
 -- By computation.
-use mathlib.Core.Path.{refl}
+use Prim.Native.Nat.{ℕ}
+use mathlib.Core.Path.{_≡_, refl, ap, subst}
+use mathlib.Core.Bool.{true}
+use mathlib.Core.List.{List, [], _∷_, map, List·Memᴰ, List·Memᴰ·head}
+use native.Mathlib.Omega.{arith}
+use lib.ListN.{getD}
+use Rattle.refusal.specs.declared.Answer.{Answer}
+use Rattle.refusal.specs.declared.Answer.the-variants.{Taken}
 use Rattle.refusal.specs.First.{firstAnswer}
 use Rattle.settings.specs.Settings.{overCounts, near, allNear, settingsTests, walksOf, canonicalOf}
 use Rattle.stops.specs.Answer.{stationOf, idWrong, isKnown, typeWrong, nameNeeded, nameWrong, stopTests}
@@ -10,15 +17,73 @@ use Rattle.calls.specs.Calls.{known, callTests, callFit, callOn}
 use Rattle.calls.specs.Tables.{cut, fitted}
 use Rattle.calls.specs.Windows.{timeAfter, seenCall, seen}
 use Rattle.load.specs.Load.{emptyLoad}
-use Rattle.load.specs.Steps.{stopSpec, callSpec}
-use Rattle.profile.specs.Figures.{lexb}
+use Rattle.load.specs.Steps.{opened, stopSpec, callSpec}
+use Rattle.load.specs.Sound.{Opens}
+use Rattle.profile.specs.declared.Journey.{Journey}
+use Rattle.profile.specs.Figures.{Figures, covᶠ, dueᶠ, lexb}
+use Rattle.profile.specs.Journeys.{journeyFigures}
+use Rattle.profile.specs.Instances.{figuresOf}
+use Rattle.profile.proofs.FrontLaws.{after-mem}
+use Rattle.settings.specs.declared.Settings.{Settings}
+use Rattle.best.specs.Best.{keptOf}
+use Rattle.steps.specs.Steps.{Step}
 use Rattle.offers.specs.Order.{clash}
 use Rattle.offers.specs.Offers.{directAt, changesAt, alightAt, originAt, boardAt, offersIn, offers}
 use Rattle.offers.specs.Search.{searchOf}
 use Rattle.search.specs.Timetable.{timetableOf}
 use Rattle.search.specs.Search.{outcomeOf, searchSpec}
-use Rattle.comparison.specs.Witness.{Met}
+use Rattle.steps.specs.Lists.{endOf, offersOf}
+use Rattle.steps.proofs.HeldLaws.{searched-holds}
+use Rattle.comparison.specs.Taken.{fresh}
+use Rattle.comparison.specs.Runs.{Runs, Admitted}
+use Rattle.comparison.specs.Demands.{answersFrom}
+use Rattle.comparison.specs.Witness.{someSettings, oneTrip, keptFigures, Met}
+use Rattle.comparison.proofs.DemandLaws.{ending, run, same-admitted}
+
+-- what the program answers
+record Computed : Type 0 where
+  opens : Opens someSettings
+  answers : answersFrom (opened someSettings) (oneTrip 600 1200) ≡ Taken ∷ Taken ∷ Taken ∷ Taken ∷ Taken ∷ []
+  searched : endOf someSettings (oneTrip 600 1200) .searched ≡ true
+
+pub record Kept : Type 0 where
+  pub one-trip : keptFigures (oneTrip 600 1200) ≡ figuresOf 300 1320 1 5 ∷ []
+  pub at-zero : keptFigures (oneTrip 300 1200) ≡ figuresOf 0 1320 1 5 ∷ []
+  pub not-boarded : keptFigures (oneTrip 299 1200) ≡ []
+  pub at-horizon : keptFigures (oneTrip 600 21480) ≡ figuresOf 300 21600 1 5 ∷ []
+  pub past-horizon : keptFigures (oneTrip 600 21481) ≡ []
+
+computed : Computed
+unfolding firstAnswer overCounts near allNear settingsTests walksOf canonicalOf stationOf idWrong isKnown typeWrong nameNeeded nameWrong stopTests stopAt stopOf heldText known callTests callFit callOn cut fitted timeAfter seenCall seen emptyLoad stopSpec callSpec lexb clash directAt changesAt alightAt originAt boardAt offersIn offers searchOf timetableOf outcomeOf searchSpec
+computed = record { opens = refl; answers = refl; searched = refl }
+
+pub kept : Kept
+unfolding firstAnswer overCounts near allNear settingsTests walksOf canonicalOf stationOf idWrong isKnown typeWrong nameNeeded nameWrong stopTests stopAt stopOf heldText known callTests callFit callOn cut fitted timeAfter seenCall seen emptyLoad stopSpec callSpec lexb clash directAt changesAt alightAt originAt boardAt offersIn offers searchOf timetableOf outcomeOf searchSpec
+kept = record { one-trip = refl; at-zero = refl; not-boarded = refl; at-horizon = refl; past-horizon = refl }
+
+-- a list of one by its figures
+one-of : (ks : List Journey) (f : Figures) → map journeyFigures ks ≡ f ∷ [] → (j : Journey) × List·Memᴰ j ks × (journeyFigures j ≡ f)
+one-of [] f e = absurd (let z : _≡_ {A = ℕ} 0 1 = cc in omega arith)
+one-of (k ∷ ks) f e = (k, List·Memᴰ·head refl, ap (λ (l : List Figures). getD l 0 f) e)
+
+one-kept : (s : Settings) (xs : List Step) → (o : Opens s) → endOf s xs .searched ≡ true → (j : Journey) → List·Memᴰ j (keptOf (endOf s xs)) → Admitted s xs j
+one-kept s xs o d j m =
+    let w = searched-holds s xs o d in
+    let n = after-mem (covᶠ journeyFigures) (dueᶠ journeyFigures) (endOf s xs .horizon) [] (offersOf s xs) (subst (List·Memᴰ j) (w .unbeaten) m) in
+    same-admitted s xs o j .0 (w .admitted j .0 (n .0))
 
 pub met : Met
-unfolding firstAnswer overCounts near allNear settingsTests walksOf canonicalOf stationOf idWrong isKnown typeWrong nameNeeded nameWrong stopTests stopAt stopOf heldText known callTests callFit callOn cut fitted timeAfter seenCall seen emptyLoad stopSpec callSpec lexb clash directAt changesAt alightAt originAt boardAt offersIn offers searchOf timetableOf outcomeOf searchSpec
-met = record { opens = refl; searched = refl; kept = refl }
+met =
+    let o = computed .opens in
+    let xs = oneTrip 600 1200 in
+    let (j, m, e) = one-of (keptOf (endOf someSettings xs)) (figuresOf 300 1320 1 5) (kept .one-trip) in
+    record {
+      opens = o;
+      taken = record {
+        end = ending someSettings o xs;
+        runs = subst (λ (rs : List Answer). Runs someSettings fresh xs rs (ending someSettings o xs)) (computed .answers) (run someSettings o xs);
+        searched = computed .searched;
+      };
+      admitted = record { j = j; figures = e; admitted = one-kept someSettings xs o (computed .searched) j m };
+      kept = kept .one-trip;
+    }

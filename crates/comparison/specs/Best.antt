@@ -1,5 +1,5 @@
--- "`Cache::best`: none before 0 or after the horizon; else, of kept journeys leaving at or after the second, least arrival, then rides, then walk,
--- then latest leave." As a relation between the kept list, the horizon, the second and the answer. And of full ties the first.
+-- "`Cache::best`: none before 0 or after the horizon; else, of kept journeys leaving at or after the second, least arrival, then rides,
+-- then walk, then latest leave." As a relation between the kept list, the horizon, the second and the answer. And of full ties the first.
 use mathlib.Core.Path.{_≡_}
 use mathlib.Core.Logic.{_⊎_}
 use mathlib.Core.Option.{Option, none, some}
@@ -11,7 +11,10 @@ use Rattle.comparison.specs.Order.{Same}
 
 -- least arrival, then rides, then walk, then latest leave
 abbrev pub AsGood : Journey → Journey → Type 0
-AsGood p q = (p .arrival < q .arrival) ⊎ ((p .arrival ≡ q .arrival) × ((p .rides < q .rides) ⊎ ((p .rides ≡ q .rides) × ((p .walk < q .walk) ⊎ ((p .walk ≡ q .walk) × (q .leave ≤ p .leave))))))
+AsGood p q =
+    (p .arrival < q .arrival)
+    ⊎ ((p .arrival ≡ q .arrival)
+    × ((p .rides < q .rides) ⊎ ((p .rides ≡ q .rides) × ((p .walk < q .walk) ⊎ ((p .walk ≡ q .walk) × (q .leave ≤ p .leave))))))
 
 -- of ks, j is the best that leaves at t or later
 pub record IsBest (ks : List Journey) (t : ℕ) (j : Journey) : Type 0 where

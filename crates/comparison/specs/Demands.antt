@@ -1,66 +1,114 @@
--- The three demands.
+-- The three demands, of what was handed in. What they need of the load is asked of it at the end: its calls, kept list, horizon, mark,
+-- and best.
 use mathlib.Core.Path.{_≡_}
 use mathlib.Core.Logic.{_⊎_, _↔_}
-use mathlib.Core.Bool.{true}
+use mathlib.Core.Bool.{true, false}
 use mathlib.Core.Option.{Option, none, some}
-use mathlib.Core.List.{List, [], List·Memᴰ}
-use Prim.Native.Nat.{ℕ, _≤_, _<_}
+use mathlib.Core.List.{List, [], _∷_, List·Memᴰ}
+use Prim.Native.Nat.{ℕ, _+_, _≤_, _<_}
 use lib.IntN.{ℤ, pos, negsuc}
+use Rattle.refusal.specs.declared.Answer.{Answer}
 use Rattle.settings.specs.declared.Settings.{Settings}
+use Rattle.calls.specs.declared.Call.{Call}
+use Rattle.calls.specs.Shown.{tableCalls}
 use Rattle.profile.specs.declared.Journey.{Journey}
 use Rattle.load.specs.declared.Load.{Load}
-use Rattle.load.specs.Steps.{opened}
+use Rattle.load.specs.Load.{tableOf}
+use Rattle.load.specs.Steps.{opened, openSpec}
 use Rattle.load.specs.Sound.{Opens}
-use Rattle.best.specs.Best.{answerOf, keptOf, bestSpec}
-use Rattle.steps.specs.Steps.{Step}
+use Rattle.best.specs.Best.{answerOf, keptOf, bestSpec, nextSpec}
+use Rattle.steps.specs.Steps.{Step, stepped, numbers}
 use Rattle.steps.specs.Lists.{endOf}
 use Rattle.steps.specs.Answered.{Answered, OpeningAnswered}
 use Rattle.time.specs.Promises.{Taken as TextTaken, Answered as TextAnswered}
 use Rattle.comparison.specs.Order.{EqualsOrBeats, Same}
 use Rattle.comparison.specs.Kept.{Holds}
-use Rattle.comparison.specs.Falls.{Falls}
-use Rattle.comparison.specs.OfferOrder.{Offered}
 use Rattle.comparison.specs.Best.{BestAt}
-use Rattle.comparison.specs.Feeds.{Admitted}
-use Rattle.comparison.specs.Horizon.{Horizon}
+use Rattle.comparison.specs.Window.{Shown}
+use Rattle.comparison.specs.Taken.{callsIn, State, fresh}
+use Rattle.comparison.specs.Feeds.{feedOf}
+use Rattle.comparison.specs.Neighbours.{Ordered}
+use Rattle.comparison.specs.OfferOrder.{Offered}
+use Rattle.comparison.specs.Falls.{Falls, at}
+use Rattle.comparison.specs.Causes.{First, numbersOf, settingsCauses, causesOf}
+use Rattle.comparison.specs.Runs.{Runs, Admitted}
 
 -- ---- 1: a result, or one of the refusals for its stated cause alone; a refused load comes back unchanged
+
+-- what the program answers to each step of a list
+abbrev pub answersFrom : Load → List Step → List Answer
+answersFrom l [] = []
+answersFrom l (x ∷ xs) = stepped l x .answer ∷ answersFrom (stepped l x .load) xs
+
+-- the larger of a second and a leave
+abbrev pub LaterOf : ℤ → ℕ → ℤ → Type 0
+LaterOf (pos n) k z = ((n ≤ k) × (z ≡ pos k)) ⊎ ((k ≤ n) × (z ≡ pos n))
+LaterOf (negsuc n) k z = z ≡ pos k
+
+-- of any load and second: "an unsearched load answers none"; else best of the kept list, up to the horizon. "`next_after`: best at the
+-- larger of the second and the given leave + 1"
+pub record Queried (l : Load) (z : ℤ) : Type 0 where
+  pub unsearched : l .searched ≡ false → answerOf (bestSpec l z) ≡ none
+  pub searched : l .searched ≡ true → BestAt (keptOf l) (l .horizon) z (answerOf (bestSpec l z))
+  pub next : (j : Journey) → (w : ℤ) × LaterOf z (j .leave + 1) w × (nextSpec l z j ≡ bestSpec l w)
 
 pub record Demand1 : Type 0 where
   -- a time text has its seconds exactly if it is of the form, and every other is refused with 16
   pub texts : TextTaken × TextAnswered
+  -- settings are answered for the first of their causes
+  pub settings : (s : Settings) → First (openSpec s .answer) (settingsCauses s)
   pub opening : (s : Settings) → OpeningAnswered s
+  -- so is every step of a list, by what was taken before it; the answers are the only ones, and so is what is taken
+  pub lists : (s : Settings) → Opens s → (xs : List Step) → (v : State) × Runs s fresh xs (answersFrom (opened s) xs) v
+  pub only : (s : Settings) (t : State) (xs : List Step) (rs qs : List Answer) (u v : State) → Runs s t xs rs u → Runs s t xs qs v
+      → (rs ≡ qs) × (u ≡ v)
+  -- in the scope's order
+  pub order : (s : Settings) (t : State) (x : Step) → numbersOf (causesOf s t x) ≡ numbers x
+  pub settings-order : (s : Settings) → numbersOf (settingsCauses s) ≡ 1 ∷ 2 ∷ []
+  -- of any load, one that no step made too: by what it holds; a refused load comes back unchanged
   pub steps : (l : Load) (x : Step) → Answered l x
-
--- the list ends in a searched load
-abbrev pub Searched : Settings → List Step → Type 0
-Searched s xs = endOf s xs .searched ≡ true
-
--- what the program's best answers
-abbrev pub answer : Settings → List Step → ℤ → Option Journey
-answer s xs z = answerOf (bestSpec (endOf s xs) z)
+  pub queries : (l : Load) (z : ℤ) → Queried l z
 
 -- ---- 2
 
-pub record Lists (s : Settings) (xs : List Step) : Type 0 where
+-- what the program's best answers at the end
+abbrev pub answer : Settings → List Step → ℤ → Option Journey
+answer s xs z = answerOf (bestSpec (endOf s xs) z)
+
+-- the calls of the load
+abbrev pub calls : Settings → List Step → List Call
+calls s xs = tableCalls (tableOf (endOf s xs))
+
+-- before a search: the calls taken, as they are seen, in the order taken; no journey; "a horizon cut, limit mark" only by the 513th call
+pub record Fills (s : Settings) (xs : List Step) (v : State) : Type 0 where
+  pub shown : Shown s (v .horizon) (callsIn (v .taken)) (calls s xs)
+  pub kept : keptOf (endOf s xs) ≡ []
+  pub horizon : endOf s xs .horizon ≡ v .horizon
+  pub limits : endOf s xs .limits ≡ v .limits
+  pub best : (z : ℤ) → answer s xs z ≡ none
+
+-- after it
+pub record Lists (s : Settings) (xs : List Step) (v : State) : Type 0 where
+  -- the calls taken, as they are seen, put in order
+  pub ordered : Ordered s (v .horizon) (callsIn (v .taken)) (calls s xs)
+  -- what is offered, in the paper's order: it says which of equals is the older. "An admitted journey is one so offered"
   pub offers : List Journey
-  -- an admitted journey is one so offered
+  pub offered : Offered (feedOf s v) offers
   pub admitted : (j : Journey) → List·Memᴰ j offers ↔ Admitted s xs j
-  -- in the paper's order: it says which of equals is the older
-  pub order : Offered offers
   -- "the list holds exactly the journeys due by its horizon that none other beats, the older of equals"
   pub holds : Holds (endOf s xs .horizon) offers (keptOf (endOf s xs))
-  -- "the horizon falling only by 01's rule": the table's, and its mark, while calls are handed in; then the list's, while journeys are offered
-  pub table : ℕ
-  pub mark : ℕ
-  pub cuts : Horizon s (opened s) [] 21600 xs table
-  pub marked : ((table ≡ 21600) × (mark ≡ 0)) ⊎ ((table ≡ 21600 → ⊥) × (mark ≡ 1))
-  pub falls : Falls [] table mark offers (endOf s xs .horizon) (endOf s xs .limits)
+  -- so each admitted journey due by the horizon is equalled or beaten by one of the list
+  pub complete : (j : Journey) → Admitted s xs j → j .arrival ≤ endOf s xs .horizon
+      → (k : Journey) × List·Memᴰ k (keptOf (endOf s xs)) × EqualsOrBeats k j
+  -- "the horizon falling only by 01's rule": from the window's, and its mark, as the cuts left them, while journeys are offered
+  pub falls : Falls [] (v .horizon) (v .limits) offers (at (endOf s xs .horizon) (endOf s xs .limits))
   -- best of that list, at every second
   pub best : (z : ℤ) → BestAt (keptOf (endOf s xs)) (endOf s xs .horizon) z (answer s xs z)
 
+-- of any list of steps, which leaves v taken
 abbrev pub Demand2 : Type 0
-Demand2 = (s : Settings) (xs : List Step) → Opens s → Searched s xs → Lists s xs
+Demand2 = (s : Settings) (xs : List Step) (rs : List Answer) (v : State) → Opens s → Runs s fresh xs rs v
+    → (v .searched ≡ false → Fills s xs v) × (v .searched ≡ true → Lists s xs v)
 
 -- ---- 3
 
@@ -94,7 +142,8 @@ MatchedBy g s xs s′ xs′ = (j : Journey) → Admitted s xs j → j .arrival �
 abbrev pub Earlier : ℕ → ℕ → ℕ → Type 0
 Earlier g h h′ = (g ≤ h) × (g ≤ h′) × ((g ≡ h) ⊎ (g ≡ h′))
 
+-- of any two lists, searched or not: a list with no search taken admits none
 abbrev pub Demand3 : Type 0
-Demand3 = (s s′ : Settings) (xs xs′ : List Step) (g : ℕ) → s .now ≡ s′ .now → Opens s → Opens s′ → Searched s xs → Searched s′ xs′
+Demand3 = (s s′ : Settings) (xs xs′ : List Step) (g : ℕ) → s .now ≡ s′ .now → Opens s → Opens s′
     → Earlier g (endOf s xs .horizon) (endOf s′ xs′ .horizon)
     → ((z : ℤ) → Second z → Alike g (answer s xs z) (answer s′ xs′ z)) ↔ (MatchedBy g s xs s′ xs′ × MatchedBy g s′ xs′ s xs)

@@ -1,28 +1,54 @@
--- What a list of steps gives to its search, as a `Feed`.
+-- What was taken, as a `Feed`: what a search is given.
 use mathlib.Core.Path.{_≡_}
-use mathlib.Core.List.{List, []}
+use mathlib.Core.Bool.{true, cond}
+use mathlib.Core.List.{List, [], _∷_, _++_}
 use Prim.Native.Nat.{ℕ}
 use lib.ListN.{getD, take}
 use Rattle.settings.specs.declared.Settings.{Settings}
-use Rattle.profile.specs.declared.Journey.{Journey}
+use Rattle.stops.specs.declared.Stop.{Stop}
+use Rattle.stops.specs.declared.Found.the-variants.{Nothing}
+use Rattle.stops.specs.Stops.{isIt, findStop}
+use Rattle.stops.specs.Taken.{stopOf}
 use Rattle.places.specs.Places.{placesOf}
 use Rattle.load.specs.declared.Load.{Load}
 use Rattle.load.specs.Filling.{Filling}
-use Rattle.load.specs.Steps.{opened}
-use Rattle.steps.specs.Steps.{Step}
-use Rattle.steps.specs.Lists.{startOf}
-use Rattle.comparison.specs.Taken.{stopsIn, callsIn, rulesIn, taken}
-use Rattle.comparison.specs.Admitted.{Feed, Admits}
-use Rattle.comparison.specs.Horizon.{Horizon}
+use Rattle.comparison.specs.Taken.{StopGiven, stopsIn, callsIn, rulesIn, State}
+use Rattle.comparison.specs.Admitted.{Feed}
 
--- of one place, as the stops that a load holds are grouped
+-- the records of the stops handed in, after the records ss
+abbrev pub recordOf : List Stop → StopGiven → Stop
+recordOf ss g = stopOf (g .id) (g .name) (cond (g .input .«has_parent») (findStop (isIt true (g .parent)) ss 0) Nothing) (g .input)
+
+abbrev pub recordsFrom : List Stop → List StopGiven → List Stop
+recordsFrom ss [] = ss
+recordsFrom ss (g ∷ gs) = recordsFrom (ss ++ recordOf ss g ∷ []) gs
+
+-- of one place, as such records are grouped
+abbrev pub placeAt : List Stop → ℕ → ℕ
+placeAt ss x = getD (placesOf ss) x 65535
+
+abbrev pub Grouped : List Stop → ℕ → ℕ → Type 0
+Grouped ss x y = (placeAt ss x ≡ placeAt ss y) × (placeAt ss x ≡ 65535 → ⊥)
+
+-- what is given to a search by the settings and by what was taken, with the horizon of the window
+abbrev pub feedOf : Settings → State → Feed
+feedOf s t = record {
+  settings = s;
+  stops = stopsIn (t .taken);
+  rules = rulesIn (t .taken);
+  calls = callsIn (t .taken);
+  horizon = t .horizon;
+  Place = Grouped (recordsFrom [] (stopsIn (t .taken)));
+}
+
+-- ---- the same with the places of a load, for the proofs
+
 abbrev pub placeIn : Load → ℕ → ℕ
 placeIn l x = getD (placesOf (take (l .«stop_count») (l .stops))) x 65535
 
 abbrev pub OnePlace : Load → ℕ → ℕ → Type 0
 OnePlace l x y = (placeIn l x ≡ placeIn l y) × (placeIn l x ≡ 65535 → ⊥)
 
--- from the settings, what was taken, the horizon of the window, and a load for its places
 abbrev pub feedWith : Settings → Load → List Filling → ℕ → Feed
 feedWith s l fs h = record {
   settings = s;
@@ -35,14 +61,3 @@ feedWith s l fs h = record {
 
 abbrev pub feedFrom : Settings → Load → List Filling → Feed
 feedFrom s l fs = feedWith s l fs (l .«table_horizon»)
-
--- what a list gives to its search, if that is taken at the horizon h
-abbrev pub feedOf : Settings → List Step → ℕ → Feed
-feedOf s xs h = feedWith s (startOf s xs) (taken s xs) h
-
--- "Which journeys are admitted is defined from the settings and the list alone: by the stops and rules taken and the calls answered taken under this
--- paper's rules, as `window` and the table's cuts leave them when the accepted search starts."
-pub record Admitted (s : Settings) (xs : List Step) (j : Journey) : Type 0 where
-  pub horizon : ℕ
-  pub cuts : Horizon s (opened s) [] 21600 xs horizon
-  pub admits : Admits (feedOf s xs horizon) j

@@ -4,10 +4,14 @@ pub mod Best
 pub mod Window
 pub mod Taken
 pub mod Admitted
-pub mod Horizon
 pub mod Feeds
-pub mod Falls
+pub mod Horizon
+pub mod Neighbours
 pub mod OfferOrder
+pub mod Falls
+pub mod Causes
+pub mod Runs
 pub mod Demands
 pub mod Witness
 pub mod Marked
+pub mod Proved

@@ -1,18 +1,36 @@
--- The starred instances of the scope, all of them, in one table.
-use Rattle.time.specs.Promises.{Marked as TimeTexts}
-use Rattle.calls.specs.Marked.{MarkedWindows}
-use Rattle.profile.specs.Instances.{Instances}
-use Rattle.offers.specs.Marked.{MarkedOffers}
+-- "Starred ones are proved of the specs in a table with one theorem": the nine, in the scope's order.
+use mathlib.Core.Path.{_≡_}
+use mathlib.Core.List.{[], _∷_}
+use Prim.Native.Nat.{ℕ}
+use lib.ListN.{take, drop}
+use Rattle.time.specs.Promises.{marked, AnsweredSo}
+use Rattle.calls.specs.Marked.{EarlyCall, GoneCall}
+use Rattle.profile.specs.Kept.{searched}
+use Rattle.profile.specs.Instances.{figuresOf, aSecondApart, ends}
+use Rattle.offers.specs.Marked.{journeyWith, numberFor}
 use Rattle.search.specs.Marked.{MarkedJoins}
+use Rattle.comparison.specs.Order.{EqualsOrBeats, Beats}
+use Rattle.comparison.specs.Witness.{oneTrip, keptFigures}
 
 pub record Starred : Type 0 where
-  -- walk 5, target walk 2: 300, 1320, 1 ride, walk 5; departure 300 leaves at 0, 299 isn't boarded; alighting 21480 is kept, 21481 isn't
-  pub offers : MarkedOffers
-  -- same stop, 3 minutes: arrival 1000 joins 1180, not 1179
-  pub joins : MarkedJoins
-  -- (300, 1319, 2) beats (300, 1320, 1); (301, 1320, 2) stands beside it; 65 unbeaten: horizon 3600, or 11
-  pub lists : Instances
-  -- call −10 to 0: boardable, not alightable; departure −1: outside
-  pub windows : MarkedWindows
-  -- "24:00:00", "7:05:00", "07:5:00", "1193046:28:15" and one second more
-  pub texts : TimeTexts
+  -- "Walk 5, target walk 2; trip 1 departs 600, arrives 1200: 300, 1320, 1 ride, walk 5": through opening, stops, calls and search
+  pub one : keptFigures (oneTrip 600 1200) ≡ figuresOf 300 1320 1 5 ∷ []
+  -- "Walk 5: departure 300 leaves at 0; 299 isn't boarded"
+  pub two : (keptFigures (oneTrip 300 1200) ≡ figuresOf 0 1320 1 5 ∷ []) × (keptFigures (oneTrip 299 1200) ≡ [])
+  -- "Target walk 2: alighting 21480 is kept, 21481 isn't"
+  pub three : (keptFigures (oneTrip 600 21480) ≡ figuresOf 300 21600 1 5 ∷ []) × (keptFigures (oneTrip 600 21481) ≡ [])
+  -- "Same stop, 3 minutes: arrival 1000 joins 1180, not 1179": of every load
+  pub four : MarkedJoins
+  -- "(300, 1319, 2 rides) beats (300, 1320, 1 ride); (301, 1320, 2) stands beside (300, 1320, 1)": whatever they walk
+  pub five : (w v : ℕ) → Beats (journeyWith (figuresOf 300 1319 2 w)) (journeyWith (figuresOf 300 1320 1 v))
+  pub beside : (w v : ℕ) → EqualsOrBeats (journeyWith (figuresOf 301 1320 2 w)) (journeyWith (figuresOf 300 1320 1 v)) → ⊥
+  pub beside′ : (w v : ℕ) → EqualsOrBeats (journeyWith (figuresOf 300 1320 1 v)) (journeyWith (figuresOf 301 1320 2 w)) → ⊥
+  -- "Call −10 to 0: boardable, not alightable; departure −1: outside"
+  pub six : EarlyCall × GoneCall
+  -- "'24:00:00' is 86400; '7:05:00' is 25500; '07:5:00' gives 16"
+  pub seven : AnsweredSo (take 3 marked)
+  -- "'1193046:28:15' is 4294967295; one second more gives 16"
+  pub eight : AnsweredSo (drop 3 marked)
+  -- "65 unbeaten, latest 3601: horizon 3600. Latest 3600: 11"
+  pub nine : ends (searched (λ f. f) 64 3600 21600 0 (aSecondApart 537 65)) ≡ 64 ∷ 3600 ∷ 1 ∷ []
+  pub eleven : numberFor (aSecondApart 536 65) ≡ 11

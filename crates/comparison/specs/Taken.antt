@@ -1,17 +1,11 @@
--- What a list of steps gave to the search that was taken: "the stops and rules taken and the calls answered taken", as they were handed in, and in order.
--- Only the steps' answers are read here, and no table of the load.
-use mathlib.Core.Bool.{Bool, cond}
+-- What was taken so far of a list of steps, as it was handed in: nothing is read here but the steps and their answers.
+use mathlib.Core.Bool.{Bool, true, false}
 use mathlib.Core.List.{List, [], _∷_, _++_}
 use Prim.Native.Nat.{ℕ}
-use Rattle.refusal.specs.First.{isTaken}
-use Rattle.settings.specs.declared.Settings.{Settings}
 use Rattle.stops.specs.declared.StopInput.{StopInput}
 use Rattle.calls.specs.declared.CallInput.{CallInput}
 use Rattle.rules.specs.declared.RuleInput.{RuleInput}
-use Rattle.load.specs.declared.Load.{Load}
 use Rattle.load.specs.Filling.{Filling, stop, call, rule}
-use Rattle.load.specs.Steps.{opened}
-use Rattle.steps.specs.Steps.{Step, filling, search, stepped}
 
 -- a stop as it was handed in: its texts and the rest
 pub record StopGiven : Type 0 where
@@ -20,13 +14,7 @@ pub record StopGiven : Type 0 where
   pub parent : List ℕ
   pub input : StopInput
 
--- the steps that were answered taken, in order, in front of the search that was
-abbrev pub takenFrom : Load → List Step → List Filling
-takenFrom l [] = []
-takenFrom l (filling x ∷ xs) = cond (isTaken (stepped l (filling x) .answer)) (x ∷ []) [] ++ takenFrom (stepped l (filling x) .load) xs
-takenFrom l (search ∷ xs) = cond (isTaken (stepped l search .answer)) [] (takenFrom (stepped l search .load) xs)
-
--- of these, the stops, the calls and the rules
+-- of what was taken, the stops, the calls and the rules
 abbrev pub stopsIn : List Filling → List StopGiven
 stopsIn [] = []
 stopsIn (stop id name parent i ∷ xs) = record { id = id; name = name; parent = parent; input = i } ∷ stopsIn xs
@@ -45,6 +33,25 @@ rulesIn (stop id name parent i ∷ xs) = rulesIn xs
 rulesIn (call i ∷ xs) = rulesIn xs
 rulesIn (rule i ∷ xs) = i ∷ rulesIn xs
 
--- what was given, from the settings and the list alone
-abbrev pub taken : Settings → List Step → List Filling
-taken s xs = takenFrom (opened s) xs
+-- the stops and rules taken and the calls answered taken, in order; the horizon of the window and the mark, as the cuts leave them;
+-- whether a search was taken
+pub record State : Type 0 where
+  pub taken : List Filling
+  pub horizon : ℕ
+  pub limits : ℕ
+  pub searched : Bool
+
+-- "Opening gives an empty load with horizon 21600 and limits 0"
+abbrev pub fresh : State
+fresh = record { taken = []; horizon = 21600; limits = 0; searched = false }
+
+-- with one more taken
+abbrev pub more : State → Filling → State
+more t x = record { taken = t .taken ++ x ∷ []; horizon = t .horizon; limits = t .limits; searched = t .searched }
+
+-- with another horizon and mark
+abbrev pub upTo : State → ℕ → ℕ → State
+upTo t h m = record { taken = t .taken; horizon = h; limits = m; searched = t .searched }
+
+abbrev pub done : State → State
+done t = record { taken = t .taken; horizon = t .horizon; limits = t .limits; searched = true }

@@ -47,7 +47,7 @@ use Rattle.steps.specs.Steps.{Step, filling, search, stepped}
 
 -- ---- a searched load stays
 
-first-holds : {a c : Answer} {b : Bool} {ts : List (Bool × Answer)} → First a ((b, c) ∷ ts) → b ≡ true → a ≡ c
+pub first-holds : {a c : Answer} {b : Bool} {ts : List (Bool × Answer)} → First a ((b, c) ∷ ts) → b ≡ true → a ≡ c
 first-holds (hit e) q = refl
 first-holds (miss e f) q = absurd (true≢false (sym q ∙ e))
 

@@ -1,15 +1,21 @@
 -- Demand 1, step by step: a result, or one of the refusals for its stated cause alone; a refused load comes back unchanged.
 use mathlib.Core.Path.{_≡_}
-use mathlib.Core.Bool.{true}
-use mathlib.Core.List.{[], _∷_}
+use mathlib.Core.Bool.{Bool, true}
+use mathlib.Core.List.{[], _∷_, map}
+use Prim.Native.Nat.{ℕ}
+use Rattle.refusal.specs.declared.Answer.{Answer}
 use Rattle.refusal.specs.declared.Answer.the-variants.{Taken}
 use Rattle.refusal.specs.First.{First, AllFail, isRefused, answerNumber}
 use Rattle.settings.specs.declared.Settings.{Settings}
 use Rattle.settings.specs.Settings.{settingsTests}
-use Rattle.calls.specs.Sound.{oneOf}
 use Rattle.load.specs.declared.Load.{Load}
-use Rattle.load.specs.Steps.{openSpec}
+use Rattle.load.specs.Steps.{openSpec, opened}
+use Rattle.load.specs.Sound.{Opens}
 use Rattle.steps.specs.Steps.{Step, stepped, causes, numbers}
+
+-- the number of a cause; 0 for outside
+abbrev pub number : Bool × Answer → ℕ
+number t = answerNumber (t .1)
 
 -- of any load and any step
 pub record Answered (l : Load) (x : Step) : Type 0 where
@@ -17,12 +23,14 @@ pub record Answered (l : Load) (x : Step) : Type 0 where
   pub first : First (stepped l x .answer) (causes l x)
   -- a step that is taken has no cause against it
   pub taken : stepped l x .answer ≡ Taken → AllFail (causes l x)
-  -- its number is one of those that the scope lists for the step, or 0
-  pub listed : oneOf (answerNumber (stepped l x .answer)) (0 ∷ numbers x) ≡ true
+  -- the causes stand in the scope's order
+  pub order : map number (causes l x) ≡ numbers x
   pub unchanged : isRefused (stepped l x .answer) ≡ true → stepped l x .load ≡ l
 
 -- of any settings: the same; no load is handed in that could change
 pub record OpeningAnswered (s : Settings) : Type 0 where
   pub first : First (openSpec s .answer) (settingsTests s)
   pub taken : openSpec s .answer ≡ Taken → AllFail (settingsTests s)
-  pub listed : oneOf (answerNumber (openSpec s .answer)) (0 ∷ 1 ∷ 2 ∷ []) ≡ true
+  pub order : map number (settingsTests s) ≡ 1 ∷ 2 ∷ []
+  -- settings that are not sent back open the load that the lists of steps start from
+  pub opens : Opens s → openSpec s .load ≡ opened s

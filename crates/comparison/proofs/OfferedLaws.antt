@@ -1,0 +1,240 @@
+-- The program's offers are those stated here, and no other list is.
+use Prim.Native.Nat.{ℕ, _+_, _*_, _/_, _<_, min}
+use mathlib.Core.Path.{_≡_, refl, sym, ap, subst, _∙_}
+use mathlib.Core.Logic.{_⊎_, inl, inr}
+use mathlib.Core.Bool.{true}
+use mathlib.Core.List.{List, [], _∷_, _++_, map, List·Memᴰ, List·Memᴰ·head, List·Memᴰ·tail, List·Memᴰ·not-nil, List·Memᴰ·cases-cons, List·Memᴰ·append-cases, List·Memᴰ·eq-of-singleton, Memᴰ·append-left, Memᴰ·append-right}
+use native.Mathlib.Omega.{arith}
+use lib.Dec.{eqb, leb}
+use lib.ListN.{getD}
+use borrow.Author.Tests.{leb-true, le-leb, eqb-true, eq-eqb}
+use Rattle.laws.specs.Lists.{concatMap}
+use Rattle.laws.specs.Tails.{overTails}
+use Rattle.laws.proofs.Folds.{concatMap-mem, mem-concatMap}
+use Rattle.laws.proofs.Tails.{cond-mem, mem-cond, overTails-mem, mem-overTails}
+use Rattle.laws.proofs.Bits.{bits-set, set-bits}
+use Rattle.settings.specs.declared.Settings.{Settings}
+use Rattle.calls.specs.declared.Call.{Call}
+use Rattle.profile.specs.declared.Ride.{Ride}
+use Rattle.profile.specs.declared.Journey.{Journey}
+use Rattle.load.specs.declared.Load.{Load}
+use Rattle.load.specs.Filling.{Filling}
+use Rattle.offers.specs.Offers.{Timetable, rideOf, runOf, originsOf, targetsOf, sorted, offers}
+use Rattle.offers.specs.Admitted.{Rides, Starts, Ends, Clear}
+use Rattle.offers.proofs.OfferLaws.{clear-rising, rides-found, found-rides}
+use Rattle.search.specs.Timetable.{timetableOf}
+use Rattle.comparison.specs.Admitted.{Feed, Between, IsRide}
+use Rattle.comparison.specs.Neighbours.{CallBefore}
+use Rattle.comparison.specs.OfferOrder.{Offer, alone, changing, Before, Ascending, Gives, Each, Offered}
+use Rattle.comparison.specs.Feeds.{feedOf, feedFrom}
+use Rattle.comparison.proofs.Pairs.{Pairs, one-pairs}
+use Rattle.comparison.proofs.SettingLaws.{Opened}
+use Rattle.comparison.proofs.StartLaws.{Start, stateAt, same-feed}
+use Rattle.comparison.proofs.AdmittedLaws.{ride-is, direct-in, change-in, direct-out, change-out}
+use Rattle.comparison.proofs.OfferLaws.{toJ, kLastAt, kLastAlight, kLastBoard, kChanges, kDirect, kAlight, kOrigin, kBoard, kOffers, pairs-offers, same-offers, ascends, rises}
+
+-- ---- the calls of an offer
+
+abbrev KeyOf : Timetable → Offer → Type 0
+KeyOf t (alone b o a k) = Rides (t .calls) b a × Starts t b o × Ends t a k
+KeyOf t (changing b o a c d k) = (t .max-transfers ≡ 1) × Rides (t .calls) b a × Rides (t .calls) c d × Starts t b o × Ends t d k × (t .joins (rideOf b a) c ≡ true)
+
+module _ (t : Timetable) (clear : Clear t) where
+  p : Pairs CallBefore (sorted t)
+  p = rises (sorted t) (clear-rising t clear)
+
+  abbrev keys : List Offer
+  keys = kOffers t (sorted t) p
+
+  ends-in : (a : Call) (k : ℕ) → List·Memᴰ k (targetsOf t a) → Ends t a k
+  ends-in a k m = let (h, d) = bits-set (min (t .targets) 4) (t .members (a .stop) / 16) m in record { count = h; member = d }
+
+  in-ends : (a : Call) (k : ℕ) → Ends t a k → List·Memᴰ k (targetsOf t a)
+  in-ends a k w = set-bits (min (t .targets) 4) (t .members (a .stop) / 16) k (w .count) (w .member)
+
+  module _ (b : Call) (o : ℕ) (a : Call) (r : Rides (t .calls) b a) (st : Starts t b o) where
+    change-key : (x : Offer) → List·Memᴰ x (kChanges t b o a (sorted t)) → KeyOf t x
+    change-key x m =
+        let (one, m₁) = cond-mem (eqb (t .max-transfers) 1) (overTails (kLastBoard t b o a) (sorted t)) m in
+        let (c, cs, tl, m₂) = overTails-mem (kLastBoard t b o a) (sorted t) m₁ in
+        let (pb, m₃) = cond-mem (c .board) (concatMap (kLastAlight t b o a c) (runOf c cs)) m₂ in
+        let (d, n, m₄) = concatMap-mem (kLastAlight t b o a c) (runOf c cs) m₃ in
+        let (q, m₅) = cond-mem (d .alight) (concatMap (kLastAt t b o a c d) (targetsOf t d)) m₄ in
+        let (k, i, m₆) = concatMap-mem (kLastAt t b o a c d) (targetsOf t d) m₅ in
+        let (j, m₇) = cond-mem (t .joins (rideOf b a) c) (changing b o a c d k ∷ []) m₆ in
+        subst (KeyOf t) (sym (List·Memᴰ·eq-of-singleton {b = changing b o a c d k} m₇)) (eqb-true (t .max-transfers) 1 one, r, rides-found t clear c d cs tl n pb q, st, ends-in d k i, j)
+
+    direct-key : (x : Offer) → List·Memᴰ x (concatMap (kDirect t b o a) (targetsOf t a)) → KeyOf t x
+    direct-key x m =
+        let (k, i, n) = concatMap-mem (kDirect t b o a) (targetsOf t a) m in
+        subst (KeyOf t) (sym (List·Memᴰ·eq-of-singleton n)) (r, st, ends-in a k i)
+
+    -- what stands at these calls is in the list
+    within : (x : Offer) → List·Memᴰ x (concatMap (kDirect t b o a) (targetsOf t a) ++ kChanges t b o a (sorted t)) → List·Memᴰ x keys
+    within x m =
+        let (cs, tl, n) = found-rides t clear b a r in
+        mem-overTails (kBoard t (sorted t) p) b cs (sorted t) tl
+        (mem-cond (b .board) (concatMap (kOrigin t (sorted t) p b cs) (originsOf t b)) (r .board)
+        (mem-concatMap (kOrigin t (sorted t) p b cs) (set-bits (min (t .origins) 4) (t .members (b .stop)) o (st .count) (st .member))
+        (mem-cond (leb (t .origin-walk o * 60) (b .departure)) (concatMap (λ x. kAlight t b o x (sorted t)) (runOf b cs)) (le-leb (t .origin-walk o * 60) (b .departure) (st .walked))
+        (mem-concatMap (λ x. kAlight t b o x (sorted t)) n
+        (mem-cond (a .alight) (concatMap (kDirect t b o a) (targetsOf t a) ++ kChanges t b o a (sorted t)) (r .alight) m)))))
+
+  key-in : (x : Offer) → List·Memᴰ x keys → KeyOf t x
+  key-in x m =
+      let (b, cs, tl, m₁) = overTails-mem (kBoard t (sorted t) p) (sorted t) m in
+      let (pb, m₂) = cond-mem (b .board) (concatMap (kOrigin t (sorted t) p b cs) (originsOf t b)) m₁ in
+      let (o, i, m₃) = concatMap-mem (kOrigin t (sorted t) p b cs) (originsOf t b) m₂ in
+      let (w, m₄) = cond-mem (leb (t .origin-walk o * 60) (b .departure)) (concatMap (λ x. kAlight t b o x (sorted t)) (runOf b cs)) m₃ in
+      let (a, n, m₅) = concatMap-mem (λ x. kAlight t b o x (sorted t)) (runOf b cs) m₄ in
+      let (q, m₆) = cond-mem (a .alight) (concatMap (kDirect t b o a) (targetsOf t a) ++ kChanges t b o a (sorted t)) m₅ in
+      let (h, d) = bits-set (min (t .origins) 4) (t .members (b .stop)) i in
+      go b o a (rides-found t clear b a cs tl n pb q) (record { count = h; member = d; walked = leb-true (t .origin-walk o * 60) (b .departure) w })
+      (List·Memᴰ·append-cases (concatMap (kDirect t b o a) (targetsOf t a)) {t = kChanges t b o a (sorted t)} m₆)
+    where
+      go : (b : Call) (o : ℕ) (a : Call) → Rides (t .calls) b a → Starts t b o
+          → List·Memᴰ x (concatMap (kDirect t b o a) (targetsOf t a)) ⊎ List·Memᴰ x (kChanges t b o a (sorted t)) → KeyOf t x
+      go b o a r st (inl m) = direct-key b o a r st x m
+      go b o a r st (inr m) = change-key b o a r st x m
+
+  key-mem : (x : Offer) → KeyOf t x → List·Memᴰ x keys
+  key-mem (alone b o a k) (r, st, en) =
+      within b o a r st (alone b o a k) (Memᴰ·append-left (kChanges t b o a (sorted t)) (mem-concatMap (kDirect t b o a) (in-ends a k en) (List·Memᴰ·head refl)))
+  key-mem (changing b o a c d k) (e, r, r′, st, en, j) =
+      let (cs, tl, n) = found-rides t clear c d r′ in
+      within b o a r st (changing b o a c d k)
+      (Memᴰ·append-right (concatMap (kDirect t b o a) (targetsOf t a))
+      (mem-cond (eqb (t .max-transfers) 1) (overTails (kLastBoard t b o a) (sorted t)) (eq-eqb (t .max-transfers) 1 e)
+      (mem-overTails (kLastBoard t b o a) c cs (sorted t) tl
+      (mem-cond (c .board) (concatMap (kLastAlight t b o a c) (runOf c cs)) (r′ .board)
+      (mem-concatMap (kLastAlight t b o a c) n
+      (mem-cond (d .alight) (concatMap (kLastAt t b o a c d) (targetsOf t d)) (r′ .alight)
+      (mem-concatMap (kLastAt t b o a c d) (in-ends d k en)
+      (mem-cond (t .joins (rideOf b a) c) (changing b o a c d k ∷ []) j (List·Memᴰ·head refl)))))))))
+
+-- ---- what was taken gives these offers
+
+module _ (s : Settings) (l : Load) (fs : List Filling) (w : Start s l fs) (o : Opened s) (clear : Clear (timetableOf l)) where
+  abbrev F : Feed
+  F = feedFrom s l fs
+
+  abbrev t : Timetable
+  t = timetableOf l
+
+  gives : (x : Offer) → KeyOf t x → Gives F x (toJ t x)
+  unfolding timetableOf direct-in change-in
+  gives (alone b i a k) (r, st, en) = (direct-in s l fs w o b a i k r st en, refl, refl, refl, refl)
+  gives (changing b i a c d k) (e, r, r′, st, en, j) = (change-in s l fs w o b a c d i k e r r′ j st en, refl, refl, refl, refl, refl, refl)
+
+  each-gives : (es : List Offer) → ((x : Offer) → List·Memᴰ x es → KeyOf t x) → Each F es (map (toJ t) es)
+  each-gives [] f = tt
+  each-gives (e ∷ es) f = (gives e (f e (List·Memᴰ·head refl)), each-gives es (λ x m. f x (List·Memᴰ·tail m)))
+
+  given : (x : Offer) (j : Journey) → Gives F x j → KeyOf t x
+  unfolding timetableOf direct-out change-out
+  given (alone b i a k) j (v, eb, ea, ei, ek) =
+      let u = direct-out s l fs w o j v in
+      subst (KeyOf t) (λ n. alone (eb n) (ei n) (ea n) (ek n)) (u .ride, u .starts, u .ends)
+  given (changing b i a c d k) j (v, eb, ea, ec, ed, ei, ek) =
+      let u = change-out s l fs w o j v in
+      subst (KeyOf t) (λ n. changing (eb n) (ei n) (ea n) (ec n) (ed n) (ek n)) (u .may, u .first, u .last, u .starts, u .ends, u .joined)
+
+  by-load : Offered F (offers t)
+  unfolding offers
+  by-load = record {
+    offers = keys t clear;
+    ascending = ascends (keys t clear) (pairs-offers t (sorted t) (p t clear));
+    each = subst (Each F (keys t clear)) (same-offers t (sorted t) (p t clear)) (each-gives (keys t clear) (key-in t clear));
+    all = λ x j g. key-mem t clear x (given x j g);
+  }
+
+  pub offered-is : Offered (feedOf s (stateAt l fs)) (offers (timetableOf l))
+  offered-is = subst (λ (G : Feed). Offered G (offers (timetableOf l))) (same-feed s l fs w) by-load
+
+-- ---- no other list
+
+irr : (b c : Call) → b ≡ c → CallBefore b c → ⊥
+irr b c e (inl l) = omega (arith, ap (λ (x : Call). x .trip) e)
+irr b c e (inr (q, inl l)) = omega (arith, ap (λ (x : Call). x .day) e)
+irr b c e (inr (q, inr (r, l))) = omega (arith, ap (λ (x : Call). x .sequence) e)
+
+call-asym : (b c : Call) → CallBefore b c → CallBefore c b → ⊥
+call-asym b c (inl l) (inl l′) = omega arith
+call-asym b c (inl l) (inr (q, w)) = omega arith
+call-asym b c (inr (q, w)) (inl l) = omega arith
+call-asym b c (inr (q, inl l)) (inr (q′, inl l′)) = omega arith
+call-asym b c (inr (q, inl l)) (inr (q′, inr (r, l′))) = omega arith
+call-asym b c (inr (q, inr (r, l))) (inr (q′, inl l′)) = omega arith
+call-asym b c (inr (q, inr (r, l))) (inr (q′, inr (r′, l′))) = omega arith
+
+by-call : (b c : Call) {R Q : Type 0} → (R → Q → ⊥) → (CallBefore b c ⊎ ((b ≡ c) × R)) → (CallBefore c b ⊎ ((c ≡ b) × Q)) → ⊥
+by-call b c f (inl l) (inl l′) = call-asym b c l l′
+by-call b c f (inl l) (inr (e, q)) = irr b c (sym e) l
+by-call b c f (inr (e, r)) (inl l) = irr c b (sym e) l
+by-call b c f (inr (e, r)) (inr (e′, q)) = f r q
+
+by-number : (m n : ℕ) {R Q : Type 0} → (R → Q → ⊥) → ((m < n) ⊎ ((m ≡ n) × R)) → ((n < m) ⊎ ((n ≡ m) × Q)) → ⊥
+by-number m n f (inl l) (inl l′) = omega arith
+by-number m n f (inl l) (inr (e, q)) = omega arith
+by-number m n f (inr (e, r)) (inl l) = omega arith
+by-number m n f (inr (e, r)) (inr (e′, q)) = f r q
+
+before-asym : (e f : Offer) → Before e f → Before f e → ⊥
+before-asym (alone b o a k) (alone b′ o′ a′ k′) v w = by-call b b′ (by-number o o′ (by-call a a′ (λ l l′. omega arith))) v w
+before-asym (alone b o a k) (changing b′ o′ a′ c′ d′ k′) v w = by-call b b′ (by-number o o′ (by-call a a′ (λ u x. x))) v w
+before-asym (changing b o a c d k) (alone b′ o′ a′ k′) v w = by-call b b′ (by-number o o′ (by-call a a′ (λ x u. x))) v w
+before-asym (changing b o a c d k) (changing b′ o′ a′ c′ d′ k′) v w =
+    by-call b b′ (by-number o o′ (by-call a a′ (by-call c c′ (by-call d d′ (λ l l′. omega arith))))) v w
+
+pairs-of : (es : List Offer) → Ascending es → Pairs Before es
+pairs-of [] w = tt
+pairs-of (e ∷ es) w = (w .0, pairs-of es (w .1))
+
+module _ (F : Feed) where
+  -- the journey between two calls is one
+  one-between : (b a b′ a′ : Call) (j k : Journey) → b ≡ b′ → a ≡ a′ → j .origin ≡ k .origin → j .target ≡ k .target → Between F b a j → Between F b′ a′ k
+      → j .rides ≡ k .rides → j .first ≡ k .first → j .last ≡ k .last → j ≡ k
+  one-between b a b′ a′ j k eb ea eo ek v w er ef el =
+      let q : j .walk ≡ k .walk = v .walk ∙ ap (λ (x : ℕ). getD (F .settings .«origin_walks») x 0) eo ∙ sym (w .walk) in
+      let d : j .leave ≡ k .leave = leaves (j .leave) (j .walk) (k .leave) (k .walk) (b .departure) (b′ .departure) (v .leave) (w .leave) (ap (λ (x : Call). x .departure) eb) q in
+      let g : j .arrival ≡ k .arrival = v .arrival ∙ (λ n. ea n .arrival + getD (F .settings .«target_walks») (ek n) 0 * 60) ∙ sym (w .arrival) in
+      λ n. record { leave = d n; arrival = g n; rides = er n; walk = q n; origin = eo n; target = ek n; first = ef n; last = el n }
+    where
+      leaves : (x y x′ y′ d d′ : ℕ) → x + y * 60 ≡ d → x′ + y′ * 60 ≡ d′ → d ≡ d′ → y ≡ y′ → x ≡ x′
+      leaves x y x′ y′ d d′ e f g q = omega arith
+
+  one-ride : (b a b′ a′ : Call) (r r′ : Ride) → b ≡ b′ → a ≡ a′ → IsRide b a r → IsRide b′ a′ r′ → r ≡ r′
+  one-ride b a b′ a′ r r′ eb ea v w = ride-is b a r v ∙ (λ n. rideOf (eb n) (ea n)) ∙ sym (ride-is b′ a′ r′ w)
+
+  one-gives : (x : Offer) (j k : Journey) → Gives F x j → Gives F x k → j ≡ k
+  one-gives (alone b o a i) j k (v, eb, ea, eo, ei) (w, fb, fa, fo, fi) =
+      one-between (v .b) (v .a) (w .b) (w .a) j k (eb ∙ sym fb) (ea ∙ sym fa) (eo ∙ sym fo) (ei ∙ sym fi) (v .between) (w .between) (v .rides ∙ sym (w .rides))
+      (one-ride (v .b) (v .a) (w .b) (w .a) (j .first) (k .first) (eb ∙ sym fb) (ea ∙ sym fa) (v .first) (w .first)) (v .last ∙ sym (w .last))
+  one-gives (changing b o a c d i) j k (v, eb, ea, ec, ed, eo, ei) (w, fb, fa, fc, fd, fo, fi) =
+      one-between (v .b) (v .d) (w .b) (w .d) j k (eb ∙ sym fb) (ed ∙ sym fd) (eo ∙ sym fo) (ei ∙ sym fi) (v .between) (w .between) (v .rides ∙ sym (w .rides))
+      (one-ride (v .b) (v .a) (w .b) (w .a) (j .first) (k .first) (eb ∙ sym fb) (ea ∙ sym fa) (v .first) (w .first))
+      (one-ride (v .c) (v .d) (w .c) (w .d) (j .last) (k .last) (ec ∙ sym fc) (ed ∙ sym fd) (v .last) (w .last))
+
+  each-mem : (es : List Offer) (js : List Journey) → Each F es js → (e : Offer) → List·Memᴰ e es → (j : Journey) × Gives F e j
+  each-mem [] [] w e m = absurd (List·Memᴰ·not-nil m)
+  each-mem [] (j ∷ js) w e m = absurd w
+  each-mem (x ∷ es) [] w e m = absurd w
+  each-mem (x ∷ es) (j ∷ js) w e m = go (List·Memᴰ·cases-cons m) (λ n. each-mem es js (w .1) e n)
+    where
+      go : (e ≡ x) ⊎ List·Memᴰ e es → (List·Memᴰ e es → (k : Journey) × Gives F e k) → (k : Journey) × Gives F e k
+      go (inl q) ih = (j, subst (λ (y : Offer). Gives F y j) (sym q) (w .0))
+      go (inr n) ih = ih n
+
+  each-one : (es : List Offer) (js ks : List Journey) → Each F es js → Each F es ks → js ≡ ks
+  each-one [] [] [] v w = refl
+  each-one [] [] (k ∷ ks) v w = absurd w
+  each-one [] (j ∷ js) ks v w = absurd v
+  each-one (e ∷ es) [] ks v w = absurd v
+  each-one (e ∷ es) (j ∷ js) [] v w = absurd w
+  each-one (e ∷ es) (j ∷ js) (k ∷ ks) v w = λ n. one-gives e j k (v .0) (w .0) n ∷ each-one es js ks (v .1) (w .1) n
+
+  pub one-offered : (os ps : List Journey) → Offered F os → Offered F ps → os ≡ ps
+  one-offered os ps v w =
+      let e : v .offers ≡ w .offers = one-pairs Before before-asym (v .offers) (w .offers) (pairs-of (v .offers) (v .ascending)) (pairs-of (w .offers) (w .ascending))
+      (λ x m. let (j, g) = each-mem (v .offers) os (v .each) x m in w .all x j g) (λ x m. let (j, g) = each-mem (w .offers) ps (w .each) x m in v .all x j g) in
+      each-one (v .offers) os ps (v .each) (subst (λ (es : List Offer). Each F es ps) (sym e) (w .each))

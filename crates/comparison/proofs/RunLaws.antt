@@ -1,0 +1,248 @@
+-- Each step of a list is answered for the first of its causes, and the load holds what its answers say was taken.
+use mathlib.Core.Path.{_≡_, refl, sym, ap, subst, _∙_}
+use mathlib.Core.Bool.{Bool, true, false, cond, true≢false}
+use mathlib.Core.Logic.{inl}
+use mathlib.Core.List.{List, [], _∷_, _++_, append-nil}
+use mathlib.Core.Option.{Option·getD}
+use Prim.Native.Nat.{ℕ, _+_}
+use native.Mathlib.Omega.{arith}
+use lib.ListN.{set}
+use Rattle.refusal.specs.declared.Answer.{Answer}
+use Rattle.refusal.specs.declared.Answer.the-variants.{Taken, Outside, Refused}
+use Rattle.refusal.specs.declared.Refusal.the-variants.{AlreadySearched}
+use Rattle.refusal.specs.First.{firstAnswer, isTaken, isRefused}
+use Rattle.refusal.proofs.FirstLaws.{first-is-answer}
+use Rattle.settings.specs.declared.Settings.{Settings}
+use Rattle.stops.specs.declared.StopInput.{StopInput}
+use Rattle.stops.specs.Answer.{stopTests}
+use Rattle.stops.specs.Taken.{stopOf}
+use Rattle.calls.specs.declared.CallInput.{CallInput}
+use Rattle.calls.specs.Calls.{callTests, callOn}
+use Rattle.calls.specs.Shown.{tableCalls}
+use Rattle.rules.specs.declared.RuleInput.{RuleInput}
+use Rattle.rules.specs.Rules.{ruleTests, ruleOf}
+use Rattle.offers.specs.Order.{inOrder}
+use Rattle.offers.specs.Admitted.{Clear}
+use Rattle.offers.proofs.SearchLaws.{search-found}
+use Rattle.load.specs.declared.Load.{Load}
+use Rattle.load.specs.Load.{emptyLoad, tableOf, withTable, withStops, withRules}
+use Rattle.load.specs.Steps.{opened, stationIn, stopAnswer, stopSpec, callFitted, callSpec, ruleAnswer, ruleSpec}
+use Rattle.load.specs.Filling.{Filling, stop, call, rule}
+use Rattle.search.specs.Timetable.{timetableOf}
+use Rattle.search.specs.Search as search-specs
+use Rattle.search.specs.Search.{searchSpec}
+use Rattle.steps.specs.Steps.{Step, filling, search, stepped, causes}
+use Rattle.steps.specs.Lists.{next, ran, handed, start}
+use Rattle.steps.proofs.StepLaws.{first-holds, searched-stays, filled-searched, taken-searches, untaken-stays}
+use Rattle.steps.proofs.HeldLaws.{step-sound}
+use Rattle.steps.proofs.AcceptedLaws.{step-settings}
+use Rattle.steps.proofs.AnsweredLaws.{step-answered}
+use Rattle.comparison.specs.Taken.{callsIn, State, fresh, done}
+use Rattle.comparison.specs.Horizon.{Fits}
+use Rattle.comparison.specs.Causes.{First, causesOf}
+use Rattle.comparison.specs.Runs.{After, sent-back, a-stop, a-rule, a-call, outside, a-search, Runs, end, step}
+use Rattle.comparison.specs.Demands.{answersFrom}
+use Rattle.comparison.proofs.Deciding.{Matches, first-matches}
+use Rattle.comparison.proofs.TakenLaws.{given, fill-held}
+use Rattle.comparison.proofs.SettingLaws.{Opened}
+use Rattle.comparison.proofs.StartLaws.{Start, begins, opened-start, stateAt}
+use Rattle.comparison.proofs.HorizonLaws.{call-fits, showing}
+use Rattle.comparison.proofs.CauseLaws.{stop-match, rule-match}
+use Rattle.comparison.proofs.CallLaws.{call-match}
+use Rattle.comparison.proofs.SearchingLaws.{search-match, search-height, search-mark, search-sorts}
+
+-- ---- a step that is only taken or sent back
+
+abbrev Refuse : List (Bool × Answer) → Type 0
+Refuse [] = Unit {0}
+Refuse (t ∷ ts) = (isRefused (t .1) ≡ true) × Refuse ts
+
+never-outside : (ts : List (Bool × Answer)) → Refuse ts → firstAnswer ts ≡ Outside → ⊥
+unfolding firstAnswer
+never-outside [] w e = let z : _≡_ {A = ℕ} 0 1 = cc in omega arith
+never-outside (t ∷ ts) w e = go (t .0) e (never-outside ts (w .1))
+  where
+    go : (b : Bool) → cond b (t .1) (firstAnswer ts) ≡ Outside → (firstAnswer ts ≡ Outside → ⊥) → ⊥
+    go true q ih = true≢false (sym (w .0) ∙ ap isRefused q)
+    go false q ih = ih q
+
+stop-outside : (l : Load) (id name parent : List ℕ) (i : StopInput) → stopAnswer l id name parent i ≡ Outside → ⊥
+unfolding stopTests
+stop-outside l id name parent i e = never-outside _ (refl, (refl, (refl, (refl, (refl, (refl, (refl, tt))))))) e
+
+rule-outside : (l : Load) (i : RuleInput) → ruleAnswer l i ≡ Outside → ⊥
+unfolding ruleTests
+rule-outside l i e = never-outside _ (refl, (refl, (refl, (refl, (refl, tt))))) e
+
+search-outside : (l : Load) → searchSpec l .answer ≡ Outside → ⊥
+search-outside l e = never-outside (search-specs.searchCauses l) (refl, (refl, (refl, tt))) (sym (first-is-answer _ _ (step-answered l search .first)) ∙ e)
+
+-- ---- one step
+
+-- what a step gives, if it is taken
+abbrev taking : Load → Step → List Filling
+taking l (filling x) = given l x
+taking l search = []
+
+module _ (s : Settings) (o : Opened s) (l : Load) (fs : List Filling) (w : Start s l fs) where
+  abbrev t : State
+  t = stateAt l fs
+
+  matches : (x : Step) → Matches (causes l x) (causesOf s t x)
+  matches (filling (stop id name parent i)) = stop-match s l fs w id name parent i
+  matches (filling (call i)) = call-match s l fs w o i
+  matches (filling (rule i)) = rule-match s l fs w i
+  matches search = search-match s l fs w o
+
+  first : (x : Step) → First (stepped l x .answer) (causesOf s t x)
+  first x = subst (λ (a : Answer). First a (causesOf s t x)) (sym (first-is-answer _ _ (step-answered l x .first))) (first-matches (causes l x) (causesOf s t x) (matches x))
+
+  fits-so : (i : CallInput) → isRefused (callFitted l i .answer) ≡ false
+      → Fits s (callsIn fs) i (l .«table_horizon») (l .«table_limits») (callFitted l i .answer) (callFitted l i .table .horizon) (callFitted l i .table .limits)
+  fits-so i =
+      subst (λ (x : Settings). isRefused (callOn x (l .searched) (l .«stop_count») (tableOf l) i .answer) ≡ false
+      → Fits s (callsIn fs) i (l .«table_horizon») (l .«table_limits») (callOn x (l .searched) (l .«stop_count») (tableOf l) i .answer)
+      (callOn x (l .searched) (l .«stop_count») (tableOf l) i .table .horizon) (callOn x (l .searched) (l .«stop_count») (tableOf l) i .table .limits))
+      (sym (w .settings)) (call-fits s o (callsIn fs) (w .held .days) i (l .searched) (l .«stop_count») (tableOf l) (showing s l fs w))
+
+  fits-as : (i : CallInput) (a : Answer) → callFitted l i .answer ≡ a → isRefused a ≡ false
+      → Fits s (callsIn fs) i (l .«table_horizon») (l .«table_limits») a (callFitted l i .table .horizon) (callFitted l i .table .limits)
+  fits-as i a e r = subst (λ (x : Answer). Fits s (callsIn fs) i (l .«table_horizon») (l .«table_limits») x (callFitted l i .table .horizon) (callFitted l i .table .limits)) e (fits-so i (ap isRefused e ∙ r))
+
+  -- nothing more is taken
+  same : (x : Step) (a : Answer) (m : Load) → After s t x a (stateAt m fs) → After s t x a (stateAt m (fs ++ []))
+  same x a m v = subst (λ (gs : List Filling). After s t x a (stateAt m gs)) (sym (append-nil fs)) v
+
+  after : (x : Step) → After s t x (stepped l x .answer) (stateAt (next l x) (fs ++ taking l x))
+  unfolding stopSpec callSpec ruleSpec
+  after (filling (stop id name parent i)) = go (stopAnswer l id name parent i) refl
+    where
+      go : (a : Answer) → stopAnswer l id name parent i ≡ a → After s (stateAt l fs) (filling (stop id name parent i)) a
+          (stateAt (cond (isTaken a) (withStops l (set (l .stops) (l .«stop_count») (stopOf id name (stationIn l parent i) i)) (l .«stop_count» + 1)) l) (fs ++ cond (isTaken a) (stop id name parent i ∷ []) []))
+      go Taken e = a-stop
+      go Outside e = absurd (stop-outside l id name parent i e)
+      go (Refused r) e = same (filling (stop id name parent i)) (Refused r) l sent-back
+  after (filling (rule i)) = go (ruleAnswer l i) refl
+    where
+      go : (a : Answer) → ruleAnswer l i ≡ a → After s (stateAt l fs) (filling (rule i)) a
+          (stateAt (cond (isTaken a) (withRules l (set (l .rules) (l .«rule_count») (ruleOf i)) (l .«rule_count» + 1)) l) (fs ++ cond (isTaken a) (rule i ∷ []) []))
+      go Taken e = a-rule
+      go Outside e = absurd (rule-outside l i e)
+      go (Refused r) e = same (filling (rule i)) (Refused r) l sent-back
+  after (filling (call i)) = go (callFitted l i .answer) refl
+    where
+      go : (a : Answer) → callFitted l i .answer ≡ a → After s (stateAt l fs) (filling (call i)) a
+          (stateAt (cond (isRefused a) l (withTable l (callFitted l i .table))) (fs ++ cond (isTaken a) (call i ∷ []) []))
+      go Taken e = a-call (fits-as i Taken e refl)
+      go Outside e = same (filling (call i)) Outside (withTable l (callFitted l i .table)) (outside (fits-as i Outside e refl))
+      go (Refused r) e = same (filling (call i)) (Refused r) l sent-back
+  after search = same search (searchSpec l .answer) (searchSpec l .load) (go (searchSpec l .answer) refl)
+    where
+      go : (a : Answer) → searchSpec l .answer ≡ a → After s (stateAt l fs) search a (stateAt (searchSpec l .load) fs)
+      go Taken e =
+          let q : stateAt (searchSpec l .load) fs ≡ done (stateAt l fs) = λ k. record { taken = fs; horizon = search-height l k; limits = search-mark l k; searched = taken-searches l (ap isTaken e) .searched k } in
+          subst (After s (stateAt l fs) search Taken) (sym q) a-search
+      go Outside e = absurd (search-outside l e)
+      go (Refused r) e = subst (λ (m : Load). After s (stateAt l fs) search (Refused r) (stateAt m fs)) (sym (untaken-stays l (ap isTaken e))) sent-back
+
+  -- a load that is still not searched goes on holding what was taken
+  began : (x : Step) → next l x .searched ≡ false → Start s (next l x) (fs ++ taking l x)
+  began (filling x) e = record { sound = step-sound l (filling x) (w .sound); settings = step-settings l (filling x) ∙ w .settings; held = fill-held l x fs (w .sound) (w .held); fresh = e }
+  began search e = go (isTaken (searchSpec l .answer)) refl
+    where
+      go : (b : Bool) → isTaken (searchSpec l .answer) ≡ b → Start s (searchSpec l .load) (fs ++ [])
+      go true q = absurd (true≢false (sym (taken-searches l q .searched) ∙ e))
+      go false q = subst (λ (m : Load). Start s m (fs ++ [])) (sym (untaken-stays l q)) (subst (Start s l) (sym (append-nil fs)) w)
+
+-- ---- a load that is searched: every step is sent back with 15
+
+back : (l : Load) (x : Step) → l .searched ≡ true → (s : Settings) (fs : List Filling) → stepped l x .answer ≡ Refused AlreadySearched → After s (stateAt l fs) x (stepped l x .answer) (stateAt (next l x) fs)
+back l x e s fs q =
+    subst (λ (m : Load). After s (stateAt l fs) x (stepped l x .answer) (stateAt m fs)) (sym (searched-stays l x e))
+    (subst (λ (a : Answer). After s (stateAt l fs) x a (stateAt l fs)) (sym q) sent-back)
+
+answered-15 : (l : Load) (x : Step) → l .searched ≡ true → stepped l x .answer ≡ Refused AlreadySearched
+unfolding stopTests callTests ruleTests
+answered-15 l (filling (stop id name parent i)) e = first-holds (step-answered l (filling (stop id name parent i)) .first) e
+answered-15 l (filling (call i)) e = first-holds (step-answered l (filling (call i)) .first) e
+answered-15 l (filling (rule i)) e = first-holds (step-answered l (filling (rule i)) .first) e
+answered-15 l search e = first-holds (step-answered l search .first) e
+
+first-15 : (s : Settings) (l : Load) (fs : List Filling) (x : Step) → l .searched ≡ true → stepped l x .answer ≡ Refused AlreadySearched → First (stepped l x .answer) (causesOf s (stateAt l fs) x)
+first-15 s l fs (filling (stop id name parent i)) e q = inl (e, q)
+first-15 s l fs (filling (call i)) e q = inl (e, q)
+first-15 s l fs (filling (rule i)) e q = inl (e, q)
+first-15 s l fs search e q = inl (e, q)
+
+stays-on : (l : Load) (x : Step) → l .searched ≡ true → next l x .searched ≡ true
+stays-on l x e = ap (λ (m : Load). m .searched) (searched-stays l x e) ∙ e
+
+run-done : (s : Settings) (xs : List Step) (l : Load) (fs : List Filling) → l .searched ≡ true → Runs s (stateAt l fs) xs (answersFrom l xs) (stateAt (handed l xs) fs)
+run-done s [] l fs e = end
+run-done s (x ∷ xs) l fs e =
+    step (first-15 s l fs x e (answered-15 l x e)) (back l x e s fs (answered-15 l x e)) (run-done s xs (next l x) fs (stays-on l x e))
+
+handed-done : (xs : List Step) (l : Load) → l .searched ≡ true → handed l xs ≡ l
+handed-done [] l e = refl
+handed-done (x ∷ xs) l e = handed-done xs (next l x) (stays-on l x e) ∙ searched-stays l x e
+
+-- ---- the whole list
+
+-- the load q that the accepted search started from, and the load m at the end
+pub record Ended (s : Settings) (q m : Load) (fs : List Filling) : Type 0 where
+  pub start : Start s q fs
+  pub height : q .«table_horizon» ≡ m .«table_horizon»
+  pub mark : q .«table_limits» ≡ m .«table_limits»
+  pub clear : Clear (timetableOf q)
+  pub calls : tableCalls (tableOf m) ≡ inOrder (tableCalls (tableOf q))
+
+pub record Walked (s : Settings) (p l : Load) (xs : List Step) (fs : List Filling) : Type 0 where
+  pub taken : List Filling
+  pub runs : Runs s (stateAt l fs) xs (answersFrom l xs) (stateAt (handed l xs) taken)
+  pub ended : handed l xs .searched ≡ true → Ended s (start p l xs) (handed l xs) taken
+  pub going : handed l xs .searched ≡ false → Start s (handed l xs) taken
+
+-- the search that is taken
+taken-ends : (s : Settings) (xs : List Step) (p l : Load) (fs : List Filling) → Start s l fs → isTaken (searchSpec l .answer) ≡ true → Ended s (start p l (search ∷ xs)) (handed (searchSpec l .load) xs) (fs ++ [])
+taken-ends s xs p l fs w t =
+    let n = taken-searches l t in
+    let stay = handed-done xs (searchSpec l .load) (n .searched) in
+    subst (λ (q : Load). Ended s q (handed (searchSpec l .load) xs) (fs ++ [])) (sym (begins xs p l t))
+    (subst (λ (m : Load). Ended s l m (fs ++ [])) (sym stay) (record {
+      start = subst (Start s l) (sym (append-nil fs)) w;
+      height = sym (search-height l);
+      mark = sym (search-mark l);
+      clear = search-found (timetableOf l) _ _ _ _ _ (n .finds .is) .0;
+      calls = search-sorts l t;
+    }))
+
+pub walk : (s : Settings) → Opened s → (xs : List Step) (p l : Load) (fs : List Filling) → Start s l fs → Walked s p l xs fs
+walk s o [] p l fs w = record { taken = fs; runs = end; ended = λ e. absurd (true≢false (sym e ∙ w .fresh)); going = λ e. w }
+walk s o (x ∷ xs) p l fs w = go (next l x .searched) refl (λ e. walk s o xs (Option·getD (ran l x) p) (next l x) (fs ++ taking l x) (began s o l fs w x e))
+  where
+    last : (x : Step) → next l x .searched ≡ true → Ended s (start p l (x ∷ xs)) (handed (next l x) xs) (fs ++ taking l x)
+    last (filling y) e = absurd (true≢false (sym e ∙ filled-searched l y ∙ w .fresh))
+    last search e = try (isTaken (searchSpec l .answer)) refl
+      where
+        try : (b : Bool) → isTaken (searchSpec l .answer) ≡ b → Ended s (start p l (search ∷ xs)) (handed (searchSpec l .load) xs) (fs ++ [])
+        try true t = taken-ends s xs p l fs w t
+        try false t = absurd (true≢false (sym e ∙ ap (λ (m : Load). m .searched) (untaken-stays l t) ∙ w .fresh))
+
+    go : (b : Bool) → next l x .searched ≡ b → (next l x .searched ≡ false → Walked s (Option·getD (ran l x) p) (next l x) xs (fs ++ taking l x)) → Walked s p l (x ∷ xs) fs
+    go false e ih =
+        let v = ih e in
+        record { taken = v .taken; runs = step (first s o l fs w x) (after s o l fs w x) (v .runs); ended = v .ended; going = v .going }
+    go true e ih = record {
+      taken = fs ++ taking l x;
+      runs = step (first s o l fs w x) (after s o l fs w x) (run-done s xs (next l x) (fs ++ taking l x) e);
+      ended = λ d. last x e;
+      going = λ d. absurd (true≢false (sym e ∙ sym (ap (λ (m : Load). m .searched) (handed-done xs (next l x) e)) ∙ d));
+    }
+
+-- from the opening
+pub walked : (s : Settings) → Opened s → (xs : List Step) → Walked s (opened s) (opened s) xs []
+walked s o xs = walk s o xs (opened s) (opened s) [] (opened-start s)
+
+pub opened-state : (s : Settings) → stateAt (opened s) [] ≡ fresh
+unfolding emptyLoad
+opened-state s = refl

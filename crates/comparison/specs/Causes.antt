@@ -1,0 +1,143 @@
+-- "Why a call is sent back", as propositions over what was taken before and what is handed in, in 01's order: "Settings 1, 2. Stop 15, 3,
+-- 5, 6, 7, 8, 4. Call 15, 9, absent time, 10, outside, 11. Rule 15, 9, 12, 13, 11. Search 15, 14, 11."
+use mathlib.Core.Path.{_≡_}
+use mathlib.Core.Logic.{_⊎_}
+use mathlib.Core.Bool.{true, false, cond}
+use mathlib.Core.List.{List, [], _∷_, List·Memᴰ}
+use Prim.Native.Nat.{ℕ, _≤_, _<_}
+use lib.IntN.{ℤ, pos, negsuc}
+use lib.ListN.{length, getD}
+use Rattle.refusal.specs.declared.Answer.{Answer}
+use Rattle.refusal.specs.declared.Answer.the-variants.{Taken, Outside, Refused}
+use Rattle.refusal.specs.declared.Refusal.the-variants.{SettingsRange, ClockRange}
+use Rattle.refusal.specs.declared.Refusal.the-variants.{IdLength, StopsFull, IdTaken, LocationType, ParentUnknown, NameUnusable}
+use Rattle.refusal.specs.declared.Refusal.the-variants.{FieldRange, TimesReversed, NoRoom, RuleType, PairTaken, Neighbours, AlreadySearched}
+use Rattle.refusal.specs.First.{answerNumber}
+use Rattle.settings.specs.declared.Settings.{Settings}
+use Rattle.place.specs.Positions.{positionOf, isUsable}
+use Rattle.stops.specs.declared.StopInput.{StopInput}
+use Rattle.stops.specs.Answer.{unusable}
+use Rattle.calls.specs.declared.CallInput.{CallInput}
+use Rattle.calls.specs.declared.Seconds.the-variants as seconds
+use Rattle.rules.specs.declared.RuleInput.{RuleInput}
+use Rattle.rules.specs.declared.MinTime.the-variants as min-time
+use Rattle.profile.specs.declared.Journey.{Journey}
+use Rattle.load.specs.Filling.{stop, call, rule}
+use Rattle.steps.specs.Steps.{Step, filling, search}
+use Rattle.comparison.specs.Taken.{StopGiven, stopsIn, callsIn, rulesIn, State}
+use Rattle.comparison.specs.Feeds.{feedOf}
+use Rattle.comparison.specs.Horizon.{Fits}
+use Rattle.comparison.specs.Neighbours.{Clashing}
+use Rattle.comparison.specs.OfferOrder.{Offered}
+use Rattle.comparison.specs.Falls.{Falls, below}
+
+-- a cause, with its answer
+pub record Cause : Type 1 where
+  pub Holds : Type 0
+  pub answer : Answer
+
+abbrev pub cause : Type 0 → Answer → Cause
+cause P a = record { Holds = P; answer = a }
+
+-- the answer is that of the first cause that holds; taken where none does
+abbrev pub First : Answer → List Cause → Type 0
+First a [] = a ≡ Taken
+First a (c ∷ cs) = (c .Holds × (a ≡ c .answer)) ⊎ ((c .Holds → ⊥) × First a cs)
+
+-- the causes by their numbers; 0 for outside
+abbrev pub numbersOf : List Cause → List ℕ
+numbersOf [] = []
+numbersOf (c ∷ cs) = answerNumber (c .answer) ∷ numbersOf cs
+
+-- ---- settings
+
+-- "start or epoch beyond ±2^40"
+abbrev pub Beyond : ℤ → Type 0
+Beyond (pos n) = 1099511627776 < n
+Beyond (negsuc n) = 1099511627776 ≤ n
+
+abbrev pub settingsCauses : Settings → List Cause
+settingsCauses s =
+    cause (4 < s .origins ⊎ 4 < s .targets ⊎ 1 < s .«max_transfers») (Refused SettingsRange)
+    ∷ cause (Beyond (s .now) ⊎ ((day : ℕ) × (day ≤ 2) × Beyond (getD (s .epochs) day (pos 0)))) (Refused ClockRange)
+    ∷ []
+
+-- ---- stop
+
+-- "needed name (type 0, no parent, usable position; the id where no name)"
+pub record Needed (i : StopInput) : Type 0 where
+  pub type-zero : i .«location_type» ≡ 0
+  pub no-parent : i .«has_parent» ≡ false
+  pub usable : isUsable (positionOf (i .located) (i .degrees)) ≡ true
+
+abbrev pub stopCauses : State → List ℕ → List ℕ → List ℕ → StopInput → List Cause
+stopCauses t id name parent i =
+    let stops = stopsIn (t .taken) in
+    cause (t .searched ≡ true) (Refused AlreadySearched)
+    ∷ cause (length id ≡ 0 ⊎ 32 < length id) (Refused IdLength)
+    ∷ cause ((g : StopGiven) × List·Memᴰ g stops × (g .id ≡ id)) (Refused IdTaken)
+    ∷ cause (1 < i .«location_type» ⊎ ((i .«location_type» ≡ 1) × (i .«has_parent» ≡ true))) (Refused LocationType)
+    ∷ cause ((i .«has_parent» ≡ true) × ((g : StopGiven) → List·Memᴰ g stops → g .id ≡ parent → g .input .«location_type» ≡ 1 → ⊥))
+    (Refused ParentUnknown)
+    ∷ cause (((i .named ≡ true) × (64 < length name)) ⊎ (Needed i × (unusable (cond (i .named) name id) ≡ true))) (Refused NameUnusable)
+    ∷ cause (128 ≤ length stops) (Refused StopsFull)
+    ∷ []
+
+-- ---- call
+
+-- arrival after departure, both given
+pub record Reversed (i : CallInput) : Type 0 where
+  pub a : ℕ
+  pub d : ℕ
+  pub arrives : i .arrival ≡ seconds.Given a
+  pub departs : i .departure ≡ seconds.Given d
+  pub after : d < a
+
+-- by the window and the cuts
+abbrev pub Fitting : Settings → State → CallInput → Answer → Type 0
+Fitting s t i a = (h : ℕ) × (m : ℕ) × Fits s (callsIn (t .taken)) i (t .horizon) (t .limits) a h m
+
+abbrev pub callCauses : Settings → State → CallInput → List Cause
+callCauses s t i =
+    cause (t .searched ≡ true) (Refused AlreadySearched)
+    ∷ cause (length (stopsIn (t .taken)) ≤ i .stop ⊎ 65535 ≤ i .trip ⊎ 2 < i .day ⊎ 3 < i .pickup ⊎ 3 < i .«drop_off») (Refused FieldRange)
+    ∷ cause (i .arrival ≡ seconds.Absent ⊎ i .departure ≡ seconds.Absent) Outside
+    ∷ cause (Reversed i) (Refused TimesReversed)
+    ∷ cause (Fitting s t i Outside) Outside
+    ∷ cause (Fitting s t i (Refused NoRoom)) (Refused NoRoom)
+    ∷ []
+
+-- ---- rule
+
+abbrev pub ruleCauses : State → RuleInput → List Cause
+ruleCauses t i =
+    let stops = length (stopsIn (t .taken)) in
+    cause (t .searched ≡ true) (Refused AlreadySearched)
+    ∷ cause (stops ≤ i .from ⊎ stops ≤ i .to) (Refused FieldRange)
+    ∷ cause (3 < i .«transfer_type» ⊎ ((i .«transfer_type» ≡ 2) × (i .seconds ≡ min-time.Absent))) (Refused RuleType)
+    ∷ cause ((q : RuleInput) × List·Memᴰ q (rulesIn (t .taken)) × (q .from ≡ i .from) × (q .to ≡ i .to)) (Refused PairTaken)
+    ∷ cause (128 ≤ length (rulesIn (t .taken))) (Refused NoRoom)
+    ∷ []
+
+-- ---- search
+
+-- the horizon would fall below 3600, by what is offered
+pub record Sinks (s : Settings) (t : State) : Type 0 where
+  pub offers : List Journey
+  pub offered : Offered (feedOf s t) offers
+  pub falls : Falls [] (t .horizon) (t .limits) offers below
+
+abbrev pub searchCauses : Settings → State → List Cause
+searchCauses s t =
+    cause (t .searched ≡ true) (Refused AlreadySearched)
+    ∷ cause (Clashing s (t .horizon) (callsIn (t .taken))) (Refused Neighbours)
+    ∷ cause (Sinks s t) (Refused NoRoom)
+    ∷ []
+
+-- ---- every step
+
+abbrev pub causesOf : Settings → State → Step → List Cause
+causesOf s t (filling (stop id name parent i)) = stopCauses t id name parent i
+causesOf s t (filling (call i)) = callCauses s t i
+causesOf s t (filling (rule i)) = ruleCauses t i
+causesOf s t search = searchCauses s t

@@ -1,0 +1,47 @@
+-- A whole list of steps: each is answered for the first of its causes, and its answer says what is taken. "Each entry gets the load that
+-- the one before it returned"; here, what was taken before it. No load is read.
+use mathlib.Core.Path.{_≡_}
+use mathlib.Core.Bool.{true}
+use mathlib.Core.List.{List, [], _∷_}
+use Prim.Native.Nat.{ℕ}
+use Rattle.refusal.specs.declared.Answer.{Answer}
+use Rattle.refusal.specs.declared.Answer.the-variants.{Taken, Outside, Refused}
+use Rattle.refusal.specs.declared.Refusal.{Refusal}
+use Rattle.settings.specs.declared.Settings.{Settings}
+use Rattle.stops.specs.declared.StopInput.{StopInput}
+use Rattle.calls.specs.declared.CallInput.{CallInput}
+use Rattle.rules.specs.declared.RuleInput.{RuleInput}
+use Rattle.profile.specs.declared.Journey.{Journey}
+use Rattle.load.specs.Filling.{stop, call, rule}
+use Rattle.steps.specs.Steps.{Step, filling, search}
+use Rattle.comparison.specs.Taken.{callsIn, State, fresh, more, upTo, done}
+use Rattle.comparison.specs.Admitted.{Admits}
+use Rattle.comparison.specs.Feeds.{feedOf}
+use Rattle.comparison.specs.Horizon.{Fits}
+use Rattle.comparison.specs.Causes.{First, causesOf}
+
+-- where t was taken, a step that is answered so leaves this taken
+pub data After (s : Settings) (t : State) : Step → Answer → State → Type 0 where
+  sent-back : {x : Step} {r : Refusal} → After s t x (Refused r) t
+  a-stop : {id name parent : List ℕ} {i : StopInput} → After s t (filling (stop id name parent i)) Taken (more t (stop id name parent i))
+  a-rule : {i : RuleInput} → After s t (filling (rule i)) Taken (more t (rule i))
+  a-call : {i : CallInput} {h m : ℕ} → Fits s (callsIn (t .taken)) i (t .horizon) (t .limits) Taken h m
+      → After s t (filling (call i)) Taken (upTo (more t (call i)) h m)
+  outside : {i : CallInput} {h m : ℕ} → Fits s (callsIn (t .taken)) i (t .horizon) (t .limits) Outside h m
+      → After s t (filling (call i)) Outside (upTo t h m)
+  a-search : After s t search Taken (done t)
+
+-- the steps, handed in where t was taken, are answered so and leave v taken
+pub data Runs (s : Settings) : State → List Step → List Answer → State → Type 0 where
+  end : {t : State} → Runs s t [] [] t
+  step : {t u v : State} {x : Step} {xs : List Step} {a : Answer} {rs : List Answer}
+      → First a (causesOf s t x) → After s t x a u → Runs s u xs rs v → Runs s t (x ∷ xs) (a ∷ rs) v
+
+-- "Which journeys are admitted is defined from the settings and the list alone: by the stops and rules taken and the calls answered taken
+-- under this paper's rules, as `window` and the table's cuts leave them when the accepted search starts." After it nothing more is taken
+pub record Admitted (s : Settings) (xs : List Step) (j : Journey) : Type 0 where
+  pub answers : List Answer
+  pub end : State
+  pub runs : Runs s fresh xs answers end
+  pub searched : end .searched ≡ true
+  pub admits : Admits (feedOf s end) j
