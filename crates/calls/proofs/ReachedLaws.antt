@@ -29,13 +29,16 @@ module _ (a d : Offset) (i : CallInput) where
   noRoom t = record { answer = Refused NoRoom; table = t }
 
   -- at a table that is not cut
-  here : (t : Table) (more : Fitted) → (meetsFull t a d ≡ true → more ≡ noRoom t) → entered t (seen (t .horizon) a d i) more ≡ reachedFit t a d i
+  here : (t : Table) (more : Fitted) → (meetsFull t a d ≡ true → more ≡ noRoom t) → (meetsFull t a d ≡ true → less (t .horizon) < 3600)
+      → entered t (seen (t .horizon) a d i) more ≡ reachedFit t a d i
   unfolding seen firstAnswer
-  here t more f = go (outside (t .horizon) a d) (isFull t) refl refl
+  here t more f g = go (outside (t .horizon) a d) (isFull t) refl refl
     where
       go : (o k : Bool) → outside (t .horizon) a d ≡ o → isFull t ≡ k → entered t (seen (t .horizon) a d i) more ≡ reachedFit t a d i
       go true k p q = rw p refl
-      go false true p q = rw (p, le-ltb (t .count) 512 (leb-true _ _ q), q) (f (rw (p, q) refl))
+      go false true p q =
+          let m : meetsFull t a d ≡ true = rw (p, q) refl in
+          rw (p, le-ltb (t .count) 512 (leb-true _ _ q), q, lt-ltb (less (t .horizon)) 3600 (g m)) (f m)
       go false false p q = rw (p, lt-ltb (t .count) 512 (leb-false _ _ q), q) refl
 
   -- a full table passes the call on
@@ -48,18 +51,25 @@ module _ (a d : Offset) (i : CallInput) where
       go false true p q e = rw (p, le-ltb (t .count) 512 (leb-true _ _ q)) refl
       go false false p q e = absurd (false≢true (rw (p, q) at e))
 
-  fitted-in : (n : ℕ) (t : Table) → fittedIn n t a d i ≡ reachedFit (reachedIn n t a d) a d i
-  fitted-in zero t = here t (noRoom t) (λ e. refl)
-  fitted-in (suc n) t = go (meetsFull t a d && leb 3600 (less (t .horizon))) refl (fitted-in n (cut (less (t .horizon)) t))
+  -- with as many cuts as the horizon has seconds
+  fitted-in : (n : ℕ) (t : Table) → t .horizon ≤ n → fittedIn n t a d i ≡ reachedFit (reachedIn n t a d) a d i
+  unfolding cut
+  fitted-in zero t b = here t (noRoom t) (λ e. refl) (λ e. spent (t .horizon) b)
+  fitted-in (suc n) t b = go (meetsFull t a d && leb 3600 (less (t .horizon))) refl (fitted-in n (cut (less (t .horizon)) t))
     where
       more : Fitted
       more = cond (ltb (less (t .horizon)) 3600) (noRoom t) (fittedIn n (cut (less (t .horizon)) t) a d i)
 
-      go : (c : Bool) → (meetsFull t a d && leb 3600 (less (t .horizon))) ≡ c → fittedIn n (cut (less (t .horizon)) t) a d i ≡ reachedFit (reachedIn n (cut (less (t .horizon)) t) a d) a d i
+      go : (c : Bool) → (meetsFull t a d && leb 3600 (less (t .horizon))) ≡ c
+          → (less (t .horizon) ≤ n → fittedIn n (cut (less (t .horizon)) t) a d i ≡ reachedFit (reachedIn n (cut (less (t .horizon)) t) a d) a d i)
           → entered t (seen (t .horizon) a d i) more ≡ reachedFit (cond c (reachedIn n (cut (less (t .horizon)) t) a d) t) a d i
       go true e ih =
-          past t more (and-true-left _ _ e) ∙ cond-not _ _ (le-ltb (less (t .horizon)) 3600 (leb-true _ _ (and-true-right (meetsFull t a d) _ e))) ∙ ih
-      go false e ih = here t more (λ f. cond-by _ _ (lt-ltb (less (t .horizon)) 3600 (leb-false _ _ (sym (and-by (leb 3600 (less (t .horizon))) f) ∙ e))))
+          past t more (and-true-left _ _ e) ∙ cond-not _ _ (le-ltb (less (t .horizon)) 3600 (leb-true _ _ (and-true-right (meetsFull t a d) _ e)))
+          ∙ ih (falls (t .horizon) n b (leb-true _ _ (and-true-right (meetsFull t a d) _ e)))
+      go false e ih = here t more (λ f. cond-by _ _ (lt-ltb (less (t .horizon)) 3600 (low f))) low
+        where
+          low : meetsFull t a d ≡ true → less (t .horizon) < 3600
+          low f = leb-false _ _ (sym (and-by (leb 3600 (less (t .horizon))) f) ∙ e)
 
 module _ (a d : Offset) where
   -- as many cuts as the horizon has seconds are enough
@@ -80,7 +90,7 @@ reached-full t a d = stops-in a d (t .horizon) t (omega arith)
 
 pub fitted-reached : FittedReached
 unfolding fitted reached
-fitted-reached t a d i = fitted-in a d i (t .horizon) t
+fitted-reached t a d i = fitted-in a d i (t .horizon) t (omega arith)
 
 module _ (s : Settings) (b : Bool) (n : ℕ) (t : Table) (i : CallInput) where
   abbrev tests : List (Bool × Answer)

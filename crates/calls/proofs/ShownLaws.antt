@@ -2,7 +2,7 @@
 use Prim.Native.Nat.{ℕ, _≤_, _<_}
 use mathlib.Core.Path.{_≡_, refl, sym, ap, _∙_}
 use mathlib.Core.List.{List, [], _∷_, _++_, append-assoc, append-nil}
-use mathlib.Core.Bool.{cond, Bool, true, false, not}
+use mathlib.Core.Bool.{cond, Bool, true, false}
 use native.Mathlib.Omega.{arith}
 use borrow.Author.Tests.{leb-true, leb-false, ltb-true, ltb-false, le-leb, lt-ltb, le-ltb}
 use lib.Dec.{leb, ltb, leb·zero}
@@ -16,13 +16,12 @@ use Rattle.calls.specs.declared.View.{View}
 use Rattle.calls.specs.declared.View.the-variants.{In, Out}
 use Rattle.calls.specs.declared.Table.{Table}
 use Rattle.calls.specs.declared.Fitted.{Fitted}
-use Rattle.refusal.specs.declared.Refusal.the-variants.{AlreadySearched, FieldRange, TimesReversed}
 use Rattle.refusal.specs.declared.Answer.{Answer}
 use Rattle.refusal.specs.declared.Answer.the-variants.{Taken, Outside, Refused}
 use Rattle.calls.specs.Windows.{within, held, allowed, asked, seenCall, seen}
 use Rattle.calls.specs.Tables.{dueBy, trim, trimAll, cut, less}
-use Rattle.refusal.specs.First.{firstAnswer, isRefused}
-use Rattle.calls.specs.Calls.{unTimed, reversed, known, callTests, callTime, callSeen, window, callFit, callOn, ended, goesOn}
+use Rattle.refusal.specs.First.{firstAnswer, isRefused, isTaken}
+use Rattle.calls.specs.Calls.{unTimed, callTests, callTime, callSeen, window, callFit, callOn, ended, goesOn}
 use Rattle.calls.specs.Sound.{TableSound}
 use Rattle.calls.specs.Shown.{shown, windowed, Shows, StepShows}
 use Rattle.laws.proofs.Bools.{cond-by}
@@ -120,9 +119,6 @@ module _ (s : Settings) (h : ℕ) where
   windowed-one xs i v e =
       windowed-append xs (i ∷ []) ∙ ap (λ (r : List Call). windowed s h xs ++ r) (append-nil (shown (window s h i)) ∙ ap shown e)
 
-  windowed-out : (xs : List CallInput) (i : CallInput) → window s h i ≡ Out → windowed s h (xs ++ (i ∷ [])) ≡ windowed s h xs
-  windowed-out xs i e = windowed-one xs i Out e ∙ append-nil (windowed s h xs)
-
   pub window-seen : (i : CallInput) → unTimed i ≡ false → window s h i ≡ callSeen s h i
   unfolding window
   window-seen i e = ap (λ (b : Bool). cond b Out (callSeen s h i)) e
@@ -147,32 +143,20 @@ showing-keeps s is a d i t c p e f l = record {
 }
 
 module _ (s : Settings) (u : Table) (i : CallInput) (is : List CallInput) (q : Shows s u is) (present : unTimed i ≡ false) where
-  ended-shows : (f : Fitted) → Ends (Showing s is) (callTime s i (i .arrival)) (callTime s i (i .departure)) i f → Shows s (ended u f .table) (is ++ cond (isRefused (f .answer)) [] (i ∷ []))
-  ended-shows _ (stands t p e) = p .shows ∙ sym (windowed-out s (t .horizon) is i (window-seen s (t .horizon) i present ∙ e))
+  ended-shows : (f : Fitted) → Ends (Showing s is) (callTime s i (i .arrival)) (callTime s i (i .departure)) i f → Shows s (ended u f .table) (is ++ cond (isTaken (f .answer)) (i ∷ []) [])
+  ended-shows _ (stands t p e) = p .shows ∙ ap (windowed s (t .horizon)) (sym (append-nil is))
   ended-shows _ (enters t c p e h) =
       put-calls t c (p .sound) h ∙ ap (λ (x : List Call). x ++ (c ∷ [])) (p .shows)
       ∙ sym (windowed-one s (t .horizon) is i (In c) (window-seen s (t .horizon) i present ∙ e))
   ended-shows _ (turned t c p e h m) = q ∙ ap (windowed s (u .horizon)) (sym (append-nil is))
 
--- the tests answer outside only where a time is absent
-left-out : (b : Bool) (n : ℕ) (i : CallInput) → firstAnswer (callTests b n i) ≡ Outside → unTimed i ≡ true
-unfolding callTests firstAnswer
-left-out b n i e = go b (not (known n i)) (unTimed i) (reversed i) e
-  where
-    go : (b1 b2 b3 b4 : Bool) → cond b1 (Refused AlreadySearched) (cond b2 (Refused FieldRange) (cond b3 Outside (cond b4 (Refused TimesReversed) Taken))) ≡ Outside → b3 ≡ true
-    go true b2 b3 b4 q = let z : _≡_ {A = ℕ} 0 1 = cc in absurd (omega arith)
-    go false true b3 b4 q = let z : _≡_ {A = ℕ} 0 1 = cc in absurd (omega arith)
-    go false false true b4 q = refl
-    go false false false true q = let z : _≡_ {A = ℕ} 0 1 = cc in absurd (omega arith)
-    go false false false false q = let z : _≡_ {A = ℕ} 0 1 = cc in absurd (omega arith)
-
 pub step-shows : StepShows
 unfolding callOn callFit
 step-shows s b n t i is sound q = go (firstAnswer (callTests b n i)) refl
   where
-    go : (a : Answer) → firstAnswer (callTests b n i) ≡ a → Shows s (goesOn s t i a .table) (is ++ cond (isRefused (goesOn s t i a .answer)) [] (i ∷ []))
+    go : (a : Answer) → firstAnswer (callTests b n i) ≡ a → Shows s (goesOn s t i a .table) (is ++ cond (isTaken (goesOn s t i a .answer)) (i ∷ []) [])
     go (Refused w) e = q ∙ ap (windowed s (t .horizon)) (sym (append-nil is))
-    go Outside e = q ∙ sym (windowed-out s (t .horizon) is i (window-absent s (t .horizon) i (left-out b n i e)))
+    go Outside e = q ∙ ap (windowed s (t .horizon)) (sym (append-nil is))
     go Taken e =
         ended-shows s t i is q (passed b n i e .present) _
         (ends (Showing s is) (callTime s i (i .arrival)) (callTime s i (i .departure)) i

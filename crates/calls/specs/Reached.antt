@@ -3,7 +3,7 @@ use Prim.Native.Nat.{ℕ, zero, suc, _<_}
 use mathlib.Core.Path.{_≡_}
 use mathlib.Core.List.{List, [], _∷_, _++_}
 use mathlib.Core.Bool.{Bool, true, not, cond, _&&_}
-use lib.Dec.{leb}
+use lib.Dec.{ltb, leb}
 use Rattle.refusal.specs.declared.Refusal.the-variants.{NoRoom}
 use Rattle.refusal.specs.declared.Answer.{Answer}
 use Rattle.refusal.specs.declared.Answer.the-variants.{Outside, Refused}
@@ -38,9 +38,9 @@ reached t a d = reachedIn (t .horizon) t a d
 abbrev pub ReachedFull : Type 0
 ReachedFull = (t : Table) (a d : Offset) → meetsFull (reached t a d) a d ≡ true → less (reached t a d .horizon) < 3600
 
--- what is asked of the table reached: is the call outside, is the table full
+-- what is asked of the table reached: is the call outside; is the table full, and would its horizon fall below 3600
 abbrev pub reachedTests : Table → Offset → Offset → List (Bool × Answer)
-reachedTests r a d = (outside (r .horizon) a d, Outside) ∷ (isFull r, Refused NoRoom) ∷ []
+reachedTests r a d = (outside (r .horizon) a d, Outside) ∷ (isFull r && ltb (less (r .horizon)) 3600, Refused NoRoom) ∷ []
 
 -- if neither, the call goes in as it is seen up to that table's horizon
 abbrev pub reachedFit : Table → Offset → Offset → CallInput → Fitted

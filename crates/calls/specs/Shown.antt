@@ -1,4 +1,4 @@
--- What the table is: the calls handed in and not refused, in order, as the window shows them at its horizon. And when the horizon falls.
+-- What the table is: the calls answered taken, in order, as the window shows them at its horizon. And when the horizon falls.
 use Prim.Native.Nat.{ℕ, _≤_, _<_}
 use mathlib.Core.Path.{_≡_}
 use mathlib.Core.Bool.{Bool, cond}
@@ -6,7 +6,7 @@ use mathlib.Core.List.{List, [], _∷_, _++_}
 use lib.ListN.{take}
 use Rattle.refusal.specs.declared.Refusal.the-variants.{NoRoom}
 use Rattle.refusal.specs.declared.Answer.the-variants.{Refused}
-use Rattle.refusal.specs.First.{isRefused}
+use Rattle.refusal.specs.First.{isTaken}
 use Rattle.settings.specs.declared.Settings.{Settings}
 use Rattle.calls.specs.declared.Call.{Call}
 use Rattle.calls.specs.declared.CallInput.{CallInput}
@@ -34,14 +34,14 @@ tableCalls t = take (t .count) (t .calls)
 abbrev pub Shows : Settings → Table → List CallInput → Type 0
 Shows s t is = tableCalls t ≡ windowed s (t .horizon) is
 
--- the call, unless it is refused
-abbrev pub accepted : Settings → Bool → ℕ → Table → CallInput → List CallInput
-accepted s b n t i = cond (isRefused (callOn s b n t i .answer)) [] (i ∷ [])
+-- the call, if it is answered taken
+abbrev pub takenOf : Settings → Bool → ℕ → Table → CallInput → List CallInput
+takenOf s b n t i = cond (isTaken (callOn s b n t i .answer)) (i ∷ []) []
 
--- if a sound table shows these calls, it shows them and the new one after the step
+-- if a sound table shows these calls, it shows them after the step, and the new one if that is taken
 abbrev pub StepShows : Type 0
 StepShows = (s : Settings) (b : Bool) (n : ℕ) (t : Table) (i : CallInput) (is : List CallInput)
-    → TableSound t → Shows s t is → Shows s (callOn s b n t i .table) (is ++ accepted s b n t i)
+    → TableSound t → Shows s t is → Shows s (callOn s b n t i .table) (is ++ takenOf s b n t i)
 
 -- a call inside the window meets a full table
 pub record Meets (s : Settings) (t : Table) (i : CallInput) : Type 0 where

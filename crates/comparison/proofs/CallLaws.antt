@@ -22,6 +22,7 @@ use Rattle.calls.specs.declared.Seconds.{Seconds}
 use Rattle.calls.specs.declared.Seconds.the-variants.{Given, Absent}
 use Rattle.calls.specs.Windows as windows
 use Rattle.calls.specs.Calls.{absent, secondsOf, known, unTimed, reversed, callTests, callTime, callFit}
+use Rattle.calls.specs.Tables.{less}
 use Rattle.calls.specs.Reached.{isFull, reached}
 use Rattle.calls.specs.Reached as tests
 use Rattle.calls.proofs.ReachedLaws.{fitted-reached}
@@ -128,7 +129,7 @@ module _ (s : Settings) (l : Load) (fs : List Filling) (w : Start s l fs) (o : O
   out = windows.outside (reached t a d .horizon) a d
 
   abbrev filled : Bool
-  filled = isFull (reached t a d)
+  filled = isFull (reached t a d) && ltb (less (reached t a d .horizon)) 3600
 
   fit-answer : callFit z t i .answer ≡ two out filled
   unfolding callFit

@@ -37,11 +37,12 @@ use Rattle.offers.specs.Offers.{rideOf}
 use Rattle.search.specs.Timetable.{changeIn, oneRun, joinsIn}
 use Rattle.comparison.specs.Taken.{StopGiven, stopsIn, rulesIn}
 use Rattle.comparison.specs.Admitted.{Nth, Feed, Parent, Side, Change, Joins}
-use Rattle.comparison.specs.Feeds.{placeIn, OnePlace, feedFrom}
+use Rattle.comparison.specs.Feeds.{feedFrom}
 use Rattle.comparison.proofs.NthLaws.{nth-below, nth-one, same-bytes}
 use Rattle.comparison.proofs.KeptLaws.{mem-getD}
 use Rattle.comparison.proofs.TakenLaws.{HeldAs, Held}
 use Rattle.comparison.proofs.StartLaws.{Start}
+use Rattle.comparison.proofs.PlaceLaws.{placeIn, one-id, given-below, place-in, place-out}
 use Rattle.comparison.proofs.RuleLaws.{Near, change-in, change-out}
 
 module _ (s : Settings) (p : Load) (fs : List Filling) (w : Start s p fs) where
@@ -73,21 +74,8 @@ module _ (s : Settings) (p : Load) (fs : List Filling) (w : Start s p fs) where
             type-one = t;
           }
 
-  -- two stops of one id are one
-  alone : (j k : ℕ) → j < p .«stop_count» → k < p .«stop_count» → idOf (stopAt (p .stops) j) ≡ idOf (stopAt (p .stops) k) → j ≡ k
-  alone j k hj hk e = go (tri j k)
-    where
-      twice : (a b : ℕ) → a < b → b < p .«stop_count» → idOf (stopAt (p .stops) a) ≡ idOf (stopAt (p .stops) b) → ⊥
-      twice a b l h q =
-          true≢false (sym (same-bytes (idOf (stopAt (p .stops) a))) ∙ ap (sameBytes (idOf (stopAt (p .stops) a))) q ∙ w .sound .stops .alone a b l h)
-
-      go : (j < k) ⊎ ((j ≡ k) ⊎ (k < j)) → j ≡ k
-      go (inl l) = absurd (twice j k l hk e)
-      go (inr (inl q)) = q
-      go (inr (inr l)) = absurd (twice k j l hj (sym e))
-
   below : (x : ℕ) (g : StopGiven) → Nth (stopsIn fs) x g → x < p .«stop_count»
-  below x g n = omega (arith, nth-below (stopsIn fs) x g n, w .held .stops)
+  below = given-below s p fs w
 
   parent-out : (x n : ℕ) → Parent (stopsIn fs) x n → stopAt (p .stops) x .parent ≡ n
   parent-out x n c = go (w .held .each x (below x (c .child) (c .at-child)))
@@ -108,7 +96,7 @@ module _ (s : Settings) (p : Load) (fs : List Filling) (w : Start s p fs) where
               let hn : n < p .«stop_count» = below n (c .station) (c .at-station) in
               let u = w .held .each y hy in
               let z = w .held .each n hn in
-              alone y n hy hn
+              one-id s p fs w y n hy hn
               (u .id ∙ ap (λ (g : StopGiven). g .id) (nth-one (stopsIn fs) y (u .given) q (u .at) m) ∙ i ∙ ap (λ (g : StopGiven). g .parent) same
               ∙ sym (c .same-id) ∙ ap (λ (g : StopGiven). g .id) (nth-one (stopsIn fs) n (c .station) (z .given) (c .at-station) (z .at)) ∙ sym (z .id))
 
@@ -175,7 +163,7 @@ module _ (s : Settings) (p : Load) (fs : List Filling) (w : Start s p fs) where
 
         two : ((not (eqb fp 65535) && eqb fp tp) ≡ true) ⊎ ((not (eqb (placeIn p x) 65535) && eqb (placeIn p x) (placeIn p y)) ≡ true) → Near F e fores rears
         two (inl q) = inr (inl (parents q))
-        two (inr q) = inr (inr (eqb-true (placeIn p x) (placeIn p y) (and-true-right (not (eqb (placeIn p x) 65535)) _ q), eqb-false (placeIn p x) 65535 (not-true (eqb (placeIn p x) 65535) (and-true-left _ _ q))))
+        two (inr q) = inr (inr (place-in s p fs w x y hx hy (eqb-true (placeIn p x) (placeIn p y) (and-true-right (not (eqb (placeIn p x) 65535)) _ q)) (eqb-false (placeIn p x) 65535 (not-true (eqb (placeIn p x) 65535) (and-true-left _ _ q)))))
 
         one : (eqb x y ≡ true) ⊎ (((not (eqb fp 65535) && eqb fp tp) || (not (eqb (placeIn p x) 65535) && eqb (placeIn p x) (placeIn p y))) ≡ true) → Near F e fores rears
         one (inl q) = inl (eqb-true x y q)
@@ -188,7 +176,8 @@ module _ (s : Settings) (p : Load) (fs : List Filling) (w : Start s p fs) where
             let b : tp ≡ n = read y hy ∙ parent-out y n d in
             let l : n < p .«stop_count» = below n (c .station) (c .at-station) in
             or-true-right (eqb x y) _ (or-true-left _ _ (and-true _ _ (ap not (ne-eqb fp 65535 (λ z. omega (arith, few)))) (eq-eqb fp tp (a ∙ sym b))))
-        back (inr (inr (a, b))) =
+        back (inr (inr o)) =
+            let (a, b) = place-out s p fs w x y o in
             or-true-right (eqb x y) _ (or-true-right (not (eqb fp 65535) && eqb fp tp) _ (and-true _ _ (ap not (ne-eqb (placeIn p x) 65535 b)) (eq-eqb (placeIn p x) (placeIn p y) a)))
 
     -- the change time of the load is that of the settings

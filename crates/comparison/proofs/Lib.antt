@@ -7,9 +7,11 @@ pub mod SettingLaws
 pub mod Deciding
 pub mod OneLaws
 pub mod Pairs
+pub mod KeyLaws
 pub mod TakenLaws
 pub mod StartLaws
 pub mod RuleLaws
+pub mod PlaceLaws
 pub mod JoinLaws
 pub mod AdmittedLaws
 pub mod FallLaws

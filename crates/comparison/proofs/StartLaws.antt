@@ -18,7 +18,7 @@ use Rattle.steps.specs.Steps.{Step, filling, search}
 use Rattle.steps.specs.Lists.{ran, start}
 use Rattle.steps.proofs.StepLaws.{searched-stays, taken-searches}
 use Rattle.comparison.specs.Taken.{stopsIn, callsIn, rulesIn, State}
-use Rattle.comparison.specs.Feeds.{Grouped, feedOf, feedFrom}
+use Rattle.comparison.specs.Feeds.{feedOf, feedFrom}
 use Rattle.comparison.proofs.TakenLaws.{Held, opened-holds}
 
 -- what the search was handed
@@ -64,11 +64,4 @@ stateAt l fs = record { taken = fs; horizon = l .«table_horizon»; limits = l .
 
 -- what the load gives to a search is what was taken
 pub same-feed : (s : Settings) (p : Load) (fs : List Filling) → Start s p fs → feedFrom s p fs ≡ feedOf s (stateAt p fs)
-same-feed s p fs w = λ k. record {
-  settings = s;
-  stops = stopsIn fs;
-  rules = rulesIn fs;
-  calls = callsIn fs;
-  horizon = p .«table_horizon»;
-  Place = Grouped (w .held .records k);
-}
+same-feed s p fs w = refl

@@ -26,7 +26,7 @@ use Rattle.calls.specs.declared.Offset.{Offset}
 use Rattle.calls.specs.declared.View.the-variants.{Out}
 use Rattle.calls.specs.Windows.{seen}
 use Rattle.calls.specs.Calls.{known, unTimed, reversed, callTests, callTime, window, callFit, ended, goesOn, callOn}
-use Rattle.calls.specs.Shown.{shown, windowed, tableCalls, Shows, accepted}
+use Rattle.calls.specs.Shown.{shown, windowed, tableCalls, Shows, takenOf}
 use Rattle.calls.proofs.Fits.{Ends, stands, enters, turned, ends}
 use Rattle.calls.proofs.SoundLaws.{call-tests-fail, passed}
 use Rattle.calls.proofs.ShownLaws.{step-shows, window-seen, window-absent}
@@ -43,7 +43,7 @@ use Rattle.stops.specs.Stops.{idOf, isIt, findStop, isAt, numberOf}
 use Rattle.stops.specs.Answer.{stationOf, stopTests}
 use Rattle.stops.specs.Taken.{stopOf, blankStop}
 use Rattle.stops.specs.Sound.{stopAt}
-use Rattle.stops.proofs.SoundLaws.{id-kept}
+use Rattle.stops.proofs.SoundLaws.{id-kept, name-kept, needed-usable}
 use Rattle.stops.proofs.Laws as stops
 use Rattle.load.specs.declared.Load.{Load}
 use Rattle.load.specs.Load.{emptyLoad, tableOf, withTable, withStops, withRules}
@@ -51,9 +51,9 @@ use Rattle.load.specs.Steps.{opened, stationIn, stopAnswer, stopSpec, callFitte
 use Rattle.load.specs.Filling.{Filling, stop, call, rule, filled}
 use Rattle.load.specs.Sound.{Sound}
 use Rattle.comparison.specs.Taken.{StopGiven, stopsIn, callsIn, rulesIn}
-use Rattle.comparison.specs.Feeds.{recordOf, recordsFrom}
 use Rattle.comparison.specs.Admitted.{Nth}
 use Rattle.comparison.proofs.NthLaws.{nth-more, nth-new, bytes-same, calls-append, rules-append, stops-append}
+use Rattle.comparison.proofs.KeyLaws.{KeyHeld}
 
 -- ---- an outside call is outside up to the horizon that it leaves
 
@@ -137,6 +137,7 @@ pub record HeldAs (st : Stop) (ss : List StopGiven) (k : ℕ) : Type 0 where
   pub id : idOf st ≡ given .id
   pub kind : st .«location_type» ≡ given .input .«location_type»
   pub members : st .members ≡ given .input .members
+  pub key : KeyHeld st given
   pub parent : ((given .input .«has_parent» ≡ false) × (st .parent ≡ 65535))
       ⊎ ((given .input .«has_parent» ≡ true) × ((p : StopGiven) × Nth ss (st .parent) p × (st .parent < k) × (p .id ≡ given .parent) × (p .input .«location_type» ≡ 1)))
 
@@ -146,15 +147,10 @@ pub record Held (l : Load) (fs : List Filling) : Type 0 where
   pub rules : take (l .«rule_count») (l .rules) ≡ map ruleOf (rulesIn fs)
   pub stops : l .«stop_count» ≡ length (stopsIn fs)
   pub each : (k : ℕ) → k < l .«stop_count» → HeldAs (stopAt (l .stops) k) (stopsIn fs) k
-  pub records : take (l .«stop_count») (l .stops) ≡ recordsFrom [] (stopsIn fs)
-
-records-append : (ss : List Stop) (gs : List StopGiven) (g : StopGiven) → recordsFrom ss (gs ++ g ∷ []) ≡ recordsFrom ss gs ++ recordOf (recordsFrom ss gs) g ∷ []
-records-append ss [] g = refl
-records-append ss (h ∷ gs) g = records-append (ss ++ recordOf ss h ∷ []) gs g
 
 pub opened-holds : (s : Settings) → Held (opened s) []
 unfolding emptyLoad
-opened-holds s = record { calls = refl; days = λ i m. absurd (List·Memᴰ·not-nil m); rules = refl; stops = refl; each = λ k h. absurd (omega arith); records = refl }
+opened-holds s = record { calls = refl; days = λ i m. absurd (List·Memᴰ·not-nil m); rules = refl; stops = refl; each = λ k h. absurd (omega arith) }
 
 -- more stops keep one
 held-more : (st : Stop) (ss ts : List StopGiven) (k : ℕ) → HeldAs st ss k → HeldAs st (ss ++ ts) k
@@ -164,6 +160,7 @@ held-more st ss ts k w = record {
   id = w .id;
   kind = w .kind;
   members = w .members;
+  key = w .key;
   parent = go (w .parent);
 }
   where
@@ -266,6 +263,7 @@ module _ (l : Load) (fs : List Filling) (sound : Sound l) (w : Held l fs) where
       id = id-kept (l .searched) (l .stops) n id name parent i e;
       kind = refl;
       members = refl;
+      key = record { named = refl; name = name-kept (l .searched) (l .stops) n id name parent i e; located = refl; degrees = refl; needed = needed-usable (l .searched) (l .stops) n id name parent i e };
       parent = more (station-held (l .stops) n (stopsIn fs) (omega (arith, room)) (w .each) (i .«has_parent») parent (stationIn l parent i) refl (parent-found (l .searched) (l .stops) n (stationIn l parent i) id name i e));
     }
       where
@@ -285,15 +283,6 @@ module _ (l : Load) (fs : List Filling) (sound : Sound l) (w : Held l fs) where
     rules-new : rulesIn gs ≡ rulesIn fs
     rules-new = rules-append fs (stop id name parent i ∷ []) ∙ append-nil (rulesIn fs)
 
-    one-record : take (n + 1) (set (l .stops) n st) ≡ recordsFrom [] (stopsIn gs)
-    unfolding stationOf
-    one-record =
-        ap (λ (k : ℕ). take k (set (l .stops) n st)) (add-one n)
-        ∙ take-suc-set (l .stops) n st room
-        ∙ ap (λ (r : List Stop). r ++ recordOf r new ∷ []) (w .records)
-        ∙ sym (records-append [] (stopsIn fs) new)
-        ∙ ap (recordsFrom []) (sym stops-new)
-
     stop-held : Held (withStops l (set (l .stops) n st) (n + 1)) gs
     stop-held = record {
       calls = w .calls ∙ ap (windowed (l .settings) (l .«table_horizon»)) (sym calls-new);
@@ -301,7 +290,6 @@ module _ (l : Load) (fs : List Filling) (sound : Sound l) (w : Held l fs) where
       rules = w .rules ∙ ap (map ruleOf) (sym rules-new);
       stops = ap (λ (k : ℕ). k + 1) (w .stops) ∙ sym (snoc-length (stopsIn fs) new) ∙ ap length (sym stops-new);
       each = λ k h. subst (λ (ss : List StopGiven). HeldAs (stopAt (set (l .stops) n st) k) ss k) (sym stops-new) (every k h);
-      records = one-record;
     }
 
   -- ---- a rule
@@ -334,7 +322,6 @@ module _ (l : Load) (fs : List Filling) (sound : Sound l) (w : Held l fs) where
       rules = one-more;
       stops = w .stops ∙ ap length (sym rule-stops);
       each = λ k h. subst (λ (ss : List StopGiven). HeldAs (stopAt (l .stops) k) ss k) (sym rule-stops) (w .each k h);
-      records = w .records ∙ ap (recordsFrom []) (sym rule-stops);
     }
 
   -- ---- a call
@@ -347,7 +334,7 @@ module _ (l : Load) (fs : List Filling) (sound : Sound l) (w : Held l fs) where
     cs = fs ++ call i ∷ []
 
     -- what is in the table after the step, refused or not
-    step : Shows (l .settings) (fit .table) (callsIn fs ++ accepted (l .settings) (l .searched) (l .«stop_count») (tableOf l) i)
+    step : Shows (l .settings) (fit .table) (callsIn fs ++ takenOf (l .settings) (l .searched) (l .«stop_count») (tableOf l) i)
     step = step-shows (l .settings) (l .searched) (l .«stop_count») (tableOf l) i (callsIn fs) (sound .table) (w .calls)
 
     call-calls : callsIn cs ≡ callsIn fs ++ i ∷ []
@@ -361,12 +348,11 @@ module _ (l : Load) (fs : List Filling) (sound : Sound l) (w : Held l fs) where
 
     call-held : fit .answer ≡ Taken → Held (withTable l (fit .table)) cs
     call-held e = record {
-      calls = step ∙ ap (λ (b : Bool). windowed (l .settings) (fit .table .horizon) (callsIn fs ++ cond b [] (i ∷ []))) (ap isRefused e) ∙ ap (windowed (l .settings) (fit .table .horizon)) (sym call-calls);
+      calls = step ∙ ap (λ (b : Bool). windowed (l .settings) (fit .table .horizon) (callsIn fs ++ cond b (i ∷ []) [])) (ap isTaken e) ∙ ap (windowed (l .settings) (fit .table .horizon)) (sym call-calls);
       days = λ j m. day j (List·Memᴰ·append-cases (callsIn fs) (subst (List·Memᴰ j) call-calls m));
       rules = w .rules ∙ ap (map ruleOf) (sym call-rules);
       stops = w .stops ∙ ap length (sym call-stops);
       each = λ k h. subst (λ (ss : List StopGiven). HeldAs (stopAt (l .stops) k) ss k) (sym call-stops) (w .each k h);
-      records = w .records ∙ ap (recordsFrom []) (sym call-stops);
     }
       where
         day : (j : CallInput) → List·Memᴰ j (callsIn fs) ⊎ List·Memᴰ j (i ∷ []) → j .day ≤ 2
@@ -376,13 +362,12 @@ module _ (l : Load) (fs : List Filling) (sound : Sound l) (w : Held l fs) where
     out-held : fit .answer ≡ Outside → Held (withTable l (fit .table)) fs
     out-held e = record {
       calls =
-          step ∙ ap (λ (b : Bool). windowed (l .settings) (fit .table .horizon) (callsIn fs ++ cond b [] (i ∷ []))) (ap isRefused e)
-          ∙ windowed-out (l .settings) (fit .table .horizon) (callsIn fs) i (outside-out (l .settings) (l .searched) (l .«stop_count») (tableOf l) i e);
+          step ∙ ap (λ (b : Bool). windowed (l .settings) (fit .table .horizon) (callsIn fs ++ cond b (i ∷ []) [])) (ap isTaken e)
+          ∙ ap (windowed (l .settings) (fit .table .horizon)) (append-nil (callsIn fs));
       days = w .days;
       rules = w .rules;
       stops = w .stops;
       each = w .each;
-      records = w .records;
     }
 
 -- ---- every step that fills

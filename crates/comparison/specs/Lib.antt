@@ -4,6 +4,7 @@ pub mod Best
 pub mod Window
 pub mod Taken
 pub mod Admitted
+pub mod Places
 pub mod Feeds
 pub mod Horizon
 pub mod Neighbours

@@ -2,3 +2,4 @@ pub mod StepLaws
 pub mod SoundLaws
 pub mod AnswerLaws
 pub mod TableLaws
+pub mod ClockLaws

@@ -1,4 +1,4 @@
--- The table lemma: after any steps the table is the calls handed in and not refused, as the window shows them at its horizon.
+-- The table lemma: after any steps the table is the calls answered taken, as the window shows them at its horizon.
 use Prim.Native.Nat.{ℕ, _+_}
 use mathlib.Core.Path.{_≡_, refl, sym, ap, _∙_}
 use mathlib.Core.Bool.{Bool, true, false, cond}
@@ -13,16 +13,17 @@ use Rattle.stops.specs.Taken.{stopOf}
 use Rattle.rules.specs.Rules.{ruleOf}
 use Rattle.calls.specs.declared.CallInput.{CallInput}
 use Rattle.calls.specs.declared.Table.{Table}
-use Rattle.calls.specs.Shown.{windowed, tableCalls, Shows, accepted}
+use Rattle.calls.specs.Shown.{windowed, tableCalls, Shows, takenOf}
 use Rattle.calls.proofs.ShownLaws.{step-shows, refused-same}
 use Rattle.calls.proofs.FallLaws as fall
+use Rattle.calls.proofs.FallLaws.{outside-same}
 use Rattle.rules.specs.declared.RuleInput.{RuleInput}
 use Rattle.load.specs.declared.Load.{Load}
 use Rattle.load.specs.Load.{emptyLoad, tableOf, withTable, withStops, withRules}
 use Rattle.load.specs.Steps.{opened, stationIn, stopAnswer, stopSpec, callFitted, callSpec, ruleAnswer, ruleSpec}
 use Rattle.load.specs.Filling.{Filling, stop, call, rule, filled, filledBy}
 use Rattle.load.specs.Sound.{Sound}
-use Rattle.load.specs.Table.{acceptedCall, acceptedCalls, TableLemma, OneOfSeven, NeverRises, FallsOnlyFull}
+use Rattle.load.specs.Table.{takenCall, takenCalls, TableLemma, OneOfSeven, NeverRises, FallsOnlyFull, OutsideUnchanged}
 use Rattle.load.proofs.SoundLaws.{open-sound, fill-keeps-sound}
 
 -- what two loads share, a choice between them has
@@ -66,27 +67,27 @@ fill-settings l (stop id name parent i) = either-same settingsOf (stopped l id n
 fill-settings l (call i) = either-same settingsOf l (withTable l (callFitted l i .table)) (isRefused (callFitted l i .answer)) refl
 fill-settings l (rule i) = either-same settingsOf (ruled l i) l (isTaken (ruleAnswer l i)) refl
 
--- ---- the table shows the calls accepted
+-- ---- the table shows the calls taken
 
 abbrev pub ShowsIn : Load → List CallInput → Type 0
 ShowsIn l is = Shows (l .settings) (tableOf l) is
 
 -- the answer of the call step is that of its table
-call-accepted : (l : Load) (i : CallInput) → accepted (l .settings) (l .searched) (l .«stop_count») (tableOf l) i ≡ acceptedCall l (call i)
+call-taken : (l : Load) (i : CallInput) → takenOf (l .settings) (l .searched) (l .«stop_count») (tableOf l) i ≡ takenCall l (call i)
 unfolding callSpec
-call-accepted l i = refl
+call-taken l i = refl
 
 same-shows : (l m : Load) (is : List CallInput) → m .settings ≡ l .settings → tableOf m ≡ tableOf l → ShowsIn l is → ShowsIn m (is ++ [])
 same-shows l m is es et q =
     ap tableCalls et ∙ q ∙ (λ k. windowed (sym es k) (sym et k .horizon) (sym (append-nil is) k))
 
-pub fill-shows : (l : Load) (x : Filling) (is : List CallInput) → Sound l → ShowsIn l is → ShowsIn (filled l x .load) (is ++ acceptedCall l x)
+pub fill-shows : (l : Load) (x : Filling) (is : List CallInput) → Sound l → ShowsIn l is → ShowsIn (filled l x .load) (is ++ takenCall l x)
 fill-shows l (stop id name parent i) is s q = same-shows l (stopSpec l id name parent i .load) is (fill-settings l (stop id name parent i)) (stop-table l id name parent i) q
 fill-shows l (rule i) is s q = same-shows l (ruleSpec l i .load) is (fill-settings l (rule i)) (rule-table l i) q
 fill-shows l (call i) is s q =
     ap tableCalls (call-table l i)
     ∙ step-shows (l .settings) (l .searched) (l .«stop_count») (tableOf l) i is (s .table) q
-    ∙ (λ k. windowed (sym (fill-settings l (call i)) k) (sym (call-table l i) k .horizon) (is ++ call-accepted l i k))
+    ∙ (λ k. windowed (sym (fill-settings l (call i)) k) (sym (call-table l i) k .horizon) (is ++ call-taken l i k))
 
 filled-sound : (xs : List Filling) (l : Load) → Sound l → Sound (filledBy l xs)
 filled-sound [] l s = s
@@ -96,11 +97,11 @@ filled-settings : (xs : List Filling) (l : Load) → filledBy l xs .settings ≡
 filled-settings [] l = refl
 filled-settings (x ∷ xs) l = filled-settings xs (filled l x .load) ∙ fill-settings l x
 
-filled-shows : (xs : List Filling) (l : Load) (old : List CallInput) → Sound l → ShowsIn l old → ShowsIn (filledBy l xs) (old ++ acceptedCalls l xs)
+filled-shows : (xs : List Filling) (l : Load) (old : List CallInput) → Sound l → ShowsIn l old → ShowsIn (filledBy l xs) (old ++ takenCalls l xs)
 filled-shows [] l old s q = q ∙ ap (windowed (l .settings) (l .«table_horizon»)) (sym (append-nil old))
 filled-shows (x ∷ xs) l old s q =
-    filled-shows xs (filled l x .load) (old ++ acceptedCall l x) (fill-keeps-sound l x s) (fill-shows l x old s q)
-    ∙ ap (windowed (filledBy l (x ∷ xs) .settings) (filledBy l (x ∷ xs) .«table_horizon»)) (append-assoc old (acceptedCall l x) (acceptedCalls (filled l x .load) xs))
+    filled-shows xs (filled l x .load) (old ++ takenCall l x) (fill-keeps-sound l x s) (fill-shows l x old s q)
+    ∙ ap (windowed (filledBy l (x ∷ xs) .settings) (filledBy l (x ∷ xs) .«table_horizon»)) (append-assoc old (takenCall l x) (takenCalls (filled l x .load) xs))
 
 pub opened-settings : (s : Settings) → opened s .settings ≡ canonicalOf s
 unfolding emptyLoad
@@ -113,7 +114,7 @@ opened-shows s = refl
 pub table-lemma : TableLemma
 table-lemma s xs =
     filled-shows xs (opened s) [] (open-sound s) (opened-shows s)
-    ∙ ap (λ (x : Settings). windowed x (filledBy (opened s) xs .«table_horizon») (acceptedCalls (opened s) xs)) (filled-settings xs (opened s) ∙ opened-settings s)
+    ∙ ap (λ (x : Settings). windowed x (filledBy (opened s) xs .«table_horizon») (takenCalls (opened s) xs)) (filled-settings xs (opened s) ∙ opened-settings s)
 
 pub one-of-seven : OneOfSeven
 one-of-seven s xs = filled-sound xs (opened s) (open-sound s) .table .known
@@ -127,3 +128,32 @@ pub falls-only-full : FallsOnlyFull
 falls-only-full l (stop id name parent i) h = absurd (omega (arith, ap (λ (t : Table). t .horizon) (stop-table l id name parent i)))
 falls-only-full l (rule i) h = absurd (omega (arith, ap (λ (t : Table). t .horizon) (rule-table l i)))
 falls-only-full l (call i) h = (i, refl, fall.falls-only-full (l .settings) (l .searched) (l .«stop_count») (tableOf l) i (omega (arith, ap (λ (t : Table). t .horizon) (call-table l i))))
+
+-- ---- a call that is outside
+
+-- a load with its own table, of one horizon and mark
+same-table : (l : Load) → l .horizon ≡ l .«table_horizon» → l .limits ≡ l .«table_limits» → withTable l (tableOf l) ≡ l
+same-table l h m = λ k. record {
+  settings = l .settings;
+  stops = l .stops;
+  «stop_count» = l .«stop_count»;
+  calls = l .calls;
+  «call_count» = l .«call_count»;
+  rules = l .rules;
+  «rule_count» = l .«rule_count»;
+  journeys = l .journeys;
+  «journey_count» = l .«journey_count»;
+  «table_horizon» = l .«table_horizon»;
+  «table_limits» = l .«table_limits»;
+  horizon = sym h k;
+  limits = sym m k;
+  searched = l .searched;
+}
+
+pub outside-unchanged : OutsideUnchanged
+unfolding callSpec
+outside-unchanged l i w u o = go (isRefused (callFitted l i .answer))
+  where
+    go : (b : Bool) → cond b l (withTable l (callFitted l i .table)) ≡ l
+    go true = refl
+    go false = ap (withTable l) (outside-same (l .settings) (l .searched) (l .«stop_count») (tableOf l) i o) ∙ same-table l (w .same-horizon u) (w .same-limits u)

@@ -3,3 +3,4 @@ pub mod Steps
 pub mod Filling
 pub mod Sound
 pub mod Table
+pub mod Clock

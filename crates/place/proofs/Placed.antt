@@ -15,7 +15,7 @@ use Rattle.place.specs.declared.Micro.the-variants.{At, Nowhere}
 use Rattle.place.specs.Positions.{microOf}
 use Rattle.place.specs.Keys.{tagN, parentKey, idKey, namedKey, locatedKey, shownKey, placeKey}
 use Rattle.place.specs.Promises.{Placed, KeyInRange}
-use Rattle.place.proofs.Range.{in-range}
+use Rattle.place.proofs.Range.{in-range-at}
 
 -- a property of a key that every place key has: it holds of every hash with no position, and of a name at the position's microdegrees
 every :
@@ -47,5 +47,5 @@ key-in-range has parent p named name id =
     every (λ (k : PlaceKey). (natAbs (k .lat) ≤ 90000000) × (natAbs (k .lon) ≤ 180000000)) p
     (λ x. (lit≤ tt, lit≤ tt))
     (λ x. (lit≤ tt, lit≤ tt))
-    (λ h lat lon e. in-range p lat lon e)
+    (λ h lat lon e. in-range-at p lat lon e)
     has parent named name id

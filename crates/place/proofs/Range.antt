@@ -1,5 +1,6 @@
 -- Microdegrees of a usable position are within ±90,000,000 and ±180,000,000, so Rust's sums of two of them fit an i32.
-use mathlib.Core.Path.{sym, subst}
+use mathlib.Core.Path.{_≡_, sym, subst}
+use mathlib.Core.Option.{some}
 use mathlib.Core.Bool.{Bool, true, false, _&&_}
 use Prim.Native.Nat.{ℕ, _+_, _*_, _^_, _≤_, _<_}
 use native.Mathlib.Nat.{le-trans, le-of-eq, mul-one}
@@ -15,7 +16,7 @@ use Rattle.place.specs.declared.Position.the-variants.{Given, Absent}
 use Rattle.place.specs.declared.Micro.{Micro}
 use Rattle.place.specs.declared.Micro.the-variants.{At, Nowhere}
 use Rattle.place.specs.Numbers.{n90, n180, n1M, _⊗_}
-use Rattle.place.specs.Positions.{inReach, usableDegrees, micro, atIf, microOf}
+use Rattle.place.specs.Positions.{inReach, usableDegrees, micro, atIf, microValue, microOf}
 use Rattle.place.specs.Promises.{InRange, SumsFit}
 
 reach-at-most : (n k : ℕ) (x : Float) → T (inReach (fin false n (pos k)) x) → AtMost x (n * 2 ^ k)
@@ -55,8 +56,17 @@ sized (Given lat lon) = go (inReach n90 lat) (inReach n180 lon) (lat-size lat) (
     go false t f g = tt
 sized Absent = tt
 
+pub in-range-at : (p : Position) (lat lon : ℤ) → microOf p ≡ At lat lon → (natAbs lat ≤ 90000000) × (natAbs lon ≤ 180000000)
+in-range-at p lat lon e = subst Sized e (sized p)
+
+at-of : (m : Micro) (lat lon : ℤ) → microValue m ≡ some (lat, lon) → m ≡ At lat lon
+at-of (At a b) lat lon e =
+    let p : _≡_ {A = ℤ × ℤ} (a, b) (lat, lon) = cc in
+    λ k. At (p k .0) (p k .1)
+at-of Nowhere lat lon e = let z : _≡_ {A = ℕ} 0 1 = cc in absurd (omega arith)
+
 pub in-range : InRange
-in-range p lat lon e = subst Sized e (sized p)
+in-range p lat lon e = in-range-at p lat lon (at-of (microOf p) lat lon e)
 
 -- ---- sums
 sum-size : (a b : ℤ) (k : ℕ) → natAbs a ≤ k → natAbs b ≤ k → natAbs (a +ℤ b) ≤ k + k

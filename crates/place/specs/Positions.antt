@@ -1,6 +1,7 @@
 -- "A position is either given, as two f64 degrees, or absent." "Usable: finite, at most 90 and 180 in size.
 -- Microdegrees: the f64 product with 1,000,000, cut toward zero."
 use mathlib.Core.Bool.{Bool, true, false, _&&_}
+use mathlib.Core.Option.{Option, none, some}
 use lib.IntN.{ℤ}
 use lib.Ieee.{Float, nan, inf, fin, le, toSigned}
 use lib.Ieee.Scale.{finite}
@@ -40,6 +41,11 @@ micro x = toSigned 31 (x ⊗ n1M)
 abbrev pub atIf : Bool → ℤ → ℤ → Micro
 atIf true lat lon = At lat lon
 atIf false lat lon = Nowhere
+
+-- the value of each case: two whole numbers, or none
+abbrev pub microValue : Micro → Option (ℤ × ℤ)
+microValue (At lat lon) = some (lat, lon)
+microValue Nowhere = none
 
 -- the microdegrees of a usable position
 unfoldable pub microOf : Position → Micro

@@ -2,15 +2,15 @@
 use Prim.Native.Nat.{ℕ, _^_, _≤_, _<_}
 use mathlib.Core.Path.{_≡_}
 use mathlib.Core.Bool.{Bool, true, false}
+use mathlib.Core.Option.{some}
 use mathlib.Core.List.{List}
 use lib.Dec.{leb}
 use lib.IntN.{ℤ, natAbs, _+ℤ_, _-ℤ_}
 use Rattle.place.specs.Keys.{tagN, noPlace, placeKey}
 use Rattle.place.specs.Near.{sameKeys}
-use Rattle.place.specs.Positions.{microOf}
+use Rattle.place.specs.Positions.{microValue, microOf}
 use Rattle.place.specs.declared.PlaceKey.{PlaceKey}
 use Rattle.place.specs.declared.Position.{Position}
-use Rattle.place.specs.declared.Micro.the-variants.{At}
 
 -- the latitude is an i32 (or 2 to the 31st)
 abbrev pub LatFits : PlaceKey → Type 0
@@ -45,12 +45,12 @@ SameHash = (a b : PlaceKey) → a .tag ≡ b .tag → (a .tag ≡ tagN → ⊥) 
 
 -- microdegrees of a usable position are within ±90,000,000 and ±180,000,000
 abbrev pub InRange : Type 0
-InRange = (p : Position) (lat lon : ℤ) → microOf p ≡ At lat lon → (natAbs lat ≤ 90000000) × (natAbs lon ≤ 180000000)
+InRange = (p : Position) (lat lon : ℤ) → microValue (microOf p) ≡ some (lat, lon) → (natAbs lat ≤ 90000000) × (natAbs lon ≤ 180000000)
 
 -- so the Rust's own i32 sums can't overflow: the sum and the difference of the latitudes, and the difference of the longitudes
 abbrev pub SumsFit : Type 0
 SumsFit =
-    (p q : Position) (lat lon lat′ lon′ : ℤ) → microOf p ≡ At lat lon → microOf q ≡ At lat′ lon′
+    (p q : Position) (lat lon lat′ lon′ : ℤ) → microValue (microOf p) ≡ some (lat, lon) → microValue (microOf q) ≡ some (lat′, lon′)
     → (natAbs (lat +ℤ lat′) < 2 ^ 31) × (natAbs (lat -ℤ lat′) < 2 ^ 31) × (natAbs (lon -ℤ lon′) < 2 ^ 31)
 
 -- a place key is never the key of a stop that has none

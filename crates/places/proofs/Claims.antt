@@ -24,13 +24,13 @@ use Rattle.stops.specs.declared.Stop.{Stop}
 use Rattle.stops.specs.Stops.{idOf}
 use Rattle.stops.specs.Sound.{stopAt}
 use Rattle.places.specs.Keys.{stopKey, keyAt}
-use Rattle.places.specs.Places.{hasKey, samePlace, idLess, place, none, idOrder, groupsOf, placesOf}
-use Rattle.places.specs.Promises.{placeAt, PlaceRight, EveryPlace, NoKeyNoPlace, ChainNotMerged}
+use Rattle.places.specs.Places.{hasKey, samePlace, idLess, place, noGroups, idOrder, groupsOf, placesOf}
+use Rattle.places.specs.Promises.{placeAt, PlaceRight, PlacesRight, EveryPlace, NoKeyNoPlace, ChainNotMerged}
 use Rattle.places.proofs.Orders.{order-apart}
 use Rattle.places.proofs.Numbers.{order-below}
 use Rattle.places.proofs.Invariant.{Good, good-all}
 
-strict-ids : (ss : List Stop) → Strict (idLess ss)
+pub strict-ids : (ss : List Stop) → Strict (idLess ss)
 unfolding idLess
 strict-ids ss = strict-bytes (λ (k : ℕ). idOf (stopAt ss k))
 
@@ -53,7 +53,7 @@ key-fits ss k = go (eqb (s .«location_type») 0)
         le-trans (key-in-range (not (eqb (s .parent) 65535)) (idOf (stopAt ss (s .parent))) (positionOf (s .located) (s .degrees)) (s .named) (take (s .«name_len») (s .name)) (idOf s) .0) small
     go false = lit≤ tt
 
-same-self : (ss : List Stop) (k : ℕ) → samePlace ss k k ≡ true
+pub same-self : (ss : List Stop) (k : ℕ) → samePlace ss k k ≡ true
 unfolding samePlace
 same-self ss k = reflexive (keyAt ss k) (key-fits ss k)
 
@@ -67,7 +67,7 @@ module _ (ss : List Stop) (few : length ss ≤ 128) where
       good-all (samePlace ss) (hasKey ss) (idLess ss) (strict-ids ss) (idOrder ss) (sort-ordered (idLess ss) (strict-ids ss) (span 0 (length ss))) (order-apart (idLess ss) (length ss))
       (λ k m. omega (arith, order-below ss m))
 
-  in-order : (k : ℕ) → k < length ss → List·Memᴰ k (idOrder ss)
+  pub in-order : (k : ℕ) → k < length ss → List·Memᴰ k (idOrder ss)
   unfolding idOrder
   in-order k h = mem-sort (idLess ss) (span 0 (length ss)) (mem-span 0 (length ss) k (omega arith) (omega arith))
 
@@ -80,17 +80,18 @@ module _ (ss : List Stop) (few : length ss ≤ 128) where
       go true t = let w = done .each q (in-order q h) t in subst (λ (r : ℕ). List·Memᴰ r (groupsOf ss .reps)) (sym (w .1 .at) ∙ e) (w .1 .rep)
       go false t = absurd (omega (arith, e, done .others q (λ m u. true≢false (sym u ∙ t))))
 
-  right : (k : ℕ) → k < length ss → hasKey ss k ≡ true → PlaceRight ss k (placeAt ss k)
+  right : PlacesRight ss (placeAt ss)
   unfolding placesOf
   right k h t =
       let w = done .each k (in-order k h) t in
-      subst (λ (r : ℕ). PlaceRight ss k r) (sym (w .1 .at))
+      subst (λ (r : ℕ). PlaceRight ss (placeAt ss) k r) (sym (w .1 .at))
       (record {
         known = order-below ss (done .from (w .0) (w .1 .rep) .0);
         keyed = done .from (w .0) (w .1 .rep) .1;
         own = done .own (w .0) (w .1 .rep);
         matches = fits (w .0) (w .1 .fits);
-        least = λ q b e s. w .1 .least q (is-rep q b e) s;
+        before = w .1 .before;
+        least = λ q b t′ e s. w .1 .least q (is-rep q b e) s;
       })
     where
       fits : (r : ℕ) → (r ≡ k) ⊎ (samePlace ss k r ≡ true) → samePlace ss k r ≡ true
@@ -102,7 +103,7 @@ module _ (ss : List Stop) (few : length ss ≤ 128) where
   bare k h t = done .others k (λ m u. true≢false (sym u ∙ t))
 
 pub every-place : EveryPlace
-every-place ss few k h t = right ss few k h t
+every-place ss few = right ss few
 
 pub no-key-no-place : NoKeyNoPlace
 no-key-no-place ss few k h t = bare ss few k h t
@@ -114,12 +115,12 @@ module _ (same : ℕ → ℕ → Bool) (keyed : ℕ → Bool) (lt : ℕ → ℕ 
   three-order p q = rw (q, p)
 
   three-places : keyed 0 ≡ true → keyed 1 ≡ true → keyed 2 ≡ true → same 1 0 ≡ true → same 2 0 ≡ false
-      → take 3 (foldl (place same keyed) none (0 ∷ 1 ∷ 2 ∷ []) .places) ≡ 0 ∷ 0 ∷ 2 ∷ []
+      → take 3 (foldl (place same keyed) noGroups (0 ∷ 1 ∷ 2 ∷ []) .places) ≡ 0 ∷ 0 ∷ 2 ∷ []
   three-places k0 k1 k2 s10 s20 = rw (k0, k1, s10, k2, s20)
 
 pub chain-not-merged : ChainNotMerged
 unfolding placesOf groupsOf idOrder
 chain-not-merged a b c k ab bc s10 s21 s20 =
     let ss = a ∷ b ∷ c ∷ [] in
-    ap (λ (l : List ℕ). take 3 (foldl (place (samePlace ss) (hasKey ss)) none l .places)) (three-order (samePlace ss) (hasKey ss) (idLess ss) ab bc)
+    ap (λ (l : List ℕ). take 3 (foldl (place (samePlace ss) (hasKey ss)) noGroups l .places)) (three-order (samePlace ss) (hasKey ss) (idLess ss) ab bc)
     ∙ three-places (samePlace ss) (hasKey ss) (idLess ss) (k 0 (omega arith)) (k 1 (omega arith)) (k 2 (omega arith)) s10 s20

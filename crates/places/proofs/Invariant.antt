@@ -11,16 +11,17 @@ use Rattle.laws.specs.Lists.{foldl}
 use Rattle.laws.specs.Sort.{Ordered, Strict}
 use Rattle.places.specs.declared.Found.{Found}
 use Rattle.places.specs.declared.Found.the-variants.{At, Nothing}
-use Rattle.places.specs.Places.{Groups, firstMatch, placed, place, none}
+use Rattle.places.specs.Places.{Groups, firstMatch, placed, place, noGroups}
 use Rattle.places.proofs.Orders.{Apart, ordered-mid, ordered-snoc, apart-mid}
 use Rattle.places.proofs.First.{Least, Right, self, first-right}
 
 module _ (same : ℕ → ℕ → Bool) (keyed : ℕ → Bool) (lt : ℕ → ℕ → Bool) (o : Strict lt) where
-  -- r is the place of k: a representative, k itself or one that matches it, and none that matches is below it
+  -- r is the place of k: a representative, k itself or one that matches it, not above it, and none that matches is below it
   pub record Has (g : Groups) (k r : ℕ) : Type 0 where
     pub at : getD (g .places) k 65535 ≡ r
     pub rep : List·Memᴰ r (g .reps)
     pub fits : (r ≡ k) ⊎ (same k r ≡ true)
+    pub before : lt k r ≡ false
     pub least : (q : ℕ) → List·Memᴰ q (g .reps) → same k q ≡ true → lt q r ≡ false
 
   pub record Good (done : List ℕ) (g : Groups) : Type 0 where
@@ -39,7 +40,7 @@ module _ (same : ℕ → ℕ → Bool) (keyed : ℕ → Bool) (lt : ℕ → ℕ 
       go (suc m) zero = refl
       go (suc m) (suc j) = go m j
 
-  good-none : Good [] none
+  good-none : Good [] noGroups
   good-none = record {
     long = refl;
     order = tt;
@@ -98,8 +99,8 @@ module _ (same : ℕ → ℕ → Bool) (keyed : ℕ → Bool) (lt : ℕ → ℕ 
           each : (k : ℕ) → keyed k ≡ true → List·Memᴰ k done ⊎ (k ≡ i) → (x : ℕ) × Has (placed g i (At r)) k x
           each k q (inl m) =
               let w = h .each k m q in
-              (w .0, record { at = kept r k (old m) ∙ w .1 .at; rep = w .1 .rep; fits = w .1 .fits; least = w .1 .least })
-          each k q (inr e) = (r, subst (λ (j : ℕ). Has (placed g i (At r)) j r) (sym e) (record { at = here r; rep = f .one; fits = inr (f .fits); least = f .least }))
+              (w .0, record { at = kept r k (old m) ∙ w .1 .at; rep = w .1 .rep; fits = w .1 .fits; before = w .1 .before; least = w .1 .least })
+          each k q (inr e) = (r, subst (λ (j : ℕ). Has (placed g i (At r)) j r) (sym e) (record { at = here r; rep = f .one; fits = inr (f .fits); before = late r (h .from r (f .one) .0); least = f .least }))
 
       -- a stop that matches none
       good-own : ((q : ℕ) → List·Memᴰ q (g .reps) → same i q ≡ false) → Good (done ++ i ∷ []) (placed g i Nothing)
@@ -137,13 +138,14 @@ module _ (same : ℕ → ℕ → Bool) (keyed : ℕ → Bool) (lt : ℕ → ℕ 
                   at = kept i k (old m) ∙ w .1 .at;
                   rep = Memᴰ·append-left (i ∷ []) (w .1 .rep);
                   fits = w .1 .fits;
+                  before = w .1 .before;
                   least = λ y j s. least k (w .0) (w .1) y s (List·Memᴰ·append-cases (g .reps) j);
                 },
               )
           each k q (inr e) = (
             i,
             subst (λ (j : ℕ). Has (placed g i Nothing) j i) (sym e)
-                (record { at = here i; rep = Memᴰ·append-right (g .reps) (List·Memᴰ·head refl); fits = inl refl; least = λ y j s. mine y s (List·Memᴰ·append-cases (g .reps) j) }),
+                (record { at = here i; rep = Memᴰ·append-right (g .reps) (List·Memᴰ·head refl); fits = inl refl; before = self (same i) lt o i; least = λ y j s. mine y s (List·Memᴰ·append-cases (g .reps) j) }),
           )
 
       by-found : (f : Found) → Right (same i) lt o (g .reps) f → Good (done ++ i ∷ []) (placed g i f)
@@ -167,5 +169,5 @@ module _ (same : ℕ → ℕ → Bool) (keyed : ℕ → Bool) (lt : ℕ → ℕ 
       subst (λ (l : List ℕ). Good l (foldl (place same keyed) (place same keyed g i) left)) e
       (good-fold left (done ++ i ∷ []) (place same keyed g i) step (subst (Ordered lt) (sym e) w) (subst Apart (sym e) a) (λ k m. small k (List·Memᴰ·tail m)))
 
-  pub good-all : (s : List ℕ) → Ordered lt s → Apart s → ((k : ℕ) → List·Memᴰ k s → k < 128) → Good s (foldl (place same keyed) none s)
-  good-all s w a small = good-fold s [] none good-none w a small
+  pub good-all : (s : List ℕ) → Ordered lt s → Apart s → ((k : ℕ) → List·Memᴰ k s → k < 128) → Good s (foldl (place same keyed) noGroups s)
+  good-all s w a small = good-fold s [] noGroups good-none w a small

@@ -5,4 +5,5 @@ pub mod Orders
 pub mod First
 pub mod Invariant
 pub mod Claims
+pub mod Determined
 pub mod InstanceLaws

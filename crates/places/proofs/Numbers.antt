@@ -29,7 +29,7 @@ use Rattle.places.specs.declared.Entry.{Entry}
 use Rattle.places.specs.declared.Found.{Found}
 use Rattle.places.specs.declared.Found.the-variants.{At, Nothing}
 use Rattle.places.specs.Keys.{stopKey, keyAt}
-use Rattle.places.specs.Places.{hasKey, samePlace, idLess, Groups, firstMatch, place, none, idOrder, groupsOf, placesOf}
+use Rattle.places.specs.Places.{hasKey, samePlace, idLess, Groups, firstMatch, place, noGroups, idOrder, groupsOf, placesOf}
 use Rattle.places.specs.Places as P
 use Rattle.places.specs.Entries.{entryOf, entryAt, idBefore, firstEntry, EntryGroups, put, placeEntry, noEntries, groupEntries}
 
@@ -97,7 +97,7 @@ module _ (ss : List Stop) where
 
   groups-right : length ss ≤ 128 → groupEntries (map (entryAt ss) (idOrder ss)) .places ≡ placesOf ss
   unfolding groupEntries placesOf groupsOf
-  groups-right h = same-fold (idOrder ss) noEntries none (record { reps = refl; places = refl }) (λ k m. omega (arith, order-below m)) .places
+  groups-right h = same-fold (idOrder ss) noEntries noGroups (record { reps = refl; places = refl }) (λ k m. omega (arith, order-below m)) .places
 
 -- the three steps of the code
 pub group-parts : (stops : List Stop) (count n : ℕ) (entries ordered : List Entry) {out : List ℕ} → n ≡ least count 128 → length stops ≡ 128

@@ -46,8 +46,8 @@ abbrev pub place : (ℕ → ℕ → Bool) → (ℕ → Bool) → Groups → ℕ 
 place same keyed g i = cond (keyed i) (placed g i (firstMatch (same i) (g .reps))) g
 
 -- 65535 is no place
-abbrev pub none : Groups
-none = record { reps = []; places = replicate 128 65535 }
+abbrev pub noGroups : Groups
+noGroups = record { reps = []; places = replicate 128 65535 }
 
 -- ---- the places of stops
 
@@ -55,7 +55,7 @@ unfoldable pub idOrder : List Stop → List ℕ
 idOrder ss = sort (idLess ss) (span 0 (length ss))
 
 unfoldable pub groupsOf : List Stop → Groups
-groupsOf ss = foldl (place (samePlace ss) (hasKey ss)) none (idOrder ss)
+groupsOf ss = foldl (place (samePlace ss) (hasKey ss)) noGroups (idOrder ss)
 
 -- 128 numbers: the number of each stop's representative, 65535 for a stop without a key and past the last
 unfoldable pub placesOf : List Stop → List ℕ

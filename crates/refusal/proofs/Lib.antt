@@ -1,1 +1,2 @@
 pub mod FirstLaws
+pub mod ValueLaws

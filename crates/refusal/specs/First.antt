@@ -1,5 +1,6 @@
 -- A step's tests in the scope's order, each with the answer that it gives; the first that holds decides.
 use mathlib.Core.Path.{_≡_}
+use mathlib.Core.Logic.{_⊎_, inl, inr}
 use mathlib.Core.Bool.{Bool, true, false, cond}
 use mathlib.Core.List.{List, [], _∷_}
 use Prim.Native.Nat.{ℕ}
@@ -39,6 +40,16 @@ abbrev pub answerNumber : Answer → ℕ
 answerNumber Taken = 0
 answerNumber Outside = 0
 answerNumber (Refused r) = numberOf r
+
+-- the value of each case: taken and outside, which bear no number of the scope's; or the number of the cause
+abbrev pub answerValue : Answer → Bool ⊎ ℕ
+answerValue Taken = inl true
+answerValue Outside = inl false
+answerValue (Refused r) = inr (numberOf r)
+
+-- no two answers have one value
+abbrev pub ValueTells : Type 0
+ValueTells = (a b : Answer) → answerValue a ≡ answerValue b → a ≡ b
 
 -- `firstAnswer` and `First` say the same
 abbrev pub FirstIsAnswer : Type 0

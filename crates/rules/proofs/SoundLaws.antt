@@ -1,11 +1,11 @@
 -- No rules are sound, and a rule that is taken keeps rules sound: its stops are known, and no rule before it is for its pair.
-use Prim.Native.Nat.{ℕ, _-_, _<_}
+use Prim.Native.Nat.{ℕ, _-_, _≤_, _<_}
 use mathlib.Core.Path.{_≡_, refl, sym, subst, _∙_}
 use mathlib.Core.List.{List}
 use mathlib.Core.Bool.{Bool, true, false, not, _&&_}
 use native.Mathlib.Omega.{arith}
-use borrow.Author.Tests.{leb-false, ltb-true}
-use lib.Dec.{ltb}
+use borrow.Author.Tests.{leb-true, leb-false, ltb-true}
+use lib.Dec.{ltb, leb, eqb}
 use lib.ListN.{length, take, set, length-set}
 use lib.Seq.{getD-set-same, getD-set-other}
 use Rattle.laws.specs.Lists.{anyb}
@@ -16,7 +16,9 @@ use Rattle.refusal.specs.First.{firstAnswer}
 use Rattle.refusal.proofs.FirstLaws.{taken-all-fail}
 use Rattle.rules.specs.declared.Rule.{Rule}
 use Rattle.rules.specs.declared.RuleInput.{RuleInput}
-use Rattle.rules.specs.Rules.{blankRule, samePair, ruleTests, ruleOf}
+use Rattle.rules.specs.declared.MinTime.{MinTime}
+use Rattle.rules.specs.declared.MinTime.the-variants.{Given, Absent}
+use Rattle.rules.specs.Rules.{blankRule, samePair, typeRight, ruleTests, ruleOf}
 use Rattle.rules.specs.Sound.{ruleAt, NoRulesSound, RuleKeepsSound, MoreStopsSound}
 
 pub no-rules-sound : NoRulesSound
@@ -26,6 +28,7 @@ no-rules-sound stops = record {
   blank = refl;
   from-known = λ k h. absurd (omega arith);
   to-known = λ k h. absurd (omega arith);
+  types = λ k h. absurd (omega arith);
   alone = λ j k h i. absurd (omega arith);
 }
 
@@ -36,6 +39,7 @@ more-stops-sound stops more rules count le s = record {
   blank = s .blank;
   from-known = λ k h. omega (arith, s .from-known k h);
   to-known = λ k h. omega (arith, s .to-known k h);
+  types = s .types;
   alone = s .alone;
 }
 
@@ -44,12 +48,17 @@ pub record Passed (b : Bool) (stops : ℕ) (rules : List Rule) (count : ℕ) (i 
   pub unsearched : b ≡ false
   pub from-known : i .from < stops
   pub to-known : i .to < stops
+  pub type-fits : i .«transfer_type» ≤ 3
   pub new : anyb (samePair (i .from) (i .to)) (take count rules) ≡ false
   pub room : count < 128
 
 not-false : (b : Bool) → not b ≡ false → b ≡ true
 not-false true e = refl
 not-false false e = sym e
+
+type-small : (k : ℕ) (m : MinTime) → typeRight k m ≡ true → k ≤ 3
+type-small k (Given n) e = leb-true k 3 e
+type-small k Absent e = leb-true k 3 (and-true-right (not (eqb k 2)) (leb k 3) e)
 
 pub passed : (b : Bool) (stops : ℕ) (rules : List Rule) (count : ℕ) (i : RuleInput) → firstAnswer (ruleTests b stops rules count i) ≡ Taken → Passed b stops rules count i
 unfolding ruleTests
@@ -60,6 +69,7 @@ passed b stops rules count i e =
       unsearched = f .0;
       from-known = ltb-true (i .from) stops (and-true-left _ _ known);
       to-known = ltb-true (i .to) stops (and-true-right (ltb (i .from) stops) _ known);
+      type-fits = type-small (i .«transfer_type») (i .seconds) (not-false _ (f .1 .1 .0));
       new = f .1 .1 .1 .0;
       room = leb-false 128 count (f .1 .1 .1 .1 .0);
     }
@@ -85,6 +95,7 @@ rule-keeps-sound b stops rules count i s e =
       blank = blank-set blankRule 128 rules count (ruleOf i) (s .long) (p .room) (s .blank);
       from-known = λ k h. below-cases (λ m. ruleAt (set rules count (ruleOf i)) m .from < stops) count k h (λ l. subst (λ (r : Rule). r .from < stops) (sym (old k l)) (s .from-known k l)) (subst (λ (r : Rule). r .from < stops) (sym new) (p .from-known));
       to-known = λ k h. below-cases (λ m. ruleAt (set rules count (ruleOf i)) m .to < stops) count k h (λ l. subst (λ (r : Rule). r .to < stops) (sym (old k l)) (s .to-known k l)) (subst (λ (r : Rule). r .to < stops) (sym new) (p .to-known));
+      types = λ k h. below-cases (λ m. ruleAt (set rules count (ruleOf i)) m .«transfer_type» ≤ 3) count k h (λ l. subst (λ (r : Rule). r .«transfer_type» ≤ 3) (sym (old k l)) (s .types k l)) (subst (λ (r : Rule). r .«transfer_type» ≤ 3) (sym new) (p .type-fits));
       alone = λ j k l h. below-cases (λ m. j < m → samePair (ruleAt (set rules count (ruleOf i)) m .from) (ruleAt (set rules count (ruleOf i)) m .to) (ruleAt (set rules count (ruleOf i)) j) ≡ false) count k h
           (λ q l′. rw (old k q, old j (omega arith)) (s .alone j k l′ q))
           (λ l′. rw (new, old j l′) (anyb-below (samePair (i .from) (i .to)) rules count j blankRule l′ (omega (arith, s .long, p .room)) (p .new))) l;

@@ -1,4 +1,4 @@
--- The rules of a load that the steps make: the count is in range, the tail blank, every stop known, and no pair stands twice.
+-- The rules of a load that the steps make: the count is in range, the tail blank, every stop known, the type 0 to 3, and no pair stands twice.
 use Prim.Native.Nat.{ℕ, _+_, _-_, _≤_, _<_}
 use mathlib.Core.Path.{_≡_}
 use mathlib.Core.Bool.{Bool, false}
@@ -20,6 +20,7 @@ pub record RulesSound (stops : ℕ) (rules : List Rule) (count : ℕ) : Type 0 w
   pub blank : drop count rules ≡ replicate (128 - count) blankRule
   pub from-known : (k : ℕ) → k < count → ruleAt rules k .from < stops
   pub to-known : (k : ℕ) → k < count → ruleAt rules k .to < stops
+  pub types : (k : ℕ) → k < count → ruleAt rules k .«transfer_type» ≤ 3
   pub alone : (j k : ℕ) → j < k → k < count → samePair (ruleAt rules k .from) (ruleAt rules k .to) (ruleAt rules j) ≡ false
 
 -- no rule taken yet

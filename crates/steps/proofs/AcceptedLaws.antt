@@ -1,4 +1,4 @@
--- The table at the accepted search is the calls not refused before it, as the window shows them at its horizon.
+-- The table at the accepted search is the calls answered taken before it, as the window shows them at its horizon.
 use mathlib.Core.Path.{_≡_, refl, sym, ap, subst, _∙_}
 use mathlib.Core.Bool.{Bool, true, false, cond, true≢false}
 use mathlib.Core.Option.{none, some, Option·getD}
@@ -17,7 +17,7 @@ use Rattle.load.proofs.TableLaws.{ShowsIn, fill-shows, fill-settings, opened-se
 use Rattle.search.specs.Search.{outcomeOf, settled, searchSpec}
 use Rattle.steps.specs.Steps.{Step, filling, search, stepped}
 use Rattle.steps.specs.Lists.{next, ran, start, startOf}
-use Rattle.steps.specs.Accepted.{acceptedAfter, ifRan, acceptedBefore, TableAccepted}
+use Rattle.steps.specs.Accepted.{takenAfter, ifRan, takenBefore, TableAccepted}
 use Rattle.steps.proofs.StepLaws.{searched-stays, search-runs, filled-searched, taken-searches, untaken-stays}
 use Rattle.steps.proofs.HeldLaws.{step-sound}
 
@@ -38,7 +38,7 @@ pub step-settings : (l : Load) (x : Step) → stepped l x .load .settings ≡ l 
 step-settings l (filling x) = fill-settings l x
 step-settings l search = search-settings l
 
--- an unsearched load shows the calls not refused so far
+-- an unsearched load shows the calls taken so far
 abbrev Unsearched : Load → List CallInput → Type 0
 Unsearched l is = l .searched ≡ false → ShowsIn l is
 
@@ -51,12 +51,12 @@ search-unsearched l is q u = go (isTaken (searchSpec l .answer)) refl
         let same = untaken-stays l t in
         subst (λ (m : Load). ShowsIn m is) (sym same) (q (sym (ap (λ (m : Load). m .searched) same) ∙ u))
 
-step-unsearched : (l : Load) (x : Step) (is : List CallInput) → Sound l → Unsearched l is → Unsearched (next l x) (acceptedAfter is l x)
+step-unsearched : (l : Load) (x : Step) (is : List CallInput) → Sound l → Unsearched l is → Unsearched (next l x) (takenAfter is l x)
 step-unsearched l (filling x) is s q u = fill-shows l x is s (q (sym (filled-searched l x) ∙ u))
 step-unsearched l search is s q u = search-unsearched l is q u
 
 -- a load that a search started from shows the calls of that moment
-ran-shows : (l p : Load) (x : Step) (ps is : List CallInput) → ShowsIn p ps → Unsearched l is → ShowsIn (Option·getD (ran l x) p) (ifRan (ran l x) (acceptedAfter is l x) ps)
+ran-shows : (l p : Load) (x : Step) (ps is : List CallInput) → ShowsIn p ps → Unsearched l is → ShowsIn (Option·getD (ran l x) p) (ifRan (ran l x) (takenAfter is l x) ps)
 ran-shows l p (filling x) ps is h q = h
 ran-shows l p search ps is h q = go (isTaken (searchSpec l .answer)) refl
   where
@@ -65,10 +65,10 @@ ran-shows l p search ps is h q = go (isTaken (searchSpec l .answer)) refl
     go false t = h
 
 -- along the list: the load shows the calls so far, and the load of the last accepted search those before it
-accepted-shows : (xs : List Step) (p l : Load) (ps is : List CallInput) → Sound l → ShowsIn p ps → Unsearched l is → ShowsIn (start p l xs) (acceptedBefore ps is l xs)
+accepted-shows : (xs : List Step) (p l : Load) (ps is : List CallInput) → Sound l → ShowsIn p ps → Unsearched l is → ShowsIn (start p l xs) (takenBefore ps is l xs)
 accepted-shows [] p l ps is s h q = h
 accepted-shows (x ∷ xs) p l ps is s h q =
-    accepted-shows xs (Option·getD (ran l x) p) (next l x) (ifRan (ran l x) (acceptedAfter is l x) ps) (acceptedAfter is l x) (step-sound l x s) (ran-shows l p x ps is h q) (step-unsearched l x is s q)
+    accepted-shows xs (Option·getD (ran l x) p) (next l x) (ifRan (ran l x) (takenAfter is l x) ps) (takenAfter is l x) (step-sound l x s) (ran-shows l p x ps is h q) (step-unsearched l x is s q)
 
 -- the load that a search started from has the settings
 ran-settings : (l p : Load) (x : Step) → p .settings ≡ l .settings → Option·getD (ran l x) p .settings ≡ l .settings
@@ -86,4 +86,4 @@ start-settings (x ∷ xs) p l e = start-settings xs (Option·getD (ran l x) p) (
 pub table-accepted : TableAccepted
 table-accepted s xs =
     accepted-shows xs (opened s) (opened s) [] [] (open-sound s) (opened-shows s) (λ u. opened-shows s)
-    ∙ ap (λ (x : Settings). windowed x (startOf s xs .«table_horizon») (acceptedBefore [] [] (opened s) xs)) (start-settings xs (opened s) (opened s) refl ∙ opened-settings s)
+    ∙ ap (λ (x : Settings). windowed x (startOf s xs .«table_horizon») (takenBefore [] [] (opened s) xs)) (start-settings xs (opened s) (opened s) refl ∙ opened-settings s)

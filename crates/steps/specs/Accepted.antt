@@ -1,4 +1,4 @@
--- Which calls the table of a searched load holds: those answered taken or outside before the accepted search, as the window shows them.
+-- Which calls the table of a searched load holds: those answered taken before the accepted search, as the window shows them.
 use mathlib.Core.Path.{_≡_}
 use mathlib.Core.Option.{Option, none, some}
 use mathlib.Core.List.{List, [], _∷_, _++_}
@@ -9,26 +9,26 @@ use Rattle.calls.specs.Shown.{windowed, tableCalls}
 use Rattle.load.specs.declared.Load.{Load}
 use Rattle.load.specs.Load.{tableOf}
 use Rattle.load.specs.Steps.{opened}
-use Rattle.load.specs.Table.{acceptedCall}
+use Rattle.load.specs.Table.{takenCall}
 use Rattle.steps.specs.Steps.{Step, filling, search}
 use Rattle.steps.specs.Lists.{next, ran, startOf}
 
--- the calls not refused so far, after one more step
-abbrev pub acceptedAfter : List CallInput → Load → Step → List CallInput
-acceptedAfter is l (filling x) = is ++ acceptedCall l x
-acceptedAfter is l search = is
+-- the calls taken so far, after one more step
+abbrev pub takenAfter : List CallInput → Load → Step → List CallInput
+takenAfter is l (filling x) = is ++ takenCall l x
+takenAfter is l search = is
 
 -- the first if a search ran, else the second
 abbrev pub ifRan : Option Load → List CallInput → List CallInput → List CallInput
 ifRan none is ps = ps
 ifRan (some m) is ps = is
 
--- the calls not refused so far (`is`), as they were when the last accepted search started (`ps`)
-abbrev pub acceptedBefore : List CallInput → List CallInput → Load → List Step → List CallInput
-acceptedBefore ps is l [] = ps
-acceptedBefore ps is l (x ∷ xs) = acceptedBefore (ifRan (ran l x) (acceptedAfter is l x) ps) (acceptedAfter is l x) (next l x) xs
+-- the calls taken so far (`is`), as they were when the last accepted search started (`ps`)
+abbrev pub takenBefore : List CallInput → List CallInput → Load → List Step → List CallInput
+takenBefore ps is l [] = ps
+takenBefore ps is l (x ∷ xs) = takenBefore (ifRan (ran l x) (takenAfter is l x) ps) (takenAfter is l x) (next l x) xs
 
 -- the table that the admitted journeys are read from is those calls, each seen through the window at the table's horizon
 abbrev pub TableAccepted : Type 0
 TableAccepted = (s : Settings) (xs : List Step)
-    → tableCalls (tableOf (startOf s xs)) ≡ windowed (canonicalOf s) (startOf s xs .«table_horizon») (acceptedBefore [] [] (opened s) xs)
+    → tableCalls (tableOf (startOf s xs)) ≡ windowed (canonicalOf s) (startOf s xs .«table_horizon») (takenBefore [] [] (opened s) xs)

@@ -7,6 +7,7 @@ use Rattle.refusal.specs.declared.Answer.{Answer}
 use Rattle.refusal.specs.declared.Answer.the-variants.{Taken}
 use Rattle.refusal.specs.First.{First, AllFail, isRefused, answerNumber}
 use Rattle.settings.specs.declared.Settings.{Settings}
+use Rattle.calls.specs.Sound.{oneOf}
 use Rattle.settings.specs.Settings.{settingsTests}
 use Rattle.load.specs.declared.Load.{Load}
 use Rattle.load.specs.Steps.{openSpec, opened}
@@ -23,7 +24,8 @@ pub record Answered (l : Load) (x : Step) : Type 0 where
   pub first : First (stepped l x .answer) (causes l x)
   -- a step that is taken has no cause against it
   pub taken : stepped l x .answer ≡ Taken → AllFail (causes l x)
-  -- the causes stand in the scope's order
+  -- its number is one of those that the scope lists for the step, or 0; the causes stand in the scope's order
+  pub listed : oneOf (answerNumber (stepped l x .answer)) (0 ∷ numbers x) ≡ true
   pub order : map number (causes l x) ≡ numbers x
   pub unchanged : isRefused (stepped l x .answer) ≡ true → stepped l x .load ≡ l
 
@@ -31,6 +33,7 @@ pub record Answered (l : Load) (x : Step) : Type 0 where
 pub record OpeningAnswered (s : Settings) : Type 0 where
   pub first : First (openSpec s .answer) (settingsTests s)
   pub taken : openSpec s .answer ≡ Taken → AllFail (settingsTests s)
+  pub listed : oneOf (answerNumber (openSpec s .answer)) (0 ∷ 1 ∷ 2 ∷ []) ≡ true
   pub order : map number (settingsTests s) ≡ 1 ∷ 2 ∷ []
   -- settings that are not sent back open the load that the lists of steps start from
   pub opens : Opens s → openSpec s .load ≡ opened s

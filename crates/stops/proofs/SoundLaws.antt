@@ -13,13 +13,13 @@ use Rattle.stops.specs.declared.Stop.{Stop}
 use Rattle.stops.specs.declared.StopInput.{StopInput}
 use Rattle.stops.specs.declared.Found.{Found}
 use Rattle.stops.specs.declared.Found.the-variants.{At, Nothing}
-use Rattle.stops.specs.Texts.{sameBytes}
+use Rattle.stops.specs.Texts.{sameBytes, shown}
 use Rattle.stops.specs.Stops.{idOf, isIt, findStop, isAt, numberOf}
 use Rattle.stops.specs.Answer.{stationOf, isKnown}
 use Rattle.stops.specs.Taken.{stopOf, blankStop}
 use Rattle.laws.proofs.Bools.{and-true-left}
 use Rattle.laws.proofs.Slots.{blank-set, below-cases}
-use Rattle.stops.specs.Sound.{stopAt, Parented, StopsSound, NoStopsSound, StopKeepsSound, IdKept}
+use Rattle.stops.specs.Sound.{stopAt, Parented, StopsSound, NoStopsSound, StopKeepsSound, IdKept, NameKept, NeededUsable}
 use Rattle.stops.proofs.Texts.{held-read}
 use Rattle.stops.proofs.Laws.{passed}
 
@@ -96,7 +96,7 @@ parent-kept ss n id name parent i h = station ss n h (i .«has_parent») parent 
 
 -- one more stop, whose id is new and whose parent is a station
 module _ (ss : List Stop) (n : ℕ) (s : Stop) (id : List ℕ) (w : StopsSound ss n) (h : n < 128) (own : idOf s ≡ id)
-    (new : isKnown ss n id ≡ false) (parent : Parented ss n (s .parent)) where
+    (kind : s .«location_type» ≤ 1) (new : isKnown ss n id ≡ false) (parent : Parented ss n (s .parent)) where
   here : n < length ss
   here = omega (arith, w .long)
 
@@ -110,11 +110,17 @@ module _ (ss : List Stop) (n : ℕ) (s : Stop) (id : List ℕ) (w : StopsSound s
       (λ less. subst (λ (x : Stop). Parented (set ss n s) (n + 1) (x .parent)) (sym (at-old ss n s here k less)) (still ss n s here _ (w .parents k less)))
       (subst (λ (x : Stop). Parented (set ss n s) (n + 1) (x .parent)) (sym (at-new ss n s here)) (still ss n s here _ parent))
 
+  typed : (k : ℕ) → k < n + 1 → stopAt (set ss n s) k .«location_type» ≤ 1
+  typed k f = below-cases (λ m. stopAt (set ss n s) m .«location_type» ≤ 1) n k f
+      (λ less. subst (λ (x : Stop). x .«location_type» ≤ 1) (sym (at-old ss n s here k less)) (w .types k less))
+      (subst (λ (x : Stop). x .«location_type» ≤ 1) (sym (at-new ss n s here)) kind)
+
   one-more : StopsSound (set ss n s) (n + 1)
   one-more = record {
     few = omega arith;
     long = length-set ss n s ∙ w .long;
     blank = blank-set blankStop 128 ss n s (w .long) h (w .blank);
+    types = typed;
     alone = apart;
     parents = housed;
   }
@@ -124,6 +130,7 @@ no-stops-sound = record {
   few = omega arith;
   long = refl;
   blank = refl;
+  types = λ k f. absurd (omega arith);
   alone = λ j k g f. absurd (omega arith);
   parents = λ k f. absurd (omega arith);
 }
@@ -131,8 +138,23 @@ no-stops-sound = record {
 pub id-kept : IdKept
 id-kept b ss n id name parent i e = held-id id name _ i (passed b ss n _ id name i e .id-fits)
 
+held-name : (id name : List ℕ) (f : Found) (i : StopInput) → length (shown (i .named) name) ≤ 64 → take (stopOf id name f i .«name_len») (stopOf id name f i .name) ≡ shown (i .named) name
+unfolding stopOf
+held-name id name f i h = held-read 64 (shown (i .named) name) h
+
+pub name-kept : NameKept
+name-kept b ss n id name parent i e = held-name id name _ i (passed b ss n _ id name i e .name-fits)
+
+pub needed-usable : NeededUsable
+needed-usable b ss n id name parent i e = passed b ss n _ id name i e .name-used
+
+kind-kept : (id name : List ℕ) (f : Found) (i : StopInput) → stopOf id name f i .«location_type» ≡ i .«location_type»
+unfolding stopOf
+kind-kept id name f i = refl
+
 pub stop-keeps-sound : StopKeepsSound
 stop-keeps-sound b ss n id name parent i w e =
     let p = passed b ss n (stationOf ss n (i .«has_parent») parent) id name i e in
-    one-more ss n (stopOf id name (stationOf ss n (i .«has_parent») parent) i) id w (p .room) (held-id id name _ i (p .id-fits)) (p .new)
+    one-more ss n (stopOf id name (stationOf ss n (i .«has_parent») parent) i) id w (p .room) (held-id id name _ i (p .id-fits))
+    (omega (arith, p .type-fits, kind-kept id name (stationOf ss n (i .«has_parent») parent) i)) (p .new)
     (parent-kept ss n id name parent i (omega (arith, w .few, w .long)))

@@ -7,9 +7,8 @@ use lib.Dec.{ltb, leb, eqb}
 use Rattle.refusal.specs.declared.Refusal.the-variants.{AlreadySearched, IdLength, IdTaken, LocationType, ParentUnknown, NameUnusable, StopsFull}
 use Rattle.refusal.specs.declared.Answer.{Answer}
 use Rattle.refusal.specs.declared.Answer.the-variants.{Refused}
-use Rattle.key.specs.declared.NameKey.{NameKey}
-use Rattle.key.specs.declared.NameKey.the-variants.{Hash, NoWord, Control, NotLatin}
-use Rattle.key.specs.Name.{nameKey}
+use Rattle.key.specs.Utf8.{points}
+use Rattle.key.specs.Name.{usable}
 use Rattle.place.specs.Positions.{positionOf, isUsable}
 use Rattle.stops.specs.declared.Stop.{Stop}
 use Rattle.stops.specs.declared.StopInput.{StopInput}
@@ -37,15 +36,9 @@ typeWrong kind parent = ltb 1 kind || (eqb kind 1 && parent)
 unfoldable pub nameNeeded : StopInput → Bool
 nameNeeded i = eqb (i .«location_type») 0 && not (i .«has_parent») && isUsable (positionOf (i .located) (i .degrees))
 
-abbrev pub noHash : NameKey → Bool
-noHash (Hash h) = false
-noHash NoWord = true
-noHash Control = true
-noHash NotLatin = true
-
 -- without a word, with a control, ill-formed or with a code point above 255
 unfoldable pub unusable : List ℕ → Bool
-unusable s = noHash (nameKey s)
+unusable s = not (usable (points s))
 
 -- 8: over 64 bytes; or needed and unusable, the id where no name
 unfoldable pub nameWrong : Bool → Bool → List ℕ → List ℕ → Bool

@@ -12,9 +12,23 @@ use lib.Seq.{take-at, getD-append-add}
 use Rattle.laws.proofs.Bools.{and-true-left, and-true-right, and-true, test}
 use Rattle.refusal.specs.declared.Refusal.the-variants.{TimeText}
 use Rattle.time.specs.declared.Time.the-variants.{Seconds, Refused}
-use Rattle.time.specs.Text.{colon, allDigits, number, sixty, wellFormed, secondsOf, inRange, parsed, timeOf}
-use Rattle.time.specs.Promises.{Form}
+use Rattle.time.specs.Text.{colon, isDigit, allDigits, number, sixty, wellFormed, secondsOf, inRange, parsed, timeOf}
+use Rattle.time.specs.Promises.{Digits, Form}
 use Rattle.time.proofs.Laws.{back, last-six, by-parts, short, under, sixty-below}
+
+-- the test of a byte says whether it is a digit
+digits-in : (bs : List ℕ) → allDigits bs ≡ true → Digits bs
+unfolding isDigit
+digits-in [] e = tt
+digits-in (b ∷ bs) e =
+    let d : (leb 48 b && ltb b 58) ≡ true = and-true-left (leb 48 b && ltb b 58) (allDigits bs) e in
+    let h : b < 58 = ltb-true b 58 (and-true-right (leb 48 b) (ltb b 58) d) in
+    (leb-true 48 b (and-true-left (leb 48 b) (ltb b 58) d), omega arith, digits-in bs (and-true-right (leb 48 b && ltb b 58) (allDigits bs) e))
+
+digits-out : (bs : List ℕ) → Digits bs → allDigits bs ≡ true
+unfolding isDigit
+digits-out [] w = refl
+digits-out (b ∷ bs) (l, h, w) = and-true (leb 48 b && ltb b 58) (allDigits bs) (and-true (leb 48 b) (ltb b 58) (le-leb 48 b l) (lt-ltb b 58 (omega arith))) (digits-out bs w)
 
 -- seconds are given only within u32
 pub inRange-taken : (t n : ℕ) → inRange t ≡ Seconds n → (t < 2 ^ 32) × (n ≡ t)
@@ -86,9 +100,9 @@ long-form text n k e =
       some-hours = p .long;
       two-minutes = refl;
       two-seconds = refl;
-      hour-digits = p .h;
-      minute-digits = sixty-digits minutes (p .m);
-      second-digits = sixty-digits seconds (p .s);
+      hour-digits = digits-in hours (p .h);
+      minute-digits = digits-in minutes (sixty-digits minutes (p .m));
+      second-digits = digits-in seconds (sixty-digits seconds (p .s));
       minutes-below = sixty-below minutes (p .m);
       seconds-below = sixty-below seconds (p .s);
       value = range .1;
@@ -145,12 +159,12 @@ taken-of text n f = go (f .minutes) (f .seconds) (f .two-minutes) (f .two-second
     go : (minutes seconds : List ℕ) → length minutes ≡ 2 → length seconds ≡ 2 → text ≡ f .hours ++ colon ∷ minutes ++ colon ∷ seconds
         → f .minutes ≡ minutes → f .seconds ≡ seconds → timeOf text ≡ Seconds n
     go (a ∷ b ∷ []) (c ∷ d ∷ []) l₁ l₂ e em es =
-        let m : sixty (a ∷ b ∷ []) ≡ true = rw em at (sixty-of (f .minutes) (f .minute-digits) (f .minutes-below)) in
-        let s : sixty (c ∷ d ∷ []) ≡ true = rw es at (sixty-of (f .seconds) (f .second-digits) (f .seconds-below)) in
+        let m : sixty (a ∷ b ∷ []) ≡ true = rw em at (sixty-of (f .minutes) (digits-out (f .minutes) (f .minute-digits)) (f .minutes-below)) in
+        let s : sixty (c ∷ d ∷ []) ≡ true = rw es at (sixty-of (f .seconds) (digits-out (f .seconds) (f .second-digits)) (f .seconds-below)) in
         let v : n ≡ secondsOf (f .hours) (a ∷ b ∷ []) (c ∷ d ∷ []) = rw (em, es) at (f .value) in
         ap timeOf (e ∙ append-assoc (f .hours) (colon ∷ a ∷ b ∷ []) (colon ∷ c ∷ d ∷ []))
         ∙ put-together (f .hours) a b c d (f .some-hours)
-        ∙ parsed-form (f .hours) (a ∷ b ∷ []) (c ∷ d ∷ []) (f .some-hours) (f .hour-digits) m s
+        ∙ parsed-form (f .hours) (a ∷ b ∷ []) (c ∷ d ∷ []) (f .some-hours) (digits-out (f .hours) (f .hour-digits)) m s
         ∙ ap inRange (sym v) ∙ sym (under n (f .below))
     go [] seconds l₁ l₂ e em es = absurd (omega arith)
     go (a ∷ []) seconds l₁ l₂ e em es = absurd (omega arith)

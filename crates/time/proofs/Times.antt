@@ -42,7 +42,6 @@ unfolding timeOf
 answered text = parsed-either _ _ _ _ _
 
 pub zero-in-front : ZeroInFront
-unfolding isDigit
 zero-in-front text n e =
     let f = form-of text n e in
     taken-of (48 ∷ text) n
@@ -54,7 +53,7 @@ zero-in-front text n e =
       some-hours = omega arith;
       two-minutes = f .two-minutes;
       two-seconds = f .two-seconds;
-      hour-digits = f .hour-digits;
+      hour-digits = (omega arith, omega arith, f .hour-digits);
       minute-digits = f .minute-digits;
       second-digits = f .second-digits;
       minutes-below = f .minutes-below;

@@ -1,12 +1,16 @@
 -- What is proved of time texts.
-use Prim.Native.Nat.{ℕ, _^_, _<_}
+use Prim.Native.Nat.{ℕ, _^_, _≤_, _<_}
 use mathlib.Core.Path.{_≡_}
 use mathlib.Core.List.{List, [], _∷_, _++_}
-use mathlib.Core.Bool.{true}
 use mathlib.Core.Logic.{_⊎_, inl, inr, _↔_}
 use lib.ListN.{length}
 use Rattle.time.specs.declared.Time.the-variants.{Seconds}
-use Rattle.time.specs.Text.{colon, allDigits, number, secondsOf, timeOf, answer}
+use Rattle.time.specs.Text.{colon, number, secondsOf, timeOf, answer}
+
+-- the bytes 48 to 57, which are "0" to "9"
+abbrev pub Digits : List ℕ → Type 0
+Digits [] = Unit {0}
+Digits (b ∷ bs) = (48 ≤ b) × (b ≤ 57) × Digits bs
 
 -- a text of the form, with its seconds
 pub record Form (text : List ℕ) (n : ℕ) : Type 0 where
@@ -17,9 +21,9 @@ pub record Form (text : List ℕ) (n : ℕ) : Type 0 where
   pub some-hours : 0 < length hours
   pub two-minutes : length minutes ≡ 2
   pub two-seconds : length seconds ≡ 2
-  pub hour-digits : allDigits hours ≡ true
-  pub minute-digits : allDigits minutes ≡ true
-  pub second-digits : allDigits seconds ≡ true
+  pub hour-digits : Digits hours
+  pub minute-digits : Digits minutes
+  pub second-digits : Digits seconds
   pub minutes-below : number minutes < 60
   pub seconds-below : number seconds < 60
   pub value : n ≡ secondsOf hours minutes seconds

@@ -1,7 +1,7 @@
 -- A name without a hash, by the case of its key.
 use Prim.Native.Nat.{_-_}
 use mathlib.Core.Path.{refl, sym, _∙_}
-use Rattle.stops.specs.Answer.{unusable}
+use Rattle.stops.proofs.Names.{by-key}
 use borrow.Author.Needs.{needs}
 use Rattle.stop_answer.proofs.is_unusable.Statement.{statement}
 use Rattle.stop_answer.proofs.is_unusable.Tie as tie
@@ -22,20 +22,16 @@ enum-told-4 : tie.Need-enum-told-4
 enum-told-4 c = search needs
 
 returns : tie.Need-returns
-unfolding unusable
-returns c = rw (sym (c .before .before .name-key .ensures) ∙ c .enum-told .given .1) refl
+returns c = sym (by-key _ _ (sym (c .before .before .name-key .ensures) ∙ c .enum-told .given .1))
 
 returns-2 : tie.Need-returns-2
-unfolding unusable
-returns-2 c = rw (sym (c .before .before .name-key .ensures) ∙ c .enum-told2 .given .1) refl
+returns-2 c = sym (by-key _ _ (sym (c .before .before .name-key .ensures) ∙ c .enum-told2 .given .1))
 
 returns-3 : tie.Need-returns-3
-unfolding unusable
-returns-3 c = rw (sym (c .before .before .name-key .ensures) ∙ c .enum-told3 .given .1) refl
+returns-3 c = sym (by-key _ _ (sym (c .before .before .name-key .ensures) ∙ c .enum-told3 .given .1))
 
 returns-4 : tie.Need-returns-4
-unfolding unusable
-returns-4 c = rw (sym (c .before .before .name-key .ensures) ∙ c .enum-told4 .given .1) refl
+returns-4 c = sym (by-key _ _ (sym (c .before .before .name-key .ensures) ∙ c .enum-told4 .given .1))
 
 pub is-unusable-spec : {M : Type 1} → statement M
 is-unusable-spec =
