@@ -150,7 +150,8 @@ class Reading(Places):
         return load.settings.transfer_minutes * 60
 
     def seconds(self, load, r):
-        return max(r.seconds or 0, self.change(load))
+        """Request 02: seconds count for type 2 alone."""
+        return max(r.seconds, self.change(load)) if r.transfer_type == 2 else self.change(load)
 
     def linked(self, load, a, b):
         parents = load.stops[a].parent, load.stops[b].parent

@@ -30,9 +30,18 @@ misread("half-exact-from-side-wins", exact=lambda self, r, a, b: 2 * (r.src == a
 misread("rules-at-stops-only", sides=lambda self, load, stop: [stop])
 misread("rules-at-stations-only", sides=lambda self, load, stop: Reading.sides(self, load, stop)[-1:])
 misread("rule-seconds-alone", seconds=lambda self, load, r: r.seconds or 0)
+misread("type-2-seconds-alone", seconds=lambda self, load, r: r.seconds if r.transfer_type == 2 else self.change(load))
 misread("minutes-alone", seconds=lambda self, load, r: self.change(load))
-misread("seconds-of-type-2-alone",
-        seconds=lambda self, load, r: max(r.seconds if r.transfer_type == 2 else 0, self.change(load)))
+
+
+def seconds_of(*types):
+    """Seconds that count for other types than type 2 alone."""
+    return lambda self, load, r: max(r.seconds or 0, self.change(load)) if r.transfer_type in types else self.change(load)
+
+
+misread("seconds-of-every-type", seconds=seconds_of(0, 1, 2))
+misread("seconds-of-type-0-too", seconds=seconds_of(0, 2))
+misread("seconds-of-type-1-too", seconds=seconds_of(1, 2))
 misread("rule-both-ways", transfer=lambda self, load, a, b: either_way(self, load, a, b))
 misread("no-place-for-changes", linked=lambda self, load, a, b: a == b or load.stops[a].parent == load.stops[b].parent != None)
 misread("same-stop-always", transfer=lambda self, load, a, b: self.change(load) if a == b else Reading.transfer(self, load, a, b))

@@ -117,14 +117,14 @@ module _ (s : Settings) (p : Load) (fs : List Filling) (w : Start s p fs) where
       back (inr c) = or-true-right (eqb n x) _ (eq-eqb n _ (sym (parent-out x n c) ∙ sym (read x h)))
 
   -- a rule that was taken names stops that are
-  rule-known : (r : RuleInput) → List·Memᴰ r (rulesIn fs) → (r .from < 128) × (r .to < 128)
+  rule-known : (r : RuleInput) → List·Memᴰ r (rulesIn fs) → (r .from < 128) × (r .to < 128) × (r .«transfer_type» ≤ 3)
   unfolding ruleAt
   rule-known r m =
       let (k, h, e) = mem-getD blankRule (subst (List·Memᴰ (ruleOf r)) (sym (w .held .rules)) (Memᴰ·map ruleOf m)) in
       let c : length (take (p .«rule_count») (p .rules)) ≡ p .«rule_count» = simp length-take (omega (arith, w .sound .rules .few, w .sound .rules .long)) in
       let l : k < p .«rule_count» = omega (arith, c) in
       let q : getD (p .rules) k blankRule ≡ ruleOf r = sym (getD-take (p .«rule_count») (p .rules) k blankRule l) ∙ e in
-      (omega (arith, w .sound .rules .from-known k l, ap (λ (x : Rule). x .from) q, few), omega (arith, w .sound .rules .to-known k l, ap (λ (x : Rule). x .to) q, few))
+      (omega (arith, w .sound .rules .from-known k l, ap (λ (x : Rule). x .from) q, few), omega (arith, w .sound .rules .to-known k l, ap (λ (x : Rule). x .to) q, few), omega (arith, w .sound .rules .types k l, ap (λ (x : Rule). x .«transfer_type») q))
 
   -- ---- changes
 
@@ -141,7 +141,7 @@ module _ (s : Settings) (p : Load) (fs : List Filling) (w : Start s p fs) where
     abbrev close : Bool
     close = near e (placeIn p x) (placeIn p y)
 
-    nears : (close ≡ true) ↔ Near F e fores rears
+    nears : (close ≡ true) ↔ Near F e (λ r m. rule-known r m .2) fores rears
     nears = (λ q. one (or-true-cases (eqb x y) _ q), back)
       where
         fp : ℕ
@@ -161,15 +161,15 @@ module _ (s : Settings) (p : Load) (fs : List Filling) (w : Start s p fs) where
             small (inl z) a = absurd (a (read x hx ∙ z))
             small (inr (z, t)) a = omega (arith, read x hx, few)
 
-        two : ((not (eqb fp 65535) && eqb fp tp) ≡ true) ⊎ ((not (eqb (placeIn p x) 65535) && eqb (placeIn p x) (placeIn p y)) ≡ true) → Near F e fores rears
+        two : ((not (eqb fp 65535) && eqb fp tp) ≡ true) ⊎ ((not (eqb (placeIn p x) 65535) && eqb (placeIn p x) (placeIn p y)) ≡ true) → Near F e (λ r m. rule-known r m .2) fores rears
         two (inl q) = inr (inl (parents q))
         two (inr q) = inr (inr (place-in s p fs w x y hx hy (eqb-true (placeIn p x) (placeIn p y) (and-true-right (not (eqb (placeIn p x) 65535)) _ q)) (eqb-false (placeIn p x) 65535 (not-true (eqb (placeIn p x) 65535) (and-true-left _ _ q)))))
 
-        one : (eqb x y ≡ true) ⊎ (((not (eqb fp 65535) && eqb fp tp) || (not (eqb (placeIn p x) 65535) && eqb (placeIn p x) (placeIn p y))) ≡ true) → Near F e fores rears
+        one : (eqb x y ≡ true) ⊎ (((not (eqb fp 65535) && eqb fp tp) || (not (eqb (placeIn p x) 65535) && eqb (placeIn p x) (placeIn p y))) ≡ true) → Near F e (λ r m. rule-known r m .2) fores rears
         one (inl q) = inl (eqb-true x y q)
         one (inr q) = two (or-true-cases (not (eqb fp 65535) && eqb fp tp) _ q)
 
-        back : Near F e fores rears → close ≡ true
+        back : Near F e (λ r m. rule-known r m .2) fores rears → close ≡ true
         back (inl q) = or-true-left _ _ (eq-eqb x y q)
         back (inr (inl (n, c, d))) =
             let a : fp ≡ n = read x hx ∙ parent-out x n c in
@@ -190,10 +190,10 @@ module _ (s : Settings) (p : Load) (fs : List Filling) (w : Start s p fs) where
     change-is = λ k. changeOf (chosen e (w .held .rules k)) close (minutes k)
 
     pub takes-in : (n : ℕ) → changeIn p x y ≡ Takes n → Change F x y n
-    takes-in n q = change-in F e fores rears close nears n (sym change-is ∙ q)
+    takes-in n q = change-in F e (λ r m. rule-known r m .2) fores rears close nears n (sym change-is ∙ q)
 
     pub takes-out : (n : ℕ) → Change F x y n → changeIn p x y ≡ Takes n
-    takes-out n c = change-is ∙ change-out F e fores rears close nears n c
+    takes-out n c = change-is ∙ change-out F e (λ r m. rule-known r m .2) fores rears close nears n c
 
   -- ---- joins
 

@@ -19,11 +19,11 @@ use Rattle.transfer.specs.declared.Chosen as picked
 use Rattle.transfer.specs.declared.Chosen.the-variants.{By, Open}
 use Rattle.transfer.specs.declared.Change as changed
 use Rattle.transfer.specs.declared.Change.the-variants.{Takes, Never}
-use Rattle.transfer.specs.Choice.{side, applies, bit, exact, better, chosen}
+use Rattle.transfer.specs.Choice.{side, applies, bit, exact, chosen}
 use Rattle.transfer.specs.Changes.{ruleSeconds, ruleChange, near, changeOf}
 use Rattle.transfer.specs.Promises as promised
 use Rattle.transfer.proofs.Choosing.{chosen-right}
-use Rattle.comparison.specs.Admitted.{Feed, Side, Applies, Exact, both, fore, rear, neither, Chosen, Seconds, Larger, ByRule, ByNearness, Change, Parent}
+use Rattle.comparison.specs.Admitted.{Feed, Side, Applies, Exact, both, fore, rear, neither, Chosen, Seconds, Larger, Gives, type-zero, type-one, type-two, ByRule, ByNearness, Change, Parent}
 
 -- ---- lists
 
@@ -113,9 +113,52 @@ is-most a b n w = go w (most-is a b)
     go (inr (l, e)) (inl (m, f)) = let z : a ≡ b = omega arith in e ∙ z ∙ sym f
     go (inr (l, e)) (inr (m, f)) = e ∙ sym f
 
+-- ---- what a rule gives
+
+takes-same : (m n : ℕ) → Takes m ≡ Takes n → m ≡ n
+takes-same m n q = cc
+
+never-takes : (n : ℕ) → Never ≡ Takes n → ⊥
+never-takes n q = let z : _≡_ {A = ℕ} 0 1 = cc in omega arith
+
+-- the types that are none of the others
+only-one : (t : ℕ) → t ≤ 3 → (t ≡ 0 → ⊥) → (t ≡ 2 → ⊥) → (t ≡ 3 → ⊥) → t ≡ 1
+only-one zero few a b c = absurd (a refl)
+only-one (suc zero) few a b c = refl
+only-one (suc (suc zero)) few a b c = absurd (b refl)
+only-one (suc (suc (suc zero))) few a b c = absurd (c refl)
+only-one (suc (suc (suc (suc t)))) few a b c = absurd (omega arith)
+
+by-type : (r : RuleInput) (change t : ℕ) → r .«transfer_type» ≡ t → ruleChange (ruleOf r) change ≡ cond (eqb t 3) Never (Takes (cond (eqb t 2) (most (secondsOf (r .seconds)) change) change))
+by-type r change t q = ap (λ (k : ℕ). cond (eqb k 3) Never (Takes (cond (eqb k 2) (most (secondsOf (r .seconds)) change) change))) q
+
+gives-in : (r : RuleInput) (change n : ℕ) → r .«transfer_type» ≤ 3 → ruleChange (ruleOf r) change ≡ Takes n → Gives change r n
+gives-in r change n few t = three (eqb (r .«transfer_type») 3) refl t
+  where
+    two : (r .«transfer_type» ≡ 3 → ⊥) → (b : Bool) → eqb (r .«transfer_type») 2 ≡ b → cond b (most (secondsOf (r .seconds)) change) change ≡ n → Gives change r n
+    two k true p x = type-two (eqb-true _ _ p) (secondsOf (r .seconds)) (seconds-is (r .seconds)) (subst (Larger (secondsOf (r .seconds)) change) x (most-is (secondsOf (r .seconds)) change))
+    two k false p x = one (eqb (r .«transfer_type») 0) refl
+      where
+        one : (b : Bool) → eqb (r .«transfer_type») 0 ≡ b → Gives change r n
+        one true q = type-zero (eqb-true _ _ q) (sym x)
+        one false q =
+            let a : r .«transfer_type» ≡ 2 → ⊥ = eqb-false _ _ p in
+            let b : r .«transfer_type» ≡ 0 → ⊥ = eqb-false _ _ q in
+            type-one (only-one (r .«transfer_type») few b a k) (sym x)
+
+    three : (b : Bool) → eqb (r .«transfer_type») 3 ≡ b → cond b Never (Takes (ruleSeconds (ruleOf r) change)) ≡ Takes n → Gives change r n
+    three true p x = absurd (never-takes n x)
+    three false p x = two (eqb-false _ _ p) (eqb (r .«transfer_type») 2) refl (takes-same _ n x)
+
+gives-out : (r : RuleInput) (change n : ℕ) → Gives change r n → ruleChange (ruleOf r) change ≡ Takes n
+gives-out r change n (type-zero t q) = by-type r change 0 t ∙ ap Takes (sym q)
+gives-out r change n (type-one t q) = by-type r change 1 t ∙ ap Takes (sym q)
+gives-out r change n (type-two t g s l) =
+    by-type r change 2 t ∙ ap Takes (sym (is-most g change n l ∙ ap (λ (k : ℕ). most k change) (is-seconds (r .seconds) g s)))
+
 -- ---- the rule that is chosen
 
-module _ (F : Feed) (e : Ends)
+module _ (F : Feed) (e : Ends) (types : (r : RuleInput) → List·Memᴰ r (F .rules) → r .«transfer_type» ≤ 3)
     (fores : (r : RuleInput) → List·Memᴰ r (F .rules) → (side (r .from) (e .from) (e .«from_parent») ≡ true) ↔ Side F (r .from) (e .from))
     (rears : (r : RuleInput) → List·Memᴰ r (F .rules) → (side (r .to) (e .to) (e .«to_parent») ≡ true) ↔ Side F (r .to) (e .to)) where
   applies-in : (r : RuleInput) → List·Memᴰ r (F .rules) → applies e (ruleOf r) ≡ true → Applies F (e .from) (e .to) r
@@ -145,20 +188,22 @@ module _ (F : Feed) (e : Ends)
           split = v .split;
           applies = applies-in (v .here) in-here (ap (applies e) (v .is) ∙ w .fits);
           older = λ r m n i a x y.
-              let b : better e (ruleOf r) q ≡ true = w .older (ruleOf r) (subst (List·Memᴰ (ruleOf r)) (v .fronts) (Memᴰ·map ruleOf i)) (applies-out r (in-front r i) a) in
-              let l : exact e (ruleOf r) ≤ exact e q = leb-true _ _ b in
+              let l : exact e (ruleOf r) ≤ exact e q = w .older (ruleOf r) (subst (List·Memᴰ (ruleOf r)) (v .fronts) (Memᴰ·map ruleOf i)) (applies-out r (in-front r i) a) in
               omega (arith, is-exact e r m x, is-exact e (v .here) n y, ap (exact e) (v .is));
           newer = λ r m n i a x y.
-              let b : better e q (ruleOf r) ≡ false = w .newer (ruleOf r) (subst (List·Memᴰ (ruleOf r)) (v .backs) (Memᴰ·map ruleOf i)) (applies-out r (in-back r i) a) in
-              let l : exact e (ruleOf r) < exact e q = leb-false _ _ b in
+              let l : exact e (ruleOf r) < exact e q = w .newer (ruleOf r) (subst (List·Memᴰ (ruleOf r)) (v .backs) (Memᴰ·map ruleOf i)) (applies-out r (in-back r i) a) in
               omega (arith, is-exact e r m x, is-exact e (v .here) n y, ap (exact e) (v .is));
         };
       }
 
+  -- a rule that is chosen was taken
+  chosen-taken : (r : RuleInput) → Chosen F (e .from) (e .to) r → List·Memᴰ r (F .rules)
+  chosen-taken r w = subst (List·Memᴰ r) (sym (w .split)) (Memᴰ·append-right (w .before) (List·Memᴰ·head refl))
+
   -- and there is no other
   told-best : (r : RuleInput) → Chosen F (e .from) (e .to) r → (c : picked.Chosen) → promised.Right e (map ruleOf (F .rules)) c → c ≡ By (ruleOf r)
   told-best r w Open v =
-      let m : List·Memᴰ r (F .rules) = subst (List·Memᴰ r) (sym (w .split)) (Memᴰ·append-right (w .before) (List·Memᴰ·head refl)) in
+      let m : List·Memᴰ r (F .rules) = chosen-taken r w in
       absurd (true≢false (sym (applies-out r m (w .applies)) ∙ v (ruleOf r) (Memᴰ·map ruleOf m)))
   told-best r w (By q) v =
       go (best-told q v)
@@ -190,28 +235,15 @@ module _ (F : Feed) (e : Ends)
     abbrev minutes : ℕ
     minutes = F .settings .«transfer_minutes» * 60
 
-    takes-same : (m n : ℕ) → Takes m ≡ Takes n → m ≡ n
-    takes-same m n q = cc
-
-    never-takes : (n : ℕ) → Never ≡ Takes n → ⊥
-    never-takes n q = let z : _≡_ {A = ℕ} 0 1 = cc in omega arith
-
     rule-in : (q : Rule) (n : ℕ) → promised.Best e (map ruleOf (F .rules)) q → changeOf (By q) close minutes ≡ Takes n → ByRule F (e .from) (e .to) n
     rule-in q n w t = go (best-told q w)
       where
         go : Told q → ByRule F (e .from) (e .to) n
-        go v = two (eqb (q .«transfer_type») 3) refl t
-          where
-            two : (b : Bool) → eqb (q .«transfer_type») 3 ≡ b → cond b Never (Takes (ruleSeconds q minutes)) ≡ Takes n → ByRule F (e .from) (e .to) n
-            two true p x = absurd (never-takes n x)
-            two false p x = record {
-              by = v .by;
-              chosen = v .chosen;
-              open-type = λ k. eqb-false (q .«transfer_type») 3 p (sym (ap (λ (r : Rule). r .«transfer_type») (v .is)) ∙ k);
-              given = secondsOf (v .by .seconds);
-              seconds = seconds-is (v .by .seconds);
-              takes = subst (Larger (secondsOf (v .by .seconds)) minutes) (ap (λ (r : Rule). most (r .seconds) minutes) (v .is) ∙ takes-same _ n x) (most-is (secondsOf (v .by .seconds)) minutes);
-            }
+        go v = record {
+          by = v .by;
+          chosen = v .chosen;
+          gives = gives-in (v .by) minutes n (types (v .by) (chosen-taken (v .by) (v .chosen))) (ap (λ (r : Rule). ruleChange r minutes) (v .is) ∙ t);
+        }
 
     pub change-in : (n : ℕ) → changeOf (chosen e (map ruleOf (F .rules))) close minutes ≡ Takes n → Change F (e .from) (e .to) n
     change-in n t = go (chosen e (map ruleOf (F .rules))) (chosen-right e (map ruleOf (F .rules))) t
@@ -231,9 +263,7 @@ module _ (F : Feed) (e : Ends)
     pub change-out : (n : ℕ) → Change F (e .from) (e .to) n → changeOf (chosen e (map ruleOf (F .rules))) close minutes ≡ Takes n
     change-out n (inl w) =
         let c : chosen e (map ruleOf (F .rules)) ≡ By (ruleOf (w .by)) = told-best (w .by) (w .chosen) _ (chosen-right e (map ruleOf (F .rules))) in
-        let v : w .given ≡ secondsOf (w .by .seconds) = is-seconds (w .by .seconds) (w .given) (w .seconds) in
-        let m : n ≡ most (secondsOf (w .by .seconds)) minutes = is-most (w .given) minutes n (w .takes) ∙ ap (λ (k : ℕ). most k minutes) v in
-        ap (λ (x : picked.Chosen). changeOf x close minutes) c ∙ cond-not Never (Takes (ruleSeconds (ruleOf (w .by)) minutes)) (ne-eqb (w .by .«transfer_type») 3 (w .open-type)) ∙ ap Takes (sym m)
+        ap (λ (x : picked.Chosen). changeOf x close minutes) c ∙ gives-out (w .by) minutes n (w .gives)
     change-out n (inr w) = go (chosen e (map ruleOf (F .rules))) (chosen-right e (map ruleOf (F .rules)))
       where
         go : (c : picked.Chosen) → promised.Right e (map ruleOf (F .rules)) c → changeOf c close minutes ≡ Takes n
@@ -241,4 +271,4 @@ module _ (F : Feed) (e : Ends)
         go (By q) v = two (best-told q v)
           where
             two : Told q → changeOf (By q) close minutes ≡ Takes n
-            two t = absurd (w .no-rule (t .by) (subst (List·Memᴰ (t .by)) (sym (t .chosen .split)) (Memᴰ·append-right (t .chosen .before) (List·Memᴰ·head refl))) (t .chosen .applies))
+            two t = absurd (w .no-rule (t .by) (chosen-taken (t .by) (t .chosen)) (t .chosen .applies))

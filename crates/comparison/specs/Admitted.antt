@@ -84,15 +84,18 @@ Seconds Absent v = v ≡ 0
 abbrev pub Larger : ℕ → ℕ → ℕ → Type 0
 Larger a b n = ((a ≤ b) × (n ≡ b)) ⊎ ((b ≤ a) × (n ≡ a))
 
--- a change from x to y takes n seconds.
--- "Type 3 forbids; types 0 to 2 give max(seconds, `transfer_minutes` × 60)"
+-- what a rule gives, by its type; `change` is `transfer_minutes` × 60. "Types 0 and 1 now give" that "whatever the seconds say" (request 02),
+-- type 2 gives max(seconds, that); "type 3 forbids", so it has no case
+pub data Gives (change : ℕ) (r : RuleInput) (n : ℕ) : Type 0 where
+  type-zero : r .«transfer_type» ≡ 0 → n ≡ change → Gives change r n
+  type-one : r .«transfer_type» ≡ 1 → n ≡ change → Gives change r n
+  type-two : r .«transfer_type» ≡ 2 → (given : ℕ) → Seconds (r .seconds) given → Larger given change n → Gives change r n
+
+-- a change from x to y takes n seconds by a rule
 pub record ByRule (F : Feed) (x y n : ℕ) : Type 0 where
   pub by : RuleInput
   pub chosen : Chosen F x y by
-  pub open-type : by .«transfer_type» ≡ 3 → ⊥
-  pub given : ℕ
-  pub seconds : Seconds (by .seconds) given
-  pub takes : Larger given (F .settings .«transfer_minutes» * 60) n
+  pub gives : Gives (F .settings .«transfer_minutes» * 60) by n
 
 -- "With no rule, same stop, same parent or same place gives `transfer_minutes` × 60; else none"
 pub record ByNearness (F : Feed) (x y n : ℕ) : Type 0 where

@@ -4,14 +4,6 @@ use place::Micro;
 use place::PlaceKey;
 use place::Position;
 
-fn yes(b: bool) {
-    if b {
-        show::text(b"yes\n");
-    } else {
-        show::text(b"no\n");
-    }
-}
-
 // Whether two positions of one name are one place.
 fn same(label: &[u8], alat: i32, alon: i32, blat: i32, blon: i32) {
     let a = PlaceKey {
@@ -27,14 +19,14 @@ fn same(label: &[u8], alat: i32, alon: i32, blat: i32, blon: i32) {
         lon: blon,
     };
     show::asked(b"same place", label);
-    yes(place::same_place_keys(a, b));
+    show::yes(place::same_place_keys(a, b));
 }
 
 // Whether the latitude, at longitude 0, is so many microdegrees.
 fn micro(label: &[u8], latitude: f64, lat: i32) {
     show::asked(b"micro", label);
     match place::coordinates(Position::Given(latitude, 0.0)) {
-        Micro::At(n, _) => yes(n == lat),
+        Micro::At(n, _) => show::yes(n == lat),
         Micro::Nowhere => show::text(b"nowhere\n"),
     }
 }

@@ -44,3 +44,11 @@ pub fn number(n: u64) {
     io::print_decimal(STDOUT_FILENO, n);
     text(b"\n");
 }
+
+pub fn yes(b: bool) {
+    if b {
+        text(b"yes\n");
+    } else {
+        text(b"no\n");
+    }
+}

@@ -1,10 +1,11 @@
--- Of the rules that apply, the last of the best is chosen.
+-- Of the rules that apply, the last of those with most exact sides is chosen.
 use mathlib.Core.Path.{_≡_, refl, sym, ap, _∙_, subst}
 use mathlib.Core.Logic.{_⊎_, inl, inr}
 use mathlib.Core.Bool.{Bool, true, false, cond, true≢false}
 use mathlib.Core.List.{List, [], _∷_, _++_, append-assoc, append-nil, List·Memᴰ, List·Memᴰ·not-nil, List·Memᴰ·cases-cons, List·Memᴰ·append-cases, List·Memᴰ·eq-of-singleton}
+use Prim.Native.Nat.{_≤_, _<_}
 use native.Mathlib.Omega.{arith}
-use borrow.Author.Tests.{le-leb, leb-true, leb-false}
+use borrow.Author.Tests.{leb-true, leb-false}
 use Rattle.laws.specs.Lists.{foldl}
 use Rattle.rules.specs.declared.Rule.{Rule}
 use Rattle.transfer.specs.declared.Ends.{Ends}
@@ -13,14 +14,13 @@ use Rattle.transfer.specs.declared.Chosen.the-variants.{By, Open}
 use Rattle.transfer.specs.Choice.{applies, exact, better, read}
 use Rattle.transfer.specs.Promises.{Best, Right, ChosenRight}
 
--- ---- the order of rules: all that the proof asks of `better`
+-- ---- the order of rules, in exact sides: all that the proof asks of `better`
 
-better-trans : (e : Ends) (p q r : Rule) → better e p q ≡ true → better e q r ≡ true → better e p r ≡ true
-better-trans e p q r a b =
-    le-leb (exact e p) (exact e r) (omega (arith, leb-true (exact e p) (exact e q) a, leb-true (exact e q) (exact e r) b))
+better-least : (e : Ends) (old new : Rule) → better e old new ≡ true → exact e old ≤ exact e new
+better-least e old new h = omega (arith, leb-true)
 
-better-total : (e : Ends) (p q : Rule) → better e p q ≡ false → better e q p ≡ true
-better-total e p q a = le-leb (exact e q) (exact e p) (omega (arith, leb-false (exact e p) (exact e q) a))
+better-not : (e : Ends) (old new : Rule) → better e old new ≡ false → exact e new < exact e old
+better-not e old new h = omega (arith, leb-false)
 
 -- ---- one more rule
 
@@ -34,7 +34,7 @@ right-open e l x false a h = λ q m. go q (List·Memᴰ·append-cases l m)
     go q (inr m) = rw (List·Memᴰ·eq-of-singleton m) a
 
 -- a rule that is passed over
-right-keep : (e : Ends) (l : List Rule) (x r : Rule) → (applies e x ≡ true → better e r x ≡ false) → Best e l r → Best e (l ++ x ∷ []) r
+right-keep : (e : Ends) (l : List Rule) (x r : Rule) → (applies e x ≡ true → exact e x < exact e r) → Best e l r → Best e (l ++ x ∷ []) r
 right-keep e l x r f h = record {
   before = h .before;
   behind = h .behind ++ x ∷ [];
@@ -44,25 +44,25 @@ right-keep e l x r f h = record {
   newer = λ q m. go q (List·Memᴰ·append-cases (h .behind) m);
 }
   where
-    go : (q : Rule) → List·Memᴰ q (h .behind) ⊎ List·Memᴰ q (x ∷ []) → applies e q ≡ true → better e r q ≡ false
+    go : (q : Rule) → List·Memᴰ q (h .behind) ⊎ List·Memᴰ q (x ∷ []) → applies e q ≡ true → exact e q < exact e r
     go q (inl m) t = h .newer q m t
-    go q (inr m) t = let s = List·Memᴰ·eq-of-singleton m in subst (λ (p : Rule). better e r p ≡ false) (sym s) (f (rw s at t))
+    go q (inr m) t = let s = List·Memᴰ·eq-of-singleton m in subst (λ (p : Rule). exact e p < exact e r) (sym s) (f (rw s at t))
 
 right-by : (e : Ends) (l : List Rule) (x r : Rule) (a b : Bool) → applies e x ≡ a → better e r x ≡ b → Best e l r
     → Right e (l ++ x ∷ []) (cond a (cond b (By x) (By r)) (By r))
 right-by e l x r false b ea eb h = right-keep e l x r (λ t. absurd (true≢false (sym t ∙ ea))) h
-right-by e l x r true false ea eb h = right-keep e l x r (λ t. eb) h
+right-by e l x r true false ea eb h = right-keep e l x r (λ t. better-not e r x eb) h
 right-by e l x r true true ea eb h = record { before = l; behind = []; split = refl; fits = ea; older = older; newer = λ q m. absurd (List·Memᴰ·not-nil m) }
   where
-    tail : (q : Rule) → (q ≡ r) ⊎ List·Memᴰ q (h .behind) → applies e q ≡ true → better e q x ≡ true
-    tail q (inl s) t = subst (λ (p : Rule). better e p x ≡ true) (sym s) eb
-    tail q (inr m) t = better-trans e q r x (better-total e r q (h .newer q m t)) eb
+    tail : (q : Rule) → (q ≡ r) ⊎ List·Memᴰ q (h .behind) → applies e q ≡ true → exact e q ≤ exact e x
+    tail q (inl s) t = subst (λ (p : Rule). exact e p ≤ exact e x) (sym s) (better-least e r x eb)
+    tail q (inr m) t = omega (arith, h .newer q m t, better-least e r x eb)
 
-    parts : (q : Rule) → List·Memᴰ q (h .before) ⊎ List·Memᴰ q (r ∷ h .behind) → applies e q ≡ true → better e q x ≡ true
-    parts q (inl m) t = better-trans e q r x (h .older q m t) eb
+    parts : (q : Rule) → List·Memᴰ q (h .before) ⊎ List·Memᴰ q (r ∷ h .behind) → applies e q ≡ true → exact e q ≤ exact e x
+    parts q (inl m) t = omega (arith, h .older q m t, better-least e r x eb)
     parts q (inr m) t = tail q (List·Memᴰ·cases-cons m) t
 
-    older : (q : Rule) → List·Memᴰ q l → applies e q ≡ true → better e q x ≡ true
+    older : (q : Rule) → List·Memᴰ q l → applies e q ≡ true → exact e q ≤ exact e x
     older q m t = parts q (List·Memᴰ·append-cases (h .before) (subst (λ (k : List Rule). List·Memᴰ q k) (h .split) m)) t
 
 right-step : (e : Ends) (l : List Rule) (x : Rule) (s : Chosen) → Right e l s → Right e (l ++ x ∷ []) (read e s x)

@@ -1,19 +1,22 @@
--- Rules written as numbers, five for each, are read back.
-use Prim.Native.Nat.{ℕ, zero, suc, _+_, _*_, _%_, _<_, _≤_}
-use mathlib.Core.Path.{_≡_, refl, ap, _∙_}
+-- Rules written as numbers, five for each: what stands at each place, and that they are read back.
+use Prim.Native.Nat.{ℕ, zero, suc, _+_, _*_, _-_, _/_, _%_, _<_, _≤_}
+use mathlib.Core.Path.{_≡_, refl, sym, ap, _∙_}
 use mathlib.Core.Logic.{_≢_}
 use mathlib.Core.Bool.{Bool, true, false}
 use mathlib.Core.List.{List, [], _∷_}
 use native.Mathlib.Nat.{mod-eq-of-lt}
 use native.Mathlib.Omega.{arith}
-use lib.Dec.{eqb}
+use lib.Dec.{eqb, ltb}
+use borrow.Author.Tests.{ltb-true, ltb-false}
 use lib.ListN.{length, getD, take, set, length-set}
-use lib.Seq.{take-suc, getD-set-same, getD-set-other}
+use lib.Seq.{take-suc, getD-set-same, getD-set-other, ext-getD}
+use Rattle.laws.specs.Tables.{table}
+use Rattle.laws.proofs.Tables.{getD-table, length-table}
 use Rattle.laws.proofs.Stores.{stores, stores-long, stores-low, stores-in}
 use Rattle.rules.specs.declared.Rule.{Rule}
 use Rattle.rules.specs.Rules.{blankRule}
 use Rattle.transfer.specs.Choice.{bit}
-use Rattle.transfer.specs.Copied.{ruleAt, rulesOf}
+use Rattle.transfer.specs.Copied.{numbers, flatAt, flatRules, ruleAt, rulesOf}
 
 -- five numbers from a place on
 abbrev pub five : List ℕ → ℕ → ℕ → ℕ → ℕ → ℕ → ℕ → List ℕ
@@ -58,6 +61,52 @@ rule-here l i x v e h k =
       seconds = at 2 (omega arith) t;
       timed = (ap (λ (z : ℕ). eqb z 1) (at 3 (omega arith) ∙ e) ∙ timed-bit (x .timed)) t;
     }
+
+-- ---- the numbers themselves
+
+-- the five of a rule are those at its place
+five-here : (l : List ℕ) (i : ℕ) (x : Rule) (v : ℕ) → v ≡ bit (x .timed) → i * 5 + 5 ≤ length l
+    → (j : ℕ) → j < 5 → getD (five l (i * 5) (x .from) (x .to) (x .«transfer_type») (x .seconds) v) (i * 5 + j) 0 ≡ getD (numbers x) j 0
+five-here l i x v e h zero b =
+    let vs = x .to ∷ x .«transfer_type» ∷ x .seconds ∷ v ∷ [] in
+    let m = set l (i * 5) (x .from) in
+    let z : i * 5 + 0 ≡ i * 5 = omega arith in
+    ap (λ (k : ℕ). getD (stores m (i * 5) 1 vs) k 0) z ∙ stores-low vs m (i * 5) 1 (i * 5) (omega arith) ∙ getD-set-same l (i * 5) (x .from) 0 (omega arith)
+five-here l i x v e h (suc j) b =
+    let vs = x .to ∷ x .«transfer_type» ∷ x .seconds ∷ v ∷ [] in
+    let m = set l (i * 5) (x .from) in
+    let long : length m ≡ length l = length-set l (i * 5) (x .from) in
+    let z : i * 5 + suc j ≡ i * 5 + (1 + j) = omega arith in
+    ap (λ (k : ℕ). getD (stores m (i * 5) 1 vs) k 0) z ∙ stores-in vs m (i * 5) 1 j (omega arith) (omega arith)
+    ∙ ap (λ (y : ℕ). getD (x .to ∷ x .«transfer_type» ∷ x .seconds ∷ y ∷ []) j 0) e
+
+-- one rule more
+pub flat-more : (rules : List Rule) (l : List ℕ) (i v : ℕ) → let x = getD rules i blankRule in
+    v ≡ bit (x .timed) → i * 5 + 5 ≤ length l → ((k : ℕ) → k < i * 5 → getD l k 0 ≡ flatAt rules k)
+    → (k : ℕ) → k < (i + 1) * 5 → getD (five l (i * 5) (x .from) (x .to) (x .«transfer_type») (x .seconds) v) k 0 ≡ flatAt rules k
+flat-more rules l i v e h g k b = go (ltb k (i * 5)) refl
+  where
+    x : Rule
+    x = getD rules i blankRule
+
+    at : (j n : ℕ) → n ≡ i * 5 + j → j < 5 → getD (numbers x) j 0 ≡ flatAt rules n
+    at j n q c =
+        let d : i ≡ n / 5 = omega arith in
+        let m : j ≡ n % 5 = omega arith in
+        λ t. getD (numbers (getD rules (d t) blankRule)) (m t) 0
+
+    go : (t : Bool) → ltb k (i * 5) ≡ t → getD (five l (i * 5) (x .from) (x .to) (x .«transfer_type») (x .seconds) v) k 0 ≡ flatAt rules k
+    go true q = let c = ltb-true k (i * 5) q in low l i (x .from) (x .to) (x .«transfer_type») (x .seconds) v k c ∙ g k c
+    go false q =
+        let c = ltb-false k (i * 5) q in
+        let j : ℕ = k - i * 5 in
+        let s : k ≡ i * 5 + j = omega arith in
+        ap (λ (n : ℕ). getD (five l (i * 5) (x .from) (x .to) (x .«transfer_type») (x .seconds) v) n 0) s ∙ five-here l i x v e h j (omega arith) ∙ at j k s (omega arith)
+
+pub flat-all : (rules : List Rule) (l : List ℕ) → length l ≡ 640 → ((k : ℕ) → k < 640 → getD l k 0 ≡ flatAt rules k) → l ≡ flatRules rules
+unfolding flatRules
+flat-all rules l e g =
+    ext-getD 0 l (table 640 (flatAt rules)) (e ∙ sym (length-table (flatAt rules) 640)) (λ k h. g k (omega arith) ∙ sym (getD-table (flatAt rules) 0 640 k (omega arith)))
 
 pub rules-all : (l : List ℕ) (rules : List Rule) (m : ℕ) → m ≤ length rules → ((k : ℕ) → k < m → ruleAt l k ≡ getD rules k blankRule)
     → (n : ℕ) → n ≤ m → rulesOf l n ≡ take n rules

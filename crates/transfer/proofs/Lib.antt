@@ -2,3 +2,4 @@ pub mod Laws
 pub mod Flat
 pub mod Choosing
 pub mod Claims
+pub mod Seconds

@@ -1,5 +1,6 @@
--- "Type 3 forbids; types 0 to 2 give max(seconds, `transfer_minutes` × 60). With no rule, same stop, same parent or same place gives
--- `transfer_minutes` × 60; else none." And "`join`: trip or day differs, and arrival + transfer seconds is at most departure."
+-- "Type 3 forbids"; request 02: "Types 0 and 1 now give `transfer_minutes` × 60 whatever the seconds say", and type 2 max(seconds, that).
+-- "With no rule, same stop, same parent or same place gives `transfer_minutes` × 60; else none."
+-- And "`join`: trip or day differs, and arrival + transfer seconds is at most departure."
 use Rattle.laws.specs.Bounds.{most}
 use mathlib.Core.Bool.{Bool, not, false, cond, _&&_, _||_}
 use mathlib.Core.List.{List}
@@ -14,9 +15,9 @@ use Rattle.transfer.specs.declared.Change.{Change}
 use Rattle.transfer.specs.declared.Change.the-variants.{Takes, Never}
 use Rattle.transfer.specs.Choice.{chosen}
 
--- the seconds that a rule gives; `change` is the settings' change time
+-- the seconds that a rule gives: its own count for type 2 alone; `change` is the settings' change time
 abbrev pub ruleSeconds : Rule → ℕ → ℕ
-ruleSeconds r change = most (r .seconds) change
+ruleSeconds r change = cond (eqb (r .«transfer_type») 2) (most (r .seconds) change) change
 
 abbrev pub ruleChange : Rule → ℕ → Change
 ruleChange r change = cond (eqb (r .«transfer_type») 3) Never (Takes (ruleSeconds r change))

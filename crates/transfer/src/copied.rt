@@ -3,7 +3,7 @@ ghost use mathlib.Core.Path.{_≡_};
 ghost use Prim.Native.Nat.{ℕ, _≤_};
 ghost use lib.ListN.{take};
 ghost use Rattle.transfer.specs.Choice.{bit};
-ghost use Rattle.transfer.specs.Copied.{rulesOf, parentsOf};
+ghost use Rattle.transfer.specs.Copied.{flatRules, rulesOf, parentsOf};
 use rules::Rule;
 use stops::Stop;
 
@@ -13,9 +13,10 @@ fn mark(b: bool) -> u16
     if b { 1 } else { 0 }
 }
 
-// A rule is five numbers: from, to, type, seconds, and 1 if seconds were given.
+// A rule is five numbers: from, to, type, seconds, and 1 if seconds were given. Read back, they are the rules.
 pub fn flat_rules(rules: [Rule; 128]) -> [u16; 640]
-    ensures { λ r. ⌜ ((n : ℕ) → n ≤ 128 → rulesOf r n ≡ take n rules) ⌝ }
+    ensures { λ r. ⌜ r ≡ flatRules rules ⌝ }
+    ensures read { λ r. ⌜ ((n : ℕ) → n ≤ 128 → rulesOf r n ≡ take n rules) ⌝ }
 {
     let mut flat = [0u16; 640];
     let mut i: usize = 0;

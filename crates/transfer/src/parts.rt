@@ -40,12 +40,15 @@ pub fn are_near(ends: Ends, from_place: u16, to_place: u16) -> bool
     from_place == to_place
 }
 
-// The change that a rule gives.
+// The change that a rule gives. Seconds count for type 2 alone.
 pub fn rule_change(rule: Rule, change: u16) -> Change
     ensures { λ r. ⌜ r ≡ ruleChange rule change ⌝ }
 {
     if rule.transfer_type == 3 {
         return Change::Never;
+    }
+    if rule.transfer_type != 2 {
+        return Change::Takes(change);
     }
     if rule.seconds <= change {
         return Change::Takes(change);

@@ -47,7 +47,7 @@ returns c =
     let s = fed .before .before .before .before in
     let l = s .args .load in
     offered-is l (s .args .calls) _ _ _ _ _ _ _ _ _ (fed .feed-of .ensures) (c .before .before .before .before .numbers .ensures) (stops-long l _ (s .good .0)) (rules-long l _ (s .good .0))
-    (grouped .before .before .flat-rules .ensures) (grouped .before .parents-of .ensures) (grouped .group-places .ensures) (made .before .before .before .before .before .before .change-seconds .ensures) (made .changes-of .ensures) refl
+    (grouped .before .before .flat-rules .ensures .1) (grouped .before .parents-of .ensures) (grouped .group-places .ensures) (made .before .before .before .before .before .before .change-seconds .ensures) (made .changes-of .ensures) refl
     (c .before .before .before .before .before .before .fresh .ensures) (c .endpoint-paths .ensures)
 
 pub offered-spec : {M : Type 1} → statement M

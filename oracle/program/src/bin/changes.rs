@@ -67,7 +67,8 @@ impl Rows {
         let place = |stop: u16| self.places[usize::from(stop)];
         match chosen {
             Some([_, _, 3, _]) => NEVER,
-            Some([_, _, _, seconds]) => u32::from(CHANGE.max(*seconds)),
+            Some([_, _, 2, seconds]) => u32::from(CHANGE.max(*seconds)),
+            Some(_) => u32::from(CHANGE),
             None if self.from == to => u32::from(CHANGE),
             None if parent(self.from) != NONE && parent(self.from) == parent(to) => u32::from(CHANGE),
             None if place(self.from) != NONE && place(self.from) == place(to) => u32::from(CHANGE),

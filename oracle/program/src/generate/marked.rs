@@ -134,10 +134,13 @@ fn seldom(files: &mut Vec<Vec<u8>>) {
         let onward = [trip(64, &[(0, 2405), (2, 3000), (1, 4400)]), trip(65, &[(2, 3000), (1, 4410)])].concat();
         files.push(searched(&settings(&[0], &[0, walk], 0), vec![ends(), vec![stop("m", 32)], base(), onward]));
     }
-    // Seconds on a rule of type 0 count; two stops of one place without a parent change; byte 127 is a control.
-    let rule = Step::Rule(Rule { from: 2, to: 2, transfer_type: 0, seconds: Some(240) });
+    // Seconds on a rule of type 0 or 1 don't count, on type 2 they do (request 02).
     let rides = || vec![trip(1, &[(0, 600), (2, 1000)]), trip(2, &[(2, 1200), (1, 1500)])].concat();
-    files.push(searched(&plain, vec![ends(), vec![stop("m", 0), rule], rides()]));
+    for transfer_type in [0, 1, 2] {
+        let rule = Step::Rule(Rule { from: 2, to: 2, transfer_type, seconds: Some(240) });
+        files.push(searched(&plain, vec![ends(), vec![stop("m", 0), rule], rides()]));
+    }
+    // Two stops of one place without a parent change; byte 127 is a control.
     let near = vec![named("m", "Quay", 1.0, 1.0), named("n", " quay", 1.001, 1.0), named("o", "Quay", 1.0011, 1.0)];
     let across = vec![trip(1, &[(0, 600), (2, 1000)]), trip(2, &[(3, 1200), (1, 1500)])].concat();
     files.push(searched(&plain, vec![ends(), near, across]));

@@ -1,5 +1,5 @@
-//! Not a published file. Drives the private functions of journey.rs for one load. It holds no rule of its own: it fills `Search` as the
-//! published driver does, calls the published functions and hands out what they left.
+//! Not a published file. Drives the private functions of journey.rs for one load. It fills `Search` as the published driver does, but for
+//! the seconds of rules (request 02), calls the published functions and hands out what they left.
 use super::*;
 use crate::config::JourneyStop;
 
@@ -165,7 +165,9 @@ impl Run {
         self.search.push(&mut self.calls, &call, row.trip, row.stop, day)?;
         Ok(self.search.window(&call, day)?.is_some())
     }
+    /// Request 02: the Rust is fed 0 seconds for types 0 and 1, whatever the rule was handed in with; then it gives the change time.
     pub fn rule(&mut self, from: u16, to: u16, transfer_type: u8, seconds: u16) -> Result<(), Error> {
+        let seconds = if transfer_type < 2 { 0 } else { seconds };
         let rule = Rule { from, to, seconds, forbidden: transfer_type == 3 };
         self.search.rules.push(rule).map_err(|_| Error::IndexFull)
     }

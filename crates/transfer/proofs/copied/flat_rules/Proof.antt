@@ -1,24 +1,25 @@
--- The rules written so far are read back.
+-- The numbers written so far are the rules' own, and are read back.
 use borrow.Author.Needs.{needs}
-use Prim.Native.Nat.{ℕ, _-_, _≤_, _<_}
+use Prim.Native.Nat.{ℕ, _-_, _*_, _≤_, _<_}
 use mathlib.Core.Path.{_≡_, refl, _∙_}
 use native.Mathlib.Omega.{arith}
 use borrow.Author.Count.{below-none, below-more}
 use lib.ListN.{length, getD}
 use Rattle.rules.specs.Rules.{blankRule}
-use Rattle.transfer.specs.Copied.{ruleAt}
-use Rattle.transfer.proofs.Flat.{five-long, rule-here, rule-before, rules-all}
+use Rattle.transfer.specs.Copied.{flatAt, ruleAt}
+use Rattle.transfer.proofs.Flat.{five-long, rule-here, rule-before, rules-all, flat-more, flat-all}
 use Rattle.transfer.proofs.copied.flat_rules.Statement.{statement}
 use Rattle.transfer.proofs.copied.flat_rules.Tie as tie
 
 abbrev Inv-loop : tie.InvT-loop
 Inv-loop rules flat₀ i₀ flat i = (i ≤ 128) × (length flat ≡ 640) × ((k : ℕ) → k < i → ruleAt flat k ≡ getD rules k blankRule)
+    × ((k : ℕ) → k < i * 5 → getD flat k 0 ≡ flatAt rules k)
 
 abbrev μ-loop : tie.MeasureT-loop
 μ-loop rules flat₀ i₀ flat i = 128 - i
 
 loop-holds : tie.Need-loop-holds Inv-loop μ-loop
-loop-holds c = (omega arith, refl, below-none _)
+loop-holds c = (omega arith, refl, below-none _, λ k h. absurd (omega arith))
 
 mul-rule : tie.Need-mul-rule Inv-loop μ-loop
 mul-rule c = search needs
@@ -94,13 +95,16 @@ loop-again c =
       five-long flat i (x .from) (x .to) (x .«transfer_type») (x .seconds) v ∙ L .loop .inv .1,
       below-more _ i (λ k h. rule-before flat i (x .from) (x .to) (x .«transfer_type») (x .seconds) v k h ∙ L .loop .inv .2 k h)
           (rule-here flat i x v (c .mark .ensures) (omega arith) (omega arith)),
+      flat-more (L .before .args .t1) flat i v (c .mark .ensures) (omega arith) (L .loop .inv .3),
     )
 
 returns : tie.Need-returns Inv-loop μ-loop
 returns c =
     let L = c .before in
-    let long : length (L .before .args .t1) ≡ 128 = L .before .good .0 .1 .0 .1 in
-    rules-all (L .loop .flat) (L .before .args .t1) 128 (omega arith) (λ k h. L .loop .inv .2 k (omega arith))
+    let long : length (L .before .args .t1) ≡ 128 = L .before .good .0 .1 .0 .1 in (
+      flat-all (L .before .args .t1) (L .loop .flat) (L .loop .inv .1) (λ k h. L .loop .inv .3 k (omega arith)),
+      rules-all (L .loop .flat) (L .before .args .t1) 128 (omega arith) (λ k h. L .loop .inv .2 k (omega arith)),
+    )
 
 pub flat-rules-spec : {M : Type 1} → statement M
 flat-rules-spec =
