@@ -140,11 +140,14 @@ class Reading(Places):
         return [stop] if parent is None else [stop, next(i for i, s in enumerate(load.stops) if s.id == parent)]
 
     def exact(self, r, a, b):
-        return (r.src == a) + (r.dst == b)
+        """Request 06: full exactness first, then the from side, then the to side."""
+        return 2 * (r.src == a) + (r.dst == b)
 
     def chosen(self, rules, a, b):
+        """No two rules that apply are equally exact, as a pair may be taken once."""
         most = max(self.exact(r, a, b) for r in rules)
-        return [r for r in rules if self.exact(r, a, b) == most][-1]
+        [r] = [r for r in rules if self.exact(r, a, b) == most]
+        return r
 
     def change(self, load):
         return load.settings.transfer_minutes * 60

@@ -24,9 +24,16 @@ def reordered(step, number, before):
 
 
 # --- transfers ---
-misread("first-of-equal-rules", chosen=lambda self, rules, a, b: max(rules, key=lambda r: self.exact(r, a, b)))
+def sides_exact(r, a, b):
+    return (r.src == a) + (r.dst == b)
+
+
+misread("first-of-equal-rules", chosen=lambda self, rules, a, b: max(rules, key=lambda r: sides_exact(r, a, b)))
+misread("last-of-equal-rules", chosen=lambda self, rules, a, b: max(reversed(rules), key=lambda r: sides_exact(r, a, b)))
 misread("last-rule-whatever-exact", chosen=lambda self, rules, a, b: rules[-1])
-misread("half-exact-from-side-wins", exact=lambda self, r, a, b: 2 * (r.src == a) + (r.dst == b))
+misread("to-side-first", exact=lambda self, r, a, b: (r.src == a) + 2 * (r.dst == b))
+misread("half-exact-before-exact", exact=lambda self, r, a, b: [0, 2, 3, 1][2 * (r.src == a) + (r.dst == b)])
+misread("from-side-alone", chosen=lambda self, rules, a, b: max(rules, key=lambda r: r.src == a))
 misread("rules-at-stops-only", sides=lambda self, load, stop: [stop])
 misread("rules-at-stations-only", sides=lambda self, load, stop: Reading.sides(self, load, stop)[-1:])
 misread("rule-seconds-alone", seconds=lambda self, load, r: r.seconds or 0)

@@ -1,4 +1,4 @@
--- The rule that holds between two stops is that of its rank, and its rank is found from the best rules for the stop and for its parent.
+-- The rule that holds between two stops is that of its place by rank, and that place is found from the best rules for the stop and for its parent.
 use Prim.Native.Nat.{ℕ, zero, suc, _+_, _-_, _*_, _%_, _≤_, _<_, max}
 use mathlib.Core.Path.{_≡_, refl, sym, ap, ap₂, subst, _∙_}
 use mathlib.Core.Bool.{Bool, true, false, cond, not, _&&_, _||_}
@@ -17,7 +17,7 @@ use Rattle.rules.specs.declared.Rule.{Rule}
 use Rattle.transfer.specs.declared.Ends.{Ends}
 use Rattle.transfer.specs.declared.Chosen.{Chosen}
 use Rattle.transfer.specs.declared.Chosen.the-variants.{By, Open}
-use Rattle.transfer.specs.Choice.{bit, exact, better, applies, read, chosen}
+use Rattle.transfer.specs.Choice.{bit, rank, better, applies, read, chosen}
 use Rattle.transfer.specs.Copied.{ruleAt, rulesOf}
 use Rattle.transfer.specs.declared.Change.{Change}
 use Rattle.transfer.specs.Changes.{endsOf, near, changeOf, changeNumber}
@@ -25,15 +25,15 @@ use Rattle.transfer.specs.Rows.{entryOf}
 use Rattle.change_row.specs.Ranks.{rankTo, ranked, rankFrom, slotOf, bestTo, raised, isShared}
 use Rattle.transfer.proofs.Laws.{rules-turn, rules-none, transfer-parts}
 
--- ---- the rule of a rank
+-- ---- the rule of a place by rank
 
 module _ (e : Ends) (l : List ℕ) where
-  -- r is at some place below n, and k is its rank
+  -- r is at some place below n, and k is that place by rank
   record HeldBy (n k : ℕ) (r : Rule) : Type 0 where
     pub place : ℕ
     pub under : place < n
     pub rule : r ≡ ruleAt l place
-    pub rank : k ≡ exact e r * 128 + suc place
+    pub number : k ≡ rank e r * 128 + suc place
 
   abbrev Held : ℕ → ℕ → Chosen → Type 0
   Held n k Open = k ≡ 0
@@ -41,18 +41,18 @@ module _ (e : Ends) (l : List ℕ) where
 
   module _ (n : ℕ) (h : n < 128) where
     abbrev new : ℕ
-    new = exact e (ruleAt l n) * 128 + suc n
+    new = rank e (ruleAt l n) * 128 + suc n
 
     held-open : (k : ℕ) (b : Bool) → k ≡ 0 → Held (suc n) (cond b (max k new) k) (cond b (By (ruleAt l n)) Open)
-    held-open k true z = record { place = n; under = omega arith; rule = refl; rank = omega arith }
+    held-open k true z = record { place = n; under = omega arith; rule = refl; number = omega arith }
     held-open k false z = z
 
     held-by : (k : ℕ) (r : Rule) (a b : Bool) → better e r (ruleAt l n) ≡ b → HeldBy n k r
         → Held (suc n) (cond a (max k new) k) (cond a (cond b (By (ruleAt l n)) (By r)) (By r))
-    held-by k r true true q g = record { place = n; under = omega arith; rule = refl; rank = omega (arith, leb-true (exact e r) (exact e (ruleAt l n)) q, g .rank, g .under) }
+    held-by k r true true q g = record { place = n; under = omega arith; rule = refl; number = omega (arith, leb-true (rank e r) (rank e (ruleAt l n)) q, g .number, g .under) }
     held-by k r true false q g =
-        record { place = g .place; under = omega (arith, g .under); rule = g .rule; rank = omega (arith, leb-false (exact e r) (exact e (ruleAt l n)) q, g .rank, g .under) }
-    held-by k r false b q g = record { place = g .place; under = omega (arith, g .under); rule = g .rule; rank = g .rank }
+        record { place = g .place; under = omega (arith, g .under); rule = g .rule; number = omega (arith, leb-false (rank e r) (rank e (ruleAt l n)) q, g .number, g .under) }
+    held-by k r false b q g = record { place = g .place; under = omega (arith, g .under); rule = g .rule; number = g .number }
 
     held-read : (k : ℕ) (c : Chosen) → Held n k c → Held (suc n) (cond (applies e (ruleAt l n)) (max k new) k) (read e c (ruleAt l n))
     held-read k Open g = held-open k (applies e (ruleAt l n)) g
@@ -75,13 +75,13 @@ module _ (e : Ends) (l : List ℕ) where
   unfolding ranked
   rank-rule n k Open h g = sym (cond-by _ _ (eq-eqb k 0 g))
   rank-rule n k (By r) h g =
-      let at : (k - 1) % 128 ≡ g .place = ap (λ (x : ℕ). (x - 1) % 128) (g .rank) ∙ place-of (exact e r) (g .place) (omega (arith, g .under)) in
-      ap By (g .rule ∙ ap (ruleAt l) (sym at)) ∙ sym (cond-not _ _ (ne-eqb k 0 (λ z. omega (arith, g .rank))))
+      let at : (k - 1) % 128 ≡ g .place = ap (λ (x : ℕ). (x - 1) % 128) (g .number) ∙ place-of (rank e r) (g .place) (omega (arith, g .under)) in
+      ap By (g .rule ∙ ap (ruleAt l) (sym at)) ∙ sym (cond-not _ _ (ne-eqb k 0 (λ z. omega (arith, g .number))))
 
   pub chosen-ranked : (n : ℕ) → n ≤ 128 → chosen e (rulesOf l n) ≡ ranked l (rankTo e l n)
   chosen-ranked n h = rank-rule n (rankTo e l n) (chosen e (rulesOf l n)) h (held n h)
 
--- ---- the rank from the best rules
+-- ---- the place by rank from the best rules
 
 -- a stop's slot is its own
 slot-at : (to t : ℕ) → t < 128 → eqb (slotOf to) t ≡ eqb to t
@@ -93,7 +93,7 @@ slot-at to t h = go (eqb to t) refl
 
 -- the rule at place n, which is for the stop (x) or its parent (y) and from the stop (p) or its parent (q)
 abbrev fromRank : Bool → Bool → ℕ → ℕ
-fromRank p q n = cond p (129 + n) (cond q (1 + n) 0)
+fromRank p q n = cond p (257 + n) (cond q (1 + n) 0)
 
 rank-both : (b k m : ℕ) → 0 < k → m ≡ k + 128 → max (max (raised b) b) m ≡ max (raised (max b k)) (max b k)
 rank-both b k m h e = go (leb b k) refl
@@ -103,9 +103,9 @@ rank-both b k m h e = go (leb b k) refl
     go false q = let c : max b k ≡ b = omega (arith, leb-false b k q) in rw c (omega (arith, leb-false b k q))
 
 rank-step : (p q x y : Bool) (a b n : ℕ) → (x ≡ true → y ≡ true → a ≡ b)
-    → cond ((p || q) && (x || y)) (max (max (raised a) b) ((bit p + bit x) * 128 + suc n)) (max (raised a) b)
+    → cond ((p || q) && (x || y)) (max (max (raised a) b) ((2 * bit p + bit x) * 128 + suc n)) (max (raised a) b)
     ≡ max (raised (cond x (max a (fromRank p q n)) a)) (cond y (max b (fromRank p q n)) b)
-rank-step true q true true a b n e = rw (e refl refl) (rank-both b (129 + n) (2 * 128 + suc n) (omega arith) (omega arith))
+rank-step true q true true a b n e = rw (e refl refl) (rank-both b (257 + n) (3 * 128 + suc n) (omega arith) (omega arith))
 rank-step true q true false a b n e = omega arith
 rank-step true q false true a b n e = omega arith
 rank-step true q false false a b n e = refl
@@ -146,7 +146,7 @@ module _ (e : Ends) (l : List ℕ) where
       let y = eqb (slotOf (r .to)) s in
       let a = best n (e .to) in
       let b = best n s in
-      let new = exact e r * 128 + suc n in
+      let new = rank e r * 128 + suc n in
       ap (λ (k : ℕ). cond (applies e r) (max k new) k) (rank-slots s n h (λ i u. f i (omega arith)))
       ∙ from-counts p q x y (eqb (r .to) (e .«to_parent»)) n (max (max (raised a) b) new) (max (raised a) b) (f n (omega arith))
       ∙ rank-step p q x y a b n (λ c d. ap (best n) (sym (eqb-true (slotOf (r .to)) (e .to) (slot-at (r .to) (e .to) h ∙ c)) ∙ eqb-true (slotOf (r .to)) s d))
@@ -197,13 +197,13 @@ module _ (e : Ends) (l : List ℕ) where
 -- ---- the best rules, read one by one
 
 module _ (l : List ℕ) (from parent : ℕ) where
-  pub best-small : (n slot : ℕ) → bestTo l from parent n slot ≤ 128 + n
+  pub best-small : (n slot : ℕ) → bestTo l from parent n slot ≤ 256 + n
   unfolding bestTo rankFrom
   best-small zero slot = omega arith
   best-small (suc n) slot =
       go (eqb (slotOf (ruleAt l n .to)) slot) (eqb (ruleAt l n .from) from) (eqb (ruleAt l n .from) parent) (best-small n slot)
     where
-      go : (b p q : Bool) → bestTo l from parent n slot ≤ 128 + n → cond b (max (bestTo l from parent n slot) (fromRank p q n)) (bestTo l from parent n slot) ≤ 128 + suc n
+      go : (b p q : Bool) → bestTo l from parent n slot ≤ 256 + n → cond b (max (bestTo l from parent n slot) (fromRank p q n)) (bestTo l from parent n slot) ≤ 256 + suc n
       go true true q h = omega arith
       go true false true h = omega arith
       go true false false h = omega arith
@@ -244,8 +244,8 @@ module _ (l : List ℕ) (from parent : ℕ) where
       turn : (s : ℕ) → cond (eqb at s) (max (bestTo l from parent i s) rank) (bestTo l from parent i s) ≡ bestTo l from parent (i + 1) s
       turn s = best-turn i s
 
-  -- a place of the array holds no more than the highest rank by a from side
-  pub best-below : (b : List ℕ) (n s : ℕ) → n ≤ 128 → s < 129 → b ≡ table 129 (bestTo l from parent n) → getD b s 0 ≤ 256
+  -- a place of the array holds no more than the highest place by a from side
+  pub best-below : (b : List ℕ) (n s : ℕ) → n ≤ 128 → s < 129 → b ≡ table 129 (bestTo l from parent n) → getD b s 0 ≤ 384
   best-below b n s h k e = omega (arith, ap (λ (x : List ℕ). getD x s 0) e ∙ getD-table (bestTo l from parent n) 0 129 s k, best-small n s)
 
   pub slots-all : (b : List ℕ) (i n : ℕ) → Slots b i → i ≡ n → b ≡ table 129 (bestTo l from parent n)

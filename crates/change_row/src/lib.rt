@@ -31,13 +31,13 @@ fn larger(a: u16, b: u16) -> u16
     if a <= b { b } else { a }
 }
 
-// The rank of the rule at place i by its from side, 0 if that is neither the stop nor its parent.
+// The place by rank of the rule at place i, by its from side; 0 if that is neither the stop nor its parent.
 fn rank_from(x: u16, from: u16, parent: u16, i: usize) -> u16
     requires { ⌜ i < 128 ⌝ }
     ensures { λ r. ⌜ r ≡ rankFrom x from parent i ⌝ }
 {
     if x == from {
-        return 129 + i as u16;
+        return 257 + i as u16;
     }
     if x == parent {
         return 1 + i as u16;
@@ -76,9 +76,9 @@ fn best_rules(rules: &[u16; 640], count: usize, from: u16, parent: u16) -> [u16;
     best
 }
 
-// One exact side more, if there is a rule.
+// 1 in rank more, if there is a rule.
 fn raised_of(k: u16) -> u16
-    requires { ⌜ k ≤ 256 ⌝ }
+    requires { ⌜ k ≤ 384 ⌝ }
     ensures { λ r. ⌜ r ≡ raised k ⌝ }
 {
     if k == 0 { 0 } else { k + 128 }
@@ -93,7 +93,7 @@ fn is_shared(slot: usize, k: u16) -> bool
     false
 }
 
-// The rule of a rank.
+// The rule of a place by rank.
 fn rule_ranked(rules: &[u16; 640], k: u16) -> Chosen
     ensures { λ r. ⌜ r ≡ ranked (now (rules .entry)) k ⌝ }
 {

@@ -6,7 +6,7 @@ use mathlib.Core.Bool.{Bool, true, false, not, cond, _&&_, _||_, true≢false, f
 use mathlib.Core.List.{List, [], _∷_, _++_, map, List·Memᴰ, Memᴰ·map}
 use native.Mathlib.Omega.{arith}
 use lib.Dec.{leb, eqb, ltb}
-use lib.ListN.{getD, take, length, length-take}
+use lib.ListN.{getD, take, length, length-map, length-take, List·getD-map}
 use lib.Seq.{getD-take}
 use borrow.Author.Tests.{leb-true, le-leb, eqb-true, eqb-false, eq-eqb, ne-eqb, lt-ltb, not-true}
 use Rattle.laws.proofs.Bools.{and-true, and-true-left, and-true-right, or-true-cases, or-true-left, or-true-right, cond-by, cond-not, test}
@@ -16,6 +16,7 @@ use Rattle.settings.specs.Settings.{canonicalOf, changeSeconds}
 use Rattle.calls.specs.declared.Call.{Call}
 use Rattle.rules.specs.declared.Rule.{Rule}
 use Rattle.rules.specs.declared.RuleInput.{RuleInput}
+use Rattle.rules.specs.declared.MinTime.the-variants.{Absent}
 use Rattle.rules.specs.Rules.{ruleOf, blankRule}
 use Rattle.rules.specs.Sound.{ruleAt}
 use Rattle.stops.specs.declared.Stop.{Stop}
@@ -29,7 +30,8 @@ use Rattle.transfer.specs.declared.Change.the-variants.{Takes, Never}
 use Rattle.transfer.specs.Choice.{side, chosen}
 use Rattle.transfer.specs.Changes.{endsOf, near, changeOf, transferOf, joinsBy, joinOf}
 use Rattle.transfer.specs.Copied.{parentsOf}
-use Rattle.transfer.proofs.Claims.{parent-read}
+use Rattle.transfer.proofs.Claims.{parent-read, pair-once}
+use Rattle.transfer.proofs.AnyOrder.{mem-getD}
 use Rattle.load.specs.declared.Load.{Load}
 use Rattle.load.specs.Filling.{Filling}
 use Rattle.load.specs.Sound.{Sound}
@@ -39,11 +41,10 @@ use Rattle.comparison.specs.Taken.{StopGiven, stopsIn, rulesIn}
 use Rattle.comparison.specs.Admitted.{Nth, Feed, Parent, Side, Change, Joins}
 use Rattle.comparison.specs.Feeds.{feedFrom}
 use Rattle.comparison.proofs.NthLaws.{nth-below, nth-one, same-bytes}
-use Rattle.comparison.proofs.KeptLaws.{mem-getD}
 use Rattle.comparison.proofs.TakenLaws.{HeldAs, Held}
 use Rattle.comparison.proofs.StartLaws.{Start}
 use Rattle.comparison.proofs.PlaceLaws.{placeIn, one-id, given-below, place-in, place-out}
-use Rattle.comparison.proofs.RuleLaws.{Near, change-in, change-out}
+use Rattle.comparison.proofs.RuleLaws.{Taken, Near, change-in, change-out}
 
 module _ (s : Settings) (p : Load) (fs : List Filling) (w : Start s p fs) where
   abbrev F : Feed
@@ -116,15 +117,41 @@ module _ (s : Settings) (p : Load) (fs : List Filling) (w : Start s p fs) where
       back (inl e) = or-true-left _ _ (eq-eqb n x e)
       back (inr c) = or-true-right (eqb n x) _ (eq-eqb n _ (sym (parent-out x n c) ∙ sym (read x h)))
 
-  -- a rule that was taken names stops that are
-  rule-known : (r : RuleInput) → List·Memᴰ r (rulesIn fs) → (r .from < 128) × (r .to < 128) × (r .«transfer_type» ≤ 3)
+  -- ---- rules
+
+  abbrev blank : RuleInput
+  blank = record { from = 0; to = 0; «transfer_type» = 0; seconds = Absent }
+
+  -- a rule that was taken stands at a place of the load, and at the same place of those handed in
+  placed : (r : RuleInput) → List·Memᴰ r (rulesIn fs) → (k : ℕ) × (k < p .«rule_count») × (ruleAt (p .rules) k ≡ ruleOf r) × (getD (rulesIn fs) k blank ≡ r)
   unfolding ruleAt
-  rule-known r m =
-      let (k, h, e) = mem-getD blankRule (subst (List·Memᴰ (ruleOf r)) (sym (w .held .rules)) (Memᴰ·map ruleOf m)) in
+  placed r m =
+      let (k, h, e) = mem-getD blank m in
       let c : length (take (p .«rule_count») (p .rules)) ≡ p .«rule_count» = simp length-take (omega (arith, w .sound .rules .few, w .sound .rules .long)) in
-      let l : k < p .«rule_count» = omega (arith, c) in
-      let q : getD (p .rules) k blankRule ≡ ruleOf r = sym (getD-take (p .«rule_count») (p .rules) k blankRule l) ∙ e in
-      (omega (arith, w .sound .rules .from-known k l, ap (λ (x : Rule). x .from) q, few), omega (arith, w .sound .rules .to-known k l, ap (λ (x : Rule). x .to) q, few), omega (arith, w .sound .rules .types k l, ap (λ (x : Rule). x .«transfer_type») q))
+      let n : length (take (p .«rule_count») (p .rules)) ≡ length (rulesIn fs) = ap length (w .held .rules) ∙ length-map (rulesIn fs) ruleOf in
+      let l : k < p .«rule_count» = omega (arith, c, n) in
+      let q : getD (p .rules) k blankRule ≡ ruleOf r =
+      sym (getD-take (p .«rule_count») (p .rules) k blankRule l) ∙ ap (λ (x : List Rule). getD x k blankRule) (w .held .rules) ∙ List·getD-map ruleOf (rulesIn fs) k blank ∙ ap ruleOf e in
+      (k, l, q, e)
+
+  -- it names stops that are
+  rule-known : (r : RuleInput) → List·Memᴰ r (rulesIn fs) → (r .from < 128) × (r .to < 128)
+  rule-known r m =
+      let (k, l, q, e) = placed r m in
+      (omega (arith, w .sound .rules .from-known k l, ap (λ (x : Rule). x .from) q, few), omega (arith, w .sound .rules .to-known k l, ap (λ (x : Rule). x .to) q, few))
+
+  -- its type is one of 0 to 3, and no other is for its pair
+  known : Taken (rulesIn fs)
+  known = record {
+    types = λ r m. let (k, l, q, e) = placed r m in omega (arith, w .sound .rules .types k l, ap (λ (x : Rule). x .«transfer_type») q);
+    alone = λ a b m n f t.
+        let (j, hj, qj, ej) = placed a m in
+        let (k, hk, qk, ek) = placed b n in
+        let same : j ≡ k =
+        pair-once (p .«stop_count») (p .rules) (p .«rule_count») (w .sound .rules) j k hj hk
+        (ap (λ (x : Rule). x .from) qj ∙ f ∙ sym (ap (λ (x : Rule). x .from) qk)) (ap (λ (x : Rule). x .to) qj ∙ t ∙ sym (ap (λ (x : Rule). x .to) qk)) in
+        sym ej ∙ ap (λ (i : ℕ). getD (rulesIn fs) i blank) same ∙ ek;
+  }
 
   -- ---- changes
 
@@ -141,7 +168,7 @@ module _ (s : Settings) (p : Load) (fs : List Filling) (w : Start s p fs) where
     abbrev close : Bool
     close = near e (placeIn p x) (placeIn p y)
 
-    nears : (close ≡ true) ↔ Near F e (λ r m. rule-known r m .2) fores rears
+    nears : (close ≡ true) ↔ Near F e known fores rears
     nears = (λ q. one (or-true-cases (eqb x y) _ q), back)
       where
         fp : ℕ
@@ -161,15 +188,15 @@ module _ (s : Settings) (p : Load) (fs : List Filling) (w : Start s p fs) where
             small (inl z) a = absurd (a (read x hx ∙ z))
             small (inr (z, t)) a = omega (arith, read x hx, few)
 
-        two : ((not (eqb fp 65535) && eqb fp tp) ≡ true) ⊎ ((not (eqb (placeIn p x) 65535) && eqb (placeIn p x) (placeIn p y)) ≡ true) → Near F e (λ r m. rule-known r m .2) fores rears
+        two : ((not (eqb fp 65535) && eqb fp tp) ≡ true) ⊎ ((not (eqb (placeIn p x) 65535) && eqb (placeIn p x) (placeIn p y)) ≡ true) → Near F e known fores rears
         two (inl q) = inr (inl (parents q))
         two (inr q) = inr (inr (place-in s p fs w x y hx hy (eqb-true (placeIn p x) (placeIn p y) (and-true-right (not (eqb (placeIn p x) 65535)) _ q)) (eqb-false (placeIn p x) 65535 (not-true (eqb (placeIn p x) 65535) (and-true-left _ _ q)))))
 
-        one : (eqb x y ≡ true) ⊎ (((not (eqb fp 65535) && eqb fp tp) || (not (eqb (placeIn p x) 65535) && eqb (placeIn p x) (placeIn p y))) ≡ true) → Near F e (λ r m. rule-known r m .2) fores rears
+        one : (eqb x y ≡ true) ⊎ (((not (eqb fp 65535) && eqb fp tp) || (not (eqb (placeIn p x) 65535) && eqb (placeIn p x) (placeIn p y))) ≡ true) → Near F e known fores rears
         one (inl q) = inl (eqb-true x y q)
         one (inr q) = two (or-true-cases (not (eqb fp 65535) && eqb fp tp) _ q)
 
-        back : Near F e (λ r m. rule-known r m .2) fores rears → close ≡ true
+        back : Near F e known fores rears → close ≡ true
         back (inl q) = or-true-left _ _ (eq-eqb x y q)
         back (inr (inl (n, c, d))) =
             let a : fp ≡ n = read x hx ∙ parent-out x n c in
@@ -190,10 +217,10 @@ module _ (s : Settings) (p : Load) (fs : List Filling) (w : Start s p fs) where
     change-is = λ k. changeOf (chosen e (w .held .rules k)) close (minutes k)
 
     pub takes-in : (n : ℕ) → changeIn p x y ≡ Takes n → Change F x y n
-    takes-in n q = change-in F e (λ r m. rule-known r m .2) fores rears close nears n (sym change-is ∙ q)
+    takes-in n q = change-in F e known fores rears close nears n (sym change-is ∙ q)
 
     pub takes-out : (n : ℕ) → Change F x y n → changeIn p x y ≡ Takes n
-    takes-out n c = change-is ∙ change-out F e (λ r m. rule-known r m .2) fores rears close nears n c
+    takes-out n c = change-is ∙ change-out F e known fores rears close nears n c
 
   -- ---- joins
 

@@ -11,6 +11,7 @@ use borrow.Author.Tests.{leb-true, le-leb}
 use Rattle.laws.specs.Lists.{anyb}
 use Rattle.laws.proofs.Bools.{and-true, test, not-true as is-false}
 use Rattle.laws.proofs.Lists.{anyb-mem, mem-anyb, anyb-not, anyb-none}
+use Rattle.transfer.proofs.AnyOrder.{mem-getD}
 use Rattle.profile.specs.declared.Journey.{Journey}
 use Rattle.profile.specs.Figures.{covᶠ, dueᶠ}
 use Rattle.profile.specs.Front.{beats, counts, after, front}
@@ -26,10 +27,6 @@ module _ {A : Type 0} (d : A) where
   getD-mem [] n h = absurd (omega arith)
   getD-mem (x ∷ l) zero h = List·Memᴰ·head refl
   getD-mem (x ∷ l) (suc n) h = List·Memᴰ·tail (getD-mem l n (omega arith))
-
-  pub mem-getD : {x : A} {l : List A} → List·Memᴰ x l → (n : ℕ) × (n < length l) × (getD l n d ≡ x)
-  mem-getD (List·Memᴰ·head q) = (0, omega arith, sym q)
-  mem-getD (List·Memᴰ·tail m) = let (n, h, e) = mem-getD m in (suc n, omega arith, e)
 
   pub getD-middle : (pre : List A) (x : A) (post : List A) → getD (pre ++ x ∷ post) (length pre) d ≡ x
   getD-middle [] x post = refl

@@ -3,12 +3,13 @@ use Prim.Native.Nat.{ℕ, zero, suc, _+_, _*_, _≤_, _<_}
 use mathlib.Core.Path.{_≡_, refl, sym, ap, ap₂, subst, _∙_}
 use mathlib.Core.Logic.{_⊎_, inl, inr, _↔_}
 use mathlib.Core.Bool.{Bool, true, false, not, cond, _&&_, _||_, true≢false, false≢true}
-use mathlib.Core.List.{List, [], _∷_, _++_, map, map-append, List·Memᴰ, List·Memᴰ·head, List·Memᴰ·tail, List·Memᴰ·not-nil, Memᴰ·append-left, Memᴰ·append-right, Memᴰ·map, Memᴰ·of-map, head-eq-of-cons-eq, tail-eq-of-cons-eq}
+use mathlib.Core.List.{List, map, List·Memᴰ, Memᴰ·map, Memᴰ·of-map}
 use native.Mathlib.Omega.{arith}
 use lib.Dec.{leb, eqb}
 use borrow.Author.Tests.{leb-true, leb-false, le-leb, lt-leb, eqb-true, eqb-false, eq-eqb, ne-eqb}
 use Rattle.laws.specs.Bounds.{most}
 use Rattle.laws.proofs.Bools.{and-true, and-true-left, and-true-right, or-true-cases, or-true-left, or-true-right, cond-by, cond-not, test}
+use Rattle.laws.proofs.Order.{tri}
 use Rattle.rules.specs.declared.Rule.{Rule}
 use Rattle.rules.specs.declared.RuleInput.{RuleInput}
 use Rattle.rules.specs.declared.MinTime.{MinTime}
@@ -19,73 +20,29 @@ use Rattle.transfer.specs.declared.Chosen as picked
 use Rattle.transfer.specs.declared.Chosen.the-variants.{By, Open}
 use Rattle.transfer.specs.declared.Change as changed
 use Rattle.transfer.specs.declared.Change.the-variants.{Takes, Never}
-use Rattle.transfer.specs.Choice.{side, applies, bit, exact, chosen}
+use Rattle.transfer.specs.Choice.{side, applies, bit, rank, chosen}
 use Rattle.transfer.specs.Changes.{ruleSeconds, ruleChange, near, changeOf}
 use Rattle.transfer.specs.Promises as promised
-use Rattle.transfer.proofs.Choosing.{chosen-right}
-use Rattle.comparison.specs.Admitted.{Feed, Side, Applies, Exact, both, fore, rear, neither, Chosen, Seconds, Larger, Gives, type-zero, type-one, type-two, ByRule, ByNearness, Change, Parent}
+use Rattle.transfer.proofs.Choosing.{chosen-right, best-most, best-taken}
+use Rattle.transfer.proofs.Claims.{rank-pair, rank-right}
+use Rattle.comparison.specs.Admitted.{Feed, Side, Applies, Rank, both, fore, rear, neither, Chosen, Seconds, Larger, Gives, type-zero, type-one, type-two, ByRule, ByNearness, Change, Parent}
 
--- ---- lists
+-- ---- ranks
 
-module _ {A B : Type 0} (f : A → B) where
-  -- a list whose images part so parts so itself
-  record Parted (l : List A) (before : List B) (y : B) (behind : List B) : Type 0 where
-    front : List A
-    here : A
-    back : List A
-    split : l ≡ front ++ here ∷ back
-    fronts : map f front ≡ before
-    is : f here ≡ y
-    backs : map f back ≡ behind
-
-  part : (l : List A) (before : List B) (y : B) (behind : List B) → map f l ≡ before ++ y ∷ behind → Parted l before y behind
-  part [] [] y behind e = let z : _≡_ {A = ℕ} 0 1 = cc in absurd (omega arith)
-  part [] (b ∷ before) y behind e = let z : _≡_ {A = ℕ} 0 1 = cc in absurd (omega arith)
-  part (x ∷ l) [] y behind e = record { front = []; here = x; back = l; split = refl; fronts = refl; is = head-eq-of-cons-eq e; backs = tail-eq-of-cons-eq e }
-  part (x ∷ l) (b ∷ before) y behind e =
-      let w = part l before y behind (tail-eq-of-cons-eq e) in
-      record {
-        front = x ∷ w .front;
-        here = w .here;
-        back = w .back;
-        split = ap {B = List A} (λ r. x ∷ r) (w .split);
-        fronts = λ k. head-eq-of-cons-eq e k ∷ w .fronts k;
-        is = w .is;
-        backs = w .backs;
-      }
-
-module _ {A : Type 0} where
-  -- of two places in a list, they are one, or one is in front of the other
-  meet : (b₁ : List A) (x : A) (c₁ b₂ : List A) (y : A) (c₂ : List A) → b₁ ++ x ∷ c₁ ≡ b₂ ++ y ∷ c₂
-      → (x ≡ y) ⊎ ((List·Memᴰ x b₂ × List·Memᴰ y c₁) ⊎ (List·Memᴰ y b₁ × List·Memᴰ x c₂))
-  meet [] x c₁ [] y c₂ e = inl (head-eq-of-cons-eq e)
-  meet [] x c₁ (b ∷ b₂) y c₂ e =
-      inr (inl (List·Memᴰ·head (head-eq-of-cons-eq e), subst (List·Memᴰ y) (sym (tail-eq-of-cons-eq e)) (Memᴰ·append-right b₂ (List·Memᴰ·head refl))))
-  meet (b ∷ b₁) x c₁ [] y c₂ e =
-      inr (inr (List·Memᴰ·head (sym (head-eq-of-cons-eq e)), subst (List·Memᴰ x) (tail-eq-of-cons-eq e) (Memᴰ·append-right b₁ (List·Memᴰ·head refl))))
-  meet (b ∷ b₁) x c₁ (d ∷ b₂) y c₂ e = go (meet b₁ x c₁ b₂ y c₂ (tail-eq-of-cons-eq e))
-    where
-      go : (x ≡ y) ⊎ ((List·Memᴰ x b₂ × List·Memᴰ y c₁) ⊎ (List·Memᴰ y b₁ × List·Memᴰ x c₂)) → (x ≡ y) ⊎ ((List·Memᴰ x (d ∷ b₂) × List·Memᴰ y c₁) ⊎ (List·Memᴰ y (b ∷ b₁) × List·Memᴰ x c₂))
-      go (inl q) = inl q
-      go (inr (inl (m, n))) = inr (inl (List·Memᴰ·tail m, n))
-      go (inr (inr (m, n))) = inr (inr (List·Memᴰ·tail m, n))
-
--- ---- exact sides
-
-exact-is : (e : Ends) (r : RuleInput) → Exact (e .from) (e .to) r (exact e (ruleOf r))
-exact-is e r = go (eqb (r .from) (e .from)) refl (eqb (r .to) (e .to)) refl
+rank-is : (e : Ends) (r : RuleInput) → Rank (e .from) (e .to) r (rank e (ruleOf r))
+rank-is e r = go (eqb (r .from) (e .from)) refl (eqb (r .to) (e .to)) refl
   where
-    go : (a : Bool) → eqb (r .from) (e .from) ≡ a → (b : Bool) → eqb (r .to) (e .to) ≡ b → Exact (e .from) (e .to) r (bit a + bit b)
+    go : (a : Bool) → eqb (r .from) (e .from) ≡ a → (b : Bool) → eqb (r .to) (e .to) ≡ b → Rank (e .from) (e .to) r (2 * bit a + bit b)
     go true p true q = both (eqb-true _ _ p) (eqb-true _ _ q)
     go true p false q = fore (eqb-true _ _ p) (eqb-false _ _ q)
     go false p true q = rear (eqb-false _ _ p) (eqb-true _ _ q)
     go false p false q = neither (eqb-false _ _ p) (eqb-false _ _ q)
 
-is-exact : (e : Ends) (r : RuleInput) (n : ℕ) → Exact (e .from) (e .to) r n → n ≡ exact e (ruleOf r)
-is-exact e r _ (both p q) = let a = eq-eqb (r .from) (e .from) p in let b = eq-eqb (r .to) (e .to) q in sym (λ k. bit (a k) + bit (b k))
-is-exact e r _ (fore p q) = let a = eq-eqb (r .from) (e .from) p in let b = ne-eqb (r .to) (e .to) q in sym (λ k. bit (a k) + bit (b k))
-is-exact e r _ (rear p q) = let a = ne-eqb (r .from) (e .from) p in let b = eq-eqb (r .to) (e .to) q in sym (λ k. bit (a k) + bit (b k))
-is-exact e r _ (neither p q) = let a = ne-eqb (r .from) (e .from) p in let b = ne-eqb (r .to) (e .to) q in sym (λ k. bit (a k) + bit (b k))
+is-rank : (e : Ends) (r : RuleInput) (n : ℕ) → Rank (e .from) (e .to) r n → n ≡ rank e (ruleOf r)
+is-rank e r _ (both p q) = sym (rank-right e (ruleOf r) .both p q)
+is-rank e r _ (fore p q) = sym (rank-right e (ruleOf r) .fore p q)
+is-rank e r _ (rear p q) = sym (rank-right e (ruleOf r) .rear p q)
+is-rank e r _ (neither p q) = sym (rank-right e (ruleOf r) .neither p q)
 
 -- ---- seconds
 
@@ -158,7 +115,12 @@ gives-out r change n (type-two t g s l) =
 
 -- ---- the rule that is chosen
 
-module _ (F : Feed) (e : Ends) (types : (r : RuleInput) → List·Memᴰ r (F .rules) → r .«transfer_type» ≤ 3)
+-- the rules have types 0 to 3, and no two are for one pair
+pub record Taken (rules : List RuleInput) : Type 0 where
+  pub types : (r : RuleInput) → List·Memᴰ r rules → r .«transfer_type» ≤ 3
+  pub alone : (q r : RuleInput) → List·Memᴰ q rules → List·Memᴰ r rules → q .from ≡ r .from → q .to ≡ r .to → q ≡ r
+
+module _ (F : Feed) (e : Ends) (known : Taken (F .rules))
     (fores : (r : RuleInput) → List·Memᴰ r (F .rules) → (side (r .from) (e .from) (e .«from_parent») ≡ true) ↔ Side F (r .from) (e .from))
     (rears : (r : RuleInput) → List·Memᴰ r (F .rules) → (side (r .to) (e .to) (e .«to_parent») ≡ true) ↔ Side F (r .to) (e .to)) where
   applies-in : (r : RuleInput) → List·Memᴰ r (F .rules) → applies e (ruleOf r) ≡ true → Applies F (e .from) (e .to) r
@@ -166,6 +128,13 @@ module _ (F : Feed) (e : Ends) (types : (r : RuleInput) → List·Memᴰ r (F .r
 
   applies-out : (r : RuleInput) → List·Memᴰ r (F .rules) → Applies F (e .from) (e .to) r → applies e (ruleOf r) ≡ true
   applies-out r m (p, q) = and-true _ _ (fores r m .1 p) (rears r m .1 q)
+
+  -- rules of one rank that apply are one
+  one-rule : (q r : RuleInput) → List·Memᴰ q (F .rules) → List·Memᴰ r (F .rules) → Applies F (e .from) (e .to) q → Applies F (e .from) (e .to) r
+      → rank e (ruleOf q) ≡ rank e (ruleOf r) → q ≡ r
+  one-rule q r m n a b t =
+      let w = rank-pair e (ruleOf q) (ruleOf r) (applies-out q m a) (applies-out r n b) t in
+      known .alone q r m n (w .0) (w .1)
 
   -- the program's best rule is the one stated here
   record Told (q : Rule) : Type 0 where
@@ -175,56 +144,41 @@ module _ (F : Feed) (e : Ends) (types : (r : RuleInput) → List·Memᴰ r (F .r
 
   best-told : (q : Rule) → promised.Best e (map ruleOf (F .rules)) q → Told q
   best-told q w =
-      let v = part ruleOf (F .rules) (w .before) q (w .behind) (w .split) in
-      let in-front : (r : RuleInput) → List·Memᴰ r (v .front) → List·Memᴰ r (F .rules) = λ r m. subst (List·Memᴰ r) (sym (v .split)) (Memᴰ·append-left (v .here ∷ v .back) m) in
-      let in-back : (r : RuleInput) → List·Memᴰ r (v .back) → List·Memᴰ r (F .rules) = λ r m. subst (List·Memᴰ r) (sym (v .split)) (Memᴰ·append-right (v .front) (List·Memᴰ·tail m)) in
-      let in-here : List·Memᴰ (v .here) (F .rules) = subst (List·Memᴰ (v .here)) (sym (v .split)) (Memᴰ·append-right (v .front) (List·Memᴰ·head refl)) in
+      let (r, m, i) = Memᴰ·of-map ruleOf (F .rules) (best-taken e (map ruleOf (F .rules)) q w) in
+      let a : Applies F (e .from) (e .to) r = applies-in r m (ap (applies e) i ∙ w .fits) in
       record {
-        by = v .here;
-        is = v .is;
+        by = r;
+        is = i;
         chosen = record {
-          before = v .front;
-          behind = v .back;
-          split = v .split;
-          applies = applies-in (v .here) in-here (ap (applies e) (v .is) ∙ w .fits);
-          older = λ r m n i a x y.
-              let l : exact e (ruleOf r) ≤ exact e q = w .older (ruleOf r) (subst (List·Memᴰ (ruleOf r)) (v .fronts) (Memᴰ·map ruleOf i)) (applies-out r (in-front r i) a) in
-              omega (arith, is-exact e r m x, is-exact e (v .here) n y, ap (exact e) (v .is));
-          newer = λ r m n i a x y.
-              let l : exact e (ruleOf r) < exact e q = w .newer (ruleOf r) (subst (List·Memᴰ (ruleOf r)) (v .backs) (Memᴰ·map ruleOf i)) (applies-out r (in-back r i) a) in
-              omega (arith, is-exact e r m x, is-exact e (v .here) n y, ap (exact e) (v .is));
+          taken = m;
+          applies = a;
+          highest = λ p x y k b other u v.
+              let l : rank e (ruleOf p) ≤ rank e q = best-most e (map ruleOf (F .rules)) q w (ruleOf p) (Memᴰ·map ruleOf k) (applies-out p k b) in
+              let apart : rank e (ruleOf p) ≡ rank e (ruleOf r) → ⊥ = λ t. other (one-rule p r k m b a t) in
+              below (is-rank e p x u) (is-rank e r y v) l (ap (rank e) i) apart;
         };
       }
-
-  -- a rule that is chosen was taken
-  chosen-taken : (r : RuleInput) → Chosen F (e .from) (e .to) r → List·Memᴰ r (F .rules)
-  chosen-taken r w = subst (List·Memᴰ r) (sym (w .split)) (Memᴰ·append-right (w .before) (List·Memᴰ·head refl))
+    where
+      below : {x y a b c : ℕ} → x ≡ a → y ≡ b → a ≤ c → b ≡ c → (a ≡ b → ⊥) → x < y
+      below e₁ e₂ l e₃ n = omega arith
 
   -- and there is no other
   told-best : (r : RuleInput) → Chosen F (e .from) (e .to) r → (c : picked.Chosen) → promised.Right e (map ruleOf (F .rules)) c → c ≡ By (ruleOf r)
-  told-best r w Open v =
-      let m : List·Memᴰ r (F .rules) = chosen-taken r w in
-      absurd (true≢false (sym (applies-out r m (w .applies)) ∙ v (ruleOf r) (Memᴰ·map ruleOf m)))
-  told-best r w (By q) v =
-      go (best-told q v)
+  told-best r w Open v = absurd (true≢false (sym (applies-out r (w .taken) (w .applies)) ∙ v (ruleOf r) (Memᴰ·map ruleOf (w .taken))))
+  told-best r w (By q) v = go (best-told q v)
     where
       go : Told q → By q ≡ By (ruleOf r)
-      go t = two (meet (w .before) r (w .behind) (t .chosen .before) (t .by) (t .chosen .behind) (sym (w .split) ∙ t .chosen .split))
+      go t = two (tri (rank e (ruleOf r)) (rank e (ruleOf (t .by))))
         where
-          two : (r ≡ t .by) ⊎ ((List·Memᴰ r (t .chosen .before) × List·Memᴰ (t .by) (w .behind)) ⊎ (List·Memᴰ (t .by) (w .before) × List·Memᴰ r (t .chosen .behind))) → By q ≡ By (ruleOf r)
-          two (inl z) = ap By (sym (t .is) ∙ sym (ap ruleOf z))
-          two (inr (inl (m, n))) =
-              absurd (omega (
-                arith,
-                t .chosen .older r (exact e (ruleOf r)) (exact e (ruleOf (t .by))) m (w .applies) (exact-is e r) (exact-is e (t .by)),
-                w .newer (t .by) (exact e (ruleOf (t .by))) (exact e (ruleOf r)) n (t .chosen .applies) (exact-is e (t .by)) (exact-is e r),
-              ))
-          two (inr (inr (m, n))) =
-              absurd (omega (
-                arith,
-                w .older (t .by) (exact e (ruleOf (t .by))) (exact e (ruleOf r)) m (t .chosen .applies) (exact-is e (t .by)) (exact-is e r),
-                t .chosen .newer r (exact e (ruleOf r)) (exact e (ruleOf (t .by))) n (w .applies) (exact-is e r) (exact-is e (t .by)),
-              ))
+          same : t .by ≡ r → rank e (ruleOf (t .by)) ≡ rank e (ruleOf r)
+          same z = ap (λ (x : RuleInput). rank e (ruleOf x)) z
+
+          two : (rank e (ruleOf r) < rank e (ruleOf (t .by))) ⊎ ((rank e (ruleOf r) ≡ rank e (ruleOf (t .by))) ⊎ (rank e (ruleOf (t .by)) < rank e (ruleOf r))) → By q ≡ By (ruleOf r)
+          two (inl l) =
+              absurd (omega (arith, w .highest (t .by) (rank e (ruleOf (t .by))) (rank e (ruleOf r)) (t .chosen .taken) (t .chosen .applies) (λ z. omega (arith, same z)) (rank-is e (t .by)) (rank-is e r)))
+          two (inr (inl z)) = ap By (sym (t .is) ∙ ap ruleOf (sym (one-rule r (t .by) (w .taken) (t .chosen .taken) (w .applies) (t .chosen .applies) z)))
+          two (inr (inr l)) =
+              absurd (omega (arith, t .chosen .highest r (rank e (ruleOf r)) (rank e (ruleOf (t .by))) (w .taken) (w .applies) (λ z. omega (arith, same (sym z))) (rank-is e r) (rank-is e (t .by))))
 
   -- ---- the change
 
@@ -242,7 +196,7 @@ module _ (F : Feed) (e : Ends) (types : (r : RuleInput) → List·Memᴰ r (F .r
         go v = record {
           by = v .by;
           chosen = v .chosen;
-          gives = gives-in (v .by) minutes n (types (v .by) (chosen-taken (v .by) (v .chosen))) (ap (λ (r : Rule). ruleChange r minutes) (v .is) ∙ t);
+          gives = gives-in (v .by) minutes n (known .types (v .by) (v .chosen .taken)) (ap (λ (r : Rule). ruleChange r minutes) (v .is) ∙ t);
         }
 
     pub change-in : (n : ℕ) → changeOf (chosen e (map ruleOf (F .rules))) close minutes ≡ Takes n → Change F (e .from) (e .to) n
@@ -271,4 +225,4 @@ module _ (F : Feed) (e : Ends) (types : (r : RuleInput) → List·Memᴰ r (F .r
         go (By q) v = two (best-told q v)
           where
             two : Told q → changeOf (By q) close minutes ≡ Takes n
-            two t = absurd (w .no-rule (t .by) (chosen-taken (t .by) (t .chosen)) (t .chosen .applies))
+            two t = absurd (w .no-rule (t .by) (t .chosen .taken) (t .chosen .applies))

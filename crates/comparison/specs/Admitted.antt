@@ -3,7 +3,7 @@
 use mathlib.Core.Path.{_≡_}
 use mathlib.Core.Logic.{_⊎_}
 use mathlib.Core.Bool.{true, false}
-use mathlib.Core.List.{List, [], _∷_, _++_, List·Memᴰ}
+use mathlib.Core.List.{List, [], _∷_, List·Memᴰ}
 use Prim.Native.Nat.{ℕ, zero, suc, _+_, _*_, _/_, _%_, _^_, _≤_, _<_}
 use lib.ListN.{getD}
 use Rattle.settings.specs.declared.Settings.{Settings}
@@ -60,21 +60,18 @@ Side F n x = (n ≡ x) ⊎ Parent (F .stops) x n
 abbrev pub Applies : Feed → ℕ → ℕ → RuleInput → Type 0
 Applies F x y r = Side F (r .from) x × Side F (r .to) y
 
--- how many sides are exact
-pub data Exact (x y : ℕ) (r : RuleInput) : ℕ → Type 0 where
-  both : r .from ≡ x → r .to ≡ y → Exact x y r 2
-  fore : r .from ≡ x → (r .to ≡ y → ⊥) → Exact x y r 1
-  rear : (r .from ≡ x → ⊥) → r .to ≡ y → Exact x y r 1
-  neither : (r .from ≡ x → ⊥) → (r .to ≡ y → ⊥) → Exact x y r 0
+-- request 06: of two half-exact rules "the one exact on the from side wins, whichever came last. Full exactness still comes first"
+pub data Rank (x y : ℕ) (r : RuleInput) : ℕ → Type 0 where
+  both : r .from ≡ x → r .to ≡ y → Rank x y r 3
+  fore : r .from ≡ x → (r .to ≡ y → ⊥) → Rank x y r 2
+  rear : (r .from ≡ x → ⊥) → r .to ≡ y → Rank x y r 1
+  neither : (r .from ≡ x → ⊥) → (r .to ≡ y → ⊥) → Rank x y r 0
 
--- "the one with most exact sides, the last taken of equals"
+-- r was taken and applies, and every other rule that does has a lower rank, in whatever order they were taken
 pub record Chosen (F : Feed) (x y : ℕ) (r : RuleInput) : Type 0 where
-  pub before : List RuleInput
-  pub behind : List RuleInput
-  pub split : F .rules ≡ before ++ r ∷ behind
+  pub taken : List·Memᴰ r (F .rules)
   pub applies : Applies F x y r
-  pub older : (q : RuleInput) (m n : ℕ) → List·Memᴰ q before → Applies F x y q → Exact x y q m → Exact x y r n → m ≤ n
-  pub newer : (q : RuleInput) (m n : ℕ) → List·Memᴰ q behind → Applies F x y q → Exact x y q m → Exact x y r n → m < n
+  pub highest : (q : RuleInput) (m n : ℕ) → List·Memᴰ q (F .rules) → Applies F x y q → (q ≡ r → ⊥) → Rank x y q m → Rank x y r n → m < n
 
 -- "optional seconds (absent counts as 0)"
 abbrev pub Seconds : MinTime → ℕ → Type 0
@@ -84,8 +81,8 @@ Seconds Absent v = v ≡ 0
 abbrev pub Larger : ℕ → ℕ → ℕ → Type 0
 Larger a b n = ((a ≤ b) × (n ≡ b)) ⊎ ((b ≤ a) × (n ≡ a))
 
--- what a rule gives, by its type; `change` is `transfer_minutes` × 60. "Types 0 and 1 now give" that "whatever the seconds say" (request 02),
--- type 2 gives max(seconds, that); "type 3 forbids", so it has no case
+-- what a rule gives, by its type; `change` is `transfer_minutes` × 60. "Types 0 and 1 now give" that "whatever the seconds say" (request
+-- 02), type 2 gives max(seconds, that); "type 3 forbids", so it has no case
 pub data Gives (change : ℕ) (r : RuleInput) (n : ℕ) : Type 0 where
   type-zero : r .«transfer_type» ≡ 0 → n ≡ change → Gives change r n
   type-one : r .«transfer_type» ≡ 1 → n ≡ change → Gives change r n

@@ -1,12 +1,12 @@
 -- What a chosen rule gives, what holds of the rules of a sound load, and what a row decides.
 use mathlib.Core.Path.{_≡_, refl, sym, ap, _∙_}
 use mathlib.Core.Logic.{_⊎_, inl, inr}
-use mathlib.Core.Bool.{Bool, true, false, not, true≢false}
-use Prim.Native.Nat.{ℕ, _+_, _≤_, _<_}
+use mathlib.Core.Bool.{Bool, true, false, true≢false}
+use Prim.Native.Nat.{ℕ, _+_, _*_, _<_}
 use native.Mathlib.Omega.{arith}
 use lib.Dec.{leb, eqb}
 use lib.ListN.{getD}
-use borrow.Author.Tests.{eq-eqb, eqb-true, lt-leb}
+use borrow.Author.Tests.{eq-eqb, ne-eqb, eqb-true, lt-leb}
 use Rattle.laws.proofs.Bools.{cond-by, or-not, and-true, and-true-left, and-true-right}
 use Rattle.laws.proofs.Order.{tri}
 use Rattle.laws.proofs.Tables.{getD-table}
@@ -19,8 +19,10 @@ use Rattle.transfer.specs.declared.Change.the-variants.{Takes, Never}
 use Rattle.transfer.specs.Changes.{endsOf, near, changeOf, transferOf, joinsBy, changeNumber}
 use Rattle.transfer.specs.Copied.{parentsOf}
 use Rattle.transfer.specs.Rows.{entryOf, changeRow}
-use Rattle.transfer.specs.Choice.{side, bit}
-use Rattle.transfer.specs.Promises.{TypeThreeForbids, PairOnce, OnlyHalves, NoneNotNamed, RowJoins, ParentRead}
+use Rattle.transfer.specs.declared.Ends.{Ends}
+use Rattle.transfer.specs.Choice.{side, applies, bit, rank}
+use Rattle.transfer.proofs.Laws.{bits}
+use Rattle.transfer.specs.Promises.{Ranked, RankRight, TypeThreeForbids, PairOnce, RanksDiffer, NoneNotNamed, RowJoins, ParentRead}
 
 pub type-three-forbids : TypeThreeForbids
 unfolding transferOf
@@ -38,11 +40,7 @@ pair-once stops rules count s j k hj hk f t = go (tri j k)
     go (inr (inl e)) = e
     go (inr (inr h)) = absurd (twice k j h hj (sym f) (sym t))
 
--- ---- equal rules
-
-bit-small : (b : Bool) → bit b ≤ 1
-bit-small true = omega arith
-bit-small false = omega arith
+-- ---- rules of one rank
 
 same-side : (x y stop parent : ℕ) → side x stop parent ≡ true → side y stop parent ≡ true → eqb x stop ≡ eqb y stop → x ≡ y
 same-side x y stop parent p q e = go (eqb x stop) refl
@@ -51,38 +49,52 @@ same-side x y stop parent p q e = go (eqb x stop) refl
     go true t = eqb-true x stop t ∙ sym (eqb-true y stop (sym e ∙ t))
     go false t = eqb-true x parent (sym (or-not _ t) ∙ p) ∙ sym (eqb-true y parent (sym (or-not _ (sym e ∙ t)) ∙ q))
 
-halves : (a b c d : Bool) → bit a + bit b ≡ bit c + bit d → (a ≡ c → b ≡ d → ⊥) → (bit a + bit b ≡ 1) × (a ≡ not c)
-halves true true true true s n = absurd (n refl refl)
-halves true true true false s n = absurd (omega arith)
-halves true true false d s n = absurd (omega (arith, bit-small d))
-halves true false true true s n = absurd (omega arith)
-halves true false true false s n = absurd (n refl refl)
-halves true false false d s n = (refl, refl)
-halves false true true d s n = (refl, refl)
-halves false true false true s n = absurd (n refl refl)
-halves false true false false s n = absurd (omega arith)
-halves false false true d s n = absurd (omega (arith, bit-small d))
-halves false false false true s n = absurd (omega arith)
-halves false false false false s n = absurd (n refl refl)
+same-bits : (a b c d : Bool) → 2 * bit a + bit b ≡ 2 * bit c + bit d → (a ≡ c) × (b ≡ d)
+same-bits true true true true s = (refl, refl)
+same-bits true true true false s = absurd (omega arith)
+same-bits true true false true s = absurd (omega arith)
+same-bits true true false false s = absurd (omega arith)
+same-bits true false true true s = absurd (omega arith)
+same-bits true false true false s = (refl, refl)
+same-bits true false false true s = absurd (omega arith)
+same-bits true false false false s = absurd (omega arith)
+same-bits false true true true s = absurd (omega arith)
+same-bits false true true false s = absurd (omega arith)
+same-bits false true false true s = (refl, refl)
+same-bits false true false false s = absurd (omega arith)
+same-bits false false true true s = absurd (omega arith)
+same-bits false false true false s = absurd (omega arith)
+same-bits false false false true s = absurd (omega arith)
+same-bits false false false false s = (refl, refl)
 
-pub only-halves : OnlyHalves
-only-halves stops rules count s e j k hj hk apart p q eq =
-    halves (eqb (x .from) (e .from)) (eqb (x .to) (e .to)) (eqb (y .from) (e .from)) (eqb (y .to) (e .to)) eq
-    (λ f t. apart (pair-once stops rules count s j k hj hk
-    (same-side (x .from) (y .from) (e .from) (e .«from_parent») (and-true-left (ahead x) (back x) p) (and-true-left (ahead y) (back y) q) f)
-    (same-side (x .to) (y .to) (e .to) (e .«to_parent») (and-true-right (ahead x) (back x) p) (and-true-right (ahead y) (back y) q) t)))
+-- rules of one rank that apply are for one pair
+pub rank-pair : (e : Ends) (x y : Rule) → applies e x ≡ true → applies e y ≡ true → rank e x ≡ rank e y → (x .from ≡ y .from) × (x .to ≡ y .to)
+rank-pair e x y p q r = go (same-bits (eqb (x .from) (e .from)) (eqb (x .to) (e .to)) (eqb (y .from) (e .from)) (eqb (y .to) (e .to)) r)
   where
     ahead : Rule → Bool
-    ahead r = side (r .from) (e .from) (e .«from_parent»)
+    ahead z = side (z .from) (e .from) (e .«from_parent»)
 
     back : Rule → Bool
-    back r = side (r .to) (e .to) (e .«to_parent»)
+    back z = side (z .to) (e .to) (e .«to_parent»)
 
-    x : Rule
-    x = ruleAt rules j
+    go : (eqb (x .from) (e .from) ≡ eqb (y .from) (e .from)) × (eqb (x .to) (e .to) ≡ eqb (y .to) (e .to)) → (x .from ≡ y .from) × (x .to ≡ y .to)
+    go (f, t) = (
+      same-side (x .from) (y .from) (e .from) (e .«from_parent») (and-true-left (ahead x) (back x) p) (and-true-left (ahead y) (back y) q) f,
+      same-side (x .to) (y .to) (e .to) (e .«to_parent») (and-true-right (ahead x) (back x) p) (and-true-right (ahead y) (back y) q) t,
+    )
 
-    y : Rule
-    y = ruleAt rules k
+pub ranks-differ : RanksDiffer
+ranks-differ stops rules count s e j k hj hk p q r =
+    let w = rank-pair e (ruleAt rules j) (ruleAt rules k) p q r in
+    pair-once stops rules count s j k hj hk (w .0) (w .1)
+
+pub rank-right : RankRight
+rank-right e r = record {
+  both = λ f t. bits (eq-eqb _ _ f) (eq-eqb _ _ t);
+  fore = λ f t. bits (eq-eqb _ _ f) (ne-eqb _ _ t);
+  rear = λ f t. bits (ne-eqb _ _ f) (eq-eqb _ _ t);
+  neither = λ f t. bits (ne-eqb _ _ f) (ne-eqb _ _ t);
+}
 
 pub none-not-named : NoneNotNamed
 none-not-named stops rules count few s k h = ((λ e. omega (arith, s .from-known k h)), (λ e. omega (arith, s .to-known k h)))

@@ -20,7 +20,7 @@ use Rattle.transfer.specs.Choice.{bit, applies, read, chosen}
 use Rattle.transfer.specs.Changes.{endsOf, near, changeOf, transferOf}
 use Rattle.transfer.specs.Copied.{ruleAt, rulesOf}
 
-pub bits : {p q a b : Bool} → p ≡ a → q ≡ b → bit p + bit q ≡ bit a + bit b
+pub bits : {p q a b : Bool} → p ≡ a → q ≡ b → 2 * bit p + bit q ≡ 2 * bit a + bit b
 bits e f = rw (e, f)
 
 -- a rule that does not apply changes nothing

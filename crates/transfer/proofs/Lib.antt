@@ -3,3 +3,4 @@ pub mod Flat
 pub mod Choosing
 pub mod Claims
 pub mod Seconds
+pub mod AnyOrder

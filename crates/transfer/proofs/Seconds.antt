@@ -2,7 +2,7 @@
 use mathlib.Core.Path.{_≡_, refl, sym, ap, subst, _∙_}
 use mathlib.Core.Bool.{Bool, true, false, cond, _&&_}
 use mathlib.Core.List.{List}
-use Prim.Native.Nat.{ℕ, _+_}
+use Prim.Native.Nat.{ℕ, _+_, _*_}
 use native.Mathlib.Omega.{arith}
 use lib.Dec.{leb, eqb}
 use lib.ListN.{getD}
@@ -14,7 +14,7 @@ use Rattle.transfer.specs.declared.Ends.{Ends}
 use Rattle.transfer.specs.declared.Chosen.{Chosen}
 use Rattle.transfer.specs.declared.Chosen.the-variants.{By, Open}
 use Rattle.transfer.specs.declared.Change.the-variants.{Takes, Never}
-use Rattle.transfer.specs.Choice.{side, applies, bit, exact, better, read}
+use Rattle.transfer.specs.Choice.{side, applies, bit, rank, better, read}
 use Rattle.transfer.specs.Changes.{ruleChange, changeOf, endsOf, near, transferOf}
 use Rattle.transfer.specs.Promises.{ButSeconds, AllButSeconds, none, more, SecondsOfTypeTwo}
 
@@ -27,11 +27,11 @@ module _ (e : Ends) where
   applies-same : (q r : Rule) → ButSeconds q r → applies e q ≡ applies e r
   applies-same q r s = λ k. side (s .from k) (e .from) (e .«from_parent») && side (s .to k) (e .to) (e .«to_parent»)
 
-  exact-same : (q r : Rule) → ButSeconds q r → exact e q ≡ exact e r
-  exact-same q r s = λ k. bit (eqb (s .from k) (e .from)) + bit (eqb (s .to k) (e .to))
+  rank-same : (q r : Rule) → ButSeconds q r → rank e q ≡ rank e r
+  rank-same q r s = λ k. 2 * bit (eqb (s .from k) (e .from)) + bit (eqb (s .to k) (e .to))
 
   better-same : (p q r t : Rule) → ButSeconds p r → ButSeconds q t → better e p q ≡ better e r t
-  better-same p q r t a b = λ k. leb (exact-same p r a k) (exact-same q t b k)
+  better-same p q r t a b = λ k. leb (rank-same p r a k) (rank-same q t b k)
 
   read-alike : (a b : Chosen) (q r : Rule) → Alike a b → ButSeconds q r → Alike (read e a q) (read e b r)
   read-alike _ _ q r neither s = subst (λ (t : Bool). Alike (cond (applies e q) (By q) Open) (cond t (By r) Open)) (applies-same q r s) (go (applies e q))

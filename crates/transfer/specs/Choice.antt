@@ -1,7 +1,8 @@
--- "`transfer`: among rules whose from is the stop or its parent, likewise to, the one with most exact sides, the last taken of equals."
+-- "`transfer`: among rules whose from is the stop or its parent, likewise to", the one with both sides exact, then with its from side, then
+-- with its to side. Request 06: "Now the one exact on the from side wins, whichever came last. Full exactness still comes first."
 use mathlib.Core.Bool.{Bool, true, false, cond, _&&_, _||_}
 use mathlib.Core.List.{List}
-use Prim.Native.Nat.{ℕ, _+_}
+use Prim.Native.Nat.{ℕ, _+_, _*_}
 use lib.Dec.{leb, eqb}
 use Rattle.laws.specs.Lists.{foldl}
 use Rattle.rules.specs.declared.Rule.{Rule}
@@ -20,13 +21,13 @@ abbrev pub bit : Bool → ℕ
 bit true = 1
 bit false = 0
 
--- how many sides of the rule are the stop itself
-abbrev pub exact : Ends → Rule → ℕ
-exact e r = bit (eqb (r .from) (e .from)) + bit (eqb (r .to) (e .to))
+-- how exact a rule is: 2 for its from, 1 for its to, where that is the stop itself
+abbrev pub rank : Ends → Rule → ℕ
+rank e r = 2 * bit (eqb (r .from) (e .from)) + bit (eqb (r .to) (e .to))
 
--- the order of rules: whether `new`, taken after `old`, is chosen before it
+-- the order of rules: whether `new`, taken after `old`, is chosen before it. Of a load no two that apply have one rank (`RanksDiffer`)
 abbrev pub better : Ends → Rule → Rule → Bool
-better e old new = leb (exact e old) (exact e new)
+better e old new = leb (rank e old) (rank e new)
 
 -- the rule that holds among those read, and one more
 abbrev pub read : Ends → Chosen → Rule → Chosen

@@ -1,10 +1,10 @@
 -- What is proved of changes: which rule is chosen, what it gives, and that a row decides joins.
 use mathlib.Core.Path.{_≡_}
-use mathlib.Core.Bool.{true, false, not}
-use mathlib.Core.List.{List, [], _++_, _∷_, List·Memᴰ}
+use mathlib.Core.Bool.{true, false}
+use mathlib.Core.List.{List, [], _++_, _∷_, List·Memᴰ, List·Permᴰ}
 use Prim.Native.Nat.{ℕ, _+_, _≤_, _<_}
-use lib.Dec.{leb, eqb}
-use lib.ListN.{getD}
+use lib.Dec.{leb}
+use lib.ListN.{getD, take}
 use Rattle.rules.specs.declared.Rule.{Rule}
 use Rattle.rules.specs.Sound.{ruleAt, RulesSound}
 use Rattle.stops.specs.declared.Stop.{Stop}
@@ -13,26 +13,36 @@ use Rattle.transfer.specs.declared.Ends.{Ends}
 use Rattle.transfer.specs.declared.Chosen.{Chosen}
 use Rattle.transfer.specs.declared.Chosen.the-variants.{By, Open}
 use Rattle.transfer.specs.declared.Change.the-variants.{Never}
-use Rattle.transfer.specs.Choice.{applies, chosen, exact}
+use Rattle.transfer.specs.Choice.{applies, chosen, rank}
 use Rattle.transfer.specs.Changes.{transferOf, endsOf, joinsBy}
 use Rattle.transfer.specs.Copied.{parentsOf}
 use Rattle.transfer.specs.Rows.{changeRow}
 
--- r is a rule of l that applies. Of those that apply, none before it has more exact sides, and each behind it has fewer: as numbers, and not
--- by the test that the choice uses
+-- the rank of a rule: both sides exact, the from side, the to side, neither
+pub record Ranked (e : Ends) (r : Rule) : Type 0 where
+  pub both : r .from ≡ e .from → r .to ≡ e .to → rank e r ≡ 3
+  pub fore : r .from ≡ e .from → (r .to ≡ e .to → ⊥) → rank e r ≡ 2
+  pub rear : (r .from ≡ e .from → ⊥) → r .to ≡ e .to → rank e r ≡ 1
+  pub neither : (r .from ≡ e .from → ⊥) → (r .to ≡ e .to → ⊥) → rank e r ≡ 0
+
+abbrev pub RankRight : Type 0
+RankRight = (e : Ends) (r : Rule) → Ranked e r
+
+-- r is a rule of l that applies. Of those that apply, none before it ranks higher, and each behind it lower: as numbers, and not by the
+-- test that the choice uses
 pub record Best (e : Ends) (l : List Rule) (r : Rule) : Type 0 where
   pub before : List Rule
   pub behind : List Rule
   pub split : l ≡ before ++ r ∷ behind
   pub fits : applies e r ≡ true
-  pub older : (q : Rule) → List·Memᴰ q before → applies e q ≡ true → exact e q ≤ exact e r
-  pub newer : (q : Rule) → List·Memᴰ q behind → applies e q ≡ true → exact e q < exact e r
+  pub older : (q : Rule) → List·Memᴰ q before → applies e q ≡ true → rank e q ≤ rank e r
+  pub newer : (q : Rule) → List·Memᴰ q behind → applies e q ≡ true → rank e q < rank e r
 
 abbrev pub Right : Ends → List Rule → Chosen → Type 0
 Right e l Open = (q : Rule) → List·Memᴰ q l → applies e q ≡ false
 Right e l (By r) = Best e l r
 
--- the rule chosen has most exact sides, and is the last taken of equals; none is chosen where none applies
+-- the rule chosen has the highest rank; none is chosen where none applies. Of equals, which no load has, it is the last
 abbrev pub ChosenRight : Type 0
 ChosenRight = (e : Ends) (rules : List Rule) → Right e rules (chosen e rules)
 
@@ -65,13 +75,20 @@ PairOnce =
     (stops : ℕ) (rules : List Rule) (count : ℕ) → RulesSound stops rules count
     → (j k : ℕ) → j < count → k < count → ruleAt rules j .from ≡ ruleAt rules k .from → ruleAt rules j .to ≡ ruleAt rules k .to → j ≡ k
 
--- two rules of a sound load that apply and have equally many exact sides have one, and not on the same side
-abbrev pub OnlyHalves : Type 0
-OnlyHalves =
+-- of a load's rules that apply to a pair of stops no two have the same rank, so no tie is left
+abbrev pub RanksDiffer : Type 0
+RanksDiffer =
     (stops : ℕ) (rules : List Rule) (count : ℕ) → RulesSound stops rules count
-    → (e : Ends) (j k : ℕ) → j < count → k < count → (j ≡ k → ⊥) → applies e (ruleAt rules j) ≡ true → applies e (ruleAt rules k) ≡ true
-    → exact e (ruleAt rules j) ≡ exact e (ruleAt rules k)
-    → (exact e (ruleAt rules j) ≡ 1) × (eqb (ruleAt rules j .from) (e .from) ≡ not (eqb (ruleAt rules k .from) (e .from)))
+    → (e : Ends) (j k : ℕ) → j < count → k < count → applies e (ruleAt rules j) ≡ true → applies e (ruleAt rules k) ≡ true
+    → rank e (ruleAt rules j) ≡ rank e (ruleAt rules k) → j ≡ k
+
+-- the change between two stops doesn't depend on the order in which a load's rules were taken
+abbrev pub TransferInAnyOrder : Type 0
+TransferInAnyOrder =
+    (stops : ℕ) (rules : List Rule) (count : ℕ) → RulesSound stops rules count
+    → (others : List Rule) → List·Permᴰ (take count rules) others
+    → (parents places : List ℕ) (from to change : ℕ)
+    → transferOf (take count rules) parents places from to change ≡ transferOf others parents places from to change
 
 -- no rule of a sound load names 65535, so a stop without a parent is matched by its own number alone
 abbrev pub NoneNotNamed : Type 0

@@ -1,7 +1,7 @@
-// The rule that holds for a change: of those that apply the one with most exact sides, the last taken of equals.
+// The rule that holds for a change: of those that apply the most exact, its from side before its to side.
 ghost use Rattle.laws.specs.Bounds.{least};
 ghost use mathlib.Core.Path.{_≡_};
-ghost use Rattle.transfer.specs.Choice.{applies, exact, read, chosen};
+ghost use Rattle.transfer.specs.Choice.{applies, rank, read, chosen};
 ghost use Rattle.transfer.specs.Copied.{rulesOf};
 use crate::Chosen;
 use crate::Ends;
@@ -22,15 +22,15 @@ fn rule_applies(ends: Ends, rule: Rule) -> bool
     false
 }
 
-// How many sides of a rule name the stop itself.
-fn exact_sides(ends: Ends, rule: Rule) -> u8
-    ensures { λ r. ⌜ r ≡ exact ends rule ⌝ }
+// How exact a rule is: 2 for its from, 1 for its to, where that is the stop itself.
+fn rule_rank(ends: Ends, rule: Rule) -> u8
+    ensures { λ r. ⌜ r ≡ rank ends rule ⌝ }
 {
     if rule.from == ends.from {
         if rule.to == ends.to {
-            return 2;
+            return 3;
         }
-        return 1;
+        return 2;
     }
     if rule.to == ends.to {
         return 1;
@@ -45,7 +45,7 @@ fn better_of(ends: Ends, best: Chosen, rule: Rule) -> Chosen
     if rule_applies(ends, rule) {
         match best {
             Chosen::By(old) => {
-                if exact_sides(ends, old) <= exact_sides(ends, rule) {
+                if rule_rank(ends, old) <= rule_rank(ends, rule) {
                     return Chosen::By(rule);
                 }
                 return best;

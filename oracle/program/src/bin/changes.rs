@@ -58,12 +58,12 @@ impl Rows {
     /// The change to one stop, by reading every rule.
     fn change(&self, to: u16) -> u32 {
         let parent = |stop: u16| self.parents[usize::from(stop)];
-        let sides = |rule: &[u16; 4]| {
+        let rank = |rule: &[u16; 4]| {
             let side = |x: u16, stop: u16| if x == stop { Some(1) } else { (x == parent(stop)).then_some(0) };
-            Some(side(rule[0], self.from)? + side(rule[1], to)?)
+            Some(2 * side(rule[0], self.from)? + side(rule[1], to)?)
         };
-        // of equal sides `max_by_key` gives the last
-        let chosen = self.rules.iter().filter(|rule| sides(rule).is_some()).max_by_key(|rule| sides(rule));
+        // a list by chance may have a pair twice: of one rank `max_by_key` gives the last
+        let chosen = self.rules.iter().filter(|rule| rank(rule).is_some()).max_by_key(|rule| rank(rule));
         let place = |stop: u16| self.places[usize::from(stop)];
         match chosen {
             Some([_, _, 3, _]) => NEVER,

@@ -98,7 +98,7 @@ fn two_readings(files: &mut Vec<Vec<u8>>) {
         let rides = vec![trip(1, &[(0, 600), (3, 1000)]), trip(2, &[(2, 1100), (1, 1500)])];
         files.push(searched(&plain, [stops, rides].concat()));
     }
-    // Two half-exact rules in both orders; a station that forbids itself.
+    // Two half-exact rules in both orders, of which the one exact on the from side wins (request 06); a station that forbids itself.
     let half = |from, to, seconds| Step::Rule(Rule { from, to, transfer_type: 2, seconds: Some(seconds) });
     let forbidden = || Step::Rule(Rule { from: 2, to: 2, transfer_type: 3, seconds: None });
     for rules in [vec![half(3, 2, 60), half(2, 4, 200)], vec![half(2, 4, 200), half(3, 2, 60)], vec![forbidden()], vec![]] {

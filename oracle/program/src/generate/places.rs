@@ -71,6 +71,43 @@ pub fn rules(rng: &mut Rng) -> Vec<u8> {
     file(&plain(vec![0], vec![0], minutes), &steps)
 }
 
+/// Pairs of half-exact rules (request 06): two stations, stops in and beside them, and of a pair of stops the rules that can apply, in any
+/// order, most of them of type 2 with seconds of their own. Changes one second around what each gives.
+pub fn halves(rng: &mut Rng) -> Vec<u8> {
+    let minutes = rng.pick(&[0, 0, 1]);
+    let (mut steps, parents) = stations(rng);
+    let last = parents.len() as i64 - 1;
+    let station = |stop: u16| parents[usize::from(stop)].unwrap_or(stop);
+    let (p, q) = (rng.range(4, last) as u16, rng.range(4, last) as u16);
+    let mut pairs = Vec::new();
+    for (from, to) in [(p, q), (q, p)] {
+        let full = rng.once_in(4).then_some((from, to));
+        let halves = [(from, station(to)), (station(from), to)];
+        let neither = rng.once_in(2).then_some((station(from), station(to)));
+        for pair in full.into_iter().chain(halves).chain(neither) {
+            if !pairs.contains(&pair) {
+                pairs.insert(rng.below(pairs.len() as u64 + 1) as usize, pair);
+            }
+        }
+    }
+    let lengths = [60, 61, 119, 120, 180, 181, 240, 300];
+    for (from, to) in pairs {
+        let transfer_type = rng.pick(&[2, 2, 2, 2, 2, 0, 1, 3]);
+        let seconds = (transfer_type == 2 || rng.once_in(2)).then(|| rng.pick(&lengths));
+        steps.push(Step::Rule(Rule { from, to, transfer_type, seconds }));
+    }
+    for (trip, to) in [(0, p), (1, q)] {
+        steps.extend(ride(trip, 0, to, 600 + 60 * u32::from(trip), 1000));
+    }
+    for trip in 10..rng.range(14, 24) as u16 {
+        let departure = 1000 + u32::from(rng.pick(&lengths)) - u32::from(rng.once_in(3));
+        let from = rng.pick(&[p, q]);
+        steps.extend(ride(trip, from, 1, departure, departure + 10 * u32::from(trip)));
+    }
+    steps.push(Step::Search);
+    file(&plain(vec![0], vec![0], minutes), &steps)
+}
+
 /// A few rides between any of so many stops.
 pub fn rides(rng: &mut Rng, steps: &mut Vec<Step>, stops: u64) {
     for trip in 0..rng.range(0, 4) as u16 {

@@ -1,5 +1,5 @@
 //! Not a published file. Drives the private functions of journey.rs for one load. It fills `Search` as the published driver does, but for
-//! the seconds of rules (request 02), calls the published functions and hands out what they left.
+//! the seconds of rules (request 02) and their order (request 06), calls the published functions and hands out what they left.
 use super::*;
 use crate::config::JourneyStop;
 
@@ -106,6 +106,13 @@ pub struct StopTimes {
     pub pickup_type: u8,
     pub drop_off_type: u8,
 }
+impl Sized {
+    /// Request 06: rules whose from is a station first, the others behind, each in the order taken. Of two rules with one exact side the
+    /// one exact on its to side has a station for its from, so the last of equals is the one exact on the from side, for every pair.
+    fn order_rules(&mut self, station: impl Fn(usize) -> bool) {
+        self.rules.sort_by_key(|rule| !station(usize::from(rule.from)));
+    }
+}
 pub struct Run {
     search: Box<Sized>,
     calls: Box<Vec<Call, 512>>,
@@ -175,6 +182,8 @@ impl Run {
         block_on(self.search.group_places(&mut Feed(&self.rows), &mut zip::Workspace))
     }
     pub fn search(&mut self) -> Result<(), Error> {
+        let rows = &self.rows;
+        self.search.order_rules(|stop| rows[stop].location_type == 1);
         block_on(self.search.stations(&mut Feed(&self.rows), &mut zip::Workspace, false))?;
         self.places()?;
         self.search.endpoint_paths(&mut self.calls, &self.config, self.config.max_transfers)

@@ -104,6 +104,11 @@ impl Filled {
     pub fn rule(&mut self, from: u16, to: u16, transfer_type: u8, seconds: u16) -> Result<(), Error> {
         self.run.rule(from, to, transfer_type, seconds)
     }
+    /// Once all rules are in: stations are the stops without a place key.
+    pub fn order_rules(&mut self) {
+        let keys = &self.keys;
+        self.run.search.order_rules(|stop| keys[stop] == NO_PLACE);
+    }
     pub fn search(&mut self) -> Result<(), Error> {
         let run = &mut self.run;
         run.search.closing_loop(&self.keys);

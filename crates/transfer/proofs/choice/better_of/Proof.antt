@@ -17,23 +17,23 @@ rule-applies-requires c κs = search needs
 enum-known-best : tie.Need-enum-known-best
 enum-known-best c = search needs
 
-exact-sides-requires : tie.Need-exact-sides-requires
-exact-sides-requires c κs = search needs
+rule-rank-requires : tie.Need-rule-rank-requires
+rule-rank-requires c κs = search needs
 
-exact-sides-requires-2 : tie.Need-exact-sides-requires-2
-exact-sides-requires-2 c κs = search needs
+rule-rank-requires-2 : tie.Need-rule-rank-requires-2
+rule-rank-requires-2 c κs = search needs
 
 returns : tie.Need-returns
 returns c = sym
     (ap (λ (x : Chosen). read (c .before .before .before .before .before .before .before .before .args .ends) x (c .before .before .before .before .before .before .before .before .args .rule)) (c .before .before .before .before .best .given .1)
     ∙ cond-by _ _ (sym (c .before .before .before .before .before .before .before .rule-applies .ensures) ∙ c .before .before .before .before .before .before .if1 .taken)
-    ∙ cond-by _ _ (ap₂ leb (sym (c .before .before .exact-sides .ensures)) (sym (c .before .exact-sides2 .ensures)) ∙ le-leb _ _ (c .if2 .taken)))
+    ∙ cond-by _ _ (ap₂ leb (sym (c .before .before .rule-rank .ensures)) (sym (c .before .rule-rank2 .ensures)) ∙ le-leb _ _ (c .if2 .taken)))
 
 returns-2 : tie.Need-returns-2
 returns-2 c = sym
     (ap (λ (x : Chosen). read (c .before .before .before .before .before .before .before .before .args .ends) x (c .before .before .before .before .before .before .before .before .args .rule)) (c .before .before .before .before .best .given .1)
     ∙ cond-by _ _ (sym (c .before .before .before .before .before .before .before .rule-applies .ensures) ∙ c .before .before .before .before .before .before .if1 .taken)
-    ∙ cond-not _ _ (ap₂ leb (sym (c .before .before .exact-sides .ensures)) (sym (c .before .exact-sides2 .ensures)) ∙ lt-leb _ _ (c .if2 .left)))
+    ∙ cond-not _ _ (ap₂ leb (sym (c .before .before .rule-rank .ensures)) (sym (c .before .rule-rank2 .ensures)) ∙ lt-leb _ _ (c .if2 .left)))
 
 enum-told : tie.Need-enum-told
 enum-told c = search needs
@@ -52,8 +52,8 @@ better-of-spec =
     (tie.spec
     rule-applies-requires
     enum-known-best
-    exact-sides-requires
-    exact-sides-requires-2
+    rule-rank-requires
+    rule-rank-requires-2
     returns
     returns-2
     enum-told

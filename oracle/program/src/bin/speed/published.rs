@@ -33,7 +33,10 @@ fn step(load: &mut Filled, record: Record) -> Option<()> {
             load.call(&StopTimes { trip, day, sequence, stop, arrival, departure, pickup_type, drop_off_type }).ok()
         }
         Record::Rule { from, to, transfer_type, seconds } => load.rule(from, to, transfer_type, seconds.unwrap_or(0)).ok(),
-        Record::Search => load.search().ok(),
+        Record::Search => {
+            load.order_rules();
+            load.search().ok()
+        }
     }
 }
 /// The load that a file fills, and searches where it says so. The file is one that is accepted.
