@@ -254,6 +254,10 @@ class Reading(Places):
         load.horizon, load.limits = horizon, self.mark(load)
         return [k for k in kept if self.due(k) <= horizon]
 
+    # request 09: the list by arrival, rides and walk, least first, then latest leave
+    def list_order(self, j):
+        return j.arrival, j.rides, j.walk, -j.leave
+
     def search(self, load):
         first_cause([(load.searched, 15)])
         calls = sorted(load.table, key=self.call_order)
@@ -261,6 +265,7 @@ class Reading(Places):
         load.places = self.group(load.stops)
         for j in self.offers(load, calls):
             self.candidate(load, j)
+        load.kept.sort(key=self.list_order)
         load.searched = True
 
     # --- best ---

@@ -98,13 +98,6 @@ def not_removed(self, load, j):
         load.kept = self.listed(load, load.kept + [j])
 
 
-def in_front(self, load, j):
-    before = load.kept
-    Reading.candidate(self, load, j)
-    if load.kept and load.kept is not before and load.kept[-1] is j:
-        load.kept = [j] + load.kept[:-1]
-
-
 def changes_first(self, load, origin, first, lasts, known):
     offers = list(Reading.from_first(self, load, origin, first, lasts, known))
     return [j for j in offers if j.rides == 2] + [j for j in offers if j.rides == 1]
@@ -172,7 +165,6 @@ misread("one-of-the-latest-goes", listed=latest_alone)
 misread("65th-turned-away", listed=offer_dropped)
 misread("newer-of-equals", candidate=newest)
 misread("beaten-stay", candidate=not_removed)
-misread("added-first", candidate=in_front)
 misread("leaves-later-to-beat", covers=lambda self, a, b: a.leave > b.leave and Reading.covers(self, a, b))
 misread("leave-not-compared", covers=lambda self, a, b: (a.arrival, a.rides, a.walk) <= (b.arrival, b.rides, b.walk))
 misread("figures-one-by-one", covers=lambda self, a, b: a.leave >= b.leave and a.arrival <= b.arrival
@@ -183,6 +175,11 @@ misread("walk-not-compared", covers=lexical(lambda j: (j.arrival, j.rides)))
 misread("rides-not-compared", covers=lexical(lambda j: (j.arrival, j.walk)))
 misread("egress-in-the-walk", journey=lambda self, load, o, t, legs: (
     lambda j: j._replace(walk=j.walk + load.settings.target_walks[t]))(Reading.journey(self, load, o, t, legs)))
+
+misread("list-in-offer-order", list_order=lambda self, j: 0)
+misread("list-rides-before-arrival", list_order=lambda self, j: (j.rides, j.arrival, j.walk, -j.leave))
+misread("list-walk-before-rides", list_order=lambda self, j: (j.arrival, j.walk, j.rides, -j.leave))
+misread("list-latest-arrival-first", list_order=lambda self, j: (-j.arrival, j.rides, j.walk, -j.leave))
 
 # --- best ---
 misread("best-before-0", best=lambda self, load, second: Reading.best(self, load, max(second, 0)))

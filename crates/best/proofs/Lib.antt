@@ -1,2 +1,3 @@
 pub mod TurnLaws
 pub mod QueryLaws
+pub mod FirstLaws

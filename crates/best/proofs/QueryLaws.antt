@@ -10,14 +10,16 @@ use mir.Val.{toZ}
 use mir.Facts.{toZ-pos}
 use Rattle.laws.proofs.Bools.{cond-by, cond-not}
 use Rattle.profile.specs.declared.Journey.{Journey}
+use Rattle.profile.specs.Journeys.{journeyFigures}
+use Rattle.profile.proofs.ClaimLaws.{best-in-order}
 use Rattle.load.specs.declared.Load.{Load}
 use Rattle.best.specs.declared.Found.{Found}
-use Rattle.best.specs.Best.{bestOf, keptOf, bestSpec, afterOf, nextSpec}
+use Rattle.best.specs.Best.{foundOf, firstLeaving, keptOf, bestSpec, afterOf, nextSpec, BestOfAll}
 
 module _ (l : Load) (s : ℤ) where
-  pub best-searched : {r : Found} {x : ℤ} → l .searched ≡ true → x ≡ s → r ≡ bestOf (keptOf l) (l .horizon) x → r ≡ bestSpec l s
+  pub best-searched : {r : Found} {x : ℤ} → l .searched ≡ true → x ≡ s → r ≡ firstLeaving (keptOf l) (l .horizon) x → r ≡ bestSpec l s
   unfolding bestSpec
-  best-searched e q h = h ∙ ap (bestOf (keptOf l) (l .horizon)) q ∙ sym (cond-by _ _ e)
+  best-searched e q h = h ∙ ap (firstLeaving (keptOf l) (l .horizon)) q ∙ sym (cond-by _ _ e)
 
   pub best-unsearched : l .searched ≡ false → Found.Nothing ≡ bestSpec l s
   unfolding bestSpec
@@ -26,6 +28,11 @@ module _ (l : Load) (s : ℤ) where
   pub best-next : (j : Journey) {r : Found} {x y : ℤ} → y ≡ x → x ≡ afterOf s (j .leave) → r ≡ bestSpec l y → r ≡ nextSpec l s j
   unfolding nextSpec
   best-next j p q h = h ∙ ap (bestSpec l) (p ∙ q)
+
+-- of a list in order it is the full read's
+pub best-of-all : BestOfAll
+unfolding bestSpec firstLeaving
+best-of-all l e o s = cond-by _ _ e ∙ ap foundOf (best-in-order journeyFigures (keptOf l) o (l .horizon) s)
 
 -- a second and the one after a leave
 leave-later : (n : ℕ) → n < 65536 → toZ w64 (n + 1) ≡ pos (n + 1)

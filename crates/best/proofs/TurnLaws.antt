@@ -5,14 +5,18 @@ use mathlib.Core.Logic.{_⊎_, inl, inr}
 use mathlib.Core.Option.{Option, none, some}
 use mathlib.Core.List.{List, [], _∷_}
 use Prim.Native.Nat.{ℕ, _+_, _≤_, _<_}
+use native.Mathlib.Nat.{lt-of-le-of-lt}
 use native.Mathlib.Numerals.{add-one}
 use native.Mathlib.Omega.{arith}
 use borrow.Author.Tests.{le-leb, lt-leb, lt-ltb, le-ltb, ltb-true}
-use lib.Dec.{T, leb, ltb}
+use lib.Dec.{T, leb, ltb, lit<}
 use lib.IntN.{ℤ, pos, negsuc, natAbs}
 use lib.ListN.{length, take, getD}
 use lib.Seq.{take-suc, take-all}
-use lib.Signed.{ltZ, nonNeg}
+use lib.Signed.{ltZ, nonNeg, natAbs-le}
+use mir.Syntax.{w64}
+use mir.Val.{Fits, SFits, toZ, ofZ}
+use mir.Facts.{toZ-ofZ}
 use Rattle.laws.specs.Lists.{filterb, foldl}
 use Rattle.laws.proofs.Folds.{foldl-append}
 use Rattle.profile.specs.declared.Journey.{Journey}
@@ -96,9 +100,16 @@ unfolding turnOf
 turn-within h (pos t) f j e l = rw (le-ltb h t l)
 turn-within h (negsuc t) f j e l = absurd (true≢false e)
 
-pub not-negative : (s : ℤ) → ltZ s (pos 0) ≡ false → T (nonNeg s)
+not-negative : (s : ℤ) → ltZ s (pos 0) ≡ false → T (nonNeg s)
 not-negative (pos t) e = tt
 not-negative (negsuc t) e = absurd (true≢false e)
+
+-- an i64 that is not below 0, as a u64
+pub as-u64 : (z : ℤ) → SFits w64 z → ltZ z (pos 0) ≡ false → T (nonNeg z) × Fits w64 (natAbs z)
+as-u64 z f e = (not-negative z e, record { fits = lt-of-le-of-lt (natAbs-le z (f .sfits)) (lit< tt) })
+
+pub as-is : (z : ℤ) → SFits w64 z → toZ w64 (ofZ w64 z) ≡ z
+as-is z f = toZ-ofZ f
 
 -- ---- the loop, after i journeys
 

@@ -1,7 +1,9 @@
-// Best and next after: the queries of a searched load.
+// Best and next after: the queries of a searched load. Its list stands in order, so best is the first that leaves in time, and what
+// follows is not read. `best_over` reads a list in any order.
 ghost use mathlib.Core.Path.{_≡_};
 ghost use lib.ListN.{take};
-ghost use Rattle.best.specs.Best.{bestOf, afterOf, bestSpec, nextSpec};
+ghost use lib.Dec.{leb};
+ghost use Rattle.best.specs.Best.{bestOf, firstFrom, firstLeaving, afterOf, bestSpec, nextSpec};
 ghost use Rattle.best.specs.Turn.{betterOf, turnOf};
 use load::Load;
 use profile::Journey;
@@ -48,7 +50,7 @@ pub fn turn(found: Found, j: Journey, horizon: u16, second: i64) -> Found
     }
 }
 
-// Best over the first `count` of the journeys; all of them, if `count` is more.
+// Best over the first `count` of the journeys, in any order; all of them, if `count` is more.
 pub fn best_over(journeys: [Journey; 64], count: usize, horizon: u16, second: i64) -> Found
     ensures { λ r. ⌜ r ≡ bestOf (take count journeys) horizon second ⌝ }
 {
@@ -63,13 +65,51 @@ pub fn best_over(journeys: [Journey; 64], count: usize, horizon: u16, second: i6
     found
 }
 
+fn in_time(t: u64, leave: u16) -> bool
+    ensures { λ r. ⌜ r ≡ leb t leave ⌝ }
+{
+    t <= leave as u64
+}
+
+// The first of the first `count` journeys that leaves at t or later; it reads no further.
+fn first_from(journeys: [Journey; 64], count: usize, t: u64) -> Found
+    ensures { λ r. ⌜ r ≡ firstFrom t (take count journeys) ⌝ }
+{
+    let mut k: usize = 0;
+    while k < 64 {
+        if count <= k {
+            return Found::Nothing;
+        }
+        let j = journeys[k];
+        if in_time(t, j.leave) {
+            return Found::Best(j);
+        }
+        k += 1;
+    }
+    Found::Nothing
+}
+
+// The same at any second: none before 0 and after the horizon.
+pub fn first_leaving(journeys: [Journey; 64], count: usize, horizon: u16, second: i64) -> Found
+    ensures { λ r. ⌜ r ≡ firstLeaving (take count journeys) horizon second ⌝ }
+{
+    if second < 0 {
+        return Found::Nothing;
+    }
+    let t = second as u64;
+    if (horizon as u64) < t {
+        return Found::Nothing;
+    }
+    first_from(journeys, count, t)
+}
+
 // The best journey that leaves at or after the second; none of an unsearched load.
 pub fn best(load: Load, second: i64) -> Found
     ensures { λ r. ⌜ r ≡ bestSpec load second ⌝ }
 {
     if load.searched {
         let journeys = load.journeys;
-        return best_over(journeys, load.journey_count, load.horizon, second);
+        return first_leaving(journeys, load.journey_count, load.horizon, second);
     }
     Found::Nothing
 }

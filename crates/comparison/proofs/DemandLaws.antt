@@ -27,7 +27,7 @@ use Rattle.load.specs.declared.Load.{Load}
 use Rattle.load.specs.Load.{tableOf}
 use Rattle.load.specs.Steps.{opened, openSpec}
 use Rattle.load.specs.Filling.{Filling, stop, call, rule}
-use Rattle.load.specs.Sound.{Opens}
+use Rattle.load.specs.Sound.{Opens, Sound}
 use Rattle.best.specs.Best.{keptOf, afterOf, nextSpec}
 use Rattle.steps.specs.Steps.{Step, filling, search, numbers}
 use Rattle.steps.specs.Lists.{endOf, startOf, offersOf}
@@ -35,6 +35,7 @@ use Rattle.steps.specs.Lists as by-load
 use Rattle.steps.proofs.HeldLaws.{searched-holds, best-agrees}
 use Rattle.steps.proofs.AnsweredLaws.{step-answered, opening-answered}
 use Rattle.steps.proofs.StepLaws.{best-asks, best-none}
+use Rattle.steps.proofs.HandedLaws.{handed-sound}
 use Rattle.time.proofs.Times.{taken as text-taken, answered as text-answered}
 use Rattle.comparison.specs.Order.{Same}
 use Rattle.comparison.specs.Best.{BestAt}
@@ -64,11 +65,11 @@ use Rattle.comparison.proofs.RunLaws.{Ended, Walked, walked, opened-sta
 
 -- ---- 1
 
-queried : (l : Load) (z : ℤ) → Queried l z
+queried : (l : Load) → Sound l → (z : ℤ) → Queried l z
 unfolding nextSpec afterOf
-queried l z = record {
+queried l p z = record {
   unsearched = λ e. best-none l e z;
-  searched = λ e. subst (BestAt (keptOf l) (l .horizon) z) (sym (best-asks l e z)) (best-at (keptOf l) (l .horizon) z);
+  searched = λ e. subst (BestAt (keptOf l) (l .horizon) z) (sym (best-asks l p e z)) (best-at (keptOf l) (l .horizon) z);
   next = λ j. (cond (ltZ z (pos (j .leave + 1))) (pos (j .leave + 1)) z, later z (j .leave + 1), refl);
 }
   where
@@ -114,7 +115,7 @@ demand-1 = record {
   order = in-order;
   settings-order = λ s. refl;
   steps = step-answered;
-  queries = queried;
+  queries = λ s o xs z. queried (endOf s xs) (handed-sound s xs o .1) z;
 }
 
 -- ---- what the load admits is what is admitted of what was handed in
@@ -188,7 +189,7 @@ module _ (s : Settings) (o : Opens s) (xs : List Step) where
         falls = subst (λ (h : ℕ). Falls [] h (endOf s xs .«table_limits») (offersOf s xs) (at (endOf s xs .horizon) (endOf s xs .limits))) (e .height)
             (subst (λ (m : ℕ). Falls [] (p .«table_horizon») m (offersOf s xs) (at (endOf s xs .horizon) (endOf s xs .limits))) (e .mark)
             (subst (Falls [] (p .«table_horizon») (p .«table_limits») (offersOf s xs)) (ap ends-at (w .fell)) (fall-falls [] (offersOf s xs) (p .«table_horizon») (p .«table_limits») (omega arith))));
-        best = λ z. subst (BestAt (keptOf (endOf s xs)) (endOf s xs .horizon) z) (sym (best-asks (endOf s xs) d z)) (best-at (keptOf (endOf s xs)) (endOf s xs .horizon) z);
+        best = λ z. subst (BestAt (keptOf (endOf s xs)) (endOf s xs .horizon) z) (sym (best-asks (endOf s xs) (handed-sound s xs o .1) d z)) (best-at (keptOf (endOf s xs)) (endOf s xs .horizon) z);
       }
 
 pub demand-2 : Demand2

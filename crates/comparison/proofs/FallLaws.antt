@@ -12,13 +12,15 @@ use Rattle.laws.specs.Lists.{filterb}
 use Rattle.laws.proofs.Lists.{length-filterb-lt}
 use Rattle.profile.specs.declared.Journey.{Journey}
 use Rattle.profile.specs.Figures.{covᶠ, dueᶠ}
+use Rattle.laws.proofs.Sort.{length-sort, sort-mem, mem-sort}
 use Rattle.profile.specs.Front.{front}
+use Rattle.profile.specs.Best.{sooner, ordered}
 use Rattle.profile.specs.Fall.{Ends, upTo, never, fall}
 use Rattle.profile.specs.Kept.{latest}
 use Rattle.profile.specs.Journeys.{journeyFigures}
 use Rattle.profile.proofs.FiguresLaws.{figures-order}
 use Rattle.profile.proofs.FrontLaws.{front-one-more, after-due, after-mem}
-use Rattle.comparison.specs.Kept.{Holds, Rising, offered}
+use Rattle.comparison.specs.Kept.{GoesBefore, InOrder, Holds}
 use Rattle.comparison.specs.Falls.{Latest, End, at, below, Falls, done, stays, falls, sinks}
 use Rattle.comparison.proofs.KeptLaws.{front-holds}
 use Rattle.comparison.proofs.Pairs.{Pairs, one-pairs}
@@ -50,6 +52,13 @@ latest-is (k ∷ q ∷ ks) l = more k (q ∷ ks) (latest due (q ∷ ks)) (latest
         go true e = record { one = k; there = List·Memᴰ·head refl; is = omega (arith, leb-true a (k .arrival) e); top = λ x m. top x (List·Memᴰ·cases-cons m) }
         go false e = record { one = w .one; there = List·Memᴰ·tail (w .there); is = omega (arith, w .is, leb-false a (k .arrival) e); top = λ x m. top x (List·Memᴰ·cases-cons m) }
 
+-- as many, and the same latest, where the list is put in order
+listed : (ks : List Journey) → length (ordered journeyFigures ks) ≡ length ks
+listed ks = length-sort (sooner journeyFigures) ks
+
+latest-listed : (ks : List Journey) (a : ℕ) → Latest ks a → Latest (ordered journeyFigures ks) a
+latest-listed ks a w = record { one = w .one; there = mem-sort (sooner journeyFigures) ks (w .there); is = w .is; top = λ k m. w .top k (sort-mem (sooner journeyFigures) ks m) }
+
 -- after a fall at 65 there are at most 64
 fewer : (h : ℕ) (os : List Journey) (a : ℕ) → length (standing h os) ≡ 65 → Latest (standing h os) a → 3600 ≤ a - 1 → length (standing (a - 1) os) ≤ 64
 fewer h os a n w low =
@@ -79,6 +88,9 @@ fall-falls pre (o ∷ os) h m few = go (leb (length f) 64) refl (λ h′ m′ l.
     Later : Type 0
     Later = (h′ m′ : ℕ) → length (standing h′ (pre ++ o ∷ [])) ≤ 64 → Falls (pre ++ o ∷ []) h′ m′ os (endOf (ended h′ m′ (pre ++ o ∷ []) os))
 
+    kept : Holds h (pre ++ o ∷ []) (ordered journeyFigures f)
+    kept = front-holds h (pre ++ o ∷ []) (ordered journeyFigures f) refl
+
     cut : leb (length f) 64 ≡ false → (b : Bool) → ltb c 3600 ≡ b → Later → Falls pre h m (o ∷ os) (endOf (cond b never (ended c 1 (pre ++ o ∷ []) os)))
     cut p b q ih = low b q
       where
@@ -89,27 +101,45 @@ fall-falls pre (o ∷ os) h m few = go (leb (length f) 64) refl (λ h′ m′ l.
         top = latest-is f (omega (arith, many))
 
         low : (b : Bool) → ltb c 3600 ≡ b → Falls pre h m (o ∷ os) (endOf (cond b never (ended c 1 (pre ++ o ∷ []) os)))
-        low true q = sinks {a = latest due f} (front-holds h (pre ++ o ∷ []) f refl) many top (ltb-true c 3600 q)
+        low true q = sinks {a = latest due f} kept (listed f ∙ many) (latest-listed f (latest due f) top) (ltb-true c 3600 q)
         low false q =
             let deep : 3600 ≤ latest due f - 1 = ltb-false c 3600 q in
-            falls {a = latest due f} (front-holds h (pre ++ o ∷ []) f refl) many top deep (ih c 1 (fewer h (pre ++ o ∷ []) (latest due f) many top deep))
+            falls {a = latest due f} kept (listed f ∙ many) (latest-listed f (latest due f) top) deep (ih c 1 (fewer h (pre ++ o ∷ []) (latest due f) many top deep))
 
     go : (b : Bool) → leb (length f) 64 ≡ b → Later → Falls pre h m (o ∷ os) (endOf (cond b (ended h m (pre ++ o ∷ []) os) (cond (ltb c 3600) never (ended c 1 (pre ++ o ∷ []) os))))
-    go true p ih = stays (front-holds h (pre ++ o ∷ []) f refl) (leb-true (length f) 64 p) (ih h m (leb-true (length f) 64 p))
+    go true p ih = stays kept (omega (arith, listed f, leb-true (length f) 64 p)) (ih h m (leb-true (length f) 64 p))
     go false p ih = cut p (ltb c 3600) refl ih
 
 -- ---- one end
 
-rising-pairs : (is : List ℕ) → Rising is → Pairs _<_ is
-rising-pairs [] w = tt
-rising-pairs (i ∷ is) w = (w .0, rising-pairs is (w .1))
+order-pairs : (ks : List Journey) → InOrder ks → Pairs GoesBefore ks
+order-pairs [] w = tt
+order-pairs (k ∷ ks) w = (w .0, order-pairs ks (w .1))
+
+-- no two go before each other
+goes-once : (p q : Journey) → GoesBefore p q → GoesBefore q p → ⊥
+goes-once p q (inl a) (inl b) = omega arith
+goes-once p q (inl a) (inr (b, w)) = omega arith
+goes-once p q (inr (a, v)) (inl b) = omega arith
+goes-once p q (inr (a, v)) (inr (b, w)) = by-rides v w
+  where
+    by-walk : (p .walk < q .walk) ⊎ ((p .walk ≡ q .walk) × (q .leave < p .leave)) → (q .walk < p .walk) ⊎ ((q .walk ≡ p .walk) × (p .leave < q .leave)) → ⊥
+    by-walk (inl x) (inl y) = omega arith
+    by-walk (inl x) (inr (y, u)) = omega arith
+    by-walk (inr (x, t)) (inl y) = omega arith
+    by-walk (inr (x, t)) (inr (y, u)) = omega arith
+
+    by-rides : (p .rides < q .rides) ⊎ ((p .rides ≡ q .rides) × ((p .walk < q .walk) ⊎ ((p .walk ≡ q .walk) × (q .leave < p .leave))))
+        → (q .rides < p .rides) ⊎ ((q .rides ≡ p .rides) × ((q .walk < p .walk) ⊎ ((q .walk ≡ p .walk) × (p .leave < q .leave)))) → ⊥
+    by-rides (inl x) (inl y) = omega arith
+    by-rides (inl x) (inr (y, u)) = omega arith
+    by-rides (inr (x, t)) (inl y) = omega arith
+    by-rides (inr (x, t)) (inr (y, u)) = by-walk t u
 
 pub one-list : (h : ℕ) (os ks ls : List Journey) → Holds h os ks → Holds h os ls → ks ≡ ls
 one-list h os ks ls v w =
-    v .list
-    ∙ ap (map (offered os)) (one-pairs _<_ (λ i j l g. omega arith) (v .places) (w .places) (rising-pairs (v .places) (v .in-order)) (rising-pairs (w .places) (w .in-order))
-    (λ i m. w .exactly i .1 (v .exactly i .0 m)) (λ i m. v .exactly i .1 (w .exactly i .0 m)))
-    ∙ sym (w .list)
+    one-pairs GoesBefore goes-once ks ls (order-pairs ks (v .in-order)) (order-pairs ls (w .in-order))
+    (λ j m. w .exactly j .1 (v .exactly j .0 m)) (λ j m. v .exactly j .1 (w .exactly j .0 m))
 
 one-latest : (ks ls : List Journey) (a b : ℕ) → ks ≡ ls → Latest ks a → Latest ls b → a ≡ b
 one-latest ks ls a b e v w =

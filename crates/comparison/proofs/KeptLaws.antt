@@ -1,24 +1,29 @@
--- `front` is the offers at the positions that stand.
+-- `front` is the offers at the positions that stand; put in order, each goes before all after it.
 use mathlib.Core.Path.{_≡_, refl, sym, ap, subst, _∙_}
-use mathlib.Core.Logic.{_⊎_, inl, inr, _↔_}
+use mathlib.Core.Logic.{_⊎_, inl, inr, _↔_, ⊎-elim}
 use mathlib.Core.Bool.{Bool, true, false, not, cond, _&&_, true≢false, false≢true}
-use mathlib.Core.List.{List, [], _∷_, _++_, map, append-assoc, append-nil, List·Memᴰ, List·Memᴰ·head, List·Memᴰ·tail, List·Memᴰ·not-nil, List·Memᴰ·cases-cons, List·Memᴰ·append-cases, Memᴰ·append-left, Memᴰ·append-right, Memᴰ·cast}
+use mathlib.Core.List.{List, [], _∷_, _++_, map, append-assoc, append-nil, List·Memᴰ, List·Memᴰ·head, List·Memᴰ·tail, List·Memᴰ·not-nil, List·Memᴰ·cases-cons, List·Memᴰ·append-cases, Memᴰ·append-left, Memᴰ·append-right, Memᴰ·cast, Memᴰ·map, Memᴰ·of-map}
 use Prim.Native.Nat.{ℕ, zero, suc, _+_, _≤_, _<_}
 use native.Mathlib.Omega.{arith}
 use lib.Dec.{leb}
 use lib.ListN.{length, getD, length-append, List·getD-append}
-use borrow.Author.Tests.{leb-true, le-leb}
+use borrow.Author.Tests.{leb-true, leb-false, le-leb}
 use Rattle.laws.specs.Lists.{anyb}
+use Rattle.laws.specs.Sort.{insertBy, sort}
 use Rattle.laws.proofs.Bools.{and-true, test, not-true as is-false}
 use Rattle.laws.proofs.Lists.{anyb-mem, mem-anyb, anyb-not, anyb-none}
+use Rattle.laws.proofs.Sort.{sort-mem, mem-sort}
 use Rattle.transfer.proofs.AnyOrder.{mem-getD}
 use Rattle.profile.specs.declared.Journey.{Journey}
 use Rattle.profile.specs.Figures.{covᶠ, dueᶠ}
 use Rattle.profile.specs.Front.{beats, counts, after, front}
+use Rattle.profile.specs.Best.{Ordered, sooner, ordered}
 use Rattle.profile.specs.Journeys.{journeyFigures, noJourney}
+use Rattle.profile.proofs.ClaimLaws.{put-in-order}
 use Rattle.comparison.specs.Order.{EqualsOrBeats, Same, Beats}
-use Rattle.comparison.specs.Kept.{offered, Stands, Rising, Holds}
-use Rattle.comparison.proofs.OrderLaws.{cov, covers-in, covers-out, both-same, same-over, beats-in, beats-out}
+use Rattle.comparison.specs.Best.{AsGood}
+use Rattle.comparison.specs.Kept.{offered, Stands, GoesBefore, InOrder, Holds}
+use Rattle.comparison.proofs.OrderLaws.{cov, covers-in, covers-out, both-same, same-over, same-sym, beats-in, beats-out, prefer-in}
 
 -- ---- a list by its positions
 
@@ -94,6 +99,11 @@ module _ (h : ℕ) (pre : List Journey) (o : Journey) (post : List Journey) wher
 
 -- ---- from a position on
 
+-- each number is below those after it
+abbrev Rising : List ℕ → Type 0
+Rising [] = Unit {0}
+Rising (i ∷ is) = ((k : ℕ) → List·Memᴰ k is → i < k) × Rising is
+
 record Part (h : ℕ) (os : List Journey) (n : ℕ) (ks : List Journey) : Type 0 where
   places : List ℕ
   in-order : Rising places
@@ -166,7 +176,92 @@ part h pre (o ∷ os) = go (counts cov due h pre o os) refl (part h (pre ++ o �
     go true e p = part-here h (pre ++ o ∷ os) (length pre) o (after cov due h (pre ++ o ∷ []) os) (here h pre o os) (counts-stands h pre o os e) (moved p)
     go false e p = part-past h (pre ++ o ∷ os) (length pre) (after cov due h (pre ++ o ∷ []) os) (λ w. true≢false (sym (stands-counts h pre o os w) ∙ e)) (moved p)
 
-pub front-holds : (h : ℕ) (os ks : List Journey) → ks ≡ front (covᶠ journeyFigures) (dueᶠ journeyFigures) h os → Holds h os ks
-front-holds h os ks e =
-    let p = part h [] os in
-    record { places = p .places; in-order = p .in-order; exactly = λ i. p .exactly i (omega arith); list = e ∙ p .list }
+-- ---- put in order
+
+-- what holds of each and all after it
+module _ {A : Type 0} (P : A → A → Type 0) where
+  abbrev Pairs : List A → Type 0
+  Pairs [] = Unit {0}
+  Pairs (x ∷ xs) = ((y : A) → List·Memᴰ y xs → P x y) × Pairs xs
+
+  -- holds of a list put in order, if it holds both ways
+  module _ (lt : A → A → Bool) (back : (x y : A) → P x y → P y x) where
+    insert-mem : (x : A) (ys : List A) (z : A) → List·Memᴰ z (insertBy lt x ys) → (z ≡ x) ⊎ List·Memᴰ z ys
+    insert-mem x [] z m = List·Memᴰ·cases-cons m
+    insert-mem x (y ∷ ys) z m = go (lt y x) m (insert-mem x ys z)
+      where
+        over : (z ≡ y) ⊎ List·Memᴰ z (insertBy lt x ys) → (List·Memᴰ z (insertBy lt x ys) → (z ≡ x) ⊎ List·Memᴰ z ys) → (z ≡ x) ⊎ List·Memᴰ z (y ∷ ys)
+        over (inl e) ih = inr (List·Memᴰ·head e)
+        over (inr k) ih = ⊎-elim (λ e. inl e) (λ n. inr (List·Memᴰ·tail n)) (ih k)
+
+        go : (b : Bool) → List·Memᴰ z (cond b (y ∷ insertBy lt x ys) (x ∷ y ∷ ys)) → (List·Memᴰ z (insertBy lt x ys) → (z ≡ x) ⊎ List·Memᴰ z ys) → (z ≡ x) ⊎ List·Memᴰ z (y ∷ ys)
+        go true k ih = over (List·Memᴰ·cases-cons k) ih
+        go false k ih = List·Memᴰ·cases-cons k
+
+    pairs-insert : (x : A) (ys : List A) → ((y : A) → List·Memᴰ y ys → P x y) → Pairs ys → Pairs (insertBy lt x ys)
+    pairs-insert x [] f w = (f, tt)
+    pairs-insert x (y ∷ ys) f (g, w) = go (lt y x) (pairs-insert x ys (λ z m. f z (List·Memᴰ·tail m)) w)
+      where
+        front : (z : A) → (z ≡ x) ⊎ List·Memᴰ z ys → P y z
+        front z (inl e) = subst (P y) (sym e) (back x y (f y (List·Memᴰ·head refl)))
+        front z (inr m) = g z m
+
+        go : (b : Bool) → Pairs (insertBy lt x ys) → Pairs (cond b (y ∷ insertBy lt x ys) (x ∷ y ∷ ys))
+        go true ih = (λ z m. front z (insert-mem x ys z m), ih)
+        go false ih = (f, (g, w))
+
+    pairs-sort : (xs : List A) → Pairs xs → Pairs (sort lt xs)
+    pairs-sort [] w = tt
+    pairs-sort (x ∷ xs) (f, w) = pairs-insert x (sort lt xs) (λ y m. f y (sort-mem lt xs m)) (pairs-sort xs w)
+
+-- no two of the journeys at positions that stand are equal
+abbrev Apart : Journey → Journey → Type 0
+Apart p q = Same p q → ⊥
+
+standing-apart : (h : ℕ) (os : List Journey) (is : List ℕ) → Rising is → ((i : ℕ) → List·Memᴰ i is → Stands h os i) → Pairs Apart (map (offered os) is)
+standing-apart h os [] r s = tt
+standing-apart h os (i ∷ is) (f, r) s = (
+  λ q m e. let (k, n, here) = Memᴰ·of-map (offered os) is m in s k (List·Memᴰ·tail n) .oldest i (f k n) (subst (Same (offered os i)) (sym here) e),
+  standing-apart h os is r (λ k m. s k (List·Memᴰ·tail m)),
+)
+
+-- as good, and not equal
+goes-before : (p q : Journey) → AsGood p q → Apart p q → GoesBefore p q
+goes-before p q (inl a) n = inl a
+goes-before p q (inr (a, inl b)) n = inr (a, inl b)
+goes-before p q (inr (a, inr (b, inl c))) n = inr (a, inr (b, inl c))
+goes-before p q (inr (a, inr (b, inr (c, d)))) n = go (leb (p .leave) (q .leave)) refl
+  where
+    go : (t : Bool) → leb (p .leave) (q .leave) ≡ t → GoesBefore p q
+    go true e = absurd (n (record { leave = omega (arith, leb-true (p .leave) (q .leave) e); arrival = a; rides = b; walk = c }))
+    go false e = inr (a, inr (b, inr (c, leb-false (p .leave) (q .leave) e)))
+
+in-order : (ks : List Journey) → Ordered journeyFigures ks → Pairs Apart ks → InOrder ks
+in-order [] o w = tt
+in-order (x ∷ ks) (f, o) (g, w) = (λ k m. goes-before x k (prefer-in x k (f k m)) (g k m), in-order ks o w)
+
+pub front-holds : (h : ℕ) (os ks : List Journey) → ks ≡ ordered journeyFigures (front (covᶠ journeyFigures) (dueᶠ journeyFigures) h os) → Holds h os ks
+front-holds h os ks e = subst (Holds h os) (sym e) (record { exactly = λ j. (there j, back j); in-order = in-order listed (put-in-order journeyFigures fs .0) apart })
+  where
+    fs : List Journey
+    fs = front (covᶠ journeyFigures) (dueᶠ journeyFigures) h os
+
+    listed : List Journey
+    listed = ordered journeyFigures fs
+
+    p : Part h os 0 fs
+    p = part h [] os
+
+    there : (j : Journey) → List·Memᴰ j listed → (i : ℕ) × Stands h os i × (offered os i ≡ j)
+    there j m =
+        let (i, n, here) = Memᴰ·of-map (offered os) (p .places) (subst (List·Memᴰ j) (p .list) (sort-mem (sooner journeyFigures) fs m)) in
+        (i, p .exactly i (omega arith) .0 n, here)
+
+    back : (j : Journey) → (i : ℕ) × Stands h os i × (offered os i ≡ j) → List·Memᴰ j listed
+    back j (i, s, here) =
+        mem-sort (sooner journeyFigures) fs (subst (List·Memᴰ j) (sym (p .list)) (subst (λ (q : Journey). List·Memᴰ q (map (offered os) (p .places))) here (Memᴰ·map (offered os) (p .exactly i (omega arith) .1 s))))
+
+    apart : Pairs Apart listed
+    apart =
+        pairs-sort Apart (sooner journeyFigures) (λ x y n s. n (same-sym y x s)) fs
+        (subst (Pairs Apart) (sym (p .list)) (standing-apart h os (p .places) (p .in-order) (λ i m. p .exactly i (omega arith) .0 m)))

@@ -23,7 +23,10 @@ use Rattle.profile.specs.declared.Journey.{Journey}
 use Rattle.profile.specs.Figures.{Figures, covᶠ, dueᶠ, lexb}
 use Rattle.profile.specs.Journeys.{journeyFigures}
 use Rattle.profile.specs.Instances.{figuresOf}
+use Rattle.profile.specs.Front.{front}
+use Rattle.profile.specs.Best.{sooner}
 use Rattle.profile.proofs.FrontLaws.{after-mem}
+use Rattle.laws.proofs.Sort.{sort-mem}
 use Rattle.settings.specs.declared.Settings.{Settings}
 use Rattle.best.specs.Best.{keptOf}
 use Rattle.steps.specs.Steps.{Step}
@@ -69,7 +72,7 @@ one-of (k ∷ ks) f e = (k, List·Memᴰ·head refl, ap (λ (l : List Figures). 
 one-kept : (s : Settings) (xs : List Step) → (o : Opens s) → endOf s xs .searched ≡ true → (j : Journey) → List·Memᴰ j (keptOf (endOf s xs)) → Admitted s xs j
 one-kept s xs o d j m =
     let w = searched-holds s xs o d in
-    let n = after-mem (covᶠ journeyFigures) (dueᶠ journeyFigures) (endOf s xs .horizon) [] (offersOf s xs) (subst (List·Memᴰ j) (w .unbeaten) m) in
+    let n = after-mem (covᶠ journeyFigures) (dueᶠ journeyFigures) (endOf s xs .horizon) [] (offersOf s xs) (sort-mem (sooner journeyFigures) (front (covᶠ journeyFigures) (dueᶠ journeyFigures) (endOf s xs .horizon) (offersOf s xs)) (subst (List·Memᴰ j) (w .unbeaten) m)) in
     same-admitted s xs o j .0 (w .admitted j .0 (n .0))
 
 pub met : Met

@@ -45,7 +45,7 @@ abbrev pub LaterOf : ℤ → ℕ → ℤ → Type 0
 LaterOf (pos n) k z = ((n ≤ k) × (z ≡ pos k)) ⊎ ((k ≤ n) × (z ≡ pos n))
 LaterOf (negsuc n) k z = z ≡ pos k
 
--- of any load and second: "an unsearched load answers none"; else best of the kept list, up to the horizon. "`next_after`: best at the
+-- at a second: "an unsearched load answers none"; else best of the kept list, up to the horizon. "`next_after`: best at the
 -- larger of the second and the given leave + 1"
 pub record Queried (l : Load) (z : ℤ) : Type 0 where
   pub unsearched : l .searched ≡ false → answerOf (bestSpec l z) ≡ none
@@ -67,7 +67,8 @@ pub record Demand1 : Type 0 where
   pub settings-order : (s : Settings) → numbersOf (settingsCauses s) ≡ 1 ∷ 2 ∷ []
   -- of any load, one that no step made too: by what it holds; a refused load comes back unchanged
   pub steps : (l : Load) (x : Step) → Answered l x
-  pub queries : (l : Load) (z : ℤ) → Queried l z
+  -- queries of the load that any list of steps leaves, at every second
+  pub queries : (s : Settings) → Opens s → (xs : List Step) (z : ℤ) → Queried (endOf s xs) z
 
 -- ---- 2
 

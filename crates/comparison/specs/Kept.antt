@@ -1,7 +1,8 @@
--- "The list holds exactly the journeys due by its horizon that none other beats, the older of equals": by the positions of the offers.
+-- "The list holds exactly the journeys due by its horizon that none other beats, the older of equals": by the positions of the offers. And request 09:
+-- "Keep the list by arrival, rides and walk, least first, then latest leave."
 use mathlib.Core.Path.{_≡_}
-use mathlib.Core.Logic.{_↔_}
-use mathlib.Core.List.{List, [], _∷_, map, List·Memᴰ}
+use mathlib.Core.Logic.{_⊎_, _↔_}
+use mathlib.Core.List.{List, [], _∷_, List·Memᴰ}
 use Prim.Native.Nat.{ℕ, _≤_, _<_}
 use lib.ListN.{length, getD}
 use Rattle.profile.specs.declared.Journey.{Journey}
@@ -19,14 +20,16 @@ pub record Stands (h : ℕ) (os : List Journey) (i : ℕ) : Type 0 where
   pub unbeaten : (q : Journey) → List·Memᴰ q os → Beats q (offered os i) → ⊥
   pub oldest : (k : ℕ) → k < i → Same (offered os k) (offered os i) → ⊥
 
--- each number is below those after it
-abbrev pub Rising : List ℕ → Type 0
-Rising [] = Unit {0}
-Rising (i ∷ is) = ((k : ℕ) → List·Memᴰ k is → i < k) × Rising is
+-- p goes before q: least arrival, then rides, then walk, then latest leave
+abbrev pub GoesBefore : Journey → Journey → Type 0
+GoesBefore p q = (p .arrival < q .arrival) ⊎ ((p .arrival ≡ q .arrival) × ((p .rides < q .rides) ⊎ ((p .rides ≡ q .rides) × ((p .walk < q .walk) ⊎ ((p .walk ≡ q .walk) × (q .leave < p .leave))))))
 
--- the list is the offers at the positions that stand, all of these and no other, in offer order
+-- each goes before all after it; so none stands there twice
+abbrev pub InOrder : List Journey → Type 0
+InOrder [] = Unit {0}
+InOrder (j ∷ js) = ((k : Journey) → List·Memᴰ k js → GoesBefore j k) × InOrder js
+
+-- the list is the offers at the positions that stand, all of these and no other, in order
 pub record Holds (h : ℕ) (os ks : List Journey) : Type 0 where
-  pub places : List ℕ
-  pub in-order : Rising places
-  pub exactly : (i : ℕ) → List·Memᴰ i places ↔ Stands h os i
-  pub list : ks ≡ map (offered os) places
+  pub exactly : (j : Journey) → List·Memᴰ j ks ↔ ((i : ℕ) × Stands h os i × (offered os i ≡ j))
+  pub in-order : InOrder ks

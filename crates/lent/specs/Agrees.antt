@@ -6,6 +6,8 @@ use Prim.Native.Nat.{ℕ}
 use lib.IntN.{ℤ}
 use lib.ListN.{take}
 use Rattle.profile.specs.declared.Journey.{Journey}
+use Rattle.profile.specs.Best.{Ordered}
+use Rattle.profile.specs.Journeys.{journeyFigures}
 use Rattle.load.specs.declared.Load.{Load}
 use Rattle.best.specs.declared.Found.{Found}
 use Rattle.best.specs.Best.{bestOf, keptOf, bestSpec}
@@ -14,9 +16,9 @@ use Rattle.best.specs.Best.{bestOf, keptOf, bestSpec}
 abbrev pub OverAgrees : Type 0
 OverAgrees = (js lent : List Journey) (count h : ℕ) (s : ℤ) (r r′ : Found) → lent ≡ take count js → r ≡ bestOf (take count js) h s → r′ ≡ bestOf lent h s → r ≡ r′
 
--- `best` (r) of a searched load, and `best_of` (r′), lent its kept journeys and asked up to its horizon
+-- `best` (r) of a searched load whose list is in order, and `best_of` (r′), lent its kept journeys and asked up to its horizon
 abbrev pub LoadAgrees : Type 0
-LoadAgrees = (l : Load) (lent : List Journey) (s : ℤ) (r r′ : Found) → l .searched ≡ true → lent ≡ keptOf l → r ≡ bestSpec l s → r′ ≡ bestOf lent (l .horizon) s → r ≡ r′
+LoadAgrees = (l : Load) (lent : List Journey) (s : ℤ) (r r′ : Found) → l .searched ≡ true → Ordered journeyFigures (keptOf l) → lent ≡ keptOf l → r ≡ bestSpec l s → r′ ≡ bestOf lent (l .horizon) s → r ≡ r′
 
 abbrev pub LentAgrees : Type 0
 LentAgrees = OverAgrees × LoadAgrees

@@ -7,7 +7,7 @@ use Rattle.laws.specs.Tables.{table}
 use Rattle.profile.specs.declared.Journey.{Journey}
 use Rattle.profile.specs.Journeys.{noRide}
 use Rattle.best.specs.declared.Found.{Found}
-use Rattle.best.specs.Best.{bestOf}
+use Rattle.best.specs.Best.{bestOf, firstLeaving}
 
 -- a journey of four figures; it bears its number as its origin, at which best does not look
 abbrev pub journeyWith : ℕ → ℕ → ℕ → ℕ → ℕ → Journey
@@ -25,3 +25,7 @@ answerOf Found.Nothing = 65535 ∷ 0 ∷ 0 ∷ 0 ∷ 0 ∷ []
 -- the answer over the first n of them, up to the horizon h, at the second s
 unfoldable pub bestNumbers : List ℕ → List ℕ → List ℕ → List ℕ → ℕ → ℕ → ℤ → List ℕ
 bestNumbers leaves arrivals rides walks n h s = answerOf (bestOf (take n (journeysOf leaves arrivals rides walks)) h s)
+
+-- the same by the first that leaves in time
+unfoldable pub firstNumbers : List ℕ → List ℕ → List ℕ → List ℕ → ℕ → ℕ → ℤ → List ℕ
+firstNumbers leaves arrivals rides walks n h s = answerOf (firstLeaving (take n (journeysOf leaves arrivals rides walks)) h s)

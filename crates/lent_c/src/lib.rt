@@ -1,7 +1,7 @@
 // Best over journeys given as plain numbers, for programs in C and Rust to call. Each figure has a column of 64 numbers; a journey's
 // number is its place in the columns.
 ghost use mathlib.Core.Path.{_≡_};
-ghost use Rattle.lent_c.specs.Plain.{journeyWith, journeysOf, answerOf, bestNumbers};
+ghost use Rattle.lent_c.specs.Plain.{journeyWith, journeysOf, answerOf, bestNumbers, firstNumbers};
 use best::Found;
 use profile::Journey;
 use profile::no_ride;
@@ -90,5 +90,24 @@ pub extern "C" fn best_lent_numbers(
 {
     let journeys = journeys_of(leaves, arrivals, rides, walks);
     let numbers = answer_of(lent::best_lent(journeys, count, horizon, second));
+    *answer = numbers;
+}
+
+// The first of them that leaves in time (`first_leaving`): best, where they stand in order.
+#[no_mangle]
+pub extern "C" fn first_numbers(
+    leaves: &[u16; 64],
+    arrivals: &[u16; 64],
+    rides: &[u8; 64],
+    walks: &[u8; 64],
+    count: usize,
+    horizon: u16,
+    second: i64,
+    answer: &mut [u16; 5],
+)
+    ensures { λ _. ⌜ now (answer .exit) ≡ firstNumbers (now (leaves .entry)) (now (arrivals .entry)) (now (rides .entry)) (now (walks .entry)) count horizon second ⌝ }
+{
+    let journeys = journeys_of(leaves, arrivals, rides, walks);
+    let numbers = answer_of(best::first_leaving(journeys, count, horizon, second));
     *answer = numbers;
 }

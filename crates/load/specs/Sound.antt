@@ -1,14 +1,16 @@
--- A load that the steps make: sound stops, calls and rules, every call at one of its stops, no journey before the search, and one horizon until then.
+-- A load that the steps make: sound stops, calls and rules, every call at one of its stops, journeys in order, none before the search, and one
+-- horizon until then.
 use Prim.Native.Nat.{_-_, _≤_}
 use mathlib.Core.Path.{_≡_}
 use mathlib.Core.Bool.{false}
-use lib.ListN.{length, drop, replicate}
+use lib.ListN.{length, take, drop, replicate}
 use Rattle.refusal.specs.declared.Answer.the-variants.{Taken}
 use Rattle.settings.specs.declared.Settings.{Settings}
 use Rattle.stops.specs.Sound.{StopsSound}
 use Rattle.calls.specs.Sound.{TableSound, StopsKnown}
 use Rattle.rules.specs.Sound.{RulesSound}
-use Rattle.profile.specs.Journeys.{noJourney}
+use Rattle.profile.specs.Best.{Ordered}
+use Rattle.profile.specs.Journeys.{noJourney, journeyFigures}
 use Rattle.load.specs.declared.Load.{Load}
 use Rattle.load.specs.Load.{tableOf}
 use Rattle.load.specs.Steps.{openAnswer, opened}
@@ -26,6 +28,8 @@ pub record Sound (l : Load) : Type 0 where
   pub few : l .«journey_count» ≤ 64
   pub long : length (l .journeys) ≡ 64
   pub blank : drop (l .«journey_count») (l .journeys) ≡ replicate (64 - l .«journey_count») noJourney
+  -- by arrival, rides and walk, least first, then latest leave
+  pub in-order : Ordered journeyFigures (take (l .«journey_count») (l .journeys))
   -- before the search
   pub none-kept : l .searched ≡ false → l .«journey_count» ≡ 0
   pub same-horizon : l .searched ≡ false → l .horizon ≡ l .«table_horizon»

@@ -8,6 +8,7 @@ use Rattle.profile.specs.declared.Journey.{Journey}
 use Rattle.profile.specs.Figures.{covᶠ, dueᶠ}
 use Rattle.profile.specs.Kept.{St, going, refused, searched}
 use Rattle.profile.specs.Fall.{Ends, upTo, never, fall, keeping}
+use Rattle.profile.specs.Best.{ordered}
 use Rattle.profile.specs.Journeys.{journeyFigures}
 use Rattle.profile.proofs.ClaimLaws.{search-is-fall}
 use Rattle.offers.specs.Order.{clashes}
@@ -20,10 +21,10 @@ unfolding searchOf
 search-found t h₀ l₀ h l ks e = go (clashes (sorted t)) refl (searched journeyFigures 64 3600 h₀ l₀ (offers t)) refl e
   where
     go : (b : Bool) → clashes (sorted t) ≡ b → (s : St Journey) → searched journeyFigures 64 3600 h₀ l₀ (offers t) ≡ s → cond b clashing (foundBy s) ≡ found ks h l
-        → Clear t × (searched journeyFigures 64 3600 h₀ l₀ (offers t) ≡ going ks h l)
+        → Clear t × (ks″ : List Journey) × (searched journeyFigures 64 3600 h₀ l₀ (offers t) ≡ going ks″ h l) × (ks ≡ ordered journeyFigures ks″)
     go true p s q r = let z : _≡_ {A = ℕ} 0 1 = cc in absurd (omega arith)
     go false p refused q r = let z : _≡_ {A = ℕ} 0 1 = cc in absurd (omega arith)
-    go false p (going ks′ h′ l′) q r = (p, cc)
+    go false p (going ks′ h′ l′) q r = (p, ks′, cc, cc)
 
 keeping-ends : (os : List Journey) (x : Ends) → foundBy (keeping (covᶠ journeyFigures) (dueᶠ journeyFigures) os x) ≡ endsBy os x
 keeping-ends os (upTo h l) = refl

@@ -2,16 +2,18 @@
 use native.Mathlib.Omega.{arith}
 use lib.Dec.{leb}
 use lib.IntN.{ℤ}
+use Rattle.laws.proofs.Sort.{sort-perm, sort-mem, mem-sort}
 use Rattle.profile.specs.Figures.{Figures, covᶠ, dueᶠ}
-use Rattle.profile.specs.Claims.{KeptIsFront, FrontUnbeaten, KeptCovers, CoveredBeatsNone, SearchIsFall, FallsAtOneMore, LatePassedOver, KeptComplete, CompleteCut, Alike, OrderedFirst, SearchMaps}
+use Rattle.profile.specs.Best.{sooner, figuresAt, numbered}
+use Rattle.profile.specs.Claims.{KeptIsFront, FrontUnbeaten, KeptCovers, CoveredBeatsNone, SearchIsFall, FallsAtOneMore, LatePassedOver, KeptComplete, CompleteCut, Alike, BestInOrder, PlaceInOrder, PutInOrder, OrderedBest, CompleteOrdered, SearchMaps, OrderedMaps}
 use Rattle.profile.proofs.FiguresLaws.{figures-order}
 use Rattle.profile.proofs.FrontLaws.{after-mem, after-unbeaten, covered-beats-none as front-beats-none}
 use Rattle.profile.proofs.KeptLaws.{run-kept, run-covers}
 use Rattle.profile.proofs.FallLaws.{run-marked, run-fall}
 use Rattle.profile.proofs.PassLaws.{offers-late}
-use Rattle.profile.proofs.PickLaws.{ordered-first as picked-first}
 use Rattle.profile.proofs.BestLaws.{complete-cut as cut, alike-asked}
 use Rattle.profile.proofs.MapLaws.{run-map}
+use Rattle.profile.proofs.SortLaws as sorted
 
 module _ {A : Type 0} (fig : A → Figures) where
   pub kept-is-front : KeptIsFront fig
@@ -54,9 +56,28 @@ module _ {A : Type 0} (fig : A → Figures) where
   pub alike : (Asked : ℤ → Type 0) → Alike fig Asked
   alike Asked os os′ ks ks′ h h′ asks c c′ = alike-asked fig Asked os os′ ks ks′ h h′ asks c c′
 
-  pub ordered-first : OrderedFirst fig
-  ordered-first ks s t = picked-first fig (λ k. leb t (fig k .leave)) ks s
+  pub best-in-order : BestInOrder fig
+  best-in-order ks s h z = sorted.first-best fig ks s h z
+
+  pub place-in-order : PlaceInOrder fig
+  place-in-order ks s h z = sorted.first-best (figuresAt fig) (numbered 0 ks) (sorted.numbered-ordered fig 0 ks s) h z
+
+  pub put-in-order : PutInOrder fig
+  put-in-order ks = (sorted.in-order fig ks, sort-perm (sooner fig) ks)
+
+  pub ordered-best : OrderedBest fig
+  ordered-best ks h z = sorted.ordered-best fig ks h z
+
+  pub complete-ordered : CompleteOrdered fig
+  complete-ordered os ks h c = record {
+    kept = λ k m. c .kept k (sort-mem (sooner fig) ks m);
+    covered = λ o m d. let (k, n, x) = c .covered o m d in (k, mem-sort (sooner fig) ks n, x);
+    ahead = c .ahead;
+  }
 
 module _ {A B : Type 0} (f : A → B) (fig : A → Figures) (fig′ : B → Figures) where
   pub search-maps : SearchMaps f fig fig′
   search-maps h₀ l₀ os e = run-map f fig fig′ 64 3600 h₀ l₀ os e
+
+  pub ordered-maps : OrderedMaps f fig fig′
+  ordered-maps ks e = sorted.ordered-map f fig fig′ ks e

@@ -5,6 +5,7 @@ pub mod FallLaws
 pub mod PassLaws
 pub mod MapLaws
 pub mod PickLaws
+pub mod SortLaws
 pub mod BestLaws
 pub mod ClaimLaws
 pub mod InstanceLaws

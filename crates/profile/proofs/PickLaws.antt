@@ -1,4 +1,4 @@
--- What `pick` gives: one of the list that none is preferred to; the loop that keeps what it has where they tie; and the first of an ordered list.
+-- What `pick` gives: one of the list that none is preferred to; the loop that keeps what it has where they tie; and the first of a list in order.
 use mathlib.Core.Path.{_≡_, refl, sym, _∙_}
 use mathlib.Core.Logic.{_⊎_, inl, inr}
 use mathlib.Core.Bool.{Bool, true, false, cond, true≢false}

@@ -1,12 +1,14 @@
--- Best over a kept list, and what it is for a list to stand for all the offers up to a horizon.
+-- Best over a kept list, by reading all of it and by the first that leaves in time; what it is for a list to stand for all the offers up to a
+-- horizon, and to stand in order.
 use mathlib.Core.Path.{_≡_}
-use mathlib.Core.Bool.{true, cond}
+use mathlib.Core.Bool.{Bool, true, not, cond}
 use mathlib.Core.Option.{Option, none, some}
 use mathlib.Core.List.{List, [], _∷_, List·Memᴰ}
-use Prim.Native.Nat.{ℕ, _≤_}
+use Prim.Native.Nat.{ℕ, suc, _≤_}
 use lib.Dec.{leb, ltb}
 use lib.IntN.{ℤ, pos, negsuc}
-use Rattle.laws.specs.Lists.{filterb}
+use Rattle.laws.specs.Lists.{filterb, firstb}
+use Rattle.laws.specs.Sort.{sort}
 use Rattle.profile.specs.Figures.{Figures, covers, prefer}
 
 module _ {A : Type 0} (fig : A → Figures) where
@@ -28,6 +30,15 @@ module _ {A : Type 0} (fig : A → Figures) where
   abbrev pub bestℤ : List A → ℕ → ℤ → Option A
   bestℤ ks h (pos t) = best ks h t
   bestℤ ks h (negsuc t) = none
+
+  -- the first that leaves at t or later: none after the horizon h
+  abbrev pub first : List A → ℕ → ℕ → Option A
+  first ks h t = cond (ltb h t) none (firstb (λ k. leb t (fig k .leave)) ks)
+
+  -- the same at any second: none before 0
+  abbrev pub firstℤ : List A → ℕ → ℤ → Option A
+  firstℤ ks h (pos t) = first ks h t
+  firstℤ ks h (negsuc t) = none
 
   -- a turn of the loop that best is: what it has found, and one journey more; what was found stays where they tie
   abbrev pub keep : Option A → A → Option A
@@ -57,3 +68,20 @@ module _ {A : Type 0} (fig : A → Figures) where
   abbrev pub Ordered : List A → Type 0
   Ordered [] = Unit {0}
   Ordered (x ∷ xs) = ((y : A) → List·Memᴰ y xs → prefer (fig x) (fig y) ≡ true) × Ordered xs
+
+  -- best takes a rather than b, and they do not tie
+  abbrev pub sooner : A → A → Bool
+  sooner a b = not (prefer (fig b) (fig a))
+
+  -- the list by arrival, rides and walk, least first, then latest leave; full ties as they stood
+  abbrev pub ordered : List A → List A
+  ordered ks = sort sooner ks
+
+  -- the figures of a numbered element
+  abbrev pub figuresAt : (ℕ × A) → Figures
+  figuresAt p = fig (p .1)
+
+-- each element with its place, from n on
+abbrev pub numbered : {A : Type 0} → ℕ → List A → List (ℕ × A)
+numbered n [] = []
+numbered n (x ∷ xs) = (n, x) ∷ numbered (suc n) xs

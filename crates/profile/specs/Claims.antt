@@ -2,17 +2,17 @@
 use mathlib.Core.Path.{_≡_}
 use mathlib.Core.Logic.{_↔_}
 use mathlib.Core.Bool.{true, false}
-use mathlib.Core.List.{List, [], map, List·Memᴰ}
+use mathlib.Core.List.{List, [], map, List·Memᴰ, List·Permᴰ}
 use Prim.Native.Nat.{ℕ, _≤_, min}
 use lib.Dec.{leb}
 use lib.IntN.{ℤ, pos}
 use lib.ListN.{length}
-use Rattle.laws.specs.Lists.{filterb, firstb, foldl}
+use Rattle.laws.specs.Lists.{filterb, foldl}
 use Rattle.profile.specs.Figures.{Figures, covers, covᶠ, dueᶠ}
 use Rattle.profile.specs.Kept.{St, going, offer, searched, tooLate, mapSt}
 use Rattle.profile.specs.Front.{beats, front}
 use Rattle.profile.specs.Fall.{fall, keeping, Marked}
-use Rattle.profile.specs.Best.{pick, bestℤ, readBy, Covers, Ahead, Complete, Ordered}
+use Rattle.profile.specs.Best.{bestℤ, firstℤ, readBy, Covers, Ahead, Complete, Ordered, ordered, figuresAt, numbered}
 
 module _ {A : Type 0} (fig : A → Figures) where
   -- a search of the offers `os`, from the horizon h₀ and the mark l₀, ends with ks kept, the horizon h and the mark l
@@ -65,12 +65,32 @@ module _ {A : Type 0} (fig : A → Figures) where
       → ((t : ℤ) → Asked t → readBy fig (min h h′) (bestℤ fig ks h t) ≡ readBy fig (min h h′) (bestℤ fig ks′ h′ t))
       ↔ (Covers fig (min h h′) os os′ × Covers fig (min h h′) os′ os)
 
-  -- best of a list in its order is the first that leaves in time
-  abbrev pub OrderedFirst : Type 0
-  OrderedFirst = (ks : List A) → Ordered fig ks → (t : ℕ) → pick fig (filterb (λ k. leb t (fig k .leave)) ks) ≡ firstb (λ k. leb t (fig k .leave)) ks
+  -- of every list in order, ties too, the first that leaves in time is the full read's answer, at every second
+  abbrev pub BestInOrder : Type 0
+  BestInOrder = (ks : List A) → Ordered fig ks → (h : ℕ) (z : ℤ) → firstℤ fig ks h z ≡ bestℤ fig ks h z
+
+  -- and it stands in the same place
+  abbrev pub PlaceInOrder : Type 0
+  PlaceInOrder = (ks : List A) → Ordered fig ks → (h : ℕ) (z : ℤ) → firstℤ (figuresAt fig) (numbered 0 ks) h z ≡ bestℤ (figuresAt fig) (numbered 0 ks) h z
+
+  -- a list put in order is in order, and has the same journeys
+  abbrev pub PutInOrder : Type 0
+  PutInOrder = (ks : List A) → Ordered fig (ordered fig ks) × List·Permᴰ (ordered fig ks) ks
+
+  -- best of any list is the first that leaves in time, once the list is put in order
+  abbrev pub OrderedBest : Type 0
+  OrderedBest = (ks : List A) (h : ℕ) (z : ℤ) → firstℤ fig (ordered fig ks) h z ≡ bestℤ fig ks h z
+
+  -- a complete list stays complete where it is put in order
+  abbrev pub CompleteOrdered : Type 0
+  CompleteOrdered = (os ks : List A) (h : ℕ) → Complete fig os ks h → Complete fig os (ordered fig ks) h
 
 module _ {A B : Type 0} (f : A → B) (fig : A → Figures) (fig′ : B → Figures) where
   -- a search of f of the offers keeps f of what a search of the offers keeps, where f leaves the figures of an offer as they are
   abbrev pub SearchMaps : Type 0
   SearchMaps = (h₀ l₀ : ℕ) (os : List A) → ((o : A) → List·Memᴰ o os → fig′ (f o) ≡ fig o)
       → searched fig′ 64 3600 h₀ l₀ (map f os) ≡ mapSt f (searched fig 64 3600 h₀ l₀ os)
+
+  -- f of a list in order is f of the list, put in order, where f leaves the figures as they are
+  abbrev pub OrderedMaps : Type 0
+  OrderedMaps = (ks : List A) → ((k : A) → List·Memᴰ k ks → fig′ (f k) ≡ fig k) → map f (ordered fig ks) ≡ ordered fig′ (map f ks)

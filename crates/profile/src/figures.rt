@@ -1,7 +1,7 @@
 // Tests on the four figures of a journey.
 ghost use mathlib.Core.Path.{_≡_};
 ghost use Rattle.profile.specs.Figures.{lexb, prefer};
-ghost use Rattle.profile.specs.Journeys.{journeyFigures, cov};
+ghost use Rattle.profile.specs.Journeys.{journeyFigures, rowFigures, cov};
 use crate::Journey;
 use crate::Row;
 
@@ -42,4 +42,14 @@ pub fn preferred(a: Journey, b: Journey) -> bool
     let w = lex(a.walk as u16, b.walk as u16, l);
     let r = lex(a.rides as u16, b.rides as u16, w);
     lex(a.arrival, b.arrival, r)
+}
+
+// The same of rows.
+pub fn preferred_row(a: Row, b: Row) -> bool
+    ensures { λ r. ⌜ r ≡ prefer (rowFigures a) (rowFigures b) ⌝ }
+{
+    let leaves = b.leave <= a.leave;
+    let walk = lex(a.walk, b.walk, leaves);
+    let rides = lex(a.rides, b.rides, walk);
+    lex(a.arrival, b.arrival, rides)
 }

@@ -11,24 +11,25 @@ use lib.Seq.{take-all}
 use Rattle.laws.specs.Lists.{padded}
 use Rattle.laws.specs.Sort.{sort}
 use Rattle.laws.proofs.Bools.{cond-by, cond-not}
-use Rattle.laws.proofs.Sort.{length-sort}
+use Rattle.laws.proofs.Sort.{length-sort, sort-mem}
 use Rattle.refusal.specs.declared.Refusal.the-variants.{AlreadySearched, Neighbours, NoRoom}
 use Rattle.refusal.specs.declared.Answer.the-variants.{Taken, Refused}
 use Rattle.calls.specs.declared.Call.{Call}
 use Rattle.calls.specs.Tables.{blankCall}
 use Rattle.profile.specs.declared.Row.{Row}
 use Rattle.profile.specs.declared.Journey.{Journey}
-use Rattle.profile.specs.Journeys.{noJourney, rowFigures}
+use Rattle.profile.specs.Best.{sooner, ordered}
+use Rattle.profile.specs.Journeys.{noJourney, journeyFigures, rowFigures}
 use Rattle.profile.specs.Kept.{St, going, refused, searched, mapSt}
 use Rattle.state.specs.View.{view, openOf, countOf, keptOf, horizonOf, limitsOf}
 use Rattle.state.proofs.ViewLaws.{view-parts, view-is-refused}
-use Rattle.profile.proofs.ClaimLaws.{kept-is-front, front-unbeaten}
+use Rattle.profile.proofs.ClaimLaws.{kept-is-front, front-unbeaten, ordered-maps}
 use Rattle.offers.specs.Order.{earlier, sortFirst, clashes}
 use Rattle.offers.specs.Offers.{sorted}
 use Rattle.offers.specs.Places.{journeyAt, InPlaces}
 use Rattle.offers.specs.Search.{Outcome, clashing, falling, found, answerOf, foundBy, searchOf}
 use Rattle.offers.proofs.OrderLaws.{sorted-front}
-use Rattle.offers.proofs.PlacesLaws.{array-in-places}
+use Rattle.offers.proofs.PlacesLaws.{array-in-places, row-figures}
 use Rattle.read_back.specs.Kept.{Small, journeyOf}
 use Rattle.read_back.proofs.KeptLaws.{journeys-right}
 use Rattle.load.specs.declared.Load.{Load}
@@ -116,20 +117,24 @@ module _ (l : Load) (cs : List Call) (order : cs ≡ sortFirst (l .«call_count�
         (subst (List·Memᴰ r) (kept-is-front rowFigures (l .«table_horizon») (l .«table_limits») (rowOffers (timetableOf l) (placed cs) (min (l .«call_count») 512)) ks h m v .0) i) .0)
 
     module _ (walks : (o : ℕ) → getD (l .settings .«origin_walks») o 0 < 256) (st : List ℕ) (js : List Journey) (n h′ m′ : ℕ) (v : view st ≡ offeredOf l cs)
-        (ej : js ≡ padded noJourney 64 (map (journeyOf cs) (keptOf st))) (en : n ≡ countOf st) (eh : h′ ≡ horizonOf st) (em : m′ ≡ limitsOf st) where
+        (ej : js ≡ padded noJourney 64 (map (journeyOf cs) (ordered rowFigures (keptOf st)))) (en : n ≡ countOf st) (eh : h′ ≡ horizonOf st) (em : m′ ≡ limitsOf st) where
       abbrev kept : List Call → List Journey → ℕ → ℕ → ℕ → Load
       kept c j k h m =
           withSeen l (record { calls = c; count = l .«call_count»; horizon = l .«table_horizon»; limits = l .«table_limits» }) (record { journeys = j; count = k; horizon = h; limits = m; searched = true })
 
-      -- the journeys of the rows kept
+      -- the journeys of the rows kept, in list order
       going-returned : (ks : List Row) (h m : ℕ) → view st ≡ going ks h m → _≡_ {A = Stepped} (record { answer = Taken; load = kept cs js n h′ m′ }) (searchSpec l)
       going-returned ks h m g =
           let (o, c, k, eh′, em′) = view-parts st ks h m g in
-          let right : map (journeyOf cs) (keptOf st) ≡ map (journeyAt (placed cs)) ks = ap (map (journeyOf cs)) k ∙ journeys-right cs ks (kept-small walks ks h m (sym v ∙ g)) in
-          let ej′ : js ≡ padded noJourney 64 (map (journeyAt (placed cs)) ks) = ej ∙ ap (padded noJourney 64) right in
-          let en′ : n ≡ length (map (journeyAt (placed cs)) ks) = en ∙ c ∙ sym (length-map ks (journeyAt (placed cs))) in
+          let small = kept-small walks ks h m (sym v ∙ g) in
+          let right : map (journeyOf cs) (ordered rowFigures (keptOf st)) ≡ ordered journeyFigures (map (journeyAt (placed cs)) ks) =
+          ap (λ (rs : List Row). map (journeyOf cs) (ordered rowFigures rs)) k ∙ journeys-right cs (ordered rowFigures ks) (λ r i. small r (sort-mem (sooner rowFigures) ks i))
+          ∙ ordered-maps (journeyAt (placed cs)) rowFigures journeyFigures ks (λ r i. row-figures (placed cs) r) in
+          let ej′ : js ≡ padded noJourney 64 (ordered journeyFigures (map (journeyAt (placed cs)) ks)) = ej ∙ ap (padded noJourney 64) right in
+          let en′ : n ≡ length (ordered journeyFigures (map (journeyAt (placed cs)) ks)) =
+          en ∙ c ∙ sym (length-map ks (journeyAt (placed cs))) ∙ sym (length-sort (sooner journeyFigures) (map (journeyAt (placed cs)) ks)) in
           (λ i. record { answer = Taken; load = kept (order i) (ej′ i) (en′ i) ((eh ∙ eh′) i) ((em ∙ em′) i) })
-          ∙ returned l (found (map (journeyAt (placed cs)) ks) h m) u (outcome-by ∙ ap (λ (s : St Row). foundBy (mapSt (journeyAt (placed cs)) s)) (sym v ∙ g))
+          ∙ returned l (found (ordered journeyFigures (map (journeyAt (placed cs)) ks)) h m) u (outcome-by ∙ ap (λ (s : St Row). foundBy (mapSt (journeyAt (placed cs)) s)) (sym v ∙ g))
 
       pub returned-found : (r : Bool) → r ≡ not (openOf st) → r ≡ false → _≡_ {A = Stepped} (record { answer = Taken; load = kept cs js n h′ m′ }) (searchSpec l)
       returned-found r er fr = go (view st) refl

@@ -68,7 +68,7 @@ steps = record {
   near = sound-near;
   searches = step-searches;
   stays = step-stays;
-  asks = λ l s e z. best-asks l e z;
+  asks = best-asks;
   asks-none = λ l s e z. best-none l e z;
   near-new = sound-near-new;
 }

@@ -1,16 +1,17 @@
--- A search keeps a load sound: its calls are the same calls in order, and at most 64 journeys are kept.
+-- A search keeps a load sound: its calls are the same calls in order, and at most 64 journeys are kept, in order.
 use Prim.Native.Nat.{ℕ, _+_, _-_, _≤_}
-use mathlib.Core.Path.{_≡_, refl, subst, _∙_}
+use mathlib.Core.Path.{_≡_, refl, sym, ap, subst, _∙_}
 use mathlib.Core.Bool.{Bool, true, false, cond, true≢false}
 use mathlib.Core.List.{List, List·Memᴰ}
 use native.Mathlib.Omega.{arith}
 use lib.ListN.{length, take, drop, replicate, length-append, length-replicate, length-take, length-drop}
-use lib.Seq.{drop-append-seam, drop-at}
+use lib.Seq.{take-append-seam, drop-append-seam, drop-at}
 use Rattle.laws.specs.Sort.{sort}
 use Rattle.laws.proofs.Sort.{length-sort, sort-mem}
 use Rattle.profile.specs.declared.Journey.{Journey}
+use Rattle.profile.specs.Best.{Ordered, sooner}
 use Rattle.profile.specs.Journeys.{noJourney, journeyFigures}
-use Rattle.profile.proofs.ClaimLaws.{kept-is-front}
+use Rattle.profile.proofs.ClaimLaws.{kept-is-front, put-in-order}
 use Rattle.calls.specs.declared.Call.{Call}
 use Rattle.calls.specs.Sound.{All, CallSound, AtStop}
 use Rattle.calls.proofs.SoundLaws.{all-mem, mem-all}
@@ -48,8 +49,15 @@ module _ (n : ℕ) (l : List Call) (few : n ≤ 512) (long : length l ≡ 512) w
 kept-few : (l : Load) (ks : List Journey) (h m : ℕ) → outcomeOf l ≡ found ks h m → length ks ≤ 64
 unfolding outcomeOf
 kept-few l ks h m e =
-    kept-is-front journeyFigures (l .«table_horizon») (l .«table_limits») (offers (timetableOf l)) ks h m
-    (search-found (timetableOf l) (l .«table_horizon») (l .«table_limits») h m ks e .1) .1
+    let (clear, stood, ran, is) = search-found (timetableOf l) (l .«table_horizon») (l .«table_limits») h m ks e in
+    let few = kept-is-front journeyFigures (l .«table_horizon») (l .«table_limits») (offers (timetableOf l)) stood h m ran .1 in
+    omega (arith, few, ap length is, length-sort (sooner journeyFigures) stood)
+
+kept-ordered : (l : Load) (ks : List Journey) (h m : ℕ) → outcomeOf l ≡ found ks h m → Ordered journeyFigures ks
+unfolding outcomeOf
+kept-ordered l ks h m e =
+    let (clear, stood, ran, is) = search-found (timetableOf l) (l .«table_horizon») (l .«table_limits») h m ks e in
+    subst (Ordered journeyFigures) (sym is) (put-in-order journeyFigures stood .0)
 
 fill-up : (n : ℕ) → n ≤ 64 → n + (64 - n) ≡ 64
 fill-up n h = omega arith
@@ -73,6 +81,7 @@ searched-sound l ks h m e s =
       few = kept-few l ks h m e;
       long = length-append ks (replicate (64 - length ks) noJourney) ∙ rw length-replicate (fill-up (length ks) (kept-few l ks h m e));
       blank = drop-append-seam ks (replicate (64 - length ks) noJourney);
+      in-order = subst (Ordered journeyFigures) (sym (take-append-seam ks (replicate (64 - length ks) noJourney))) (kept-ordered l ks h m e);
       none-kept = λ x. absurd (true≢false x);
       same-horizon = λ x. absurd (true≢false x);
       same-limits = λ x. absurd (true≢false x);

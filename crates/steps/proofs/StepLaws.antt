@@ -43,6 +43,7 @@ use Rattle.load.proofs.AnswerLaws.{step-answered}
 use Rattle.search.specs.Timetable.{changeIn, oneRun, timetableOf}
 use Rattle.search.specs.Search.{outcomeOf, settled, searchSpec}
 use Rattle.best.specs.Best as best
+use Rattle.best.proofs.QueryLaws.{best-of-all}
 use Rattle.steps.specs.Steps.{Step, filling, search, stepped}
 
 -- ---- a searched load stays
@@ -120,9 +121,9 @@ unfolding best.foundOf
 answer-found none = refl
 answer-found (some j) = refl
 
-pub best-asks : (l : Load) → l .searched ≡ true → (z : ℤ) → best.answerOf (best.bestSpec l z) ≡ bestℤ journeyFigures (best.keptOf l) (l .horizon) z
-unfolding best.bestSpec
-best-asks l e z = ap best.answerOf (cond-by _ _ e) ∙ answer-found (bestℤ journeyFigures (best.keptOf l) (l .horizon) z)
+-- the first of the list that leaves in time is best of all of it
+pub best-asks : (l : Load) → Sound l → l .searched ≡ true → (z : ℤ) → best.answerOf (best.bestSpec l z) ≡ bestℤ journeyFigures (best.keptOf l) (l .horizon) z
+best-asks l s e z = ap best.answerOf (best-of-all l e (s .in-order) z) ∙ answer-found (bestℤ journeyFigures (best.keptOf l) (l .horizon) z)
 
 pub best-none : (l : Load) → l .searched ≡ false → (z : ℤ) → best.answerOf (best.bestSpec l z) ≡ none
 unfolding best.bestSpec

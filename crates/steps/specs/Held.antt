@@ -12,7 +12,7 @@ use Rattle.profile.specs.declared.Journey.{Journey}
 use Rattle.profile.specs.Figures.{Figures, covᶠ, dueᶠ}
 use Rattle.profile.specs.Front.{front}
 use Rattle.profile.specs.Fall.{upTo, fall}
-use Rattle.profile.specs.Best.{readBy}
+use Rattle.profile.specs.Best.{readBy, ordered}
 use Rattle.profile.specs.Journeys.{journeyFigures}
 use Rattle.offers.specs.Covered.{I64, CoveredBy}
 use Rattle.load.specs.declared.Load.{Load}
@@ -22,8 +22,8 @@ use Rattle.steps.specs.Steps.{Step}
 use Rattle.steps.specs.Lists.{endOf, startOf, Admitted, offersOf}
 
 pub record Holds (s : Settings) (xs : List Step) : Type 0 where
-  -- the list is the unbeaten offers due by the horizon, the older of equals, in offer order
-  pub unbeaten : keptOf (endOf s xs) ≡ front (covᶠ journeyFigures) (dueᶠ journeyFigures) (endOf s xs .horizon) (offersOf s xs)
+  -- the list is the unbeaten offers due by the horizon, the older of equals, by arrival, rides and walk, least first, then latest leave
+  pub unbeaten : keptOf (endOf s xs) ≡ ordered journeyFigures (front (covᶠ journeyFigures) (dueᶠ journeyFigures) (endOf s xs .horizon) (offersOf s xs))
   -- what is offered is what is admitted
   pub admitted : (j : Journey) → List·Memᴰ j (offersOf s xs) ↔ Admitted s xs j
   -- each admitted journey due by the horizon is equalled or beaten by one of the list

@@ -49,8 +49,18 @@ fn calls(out: &mut String, run: &Run) {
         );
     }
 }
+/// The numbers of the kept journeys in request 09's order: arrival, rides and walk, least first, then latest leave.
+fn list_order(run: &Run) -> Vec<usize> {
+    let mut order: Vec<usize> = (0..run.paths().len()).collect();
+    order.sort_by_key(|&i| {
+        let p = &run.paths()[i];
+        (p.arrival, p.len, p.walk, std::cmp::Reverse(p.leave))
+    });
+    order
+}
 fn journeys(out: &mut String, run: &Run) {
-    for (i, path) in run.paths().iter().enumerate() {
+    for i in list_order(run) {
+        let path = &run.paths()[i];
         let _ = write!(out, "journey {}", figures(path));
         for r in run.rides(i) {
             let _ = write!(
@@ -80,7 +90,7 @@ fn queries(out: &mut String, run: &Run) {
     for second in seconds {
         let _ = writeln!(out, "best {second} {}", answer(run.best(second)));
     }
-    for path in run.paths() {
+    for path in list_order(run).into_iter().map(|i| &run.paths()[i]) {
         let _ = writeln!(out, "next {} {}", path.leave, answer(run.next_after(0, path)));
     }
 }

@@ -1,5 +1,5 @@
 //! Compares the port's best over lists of journeys, by value and lent (the static library of crate lent_c), with the published
-//! `Cache::best`.
+//! `Cache::best`. Half of the lists stand in request 09's order; of these the first that leaves in time is compared too.
 use display::journey::Path;
 use display::journey::harness::Lent;
 use program::generate::rng::Rng;
@@ -12,6 +12,10 @@ unsafe extern "C" {
         count: usize, horizon: u16, second: i64, answer: &mut [u16; 5],
     );
     safe fn best_lent_numbers(
+        leaves: &[u16; 64], arrivals: &[u16; 64], rides: &[u8; 64], walks: &[u8; 64],
+        count: usize, horizon: u16, second: i64, answer: &mut [u16; 5],
+    );
+    safe fn first_numbers(
         leaves: &[u16; 64], arrivals: &[u16; 64], rides: &[u8; 64], walks: &[u8; 64],
         count: usize, horizon: u16, second: i64, answer: &mut [u16; 5],
     );
@@ -130,12 +134,14 @@ impl Columns {
             count: if list.len() == 64 { full } else { list.len() },
         }
     }
-    /// By value and lent.
-    fn best(&self, horizon: u16, second: i64) -> [[u16; 5]; 2] {
+    /// By value, lent, and the first that leaves in time; of a list not in order that is best by value once more.
+    fn best(&self, horizon: u16, second: i64, ordered: bool) -> [[u16; 5]; 3] {
         let Self { leaves, arrivals, rides, walks, count } = self;
-        let mut answers = [[1; 5]; 2];
+        let mut answers = [[1; 5]; 3];
         best_over_numbers(leaves, arrivals, rides, walks, *count, horizon, second, &mut answers[0]);
         best_lent_numbers(leaves, arrivals, rides, walks, *count, horizon, second, &mut answers[1]);
+        let third = if ordered { first_numbers } else { best_over_numbers };
+        third(leaves, arrivals, rides, walks, *count, horizon, second, &mut answers[2]);
         answers
     }
 }
@@ -148,7 +154,11 @@ fn print(name: &str, counts: &Counts) {
 }
 /// Asks a list at its seconds; what differs first is put into `first`.
 fn ask(rng: &mut Rng, kind: usize, counts: &mut Counts, first: &mut Option<String>) {
-    let list = journeys(rng, kind);
+    let mut list = journeys(rng, kind);
+    let ordered = rng.once_in(2);
+    if ordered {
+        list.sort_by_key(|j| (j.arrival, j.rides, j.walk, std::cmp::Reverse(j.leave)));
+    }
     let horizon = horizon(rng, &list);
     let columns = Columns::new(rng, &list);
     let paths: Vec<Path> = list.iter().map(Figures::path).collect();
@@ -160,15 +170,17 @@ fn ask(rng: &mut Rng, kind: usize, counts: &mut Counts, first: &mut Option<Strin
             let j = list[i];
             [i as u16, j.leave, j.arrival, u16::from(j.rides), u16::from(j.walk)]
         });
-        let port = columns.best(horizon, second);
+        let port = columns.best(horizon, second, ordered);
         let tied = found.is_some_and(|i| list.iter().filter(|&&j| j == list[i]).count() > 1);
-        let differs = port != [published; 2];
+        let differs = port != [published; 3];
         counts[1] += 1;
         counts[2 + usize::from(found.is_some())] += 1;
         counts[4] += u64::from(tied);
         counts[5] += u64::from(differs);
         if differs && first.is_none() {
-            *first = Some(format!("{list:?} up to {horizon} at {second}: published {published:?}, by value and lent {port:?}"));
+            *first = Some(format!(
+                "{list:?} up to {horizon} at {second}: published {published:?}, by value, lent and the first {port:?}"
+            ));
         }
     }
 }
