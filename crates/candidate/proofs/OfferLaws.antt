@@ -3,28 +3,29 @@ use mathlib.Core.Path.{_≡_, refl, sym, ap, _∙_}
 use mathlib.Core.Bool.{Bool, true, false, not}
 use mathlib.Core.Logic.{_≢_}
 use mathlib.Core.List.{List, [], _∷_, _++_}
-use Prim.Native.Nat.{ℕ, suc, _+_, _-_, _≤_, _<_}
+use Prim.Native.Nat.{ℕ, suc, _+_, _*_, _-_, _≤_, _<_, min}
 use native.Mathlib.Omega.{arith}
 use native.Mathlib.Numerals.{add-one}
 use lib.Dec.{leb}
 use borrow.Author.Tests.{le-leb, lt-leb, lt-ltb, le-ltb}
 use lib.ListN.{length, getD, set, take, length-set, length-take, length-append}
-use lib.Seq.{getD-set-same, getD-set-other, take-suc-set, take-all}
-use Rattle.laws.specs.Lists.{filterb, anyb}
+use lib.Seq.{getD-set-same, getD-set-other, take-suc-set, take-all, ext-getD, getD-take}
+use Rattle.laws.specs.Lists.{filterb}
 use Rattle.laws.proofs.Lists.{length-filterb-lt}
 use Rattle.profile.specs.declared.Row.{Row}
 use Rattle.profile.specs.Figures.{covᶠ, dueᶠ}
 use Rattle.profile.specs.Kept.{going, refused, latest, tooLate}
-use Rattle.profile.specs.Journeys.{rowFigures, cov, due}
-use Rattle.state.specs.View.{rows, countOf, horizonOf, limitsOf, keptOf, view}
-use Rattle.candidate.specs.Offer.{offerTo, OffersSearch, OffersLate}
-use Rattle.candidate.specs.Pieces.{putRow, Tail, coveredBy, stays, Packed, Open, latestDue, settled}
+use Rattle.profile.specs.Walk.{passes}
+use Rattle.profile.specs.Journeys.{rowFigures, cov, due, noRow}
+use Rattle.state.specs.View.{rowAt, rows, countOf, horizonOf, limitsOf, keptOf, openOf, view}
+use Rattle.candidate.specs.Offer.{offerTo, readsTo, OffersSearch, OffersLate}
+use Rattle.candidate.specs.Pieces.{putRow, Tail, Ends, nearAt, passing, stays, Packed, Open, latestDue, settled}
 use Rattle.profile.proofs.KeptLaws.{latest-mem}
-use Rattle.profile.proofs.PassLaws.{offer-late}
-use Rattle.profile.proofs.ClaimLaws.{late-passed-over}
-use Rattle.candidate.proofs.PutLaws.{put-long, put-tail, rows-put, rows-set}
-use Rattle.state.proofs.RowLaws.{rows-length}
-use Rattle.state.proofs.ViewLaws.{count-is, view-open, view-refused, view-is}
+use Rattle.profile.proofs.WalkLaws.{walk-late, reads-late, walks-late}
+use Rattle.profile.proofs.ClaimLaws.{walks-search}
+use Rattle.candidate.proofs.PutLaws.{seen, put-long, put-tail, rows-put, rows-set}
+use Rattle.state.proofs.RowLaws.{rows-length, rows-get}
+use Rattle.state.proofs.ViewLaws.{count-is, few, length-kept, view-open, view-refused, view-is}
 
 -- ---- what is to be settled
 
@@ -156,35 +157,93 @@ module _ (l m : List ℕ) (n : ℕ) (o : Row) (long : length l ≡ 654) (mark : 
 
 pub offers-search : OffersSearch
 unfolding offerTo
-offers-search h g os = refl
+offers-search h g os = walks-search rowFigures h g os
 
 pub offers-late : OffersLate
 unfolding offerTo
-offers-late s os f = late-passed-over rowFigures s os f
+offers-late s os f = walks-late (covᶠ rowFigures) (dueᶠ rowFigures) 64 3600 s os f
 
-pub offered-late : (l : List ℕ) (o : Row) (b : Bool) → b ≡ tooLate (view l) (due o) → b ≡ true → view l ≡ offerTo (view l) o
-unfolding offerTo due
-offered-late l o b e t = sym (offer-late (covᶠ rowFigures) (dueᶠ rowFigures) 64 3600 (view l) o (sym e ∙ t))
+-- the array l′ is the state of the array l after the offer o, of which r kept ones were read
+abbrev pub Done : List ℕ → List ℕ → Row → ℕ → Type 0
+Done l l′ o r = (view l′ ≡ offerTo (view l) o) × (r ≡ readsTo (view l) o)
 
-module _ (l : List ℕ) (o : Row) (open′ : Open l) (early : due o ≤ horizonOf l) (c : ℕ) (b : Bool) (ec : c ≡ countOf l) (eb : b ≡ coveredBy o (take c (rows l))) where
-  covered-kept : b ≡ coveredBy o (keptOf l)
+pub offered-late : (l : List ℕ) (o : Row) (b : Bool) → b ≡ tooLate (view l) (due o) → b ≡ true → Done l l o 0
+unfolding offerTo readsTo due
+offered-late l o b e t =
+    (sym (walk-late (covᶠ rowFigures) (dueᶠ rowFigures) 64 3600 (view l) o (sym e ∙ t)), sym (reads-late (covᶠ rowFigures) (dueᶠ rowFigures) 64 3600 (view l) o (sym e ∙ t)))
+
+module _ (l : List ℕ) (o : Row) (open′ : Open l) (early : due o ≤ horizonOf l) (c : ℕ) (b : Bool) (ec : c ≡ countOf l) (eb : b ≡ passing o (take c (rows l))) where
+  passing-kept : b ≡ passing o (keptOf l)
   unfolding keptOf
-  covered-kept = eb ∙ ap (λ (j : ℕ). coveredBy o (take j (rows l))) ec
+  passing-kept = eb ∙ ap (λ (j : ℕ). passing o (take j (rows l))) ec
 
-  pub offered-covered : b ≡ true → view l ≡ offerTo (view l) o
-  unfolding offerTo coveredBy Open cov due
-  offered-covered t =
-      let y : anyb (λ k. cov k o) (keptOf l) ≡ true = sym covered-kept ∙ t in
-      rw (view-open l open′, le-ltb (horizonOf l) (due o) early, y) refl
+  pub offered-passed : (j : ℕ) → b ≡ true → j ≡ nearAt o (take c (rows l)) → Done l l o (j + 1)
+  unfolding offerTo readsTo passing nearAt keptOf Open cov due
+  offered-passed j t ej =
+      let y : passes cov o (keptOf l) ≡ true = sym passing-kept ∙ t in
+      let e : suc j ≡ suc (nearAt o (keptOf l)) = ap suc (ej ∙ ap (λ (i : ℕ). nearAt o (take i (rows l))) ec) in
+      (rw (view-open l open′, le-ltb (horizonOf l) (due o) early, y) refl, rw (view-open l open′, le-ltb (horizonOf l) (due o) early, y) (add-one j ∙ e))
 
-  pub offered-added : (m l′ : List ℕ) (n : ℕ) → b ≡ false → Packed (stays true o 0) l m c n → view l′ ≡ settled m (take n (rows m) ++ o ∷ []) → view l′ ≡ offerTo (view l) o
-  unfolding offerTo coveredBy Open stays settled keptOf cov due
+  pub offered-added : (m l′ : List ℕ) (n : ℕ) → b ≡ false → Packed (stays true o 0) l m c n → view l′ ≡ settled m (take n (rows m) ++ o ∷ []) → Done l l′ o c
+  unfolding offerTo readsTo passing Open stays settled keptOf cov due
   offered-added m l′ n t w s =
-      let y : anyb (λ k. cov k o) (keptOf l) ≡ false = sym covered-kept ∙ t in
-      let ks : take n (rows m) ≡ filterb (λ k. not (cov o k)) (keptOf l) = w .list ∙ ap (λ (j : ℕ). filterb (λ k. not (cov o k)) (take j (rows l))) ec in
-      s ∙ settled-same l m (take n (rows m) ++ o ∷ []) (w .tail) ∙ ap (λ (zs : List Row). settled l (zs ++ o ∷ [])) ks
-      ∙ sym (rw (view-open l open′, le-ltb (horizonOf l) (due o) early, y) refl)
+      let y : passes cov o (keptOf l) ≡ false = sym passing-kept ∙ t in
+      let ks : take n (rows m) ≡ filterb (λ k. not (cov o k)) (keptOf l) = w .list ∙ ap (λ (j : ℕ). filterb (λ k. not (cov o k)) (take j (rows l))) ec in (
+        s ∙ settled-same l m (take n (rows m) ++ o ∷ []) (w .tail) ∙ ap (λ (zs : List Row). settled l (zs ++ o ∷ [])) ks
+            ∙ sym (rw (view-open l open′, le-ltb (horizonOf l) (due o) early, y) refl),
+        ec ∙ sym (length-kept l) ∙ sym (rw (view-open l open′, le-ltb (horizonOf l) (due o) early, y) refl),
+      )
 
 pub packed-open : (p : Row → Bool) (l m : List ℕ) (c n : ℕ) → Open l → Packed p l m c n → Open m
 unfolding Open
 packed-open p l m c n e w = w .tail 653 (omega arith) ∙ e
+
+-- ---- the end of the kept rows marked
+
+module _ (l l′ : List ℕ) (c v : ℕ) (long : length l ≡ 654) (ec : c ≡ countOf l) (el : l′ ≡ set l (c * 10) v) where
+  marked-past : (x : ℕ) → 650 ≤ x → getD l′ x 0 ≡ getD l x 0
+  marked-past x h =
+      let n : x ≢ c * 10 = λ e. omega (arith, few l c ec) in
+      ap (λ (ys : List ℕ). getD ys x 0) el ∙ getD-set-other l (c * 10) x v 0 n
+
+  marked-row : (k : ℕ) → k < c → rowAt l′ k ≡ rowAt l k
+  marked-row k h = ap (λ (ys : List ℕ). rowAt ys k) el ∙ seen l (set l (c * 10) v) k (λ y a b. let n : y ≢ c * 10 = λ e. omega arith in getD-set-other l (c * 10) y v 0 n)
+
+  marked-rows : take c (rows l′) ≡ take c (rows l)
+  marked-rows =
+      let n : length (take c (rows l′)) ≡ c = omega (arith, length-take c (rows l′), rows-length l′, few l c ec) in
+      let m : length (take c (rows l)) ≡ c = omega (arith, length-take c (rows l), rows-length l, few l c ec) in
+      ext-getD noRow (take c (rows l′)) (take c (rows l)) (n ∙ sym m) (λ k h.
+      let b : k < c = omega (arith, n) in
+      let b′ : k < 65 = omega (arith, few l c ec) in
+      getD-take c (rows l′) k noRow b ∙ rows-get l′ k b′ ∙ marked-row k b ∙ sym (getD-take c (rows l) k noRow b ∙ rows-get l k b′))
+
+  pub marked-passing : (o : Row) (r : Bool) → r ≡ passing o (take c (rows l′)) → r ≡ passing o (take c (rows l))
+  marked-passing o r e = e ∙ ap (passing o) marked-rows
+
+  pub marked-count : c ≡ countOf l′
+  unfolding countOf
+  marked-count = ec ∙ sym (ap (λ (x : ℕ). min x 64) (marked-past 650 (omega arith)))
+
+  pub marked-long : length l′ ≡ 654
+  marked-long = ap length el ∙ length-set l (c * 10) v ∙ long
+
+  pub marked-open : Open l → Open l′
+  unfolding Open
+  marked-open o = marked-past 653 (omega arith) ∙ o
+
+  pub marked-horizon : horizonOf l′ ≡ horizonOf l
+  unfolding horizonOf
+  marked-horizon = marked-past 651 (omega arith)
+
+  pub marked-ends : (o : Row) → v ≡ o .leave → Ends l′ c o
+  unfolding Ends
+  marked-ends o e = ap (λ (ys : List ℕ). getD ys (c * 10) 0) el ∙ getD-set-same l (c * 10) v 0 (omega (arith, few l c ec)) ∙ e
+
+  marked-kept : keptOf l′ ≡ keptOf l
+  unfolding keptOf
+  marked-kept = ap (λ (n : ℕ). take n (rows l′)) (sym marked-count) ∙ marked-rows ∙ ap (λ (n : ℕ). take n (rows l)) ec
+
+  pub marked-view : view l′ ≡ view l
+  unfolding view openOf horizonOf limitsOf
+  marked-view = rw (marked-kept, marked-past 651 (omega arith), marked-past 652 (omega arith), marked-past 653 (omega arith)) refl

@@ -8,18 +8,18 @@ use native.Mathlib.Omega.{arith}
 use lib.Dec.{leb, ltb}
 use lib.ListN.{take}
 use borrow.Author.Tests.{le-leb, le-ltb, lt-ltb, ltb-true, ltb-false}
-use Rattle.laws.specs.Lists.{anyb}
 use Rattle.laws.proofs.Bools.{and-true, or-true-cases, test}
-use Rattle.laws.proofs.Lists.{anyb-mem, mem-anyb}
 use Rattle.profile.specs.declared.Row.{Row}
 use Rattle.profile.specs.Figures.{lexb}
 use Rattle.profile.specs.Kept.{St, going, refused, tooLate}
 use Rattle.profile.specs.Journeys.{rowFigures, cov, due}
-use Rattle.profile.proofs.FiguresLaws.{lexb-lt, lexb-eq, covers-trans, covers-arrival}
+use Rattle.profile.proofs.FiguresLaws.{lexb-lt, lexb-eq, covers-arrival, figures-order}
+use Rattle.profile.specs.Walk.{passes}
+use Rattle.profile.proofs.WalkLaws.{passes-covered}
 use Rattle.state.specs.View.{rows, countOf, horizonOf, keptOf, view}
 use Rattle.state.proofs.ViewLaws.{view-open, in-time}
 use Rattle.candidate.specs.Offer.{offerTo, passedOver, OffersCovered}
-use Rattle.candidate.specs.Pieces.{coveredBy}
+use Rattle.candidate.specs.Pieces.{passing}
 
 -- ---- what `passes_over` finds
 
@@ -30,7 +30,7 @@ passed-late (going ks h l) o b e t =
     rw y refl
 passed-late refused o b e t = refl
 
-pub passed-covered : (l : List ℕ) (o : Row) (b r : Bool) (c : ℕ) → b ≡ tooLate (view l) (due o) → b ≡ false → c ≡ countOf l → r ≡ coveredBy o (take c (rows l))
+pub passed-covered : (l : List ℕ) (o : Row) (b r : Bool) (c : ℕ) → b ≡ tooLate (view l) (due o) → b ≡ false → c ≡ countOf l → r ≡ passing o (take c (rows l))
     → r ≡ passedOver (view l) o
 unfolding passedOver keptOf
 passed-covered l o b r c e f ec er =
@@ -55,22 +55,19 @@ cov-no-later b o el ea er ew =
         (lexb-eq (b .rides) (o .rides) _ er (le-leb (b .walk) (o .walk) (omega arith)))
 
 covered-passes : (s : St Row) (b o : Row) → passedOver s b ≡ true → cov b o ≡ true → offerTo s o ≡ s
-unfolding passedOver offerTo coveredBy cov due
-covered-passes (going ks h l) b o p c = go (or-true-cases (ltb h (b .arrival)) (anyb (λ k. cov k b) ks) p)
+unfolding passedOver offerTo passing cov due
+covered-passes (going ks h l) b o p c = go (or-true-cases (ltb h (b .arrival)) (passes cov b ks) p)
   where
     late : ltb h (o .arrival) ≡ true → offerTo (going ks h l) o ≡ going ks h l
     late t = rw t refl
 
-    kept : (ltb h (o .arrival) ≡ true) ⊎ (ltb h (o .arrival) ≡ false) → anyb (λ k. cov k o) ks ≡ true → offerTo (going ks h l) o ≡ going ks h l
+    kept : (ltb h (o .arrival) ≡ true) ⊎ (ltb h (o .arrival) ≡ false) → passes cov o ks ≡ true → offerTo (going ks h l) o ≡ going ks h l
     kept (inl t) y = late t
     kept (inr t) y = rw (t, y) refl
 
-    go : (ltb h (b .arrival) ≡ true) ⊎ (anyb (λ k. cov k b) ks ≡ true) → offerTo (going ks h l) o ≡ going ks h l
+    go : (ltb h (b .arrival) ≡ true) ⊎ (passes cov b ks ≡ true) → offerTo (going ks h l) o ≡ going ks h l
     go (inl t) = late (lt-ltb h (o .arrival) (omega (arith, ltb-true h (b .arrival) t, covers-arrival (rowFigures b) (rowFigures o) c)))
-    go (inr t) =
-        let w = anyb-mem (λ k. cov k b) ks t in
-        let y : anyb (λ k. cov k o) ks ≡ true = mem-anyb (λ k. cov k o) (w .1) (covers-trans (rowFigures (w .0)) (rowFigures b) (rowFigures o) (w .2) c) in
-        kept (test (ltb h (o .arrival))) y
+    go (inr t) = kept (test (ltb h (o .arrival))) (passes-covered (figures-order rowFigures) b o ks c t)
 covered-passes refused b o p c = refl
 
 pub offers-covered : OffersCovered

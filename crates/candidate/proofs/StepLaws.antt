@@ -1,24 +1,90 @@
 -- What the loops of an offer do, turn by turn.
 use mathlib.Core.Path.{_≡_, refl, sym, ap, _∙_}
-use mathlib.Core.Bool.{Bool, true, false, cond, _||_}
-use mathlib.Core.Logic.{_≢_}
+use mathlib.Core.Bool.{Bool, true, false, not, cond, _&&_, true≢false}
+use mathlib.Core.Logic.{_≢_, _⊎_, inl, inr}
 use mathlib.Core.List.{List, [], _∷_, _++_, append-nil}
-use Prim.Native.Nat.{ℕ, suc, _+_, _-_, _≤_, _<_, max}
+use Prim.Native.Nat.{ℕ, suc, _+_, _*_, _-_, _≤_, _<_, max}
 use native.Mathlib.Omega.{arith}
 use native.Mathlib.Numerals.{add-one}
+use lib.Dec.{ltb}
+use borrow.Author.Tests.{ltb-true, ltb-false, le-ltb}
 use lib.ListN.{length, getD, take, drop, length-take, drop-of-length-le}
-use lib.Seq.{getD-set-other, take-suc, take-suc-set, drop-cons, getD-take}
-use Rattle.laws.specs.Lists.{filterb, anyb}
+use lib.Seq.{getD-set-other, take-suc, take-suc-set, drop-cons, getD-take, take-take}
+use Rattle.laws.specs.Lists.{filterb}
+use Rattle.laws.proofs.Bools.{and-true, and-true-left, and-true-right, or-false-right, test}
 use Rattle.laws.proofs.Lists.{filterb-append}
 use Rattle.profile.specs.Journeys.{cov, due, noRow}
 use Rattle.profile.specs.Kept.{latest}
+use Rattle.profile.specs.Walk.{place, near}
+use Rattle.profile.proofs.CoverLaws.{cov-early, cov-later}
+use Rattle.profile.proofs.WalkLaws.{place-le, place-before, passes-found, passes-none}
 use Rattle.profile.specs.declared.Row.{Row}
-use Rattle.state.specs.View.{rowAt, rows}
-use Rattle.candidate.specs.Pieces.{putRow, coveredBy, Packed, Moved, latestDue}
+use Rattle.state.specs.View.{rowAt, rows, countOf}
+use Rattle.candidate.specs.Pieces.{putRow, apartBy, Ends, nearTo, nearAt, Skipped, passing, stays, Packed, Moved, latestDue}
 use Rattle.candidate.proofs.PutLaws.{put-long, put-tail, rows-put}
 use Rattle.state.proofs.RowLaws.{rows-length, rows-get}
+use Rattle.state.proofs.ViewLaws.{few}
 
--- ---- is it covered
+-- ---- the first that is near
+
+-- two rows of which one both leaves and arrives before the other: neither covers the other
+below-apart : (a b : Row) → (ltb (a .leave) (b .leave) && ltb (a .arrival) (b .arrival)) ≡ true → (cov a b ≡ false) × (cov b a ≡ false)
+below-apart a b e =
+    let l : a .leave < b .leave = ltb-true (a .leave) (b .leave) (and-true-left (ltb (a .leave) (b .leave)) (ltb (a .arrival) (b .arrival)) e) in
+    let m : a .arrival < b .arrival = ltb-true (a .arrival) (b .arrival) (and-true-right (ltb (a .leave) (b .leave)) (ltb (a .arrival) (b .arrival)) e) in
+    (sym (cov-early a b l), sym (cov-later b a (omega arith) m))
+
+apart-near : (k o : Row) → apartBy (k .leave) (k .arrival) (o .leave) (o .arrival) ≡ true → nearTo o k ≡ false
+unfolding apartBy nearTo
+apart-near k o e = go (test (ltb (k .leave) (o .leave))) e
+  where
+    go : (ltb (k .leave) (o .leave) ≡ true) ⊎ (ltb (k .leave) (o .leave) ≡ false)
+        → cond (ltb (k .leave) (o .leave)) (ltb (k .arrival) (o .arrival)) (ltb (o .leave) (k .leave) && ltb (o .arrival) (k .arrival)) ≡ true → near cov k o ≡ false
+    go (inl t) e =
+        let d : ltb (k .arrival) (o .arrival) ≡ true = rw t at e in
+        let (x, y) = below-apart k o (and-true (ltb (k .leave) (o .leave)) (ltb (k .arrival) (o .arrival)) t d) in
+        rw (x, y)
+    go (inr t) e =
+        let d : (ltb (o .leave) (k .leave) && ltb (o .arrival) (k .arrival)) ≡ true = rw t at e in
+        let (x, y) = below-apart o k d in
+        rw (x, y)
+
+apart-self : (x a b : ℕ) → apartBy x a x b ≡ false
+unfolding apartBy
+apart-self x a b = rw (le-ltb x x (omega arith))
+
+-- the walk ends at slot c
+ends-there : (l : List ℕ) (i c : ℕ) (o : Row) → Ends l c o → i ≡ c → apartBy (getD l (i * 10) 0) (getD l (i * 10 + 1) 0) (o .leave) (o .arrival) ≡ false
+unfolding Ends
+ends-there l i c o m e = rw (e, m) (apart-self (o .leave) (getD l (c * 10 + 1) 0) (o .arrival))
+
+module _ (l : List ℕ) (c i : ℕ) (o : Row) {b : Bool} (few : c ≤ 64) (le : i ≤ c) (m : Ends l c o)
+    (e : b ≡ apartBy (getD l (i * 10) 0) (getD l (i * 10 + 1) 0) (o .leave) (o .arrival)) (t : b ≡ true) where
+  pub apart-below : i < c
+  apart-below = go (test (ltb i c))
+    where
+      go : (ltb i c ≡ true) ⊎ (ltb i c ≡ false) → i < c
+      go (inl x) = ltb-true i c x
+      go (inr x) = absurd (true≢false (sym t ∙ e ∙ ends-there l i c o m (omega (arith, ltb-false i c x))))
+
+  pub apart-row : nearTo o (getD (rows l) i noRow) ≡ false
+  unfolding rowAt
+  apart-row = ap (nearTo o) (rows-get l i (omega arith)) ∙ apart-near (rowAt l i) o (sym e ∙ t)
+
+module _ (k o : Row) (b : Bool) (e : b ≡ cov k o) where
+  pub near-covering : b ≡ true → nearTo o k ≡ true
+  unfolding nearTo
+  near-covering t = rw (← e, t) refl
+
+  pub near-other : (d : Bool) → b ≡ false → d ≡ cov o k → nearTo o k ≡ d
+  unfolding nearTo
+  near-other d f ed = rw (← e, f) (sym ed)
+
+pub skip-none : (o : Row) (ks : List Row) (i : ℕ) → Skipped o ks i i
+skip-none o ks i = record { same = refl; up = omega arith }
+
+pub skip-on : (o : Row) (ks : List Row) (i j r : ℕ) → Skipped o ks i j → Skipped o ks j r → Skipped o ks i r
+skip-on o ks i j r s t = record { same = s .same ∙ t .same; up = omega (arith, s .up, t .up) }
 
 module _ (l : List ℕ) (n i : ℕ) (o : Row) (few : n ≤ 65) (lt : i < n) where
   next : drop i (take n (rows l)) ≡ getD (rows l) i noRow ∷ drop (suc i) (take n (rows l))
@@ -26,28 +92,75 @@ module _ (l : List ℕ) (n i : ℕ) (o : Row) (few : n ≤ 65) (lt : i < n) wher
       let b : i < length (take n (rows l)) = omega (arith, length-take n (rows l), rows-length l) in
       drop-cons (take n (rows l)) i noRow b ∙ ap (λ (x : Row). x ∷ drop (suc i) (take n (rows l))) (getD-take n (rows l) i noRow lt)
 
-  covered-next : coveredBy o (drop i (take n (rows l))) ≡ (cov (getD (rows l) i noRow) o || coveredBy o (drop (suc i) (take n (rows l))))
-  unfolding coveredBy
-  covered-next = ap (anyb (λ k. cov k o)) next
+  near-next : nearAt o (drop i (take n (rows l))) ≡ cond (nearTo o (getD (rows l) i noRow)) 0 (suc (nearAt o (drop (suc i) (take n (rows l)))))
+  unfolding nearAt nearTo
+  near-next = ap (place (λ k. near cov k o)) next
 
-  pub covered-found : (k : Row) (b : Bool) → k ≡ getD (rows l) i noRow → b ≡ cov k o → b ≡ true → coveredBy o (drop i (take n (rows l))) ≡ coveredBy o (take n (rows l))
-      → true ≡ coveredBy o (take n (rows l))
-  covered-found k b ek eb t inv =
-      let y : cov (getD (rows l) i noRow) o ≡ true = ap (λ (x : Row). cov x o) (sym ek) ∙ sym eb ∙ t in
-      sym (ap (λ (x : Bool). x || coveredBy o (drop (suc i) (take n (rows l)))) y) ∙ sym covered-next ∙ inv
+  -- a row that is near is the first
+  near-found : (k : Row) → k ≡ getD (rows l) i noRow → nearTo o k ≡ true → Skipped o (take n (rows l)) 0 i → i ≡ nearAt o (take n (rows l))
+  near-found k ek t s =
+      let y : nearTo o (getD (rows l) i noRow) ≡ true = ap (nearTo o) (sym ek) ∙ t in
+      let z : nearAt o (drop i (take n (rows l))) ≡ 0 = near-next ∙ rw y in
+      omega (arith, s .same, z)
 
-  pub covered-on : (k : Row) (b : Bool) → k ≡ getD (rows l) i noRow → b ≡ cov k o → b ≡ false → coveredBy o (drop i (take n (rows l))) ≡ coveredBy o (take n (rows l))
-      → coveredBy o (drop (i + 1) (take n (rows l))) ≡ coveredBy o (take n (rows l))
-  covered-on k b ek eb t inv =
-      let y : cov (getD (rows l) i noRow) o ≡ false = ap (λ (x : Row). cov x o) (sym ek) ∙ sym eb ∙ t in
-      ap (λ (j : ℕ). coveredBy o (drop j (take n (rows l)))) (add-one i)
-      ∙ sym (ap (λ (x : Bool). x || coveredBy o (drop (suc i) (take n (rows l)))) y) ∙ sym covered-next ∙ inv
+  -- one that is not is skipped
+  pub skip-turn : (j : ℕ) (k : Row) → k ≡ getD (rows l) i noRow → nearTo o k ≡ false → Skipped o (take n (rows l)) j i → Skipped o (take n (rows l)) j (i + 1)
+  skip-turn j k ek f s =
+      let y : nearTo o (getD (rows l) i noRow) ≡ false = ap (nearTo o) (sym ek) ∙ f in
+      let z : nearAt o (drop i (take n (rows l))) ≡ suc (nearAt o (drop (suc i) (take n (rows l)))) = near-next ∙ rw y in
+      let e : nearAt o (drop (i + 1) (take n (rows l))) ≡ nearAt o (drop (suc i) (take n (rows l))) = ap (λ (x : ℕ). nearAt o (drop x (take n (rows l)))) (add-one i) in
+      record { same = omega (arith, s .same, z, e); up = omega (arith, s .up) }
 
-pub covered-none : (l : List ℕ) (n i : ℕ) (o : Row) → n ≤ i → coveredBy o (drop i (take n (rows l))) ≡ coveredBy o (take n (rows l)) → false ≡ coveredBy o (take n (rows l))
-unfolding coveredBy
-covered-none l n i o h inv =
+near-none : (l : List ℕ) (n i : ℕ) (o : Row) → n ≤ i → Skipped o (take n (rows l)) 0 i → i ≡ nearAt o (take n (rows l))
+unfolding nearAt
+near-none l n i o h s =
     let e : drop i (take n (rows l)) ≡ [] = drop-of-length-le (take n (rows l)) {i = i} (omega (arith, length-take n (rows l))) in
-    sym (ap (anyb (λ k. cov k o)) e) ∙ inv
+    let z : nearAt o (drop i (take n (rows l))) ≡ 0 = ap (place (λ k. near cov k o)) e in
+    omega (arith, s .same, z)
+
+-- ---- what it decides
+
+module _ (l : List ℕ) (n j : ℕ) (o : Row) (few : n ≤ 65) (ej : j ≡ nearAt o (take n (rows l))) where
+  all : length (take n (rows l)) ≡ n
+  all = omega (arith, length-take n (rows l), rows-length l)
+
+  near-le : j ≤ n
+  unfolding nearAt
+  near-le = omega (arith, place-le (λ k. near cov k o) (take n (rows l)), all)
+
+  passed-at : j < n → (k : Row) (b : Bool) → k ≡ getD (rows l) j noRow → b ≡ cov k o → b ≡ passing o (take n (rows l))
+  unfolding passing nearAt
+  passed-at lt k b ek eb =
+      eb ∙ ap (λ (x : Row). cov x o) (ek ∙ sym (getD-take n (rows l) j noRow lt) ∙ ap (λ (i : ℕ). getD (take n (rows l)) i noRow) ej)
+      ∙ sym (passes-found cov o noRow (take n (rows l)) (omega (arith, all)))
+
+  passed-none : n ≤ j → false ≡ passing o (take n (rows l))
+  unfolding passing nearAt
+  passed-none h = sym (passes-none cov o (take n (rows l)) (omega (arith, all)))
+
+  -- all in front of it stay
+  front-packed : length l ≡ 654 → Packed (stays true o 0) l l j j
+  unfolding nearAt stays
+  front-packed long =
+      let f = place-before (λ k. near cov k o) (λ k. not (cov o k)) (λ k e. ap not (or-false-right (cov k o) (cov o k) e)) (take n (rows l)) in
+      let g : take (nearAt o (take n (rows l))) (take n (rows l)) ≡ take j (rows l) = ap (λ (i : ℕ). take i (take n (rows l))) (sym ej) ∙ take-take j n (rows l) near-le in
+      record { long = long; list = sym g ∙ sym f ∙ ap (filterb (λ k. not (cov o k))) g; small = omega arith; tail = λ x h. refl; upper = λ k h. refl }
+
+-- what is packed from where the walk stops
+pub packs-from : (l : List ℕ) (c j : ℕ) (o : Row) → c ≡ countOf l → j ≡ nearAt o (take c (rows l)) → length l ≡ 654
+    → Packed (stays true o 0) l l j j × (j ≤ c) × (c ≤ 65)
+packs-from l c j o ec ej long =
+    let m : c ≤ 65 = omega (arith, few l c ec) in
+    (front-packed l c j o m ej long, near-le l c j o m ej, m)
+
+-- the walk ends at a row that is near, or behind the last
+pub found-at : (l : List ℕ) (n i : ℕ) (o : Row) → n ≤ 65 → i < n → (k : Row) (b : Bool) → k ≡ getD (rows l) i noRow → b ≡ cov k o → nearTo o k ≡ true
+    → Skipped o (take n (rows l)) 0 i → (i ≡ nearAt o (take n (rows l))) × (b ≡ passing o (take n (rows l)))
+found-at l n i o few lt k b ek eb t s = let e = near-found l n i o few lt k ek t s in (e, passed-at l n i o few e lt k b ek eb)
+
+pub found-none : (l : List ℕ) (n i : ℕ) (o : Row) → n ≤ 65 → n ≤ i → Skipped o (take n (rows l)) 0 i
+    → (i ≡ nearAt o (take n (rows l))) × (false ≡ passing o (take n (rows l)))
+found-none l n i o few h s = let e = near-none l n i o h s in (e, passed-none l n i o few e h)
 
 -- ---- the latest arrival
 

@@ -1,14 +1,15 @@
 -- What the private functions of an offer do to the array, piece by piece.
 use mathlib.Core.Path.{_≡_}
-use mathlib.Core.Bool.{Bool, true, false, not, cond}
+use mathlib.Core.Bool.{Bool, true, false, not, cond, _&&_}
 use mathlib.Core.List.{List, [], _∷_}
 use Prim.Native.Nat.{ℕ, _+_, _*_, _≤_}
-use lib.Dec.{leb}
-use lib.ListN.{getD, length, set, take}
-use Rattle.laws.specs.Lists.{filterb, anyb}
+use lib.Dec.{leb, ltb}
+use lib.ListN.{getD, length, set, take, drop}
+use Rattle.laws.specs.Lists.{filterb}
 use Rattle.laws.specs.Arrays.{puts}
 use Rattle.profile.specs.declared.Row.{Row}
 use Rattle.profile.specs.Kept.{St, latest, settle}
+use Rattle.profile.specs.Walk.{place, near, passes}
 use Rattle.profile.specs.Journeys.{cov, due, noRow}
 use Rattle.state.specs.View.{rowAt, rows, horizonOf, limitsOf}
 
@@ -26,8 +27,30 @@ putRow l i r = stored l i r
 abbrev pub Tail : List ℕ → List ℕ → Type 0
 Tail l l′ = (x : ℕ) → 650 ≤ x → getD l′ x 0 ≡ getD l x 0
 
-unfoldable pub coveredBy : Row → List Row → Bool
-coveredBy o ks = anyb (λ k. cov k o) ks
+-- one of the two rows covers the other
+unfoldable pub nearTo : Row → Row → Bool
+nearTo o k = near cov k o
+
+-- the place of the first of the rows that covers o or that o covers; their number if there is none
+unfoldable pub nearAt : Row → List Row → ℕ
+nearAt o ks = place (λ k. near cov k o) ks
+
+-- one of the two leaves and arrives before the other, by leave and arrival
+unfoldable pub apartBy : ℕ → ℕ → ℕ → ℕ → Bool
+apartBy l a m b = cond (ltb l m) (ltb a b) (ltb m l && ltb b a)
+
+-- slot c, behind the c kept rows, leaves when o does: it is not apart from o, so that a walk ends there
+unfoldable pub Ends : List ℕ → ℕ → Row → Type 0
+Ends l c o = getD l (c * 10) 0 ≡ o .leave
+
+-- no row from i up to r covers o or is covered by it
+pub record Skipped (o : Row) (ks : List Row) (i r : ℕ) : Type 0 where
+  pub same : i + nearAt o (drop i ks) ≡ r + nearAt o (drop r ks)
+  pub up : i ≤ r
+
+-- the walk passes o over
+unfoldable pub passing : Row → List Row → Bool
+passing o ks = passes cov o ks
 
 -- which rows stay: those that o does not cover; or those due by h
 unfoldable pub stays : Bool → Row → ℕ → Row → Bool

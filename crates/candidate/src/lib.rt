@@ -2,11 +2,11 @@
 ghost use mathlib.Core.Path.{_≡_};
 ghost use mathlib.Core.List.{[], _∷_, _++_};
 ghost use Prim.Native.Nat.{_+_, _*_, _≤_, _<_, max};
-ghost use lib.ListN.{length, take};
+ghost use lib.ListN.{length, set, take};
 ghost use Rattle.profile.specs.Journeys.{due, rowOf};
-ghost use Rattle.state.specs.View.{rowAt, rows, horizonOf, view};
-ghost use Rattle.candidate.specs.Offer.{offerTo, passedOver};
-ghost use Rattle.candidate.specs.Pieces.{stored, putRow, coveredBy, stays, Packed, Moved, Open, latestDue, settled};
+ghost use Rattle.state.specs.View.{rowAt, rows, countOf, horizonOf, view};
+ghost use Rattle.candidate.specs.Offer.{offerTo, readsTo, passedOver};
+ghost use Rattle.candidate.specs.Pieces.{stored, putRow, apartBy, Ends, nearAt, Skipped, passing, stays, Packed, Moved, Open, latestDue, settled};
 use profile::Row;
 use profile::figures::covers;
 use profile::no_row;
@@ -16,20 +16,67 @@ use state::known;
 use state::row_at;
 use state::too_late;
 
-// Whether one of the first n rows equals or beats o.
-fn covered(st: &[u16; 654], n: usize, o: Row) -> bool
-    requires { ⌜ n ≤ 65 ⌝ }
-    ensures { λ r. ⌜ r ≡ coveredBy o (take n (rows (now (st .entry)))) ⌝ }
+// Whether one of two rows, given by leave and arrival, both leaves and arrives before the other; then neither covers the other.
+fn apart(l: u16, a: u16, m: u16, b: u16) -> bool
+    ensures { λ r. ⌜ r ≡ apartBy l a m b ⌝ }
 {
-    let mut i = 0usize;
-    while i < n {
-        let k = row_at(st, i);
-        if covers(k, o) {
-            return true;
-        }
-        i += 1;
+    if l < m {
+        return a < b;
+    }
+    if m < l {
+        return b < a;
     }
     false
+}
+
+// The next place from `from` on whose row is not apart from o; c at the latest.
+fn skip(st: &[u16; 654], from: usize, c: usize, o: Row) -> usize
+    requires { ⌜ (length (now st) ≡ 654) × (c ≤ 64) × (from ≤ c) × Ends (now st) c o ⌝ }
+    ensures { λ r. ⌜ Skipped o (take c (rows (now (st .entry)))) from r × (r ≤ c) ⌝ }
+{
+    let mut i = from;
+    while apart(st[i * 10], st[i * 10 + 1], o.leave, o.arrival) {
+        i += 1;
+    }
+    i
+}
+
+// Where a walk stops: the place of the first kept row that covers the offer or that it covers, else their number; whether it is passed over.
+// The place is a u16: as a usize the compiler carries ten times its value through the loop as well.
+struct Found {
+    at: u16,
+    passes: bool,
+}
+
+// The walk of o over the c kept rows.
+fn first_near(st: &[u16; 654], c: usize, o: Row) -> Found
+    requires { ⌜ (length (now st) ≡ 654) × (c ≤ 64) × Ends (now st) c o ⌝ }
+    ensures { λ r. ⌜ (r .at ≡ nearAt o (take c (rows (now (st .entry))))) × (r .passes ≡ passing o (take c (rows (now (st .entry))))) ⌝ }
+{
+    let mut i = 0usize;
+    loop {
+        let j = skip(st, i, c, o);
+        if j >= c {
+            return Found {
+                at: j as u16,
+                passes: false,
+            };
+        }
+        let k = row_at(st, j);
+        if covers(k, o) {
+            return Found {
+                at: j as u16,
+                passes: true,
+            };
+        }
+        if covers(o, k) {
+            return Found {
+                at: j as u16,
+                passes: false,
+            };
+        }
+        i = j + 1;
+    }
 }
 
 // Whether the row k stays: if o does not cover it, or, without `by`, if it is due by h.
@@ -85,13 +132,13 @@ fn moved(st: &mut [u16; 654], i: usize, n: usize, by: bool, o: Row, h: u16) -> u
     n
 }
 
-// Moves those of the first c rows that stay to the front, in order; how many there are.
-fn pack(st: &mut [u16; 654], c: usize, by: bool, o: Row, h: u16) -> usize
-    requires { ⌜ (length (now st) ≡ 654) × (c ≤ 65) ⌝ }
+// Moves those of the rows from `from` up to c that stay behind the first `kept`, in order; how many there are then.
+fn pack(st: &mut [u16; 654], from: usize, kept: usize, c: usize, by: bool, o: Row, h: u16) -> usize
+    requires { ⌜ Packed (stays by o h) (now st) (now st) from kept × (from ≤ c) × (c ≤ 65) ⌝ }
     ensures { λ r. ⌜ Packed (stays by o h) (now (st .entry)) (now (st .exit)) c r ⌝ }
 {
-    let mut n = 0usize;
-    let mut i = 0usize;
+    let mut n = kept;
+    let mut i = from;
     while i < c {
         n = moved(st, i, n, by, o, h);
         i += 1;
@@ -124,7 +171,7 @@ fn fall(st: &mut [u16; 654], h: u16)
     requires { ⌜ (length (now st) ≡ 654) × Open (now st) × (3600 ≤ h) × (latestDue (rows (now st)) ≡ h + 1) ⌝ }
     ensures { λ _. ⌜ view (now (st .exit)) ≡ settled (now (st .entry)) (rows (now (st .entry))) ⌝ }
 {
-    let n = pack(st, 65, false, no_row(), h);
+    let n = pack(st, 0, 0, 65, false, no_row(), h);
     st[650] = n as u16;
     st[651] = h;
     st[652] = 1;
@@ -156,17 +203,37 @@ fn added(st: &mut [u16; 654], n: usize, o: Row)
     overflow(st);
 }
 
-// The offer of a row that is due in time.
-fn consider(st: &mut [u16; 654], o: Row)
+// The walk over the c kept rows: o is passed over, or what it covers from where the walk stops goes and it is added. How many are read.
+fn walked(st: &mut [u16; 654], c: usize, o: Row) -> usize
+    requires { ⌜ (length (now st) ≡ 654) × Open (now st) × (due o ≤ horizonOf (now st)) × (c ≡ countOf (now st)) × Ends (now st) c o ⌝ }
+    ensures { λ r. ⌜ (view (now (st .exit)) ≡ offerTo (view (now (st .entry))) o) × (r ≡ readsTo (view (now (st .entry))) o) ⌝ }
+{
+    let f = first_near(st, c, o);
+    if f.passes {
+        return f.at as usize + 1;
+    }
+    let j = f.at as usize;
+    let n = pack(st, j, j, c, true, o, 0);
+    added(st, n, o);
+    c
+}
+
+// Marks the end of the c kept rows for a walk: the slot behind them leaves when o does.
+fn mark(st: &mut [u16; 654], c: usize, leave: u16)
+    requires { ⌜ (length (now st) ≡ 654) × (c ≤ 64) ⌝ }
+    ensures { λ _. ⌜ now (st .exit) ≡ set (now (st .entry)) (c * 10) leave ⌝ }
+{
+    st[c * 10] = leave;
+}
+
+// The offer of a row that is due in time; how many kept rows are read.
+fn consider(st: &mut [u16; 654], o: Row) -> usize
     requires { ⌜ (length (now st) ≡ 654) × Open (now st) × (due o ≤ horizonOf (now st)) ⌝ }
-    ensures { λ _. ⌜ view (now (st .exit)) ≡ offerTo (view (now (st .entry))) o ⌝ }
+    ensures { λ r. ⌜ (view (now (st .exit)) ≡ offerTo (view (now (st .entry))) o) × (r ≡ readsTo (view (now (st .entry))) o) ⌝ }
 {
     let c = count(st);
-    if covered(st, c, o) {
-        return;
-    }
-    let n = pack(st, c, true, o, 0);
-    added(st, n, o);
+    mark(st, c, o.leave);
+    walked(st, c, o)
 }
 
 fn narrow(horizon: u16, arrival: u32) -> u16
@@ -176,7 +243,7 @@ fn narrow(horizon: u16, arrival: u32) -> u16
     arrival as u16
 }
 
-// Offers a journey, given by the numbers of a row. An arrival past 65535 is due after every horizon.
+// Offers a journey, given by the numbers of a row; how many kept journeys are read. An arrival past 65535 is due after every horizon.
 pub fn candidate(
     st: &mut [u16; 654],
     leave: u16,
@@ -189,12 +256,13 @@ pub fn candidate(
     alight: u16,
     board2: u16,
     alight2: u16,
-)
-    ensures { λ _. ⌜ view (now (st .exit)) ≡ offerTo (view (now (st .entry))) (rowOf leave arrival rides walk origin target board alight board2 alight2) ⌝ }
+) -> usize
+    ensures { λ r. ⌜ (view (now (st .exit)) ≡ offerTo (view (now (st .entry))) (rowOf leave arrival rides walk origin target board alight board2 alight2))
+        × (r ≡ readsTo (view (now (st .entry))) (rowOf leave arrival rides walk origin target board alight board2 alight2)) ⌝ }
 {
     known(*st);
     if too_late(st, arrival) {
-        return;
+        return 0;
     }
     let due = narrow(horizon(st), arrival);
     consider(
@@ -211,18 +279,21 @@ pub fn candidate(
             board2,
             alight2,
         },
-    );
+    )
 }
 
-// Whether the offer of a journey with these figures would be passed over; then so would that of each one that it equals or beats.
-pub fn passes_over(st: &[u16; 654], leave: u16, arrival: u16, rides: u16, walk: u16) -> bool
-    ensures { λ r. ⌜ r ≡ passedOver (view (now (st .entry))) (rowOf leave arrival rides walk 0 0 0 0 0 0) ⌝ }
+// Whether the offer of a journey with these figures would be passed over; then so would that of each one that it equals or beats. Only the end of
+// the kept rows is marked.
+pub fn passes_over(st: &mut [u16; 654], leave: u16, arrival: u16, rides: u16, walk: u16) -> bool
+    ensures { λ r. ⌜ (view (now (st .exit)) ≡ view (now (st .entry))) × (r ≡ passedOver (view (now (st .entry))) (rowOf leave arrival rides walk 0 0 0 0 0 0)) ⌝ }
 {
+    known(*st);
     if too_late(st, arrival as u32) {
         return true;
     }
     let c = count(st);
-    covered(
+    mark(st, c, leave);
+    let f = first_near(
         st,
         c,
         Row {
@@ -237,5 +308,6 @@ pub fn passes_over(st: &[u16; 654], leave: u16, arrival: u16, rides: u16, walk: 
             board2: 0,
             alight2: 0,
         },
-    )
+    );
+    f.passes
 }

@@ -5,12 +5,13 @@ use lib.IntN.{ℤ}
 use Rattle.laws.proofs.Sort.{sort-perm, sort-mem, mem-sort}
 use Rattle.profile.specs.Figures.{Figures, covᶠ, dueᶠ}
 use Rattle.profile.specs.Best.{sooner, figuresAt, numbered}
-use Rattle.profile.specs.Claims.{KeptIsFront, FrontUnbeaten, KeptCovers, CoveredBeatsNone, SearchIsFall, FallsAtOneMore, LatePassedOver, KeptComplete, CompleteCut, Alike, BestInOrder, PlaceInOrder, PutInOrder, OrderedBest, CompleteOrdered, SearchMaps, OrderedMaps}
+use Rattle.profile.specs.Claims.{KeptIsFront, FrontUnbeaten, KeptCovers, CoveredBeatsNone, KeptAntichain, AntichainUnbeaten, OneWalk, WalksSearch, ReadsByPlace, SearchIsFall, FallsAtOneMore, LatePassedOver, KeptComplete, CompleteCut, Alike, BestInOrder, PlaceInOrder, PutInOrder, OrderedBest, CompleteOrdered, SearchMaps, OrderedMaps}
 use Rattle.profile.proofs.FiguresLaws.{figures-order}
-use Rattle.profile.proofs.FrontLaws.{after-mem, after-unbeaten, covered-beats-none as front-beats-none}
+use Rattle.profile.proofs.FrontLaws.{after-mem, after-unbeaten, front-antichain, covered-beats-none as front-beats-none}
 use Rattle.profile.proofs.KeptLaws.{run-kept, run-covers}
 use Rattle.profile.proofs.FallLaws.{run-marked, run-fall}
 use Rattle.profile.proofs.PassLaws.{offers-late}
+use Rattle.profile.proofs.WalkLaws.{antichain-unbeaten as unbeaten, one-walk as walked, walks-run, reads-by-place as by-place}
 use Rattle.profile.proofs.BestLaws.{complete-cut as cut, alike-asked}
 use Rattle.profile.proofs.MapLaws.{run-map}
 use Rattle.profile.proofs.SortLaws as sorted
@@ -33,6 +34,21 @@ module _ {A : Type 0} (fig : A → Figures) where
   covered-beats-none h₀ l₀ os ks h l e o k k′ m c m′ =
       let q = kept-is-front h₀ l₀ os ks h l e .0 in
       front-beats-none (figures-order fig) h os o (rw q at m) c (rw q at m′)
+
+  pub kept-antichain : KeptAntichain fig
+  kept-antichain h₀ l₀ os ks h l e = rw (kept-is-front h₀ l₀ os ks h l e .0) (front-antichain (covᶠ fig) (dueᶠ fig) h os)
+
+  pub antichain-unbeaten : AntichainUnbeaten fig
+  antichain-unbeaten ks w o k k′ m c m′ = unbeaten (figures-order fig) o k k′ ks w m c m′
+
+  pub one-walk : OneWalk fig
+  one-walk ks h l o w = walked (figures-order fig) 64 3600 ks h l o w
+
+  pub walks-search : WalksSearch fig
+  walks-search h₀ l₀ os = walks-run (figures-order fig) 64 3600 (omega arith) h₀ l₀ os
+
+  pub reads-by-place : ReadsByPlace fig
+  reads-by-place ks o w = by-place (figures-order fig) o ks w
 
   pub search-is-fall : SearchIsFall fig
   search-is-fall h₀ l₀ os = run-fall (figures-order fig) 64 3600 (omega arith) h₀ l₀ os

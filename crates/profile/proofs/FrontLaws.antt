@@ -13,6 +13,7 @@ use Rattle.laws.specs.Lists.{filterb, anyb}
 use Rattle.laws.proofs.Bools.{and-true, and-true-left, and-true-right, test, not-true}
 use Rattle.laws.proofs.Lists.{anyb-mem, mem-anyb, anyb-not, anyb-none, anyb-append, mem-filterb, filterb-cong, filterb-all, length-filterb, snoc-ind}
 use Rattle.profile.specs.Front.{beats, counts, after, front, Order}
+use Rattle.profile.specs.Walk.{near, Antichain}
 
 module _ {A : Type 0} (cov : A → A → Bool) (due : A → ℕ) where
   -- what the offer o adds to those that count, after `pre`
@@ -109,6 +110,38 @@ module _ {A : Type 0} (cov : A → A → Bool) (due : A → ℕ) where
       go : ((k ≡ x) × (counts cov due h pre x os ≡ true)) ⊎ List·Memᴰ k (after cov due h (pre ++ x ∷ []) os) → (List·Memᴰ k (after cov due h (pre ++ x ∷ []) os) → beats cov q k ≡ false) → beats cov q k ≡ false
       go (inl (r, e)) ih = rw r (self (List·Memᴰ·append-cases pre n) e)
       go (inr m′) ih = ih m′
+
+  -- no offer before one that counts covers it
+  after-uncovered : (h : ℕ) (pre os : List A) {k q : A} → List·Memᴰ k (after cov due h pre os) → List·Memᴰ q pre → cov q k ≡ false
+  after-uncovered h pre [] m n = absurd (List·Memᴰ·not-nil m)
+  after-uncovered h pre (x ∷ os) {k} {q} m n =
+      go (after-cases h pre x os m) (λ m′. after-uncovered h (pre ++ x ∷ []) os m′ (Memᴰ·append-left (x ∷ []) n))
+    where
+      go : ((k ≡ x) × (counts cov due h pre x os ≡ true)) ⊎ List·Memᴰ k (after cov due h (pre ++ x ∷ []) os) → (List·Memᴰ k (after cov due h (pre ++ x ∷ []) os) → cov q k ≡ false) → cov q k ≡ false
+      go (inl (r, e)) ih = rw r (anyb-not (λ z. cov z x) (counts-tests h pre x os e .2) n)
+      go (inr m′) ih = ih m′
+
+  -- of those that count none covers another
+  after-antichain : (h : ℕ) (pre os : List A) → Antichain cov (after cov due h pre os)
+  after-antichain h pre [] = tt
+  after-antichain h pre (x ∷ os) = go (counts cov due h pre x os) refl (after-antichain h (pre ++ x ∷ []) os)
+    where
+      rest : List A
+      rest = after cov due h (pre ++ x ∷ []) os
+
+      apart : counts cov due h pre x os ≡ true → (y : A) → List·Memᴰ y (after cov due h (pre ++ x ∷ []) os) → near cov x y ≡ false
+      apart e y m =
+          let a : cov x y ≡ false = after-uncovered h (pre ++ x ∷ []) os m (Memᴰ·append-right pre (List·Memᴰ·head refl)) in
+          let b : (cov y x && not (cov x y)) ≡ false = anyb-not (λ q. beats cov q x) (counts-tests h pre x os e .0) (after-mem h (pre ++ x ∷ []) os m .0) in
+          let d : (cov y x && true) ≡ false = rw a at b in
+          rw a (sym (and-true′ (cov y x)) ∙ d)
+
+      go : (b : Bool) → counts cov due h pre x os ≡ b → Antichain cov rest → Antichain cov (cond b (x ∷ rest) rest)
+      go true e w = (apart e, w)
+      go false e w = w
+
+  pub front-antichain : (h : ℕ) (os : List A) → Antichain cov (front cov due h os)
+  front-antichain h os = after-antichain h [] os
 
 -- ---- the laws that ask for an order
 

@@ -3,6 +3,7 @@ pub mod FrontLaws
 pub mod KeptLaws
 pub mod FallLaws
 pub mod PassLaws
+pub mod WalkLaws
 pub mod MapLaws
 pub mod PickLaws
 pub mod SortLaws

@@ -1,15 +1,16 @@
 -- What is claimed of a search's kept list, at 64 journeys and a least horizon of 3600, of anything that has the four figures.
 use mathlib.Core.Path.{_≡_}
 use mathlib.Core.Logic.{_↔_}
-use mathlib.Core.Bool.{true, false}
+use mathlib.Core.Bool.{true, false, cond}
 use mathlib.Core.List.{List, [], map, List·Memᴰ, List·Permᴰ}
-use Prim.Native.Nat.{ℕ, _≤_, min}
+use Prim.Native.Nat.{ℕ, suc, _≤_, min}
 use lib.Dec.{leb}
 use lib.IntN.{ℤ, pos}
 use lib.ListN.{length}
-use Rattle.laws.specs.Lists.{filterb, foldl}
+use Rattle.laws.specs.Lists.{filterb, anyb, foldl}
 use Rattle.profile.specs.Figures.{Figures, covers, covᶠ, dueᶠ}
 use Rattle.profile.specs.Kept.{St, going, offer, searched, tooLate, mapSt}
+use Rattle.profile.specs.Walk.{place, Antichain, reads, walk}
 use Rattle.profile.specs.Front.{beats, front}
 use Rattle.profile.specs.Fall.{fall, keeping, Marked}
 use Rattle.profile.specs.Best.{bestℤ, firstℤ, readBy, Covers, Ahead, Complete, Ordered, ordered, figuresAt, numbered}
@@ -36,6 +37,29 @@ module _ {A : Type 0} (fig : A → Figures) where
   abbrev pub CoveredBeatsNone : Type 0
   CoveredBeatsNone = (h₀ l₀ : ℕ) (os ks : List A) (h l : ℕ) → Keeps h₀ l₀ os ks h l
       → (o k k′ : A) → List·Memᴰ k ks → covers (fig k) (fig o) ≡ true → List·Memᴰ k′ ks → beats (covᶠ fig) o k′ ≡ false
+
+  -- of the journeys that a search keeps none equals or beats another
+  abbrev pub KeptAntichain : Type 0
+  KeptAntichain = (h₀ l₀ : ℕ) (os ks : List A) (h l : ℕ) → Keeps h₀ l₀ os ks h l → Antichain (covᶠ fig) ks
+
+  -- an offer that one of an antichain equals or beats beats none of it
+  abbrev pub AntichainUnbeaten : Type 0
+  AntichainUnbeaten = (ks : List A) → Antichain (covᶠ fig) ks
+      → (o k k′ : A) → List·Memᴰ k ks → covers (fig k) (fig o) ≡ true → List·Memᴰ k′ ks → beats (covᶠ fig) o k′ ≡ false
+
+  -- on an antichain one walk leaves what judging and then dropping leave: list, order, horizon, mark, and a refusal
+  abbrev pub OneWalk : Type 0
+  OneWalk = (ks : List A) (h l : ℕ) (o : A) → Antichain (covᶠ fig) ks
+      → walk (covᶠ fig) (dueᶠ fig) 64 3600 (going ks h l) o ≡ offer (covᶠ fig) (dueᶠ fig) 64 3600 (going ks h l) o
+
+  -- the walks of any list of offers, from no journey, are a search
+  abbrev pub WalksSearch : Type 0
+  WalksSearch = (h₀ l₀ : ℕ) (os : List A) → foldl (walk (covᶠ fig) (dueᶠ fig) 64 3600) (going [] h₀ l₀) os ≡ searched fig 64 3600 h₀ l₀ os
+
+  -- on an antichain the walk reads one more than stand in front of the first that equals or beats the offer; all of it if none does
+  abbrev pub ReadsByPlace : Type 0
+  ReadsByPlace = (ks : List A) (o : A) → Antichain (covᶠ fig) ks
+      → reads (covᶠ fig) o ks ≡ cond (anyb (λ k. covᶠ fig k o) ks) (suc (place (λ k. covᶠ fig k o) ks)) (length ks)
 
   -- the horizon and the mark come from the offers alone, and with them the whole state
   abbrev pub SearchIsFall : Type 0

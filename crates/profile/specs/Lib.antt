@@ -1,5 +1,6 @@
 pub mod Figures
 pub mod Kept
+pub mod Walk
 pub mod Front
 pub mod Fall
 pub mod Best

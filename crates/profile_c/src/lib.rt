@@ -2,9 +2,9 @@
 ghost use mathlib.Core.Path.{_≡_};
 ghost use Rattle.profile.specs.Journeys.{rowOf};
 ghost use Rattle.state.specs.View.{view};
-ghost use Rattle.candidate.specs.Offer.{offerTo};
+ghost use Rattle.candidate.specs.Offer.{offerTo, readsTo};
 
-// Offers a journey to the state (`candidate`); the state has 654 numbers.
+// Offers a journey to the state (`candidate`); the state has 654 numbers. How many kept journeys are read.
 #[no_mangle]
 pub extern "C" fn profile_candidate(
     st: &mut [u16; 654],
@@ -18,8 +18,9 @@ pub extern "C" fn profile_candidate(
     alight: u16,
     board2: u16,
     alight2: u16,
-)
-    ensures { λ _. ⌜ view (now (st .exit)) ≡ offerTo (view (now (st .entry))) (rowOf leave arrival rides walk origin target board alight board2 alight2) ⌝ }
+) -> usize
+    ensures { λ r. ⌜ (view (now (st .exit)) ≡ offerTo (view (now (st .entry))) (rowOf leave arrival rides walk origin target board alight board2 alight2))
+        × (r ≡ readsTo (view (now (st .entry))) (rowOf leave arrival rides walk origin target board alight board2 alight2)) ⌝ }
 {
     candidate::candidate(
         st,
@@ -33,5 +34,5 @@ pub extern "C" fn profile_candidate(
         alight,
         board2,
         alight2,
-    );
+    )
 }

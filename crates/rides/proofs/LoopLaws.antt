@@ -14,7 +14,7 @@ use Rattle.profile.specs.declared.Row.{Row}
 use Rattle.profile.specs.Kept.{St, refused}
 use Rattle.state.specs.View.{view, openOf}
 use Rattle.candidate.specs.Offer.{offerTo}
-use Rattle.profile.proofs.PassLaws.{refused-stays}
+use Rattle.candidate.proofs.OfferLaws.{offers-late}
 use Rattle.state.proofs.ViewLaws.{view-is-refused}
 use Rattle.feed.specs.declared.FeedCall.{FeedCall}
 use Rattle.feed.specs.Feed.{sameRun}
@@ -32,6 +32,13 @@ starts = record { is = refl }
 pub nothing : {l : List ℕ} → Offered l l []
 unfolding offerAll
 nothing = record { is = refl }
+
+-- an array of the same state may stand for the last, or for the first
+pub seen-last : {l l′ : List ℕ} {os : List Row} → view l′ ≡ view l → Offered l l os → Offered l l′ os
+seen-last e w = record { is = e ∙ w .is }
+
+pub seen-first : {l l′ l″ : List ℕ} {os : List Row} → view l′ ≡ view l → Offered l′ l″ os → Offered l l″ os
+seen-first {os = os} e w = record { is = w .is ∙ ap (λ (s : St Row). offerAll s os) e }
 
 pub single : {l l′ : List ℕ} {o : Row} → view l′ ≡ offerTo (view l) o → Offered l l′ (o ∷ [])
 unfolding offerAll
@@ -59,8 +66,8 @@ ends {l = l} e i = record { is = sym (ap (offerAll (view l)) e) ∙ i .is }
 
 -- a refused search stays as it is, whatever is offered, so a loop may end there
 refused-all : (s : St Row) (os : List Row) → s ≡ refused → offerAll s os ≡ s
-unfolding offerAll offerTo
-refused-all s os e = ap (λ (r : St Row). offerAll r os) e ∙ refused-stays _ _ _ _ os ∙ sym e
+unfolding offerAll
+refused-all s os e = ap (λ (r : St Row). offerAll r os) e ∙ offers-late refused os (λ o m. refl) ∙ sym e
 
 pub stops : {l₀ l : List ℕ} {all os : List Row} {r : Bool} → r ≡ not (openOf l) → r ≡ true → Left l₀ l all os → Offered l₀ l all
 stops {l = l} {os = os} e t i = record { is = sym (refused-all (view l) os (shut (openOf l) refl (sym e ∙ t))) ∙ i .is }

@@ -1,4 +1,4 @@
--- `candidate` meets its contract: passed over if too late, else considered.
+-- `candidate` meets its contract: passed over unread if too late, else considered.
 use Rattle.profile.specs.Journeys.{due, rowOf}
 use Rattle.candidate.specs.Pieces.{Open}
 use Rattle.state.proofs.ViewLaws.{in-time}

@@ -1,6 +1,8 @@
 -- `fall` meets its contract: of 65 rows those due by h stay, which are at most 64.
 use mathlib.Core.Path.{refl}
 use Rattle.candidate.specs.Pieces.{Open}
+use native.Mathlib.Omega.{arith}
+use Rattle.candidate.proofs.StepLaws.{packed-none}
 use Rattle.candidate.proofs.OfferLaws.{fallen-all}
 use borrow.Author.Needs.{needs}
 use Rattle.candidate.proofs.fall.Statement.{statement}
@@ -10,7 +12,7 @@ no-row-requires : tie.Need-no-row-requires
 no-row-requires c κs = search needs
 
 pack-requires : tie.Need-pack-requires
-pack-requires c κs = search needs
+pack-requires c κs = (packed-none _ _ (c .before .before .pre .0), omega arith, omega arith)
 
 cast-st : tie.Need-cast-st
 cast-st c = search needs

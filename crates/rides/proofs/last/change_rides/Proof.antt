@@ -2,7 +2,7 @@
 use borrow.Author.Tests.{eq-eqb, ne-eqb}
 use borrow.Author.Needs.{needs}
 use Rattle.rides.specs.Rows.{changeRows}
-use Rattle.rides.proofs.LoopLaws.{nothing}
+use Rattle.rides.proofs.LoopLaws.{nothing, seen-first, seen-last}
 use Rattle.rides.proofs.SkipLaws.{skip-changes}
 use Rattle.rides.proofs.last.change_rides.Statement.{statement}
 use Rattle.rides.proofs.last.change_rides.Tie as tie
@@ -19,14 +19,15 @@ passes-over-requires c κs = search needs
 returns : tie.Need-returns
 returns c =
     let p = c .before .before .before in
-    skip-changes _ _ _ (p .before .before .before .pre .1) _ _ (p .before .bucket-of .ensures .0) (p .bound-at .ensures) (c .before .passes-over .ensures) (c .if2 .taken)
+    seen-last (c .before .passes-over .ensures .0)
+    (skip-changes _ _ _ (p .before .before .before .pre .1) _ _ (p .before .bucket-of .ensures .0) (p .bound-at .ensures) (c .before .passes-over .ensures .1) (c .if2 .taken))
 
 last-rides-requires : tie.Need-last-rides-requires
 last-rides-requires c κs = search needs
 
 returns-2 : tie.Need-returns-2
 unfolding changeRows
-returns-2 c = rw (eq-eqb _ _ (c .before .before .before .before .before .before .before .if1 .taken)) (c .last-rides .ensures)
+returns-2 c = rw (eq-eqb _ _ (c .before .before .before .before .before .before .before .if1 .taken)) (seen-first (c .before .before .before .passes-over .ensures .0) (c .last-rides .ensures))
 
 returns-3 : tie.Need-returns-3
 unfolding changeRows

@@ -28,7 +28,7 @@ returns : tie.Need-returns
 unfolding lastAt changeRow sheetOf
 returns c =
     let p = c .before .before .before in
-    rw (← p .target-walk .ensures, ← p .before .call-at .ensures, ← c .before .arrival-of .ensures) (single (c .candidate .ensures))
+    rw (← p .target-walk .ensures, ← p .before .call-at .ensures, ← c .before .arrival-of .ensures) (single (c .candidate .ensures .0))
 
 pub last-at-spec : {M : Type 1} → statement M
 last-at-spec =

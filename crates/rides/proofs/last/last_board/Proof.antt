@@ -4,7 +4,7 @@ use borrow.Author.Needs.{needs}
 use Rattle.rides.specs.Rows.{lastBoardRows}
 use Rattle.feed.specs.Feed.{joined}
 use Rattle.rides.specs.Sheets.{joinsOf, sheetOf}
-use Rattle.rides.proofs.LoopLaws.{nothing}
+use Rattle.rides.proofs.LoopLaws.{nothing, seen-first, seen-last}
 use Rattle.rides.proofs.SkipLaws.{skip-run}
 use Rattle.rides.proofs.last.last_board.Statement.{statement}
 use Rattle.rides.proofs.last.last_board.Tie as tie
@@ -30,7 +30,8 @@ returns c =
     let p = c .before .before .before .before .before in
     let q = p .before .before in
     rw (← q .before .call-at .ensures, q .if1 .taken, ← p .before .change-at .ensures, ← p .join .ensures, c .before .before .before .before .if2 .taken)
-    (skip-run _ _ _ (q .before .before .pre .2) _ (q .before .before .pre .1) (c .before .before .bound-at .ensures) (c .before .passes-over .ensures) (c .if3 .taken))
+    (seen-last (c .before .passes-over .ensures .0)
+    (skip-run _ _ _ (q .before .before .pre .2) _ (q .before .before .pre .1) (c .before .before .bound-at .ensures) (c .before .passes-over .ensures .1) (c .if3 .taken)))
 
 last-alightings-requires : tie.Need-last-alightings-requires
 last-alightings-requires c κs = search needs
@@ -40,7 +41,8 @@ unfolding lastBoardRows joinsOf joined sheetOf
 returns-2 c =
     let p = c .before .before .before .before .before .before .before in
     let q = p .before .before in
-    rw (← q .before .call-at .ensures, q .if1 .taken, ← p .before .change-at .ensures, ← p .join .ensures, c .before .before .before .before .before .before .if2 .taken) (c .last-alightings .ensures)
+    rw (← q .before .call-at .ensures, q .if1 .taken, ← p .before .change-at .ensures, ← p .join .ensures, c .before .before .before .before .before .before .if2 .taken)
+    (seen-first (c .before .before .before .passes-over .ensures .0) (c .last-alightings .ensures))
 
 returns-3 : tie.Need-returns-3
 unfolding lastBoardRows joinsOf joined sheetOf

@@ -17,7 +17,7 @@ candidate-requires c κs = search needs
 
 returns : tie.Need-returns
 unfolding directAt directRow sheetOf
-returns c = rw (← c .before .before .before .target-walk .ensures, ← c .before .arrival-of .ensures) (single (c .candidate .ensures))
+returns c = rw (← c .before .before .before .target-walk .ensures, ← c .before .arrival-of .ensures) (single (c .candidate .ensures .0))
 
 pub direct-at-spec : {M : Type 1} → statement M
 direct-at-spec =
