@@ -1,14 +1,13 @@
 -- What the program's `bestℤ` gives is the best as stated here.
 use mathlib.Core.Path.{_≡_, refl, sym, ap, subst, _∙_}
 use mathlib.Core.Logic.{_⊎_, inl, inr}
-use mathlib.Core.Bool.{Bool, true, false, cond, true≢false, false≢true}
+use mathlib.Core.Bool.{Bool, true, false, cond, true≢false}
 use mathlib.Core.Option.{Option, none, some}
-use mathlib.Core.List.{List, [], _∷_, _++_, List·Memᴰ, List·Memᴰ·head, List·Memᴰ·tail, List·Memᴰ·not-nil, List·Memᴰ·cases-cons}
-use Prim.Native.Nat.{ℕ, _≤_, _<_}
-use native.Mathlib.Omega.{arith}
+use mathlib.Core.List.{List, [], _∷_, _++_, List·Memᴰ, List·Memᴰ·not-nil, List·Memᴰ·cases-cons}
+use Prim.Native.Nat.{ℕ, _≤_}
 use lib.Dec.{leb, ltb}
 use lib.IntN.{ℤ, pos, negsuc}
-use borrow.Author.Tests.{leb-true, leb-false, le-leb, ltb-true, ltb-false}
+use borrow.Author.Tests.{leb-true, le-leb, ltb-true, ltb-false}
 use Rattle.laws.specs.Lists.{filterb}
 use Rattle.profile.specs.declared.Journey.{Journey}
 use Rattle.profile.specs.Figures.{Figures, prefer}
@@ -16,7 +15,7 @@ use Rattle.profile.specs.Best.{choose, pick, bestℤ}
 use Rattle.profile.specs.Journeys.{journeyFigures}
 use Rattle.profile.proofs.FiguresLaws.{prefer-refl, prefer-trans, prefer-total}
 use Rattle.comparison.specs.Order.{Same}
-use Rattle.comparison.specs.Best.{AsGood, IsBest, BestAt}
+use Rattle.comparison.specs.Best.{BestAt}
 use Rattle.comparison.proofs.OrderLaws.{prefer-in}
 
 abbrev pref : Journey → Journey → Bool

@@ -39,7 +39,7 @@ use Rattle.comparison.specs.Admitted.{Nth}
 use Rattle.comparison.specs.Causes.{Beyond, settingsCauses, Needed, stopCauses, ruleCauses}
 use Rattle.comparison.proofs.NthLaws.{nth-below, nth-one, bytes-same, same-bytes}
 use Rattle.comparison.proofs.Deciding.{Decides, Matches, not-is, dec-ltb, dec-leb, dec-eqb, dec-not-ltb, dec-not-leb, dec-is, dec-not, dec-or, dec-and, dec-nand, dec-as}
-use Rattle.comparison.proofs.TakenLaws.{found}
+use Rattle.stops.proofs.SoundLaws.{found}
 use Rattle.comparison.proofs.StartLaws.{Start, stateAt}
 
 -- ---- settings

@@ -1,16 +1,15 @@
 -- In the load that the search was handed, parents, sides, changes and joins are those stated here.
-use Prim.Native.Nat.{ℕ, zero, suc, _+_, _*_, _≤_, _<_}
-use mathlib.Core.Path.{_≡_, refl, sym, ap, ap₂, subst, _∙_}
+use Prim.Native.Nat.{ℕ, _+_, _*_, _≤_, _<_}
+use mathlib.Core.Path.{_≡_, refl, sym, ap, subst, _∙_}
 use mathlib.Core.Logic.{_⊎_, inl, inr, _↔_}
 use mathlib.Core.Bool.{Bool, true, false, not, cond, _&&_, _||_, true≢false, false≢true}
-use mathlib.Core.List.{List, [], _∷_, _++_, map, List·Memᴰ, Memᴰ·map}
+use mathlib.Core.List.{List, map, List·Memᴰ}
 use native.Mathlib.Omega.{arith}
-use lib.Dec.{leb, eqb, ltb}
+use lib.Dec.{eqb, ltb}
 use lib.ListN.{getD, take, length, length-map, length-take, List·getD-map}
 use lib.Seq.{getD-take}
 use borrow.Author.Tests.{leb-true, le-leb, eqb-true, eqb-false, eq-eqb, ne-eqb, lt-ltb, not-true}
-use Rattle.laws.proofs.Bools.{and-true, and-true-left, and-true-right, or-true-cases, or-true-left, or-true-right, cond-by, cond-not, test}
-use Rattle.laws.proofs.Order.{tri}
+use Rattle.laws.proofs.Bools.{and-true, and-true-left, and-true-right, or-true-cases, or-true-left, or-true-right, cond-by}
 use Rattle.settings.specs.declared.Settings.{Settings}
 use Rattle.settings.specs.Settings.{canonicalOf, changeSeconds}
 use Rattle.calls.specs.declared.Call.{Call}
@@ -19,11 +18,7 @@ use Rattle.rules.specs.declared.RuleInput.{RuleInput}
 use Rattle.rules.specs.declared.MinTime.the-variants.{Absent}
 use Rattle.rules.specs.Rules.{ruleOf, blankRule}
 use Rattle.rules.specs.Sound.{ruleAt}
-use Rattle.stops.specs.declared.Stop.{Stop}
-use Rattle.stops.specs.Texts.{sameBytes}
-use Rattle.stops.specs.Stops.{idOf}
 use Rattle.stops.specs.Sound.{stopAt}
-use Rattle.places.specs.Places.{placesOf}
 use Rattle.transfer.specs.declared.Ends.{Ends}
 use Rattle.transfer.specs.declared.Change as changed
 use Rattle.transfer.specs.declared.Change.the-variants.{Takes, Never}
@@ -34,14 +29,13 @@ use Rattle.transfer.proofs.Claims.{parent-read, pair-once}
 use Rattle.transfer.proofs.AnyOrder.{mem-getD}
 use Rattle.load.specs.declared.Load.{Load}
 use Rattle.load.specs.Filling.{Filling}
-use Rattle.load.specs.Sound.{Sound}
 use Rattle.offers.specs.Offers.{rideOf}
 use Rattle.search.specs.Timetable.{changeIn, oneRun, joinsIn}
 use Rattle.comparison.specs.Taken.{StopGiven, stopsIn, rulesIn}
 use Rattle.comparison.specs.Admitted.{Nth, Feed, Parent, Side, Change, Joins}
 use Rattle.comparison.specs.Feeds.{feedFrom}
-use Rattle.comparison.proofs.NthLaws.{nth-below, nth-one, same-bytes}
-use Rattle.comparison.proofs.TakenLaws.{HeldAs, Held}
+use Rattle.comparison.proofs.NthLaws.{nth-one}
+use Rattle.comparison.proofs.TakenLaws.{HeldAs}
 use Rattle.comparison.proofs.StartLaws.{Start}
 use Rattle.comparison.proofs.PlaceLaws.{placeIn, one-id, given-below, place-in, place-out}
 use Rattle.comparison.proofs.RuleLaws.{Taken, Near, change-in, change-out}

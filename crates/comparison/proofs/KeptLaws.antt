@@ -2,7 +2,7 @@
 use mathlib.Core.Path.{_≡_, refl, sym, ap, subst, _∙_}
 use mathlib.Core.Logic.{_⊎_, inl, inr, _↔_, ⊎-elim}
 use mathlib.Core.Bool.{Bool, true, false, not, cond, _&&_, true≢false, false≢true}
-use mathlib.Core.List.{List, [], _∷_, _++_, map, append-assoc, append-nil, List·Memᴰ, List·Memᴰ·head, List·Memᴰ·tail, List·Memᴰ·not-nil, List·Memᴰ·cases-cons, List·Memᴰ·append-cases, Memᴰ·append-left, Memᴰ·append-right, Memᴰ·cast, Memᴰ·map, Memᴰ·of-map}
+use mathlib.Core.List.{List, [], _∷_, _++_, map, append-assoc, append-nil, List·Memᴰ, List·Memᴰ·head, List·Memᴰ·tail, List·Memᴰ·not-nil, List·Memᴰ·cases-cons, List·Memᴰ·append-cases, Memᴰ·append-left, Memᴰ·append-right, Memᴰ·map, Memᴰ·of-map}
 use Prim.Native.Nat.{ℕ, zero, suc, _+_, _≤_, _<_}
 use native.Mathlib.Omega.{arith}
 use lib.Dec.{leb}
@@ -10,8 +10,8 @@ use lib.ListN.{length, getD, length-append, List·getD-append}
 use borrow.Author.Tests.{leb-true, leb-false, le-leb}
 use Rattle.laws.specs.Lists.{anyb}
 use Rattle.laws.specs.Sort.{insertBy, sort}
-use Rattle.laws.proofs.Bools.{and-true, test, not-true as is-false}
-use Rattle.laws.proofs.Lists.{anyb-mem, mem-anyb, anyb-not, anyb-none}
+use Rattle.laws.proofs.Bools.{test, not-true as is-false}
+use Rattle.laws.proofs.Lists.{anyb-not, anyb-none}
 use Rattle.laws.proofs.Sort.{sort-mem, mem-sort}
 use Rattle.transfer.proofs.AnyOrder.{mem-getD}
 use Rattle.profile.specs.declared.Journey.{Journey}

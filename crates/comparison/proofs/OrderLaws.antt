@@ -1,14 +1,14 @@
 -- The program's tests `covers`, `beats` and `prefer` are the relations stated here.
-use mathlib.Core.Path.{_≡_, refl, sym, ap, _∙_}
+use mathlib.Core.Path.{_≡_, sym, ap, _∙_}
 use mathlib.Core.Logic.{_⊎_, inl, inr}
-use mathlib.Core.Bool.{Bool, true, false, not, cond, _&&_, true≢false, false≢true}
+use mathlib.Core.Bool.{Bool, true, not, true≢false}
 use Prim.Native.Nat.{ℕ, _≤_, _<_}
 use native.Mathlib.Omega.{arith}
 use lib.Dec.{leb}
 use borrow.Author.Tests.{leb-true, le-leb, not-true}
 use Rattle.laws.proofs.Bools.{and-true, and-true-left, and-true-right, not-true as is-false}
 use Rattle.profile.specs.declared.Journey.{Journey}
-use Rattle.profile.specs.Figures.{Figures, lexb, covers, prefer, covᶠ}
+use Rattle.profile.specs.Figures.{lexb, covers, prefer}
 use Rattle.profile.specs.Front.{beats}
 use Rattle.profile.specs.Journeys.{journeyFigures}
 use Rattle.profile.proofs.FiguresLaws.{lexb-lt, lexb-eq, lexb-true, covers-leave, covers-lexle}

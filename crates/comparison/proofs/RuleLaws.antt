@@ -1,14 +1,14 @@
 -- The program's change between two stops is the one stated here, where its sides are.
 use Prim.Native.Nat.{ℕ, zero, suc, _+_, _*_, _≤_, _<_}
-use mathlib.Core.Path.{_≡_, refl, sym, ap, ap₂, subst, _∙_}
+use mathlib.Core.Path.{_≡_, refl, sym, ap, subst, _∙_}
 use mathlib.Core.Logic.{_⊎_, inl, inr, _↔_}
-use mathlib.Core.Bool.{Bool, true, false, not, cond, _&&_, _||_, true≢false, false≢true}
+use mathlib.Core.Bool.{Bool, true, false, cond, true≢false}
 use mathlib.Core.List.{List, map, List·Memᴰ, Memᴰ·map, Memᴰ·of-map}
 use native.Mathlib.Omega.{arith}
 use lib.Dec.{leb, eqb}
-use borrow.Author.Tests.{leb-true, leb-false, le-leb, lt-leb, eqb-true, eqb-false, eq-eqb, ne-eqb}
+use borrow.Author.Tests.{leb-true, leb-false, eqb-true, eqb-false}
 use Rattle.laws.specs.Bounds.{most}
-use Rattle.laws.proofs.Bools.{and-true, and-true-left, and-true-right, or-true-cases, or-true-left, or-true-right, cond-by, cond-not, test}
+use Rattle.laws.proofs.Bools.{and-true, and-true-left, and-true-right, cond-by}
 use Rattle.laws.proofs.Order.{tri}
 use Rattle.rules.specs.declared.Rule.{Rule}
 use Rattle.rules.specs.declared.RuleInput.{RuleInput}
@@ -18,14 +18,13 @@ use Rattle.rules.specs.Rules.{ruleOf, secondsOf}
 use Rattle.transfer.specs.declared.Ends.{Ends}
 use Rattle.transfer.specs.declared.Chosen as picked
 use Rattle.transfer.specs.declared.Chosen.the-variants.{By, Open}
-use Rattle.transfer.specs.declared.Change as changed
 use Rattle.transfer.specs.declared.Change.the-variants.{Takes, Never}
 use Rattle.transfer.specs.Choice.{side, applies, bit, rank, chosen}
 use Rattle.transfer.specs.Changes.{ruleSeconds, ruleChange, near, changeOf}
 use Rattle.transfer.specs.Promises as promised
 use Rattle.transfer.proofs.Choosing.{chosen-right, best-most, best-taken}
 use Rattle.transfer.proofs.Claims.{rank-pair, rank-right}
-use Rattle.comparison.specs.Admitted.{Feed, Side, Applies, Rank, both, fore, rear, neither, Chosen, Seconds, Larger, Gives, type-zero, type-one, type-two, ByRule, ByNearness, Change, Parent}
+use Rattle.comparison.specs.Admitted.{Feed, Side, Applies, Rank, both, fore, rear, neither, Chosen, Seconds, Larger, Gives, type-zero, type-one, type-two, ByRule, Change, Parent}
 
 -- ---- ranks
 

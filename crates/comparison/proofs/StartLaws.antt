@@ -17,7 +17,7 @@ use Rattle.search.specs.Search.{searchSpec}
 use Rattle.steps.specs.Steps.{Step, filling, search}
 use Rattle.steps.specs.Lists.{ran, start}
 use Rattle.steps.proofs.StepLaws.{searched-stays, taken-searches}
-use Rattle.comparison.specs.Taken.{stopsIn, callsIn, rulesIn, State}
+use Rattle.comparison.specs.Taken.{State}
 use Rattle.comparison.specs.Feeds.{feedOf, feedFrom}
 use Rattle.comparison.proofs.TakenLaws.{Held, opened-holds}
 

@@ -1,5 +1,5 @@
 -- The load that the accepted search is handed holds what was taken, and nothing else.
-use Prim.Native.Nat.{ℕ, suc, _+_, _-_, _≤_, _<_}
+use Prim.Native.Nat.{ℕ, _+_, _-_, _≤_, _<_}
 use mathlib.Core.Path.{_≡_, refl, sym, ap, subst, _∙_}
 use mathlib.Core.Logic.{_⊎_, inl, inr}
 use mathlib.Core.Bool.{Bool, true, false, not, cond, _&&_, true≢false, false≢true}
@@ -43,7 +43,7 @@ use Rattle.stops.specs.Stops.{idOf, isIt, findStop, isAt, numberOf}
 use Rattle.stops.specs.Answer.{stationOf, stopTests}
 use Rattle.stops.specs.Taken.{stopOf, blankStop}
 use Rattle.stops.specs.Sound.{stopAt}
-use Rattle.stops.proofs.SoundLaws.{id-kept, name-kept, needed-usable}
+use Rattle.stops.proofs.SoundLaws.{found, id-kept, name-kept, needed-usable}
 use Rattle.stops.proofs.Laws as stops
 use Rattle.load.specs.declared.Load.{Load}
 use Rattle.load.specs.Load.{emptyLoad, tableOf, withTable, withStops, withRules}
@@ -170,22 +170,6 @@ held-more st ss ts k w = record {
         ⊎ ((w .given .input .«has_parent» ≡ true) × ((p : StopGiven) × Nth (ss ++ ts) (st .parent) p × (st .parent < k) × (p .id ≡ w .given .parent) × (p .input .«location_type» ≡ 1)))
     go (inl q) = inl q
     go (inr (h, (p, n, b, e, t))) = inr (h, (p, nth-more ss ts (st .parent) p n, b, e, t))
-
--- what was found has the property
-pub found : (p : Stop → Bool) (l : List Stop) (k m : ℕ) → findStop p l k ≡ At m → (k ≤ m) × (m < k + length l) × (p (getD l (m - k) blankStop) ≡ true)
-found p [] k m e = let z : _≡_ {A = ℕ} 0 1 = cc in absurd (omega arith)
-found p (s ∷ ss) k m e = go (λ f. found p ss (k + 1) m f) (p s) refl e
-  where
-    go : (findStop p ss (k + 1) ≡ At m → (k + 1 ≤ m) × (m < k + 1 + length ss) × (p (getD ss (m - (k + 1)) blankStop) ≡ true))
-        → (b : Bool) → p s ≡ b → cond b (At k) (findStop p ss (k + 1)) ≡ At m → (k ≤ m) × (m < k + suc (length ss)) × (p (getD (s ∷ ss) (m - k) blankStop) ≡ true)
-    go r true q e =
-        let z : k ≡ m = cc in
-        let n : m - k ≡ 0 = omega arith in
-        (omega arith, omega arith, ap (λ (j : ℕ). p (getD (s ∷ ss) j blankStop)) n ∙ q)
-    go r false q e =
-        let f = r e in
-        let n : m - k ≡ suc (m - (k + 1)) = omega (arith, f .0) in
-        (omega (arith, f .0), omega (arith, f .1), ap (λ (j : ℕ). p (getD (s ∷ ss) j blankStop)) n ∙ f .2)
 
 -- ---- a stop
 

@@ -17,7 +17,11 @@ use Rattle.calls.specs.Calls.{known, callTests, callFit, callOn}
 use Rattle.calls.specs.Tables.{cut, fitted}
 use Rattle.calls.specs.Windows.{timeAfter, seenCall, seen}
 use Rattle.load.specs.Load.{emptyLoad}
-use Rattle.load.specs.Steps.{opened, stopSpec, callSpec}
+use Rattle.laws.specs.Tables.{table}
+use Rattle.rules.specs.Rules.{ruleTests}
+use Rattle.transfer.specs.Copied.{parentsOf}
+use Rattle.transfer.specs.Changes.{endsOf, transferOf}
+use Rattle.load.specs.Steps.{opened, stopSpec, callSpec, ruleSpec}
 use Rattle.load.specs.Sound.{Opens}
 use Rattle.profile.specs.declared.Journey.{Journey}
 use Rattle.profile.specs.Figures.{Figures, covᶠ, dueᶠ, lexb}
@@ -31,7 +35,7 @@ use Rattle.settings.specs.declared.Settings.{Settings}
 use Rattle.best.specs.Best.{keptOf}
 use Rattle.steps.specs.Steps.{Step}
 use Rattle.offers.specs.Order.{clash}
-use Rattle.offers.specs.Offers.{directAt, changesAt, alightAt, originAt, boardAt, offersIn, offers}
+use Rattle.offers.specs.Offers.{lastAt, lastAlight, lastBoard, directAt, changesAt, alightAt, originAt, boardAt, offersIn, offers}
 use Rattle.offers.specs.Search.{searchOf}
 use Rattle.search.specs.Timetable.{timetableOf}
 use Rattle.search.specs.Search.{outcomeOf, searchSpec}
@@ -40,7 +44,7 @@ use Rattle.steps.proofs.HeldLaws.{searched-holds}
 use Rattle.comparison.specs.Taken.{fresh}
 use Rattle.comparison.specs.Runs.{Runs, Admitted}
 use Rattle.comparison.specs.Demands.{answersFrom}
-use Rattle.comparison.specs.Witness.{someSettings, oneTrip, keptFigures, Met}
+use Rattle.comparison.specs.Witness.{settingsWith, someSettings, oneTrip, twoTrips, keptBy, keptFigures, Met}
 use Rattle.comparison.proofs.DemandLaws.{ending, run, same-admitted}
 
 -- what the program answers
@@ -59,6 +63,16 @@ pub record Kept : Type 0 where
 computed : Computed
 unfolding firstAnswer overCounts near allNear settingsTests walksOf canonicalOf stationOf idWrong isKnown typeWrong nameNeeded nameWrong stopTests stopAt stopOf heldText known callTests callFit callOn cut fitted timeAfter seenCall seen emptyLoad stopSpec callSpec lexb clash directAt changesAt alightAt originAt boardAt offersIn offers searchOf timetableOf outcomeOf searchSpec
 computed = record { opens = refl; answers = refl; searched = refl }
+
+record Changed : Type 0 where
+  opens : Opens (settingsWith 1)
+  searched : endOf (settingsWith 1) (twoTrips 1240) .searched ≡ true
+  kept : keptBy (settingsWith 1) (twoTrips 1240) ≡ figuresOf 300 1620 2 5 ∷ []
+  missed : keptBy (settingsWith 1) (twoTrips 1239) ≡ []
+
+changed : Changed
+unfolding firstAnswer overCounts near allNear settingsTests walksOf canonicalOf stationOf idWrong isKnown typeWrong nameNeeded nameWrong stopTests stopAt stopOf heldText known callTests callFit callOn cut fitted timeAfter seenCall seen emptyLoad stopSpec callSpec ruleTests ruleSpec table parentsOf endsOf transferOf lexb clash lastAt lastAlight lastBoard directAt changesAt alightAt originAt boardAt offersIn offers searchOf timetableOf outcomeOf searchSpec
+changed = record { opens = refl; searched = refl; kept = refl; missed = refl }
 
 pub kept : Kept
 unfolding firstAnswer overCounts near allNear settingsTests walksOf canonicalOf stationOf idWrong isKnown typeWrong nameNeeded nameWrong stopTests stopAt stopOf heldText known callTests callFit callOn cut fitted timeAfter seenCall seen emptyLoad stopSpec callSpec lexb clash directAt changesAt alightAt originAt boardAt offersIn offers searchOf timetableOf outcomeOf searchSpec
@@ -80,6 +94,7 @@ met =
     let o = computed .opens in
     let xs = oneTrip 600 1200 in
     let (j, m, e) = one-of (keptOf (endOf someSettings xs)) (figuresOf 300 1320 1 5) (kept .one-trip) in
+    let (i, n, f) = one-of (keptOf (endOf (settingsWith 1) (twoTrips 1240))) (figuresOf 300 1620 2 5) (changed .kept) in
     record {
       opens = o;
       taken = record {
@@ -89,4 +104,8 @@ met =
       };
       admitted = record { j = j; figures = e; admitted = one-kept someSettings xs o (computed .searched) j m };
       kept = kept .one-trip;
+      opens-changing = changed .opens;
+      admitted-changing = record { j = i; figures = f; admitted = one-kept (settingsWith 1) (twoTrips 1240) (changed .opens) (changed .searched) i n };
+      kept-changing = changed .kept;
+      missed = changed .missed;
     }

@@ -143,7 +143,7 @@ MatchedBy g s xs s′ xs′ = (j : Journey) → Admitted s xs j → j .arrival �
 abbrev pub Earlier : ℕ → ℕ → ℕ → Type 0
 Earlier g h h′ = (g ≤ h) × (g ≤ h′) × ((g ≡ h) ⊎ (g ≡ h′))
 
--- of any two lists, searched or not: a list with no search taken admits none
+-- of any two lists, searched or not: a list with no search taken admits none. The horizons are the loads', which demand 2 says from the list
 abbrev pub Demand3 : Type 0
 Demand3 = (s s′ : Settings) (xs xs′ : List Step) (g : ℕ) → s .now ≡ s′ .now → Opens s → Opens s′
     → Earlier g (endOf s xs .horizon) (endOf s′ xs′ .horizon)

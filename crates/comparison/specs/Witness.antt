@@ -1,4 +1,4 @@
--- The premises of the demands can be met, by lists that keep a journey: two stops, one trip, a search. Each by computation.
+-- The premises of the demands can be met, by lists that keep a journey: of one ride, and of two that a rule joins. Each by computation.
 use mathlib.Core.Path.{_≡_}
 use mathlib.Core.Bool.{true, false}
 use mathlib.Core.List.{List, [], _∷_, map}
@@ -15,25 +15,29 @@ use Rattle.profile.specs.Figures.{Figures}
 use Rattle.profile.specs.Journeys.{journeyFigures}
 use Rattle.profile.specs.Instances.{figuresOf}
 use Rattle.load.specs.Sound.{Opens}
-use Rattle.load.specs.Filling.{stop, call}
+use Rattle.rules.specs.declared.MinTime.the-variants as min-time
+use Rattle.load.specs.Filling.{stop, call, rule}
 use Rattle.best.specs.Best.{keptOf}
 use Rattle.steps.specs.Steps.{Step, filling, search}
 use Rattle.steps.specs.Lists.{endOf}
 use Rattle.comparison.specs.Taken.{State, fresh}
 use Rattle.comparison.specs.Runs.{Runs, Admitted}
 
--- walk 5, target walk 2, 3 minutes
-abbrev pub someSettings : Settings
-someSettings = record {
+-- walk 5, target walk 2, 3 minutes, so many changes
+abbrev pub settingsWith : ℕ → Settings
+settingsWith changes = record {
   origins = 1;
   targets = 1;
   «origin_walks» = 5 ∷ 0 ∷ 0 ∷ 0 ∷ [];
   «target_walks» = 2 ∷ 0 ∷ 0 ∷ 0 ∷ [];
   «transfer_minutes» = 3;
-  «max_transfers» = 0;
+  «max_transfers» = changes;
   now = pos 0;
   epochs = pos 0 ∷ pos 0 ∷ pos 0 ∷ [];
 }
+
+abbrev pub someSettings : Settings
+someSettings = settingsWith 0
 
 -- a stop with these members, no name, no parent and no position
 abbrev pub someStop : ℕ → StopInput
@@ -46,10 +50,10 @@ someStop m = record {
   members = m;
 }
 
--- a call of trip 1 at a stop and time
-abbrev pub someCall : ℕ → ℕ → ℕ → CallInput
-someCall seq at time = record {
-  trip = 1;
+-- a call of a trip at a stop and time
+abbrev pub callOf : ℕ → ℕ → ℕ → ℕ → CallInput
+callOf trip seq at time = record {
+  trip = trip;
   day = 0;
   sequence = seq;
   stop = at;
@@ -64,14 +68,33 @@ abbrev pub oneTrip : ℕ → ℕ → List Step
 oneTrip departs arrives =
     filling (stop (65 ∷ []) [] [] (someStop 1))
     ∷ filling (stop (66 ∷ []) [] [] (someStop 16))
-    ∷ filling (call (someCall 1 0 departs))
-    ∷ filling (call (someCall 2 1 arrives))
+    ∷ filling (call (callOf 1 1 0 departs))
+    ∷ filling (call (callOf 1 2 1 arrives))
+    ∷ search
+    ∷ []
+
+-- trip 1 from the origin to a stop, which it reaches at 1000; a rule of type 2 to another stop, 240 seconds; trip 2 from there to the target,
+-- which departs so and arrives at 1500
+abbrev pub twoTrips : ℕ → List Step
+twoTrips departs =
+    filling (stop (65 ∷ []) [] [] (someStop 1))
+    ∷ filling (stop (66 ∷ []) [] [] (someStop 0))
+    ∷ filling (stop (67 ∷ []) [] [] (someStop 0))
+    ∷ filling (stop (68 ∷ []) [] [] (someStop 16))
+    ∷ filling (rule (record { from = 1; to = 2; «transfer_type» = 2; seconds = min-time.Given 240 }))
+    ∷ filling (call (callOf 1 1 0 600))
+    ∷ filling (call (callOf 1 2 1 1000))
+    ∷ filling (call (callOf 2 1 2 departs))
+    ∷ filling (call (callOf 2 2 3 1500))
     ∷ search
     ∷ []
 
 -- the figures of the journeys kept
+abbrev pub keptBy : Settings → List Step → List Figures
+keptBy s xs = map journeyFigures (keptOf (endOf s xs))
+
 abbrev pub keptFigures : List Step → List Figures
-keptFigures xs = map journeyFigures (keptOf (endOf someSettings xs))
+keptFigures xs = keptBy someSettings xs
 
 -- the list is taken whole
 pub record AllTaken (xs : List Step) : Type 0 where
@@ -80,13 +103,18 @@ pub record AllTaken (xs : List Step) : Type 0 where
   pub searched : end .searched ≡ true
 
 -- a journey with these figures is admitted
-pub record OneAdmitted (xs : List Step) (f : Figures) : Type 0 where
+pub record OneAdmitted (s : Settings) (xs : List Step) (f : Figures) : Type 0 where
   pub j : Journey
   pub figures : journeyFigures j ≡ f
-  pub admitted : Admitted someSettings xs j
+  pub admitted : Admitted s xs j
 
 pub record Met : Type 0 where
   pub opens : Opens someSettings
   pub taken : AllTaken (oneTrip 600 1200)
-  pub admitted : OneAdmitted (oneTrip 600 1200) (figuresOf 300 1320 1 5)
+  pub admitted : OneAdmitted someSettings (oneTrip 600 1200) (figuresOf 300 1320 1 5)
   pub kept : keptFigures (oneTrip 600 1200) ≡ figuresOf 300 1320 1 5 ∷ []
+  -- two rides: 1000 + 240 joins 1240, and not 1239
+  pub opens-changing : Opens (settingsWith 1)
+  pub admitted-changing : OneAdmitted (settingsWith 1) (twoTrips 1240) (figuresOf 300 1620 2 5)
+  pub kept-changing : keptBy (settingsWith 1) (twoTrips 1240) ≡ figuresOf 300 1620 2 5 ∷ []
+  pub missed : keptBy (settingsWith 1) (twoTrips 1239) ≡ []

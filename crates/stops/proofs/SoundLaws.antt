@@ -35,7 +35,7 @@ nothing p (s ∷ ss) k j e h = go (λ i f g. nothing p ss (k + 1) i f g) (p s) r
     go r false q e (suc j) h = r j e (omega arith)
 
 -- what was found has it
-found : (p : Stop → Bool) (l : List Stop) (k m : ℕ) → findStop p l k ≡ At m → (k ≤ m) × (m < k + length l) × (p (getD l (m - k) blankStop) ≡ true)
+pub found : (p : Stop → Bool) (l : List Stop) (k m : ℕ) → findStop p l k ≡ At m → (k ≤ m) × (m < k + length l) × (p (getD l (m - k) blankStop) ≡ true)
 found p [] k m e = let z : _≡_ {A = ℕ} 0 1 = cc in absurd (omega arith)
 found p (s ∷ ss) k m e = go (λ f. found p ss (k + 1) m f) (p s) refl e
   where
