@@ -2,7 +2,7 @@
 import struct
 from collections import namedtuple
 
-Settings = namedtuple("Settings", "origin_walks target_walks transfer_minutes max_transfers now epochs")
+Settings = namedtuple("Settings", "origin_walks target_walks transfer_seconds max_transfers now epochs")
 Stop = namedtuple("Stop", "id name parent location_type position members")
 StopTime = namedtuple("StopTime", "trip day sequence stop arrival departure pickup drop_off")
 Rule = namedtuple("Rule", "src dst transfer_type seconds")
@@ -52,8 +52,11 @@ class Fields:
     def settings(self):
         origins, targets = self.numbers("BB")
         walks = self.walks(origins), self.walks(targets)
-        minutes, transfers, now, *epochs = self.numbers("BBqqqq")
-        return Settings(*walks, minutes, transfers, now, epochs)
+        return Settings(*walks, self.change(), *self.numbers("Bq"), self.numbers("qqq"))
+
+    def change(self):
+        """Request 05: a file of version 1 keeps minutes."""
+        return self.number("B") * 60
 
     def stop(self):
         return Stop(self.text(), self.optional(self.text), self.optional(self.text), self.number("B"),

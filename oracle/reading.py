@@ -1,4 +1,4 @@
-"""Document 01 and request 07, read slowly: a method for each sentence, so that wrong.py can misread one at a time.
+"""Document 01 and requests 02, 05, 06, 07 and 09, read slowly: a method for each sentence, so that wrong.py can misread one at a time.
 
 Written from the words of 01, its constants for the place test from `same_place_keys`, which 01 names as the definition.
 """
@@ -20,6 +20,7 @@ class Load:
 
 class Reading(Places):
     ENDS, TRANSFERS, TIME, ID, NAME, STOPS, RULES, CALLS, LIST, LEAST = 4, 1, 2**40, 32, 64, 128, 128, 512, 64, 3600
+    CHANGE = 15300   # seconds, request 05
 
     Fields = Fields
 
@@ -28,9 +29,13 @@ class Reading(Places):
         first_cause(causes)
 
     # --- opening, stops, rules ---
+    def long_change(self, s):
+        return s.transfer_seconds > self.CHANGE
+
     def open(self, s):
         self.refuse("open", [
             (max(len(s.origin_walks), len(s.target_walks)) > self.ENDS or s.max_transfers > self.TRANSFERS, 1),
+            (self.long_change(s), 1),
             (any(abs(t) > self.TIME for t in (s.now, *s.epochs)), 2)])
         return Load(s)
 
@@ -150,7 +155,7 @@ class Reading(Places):
         return r
 
     def change(self, load):
-        return load.settings.transfer_minutes * 60
+        return load.settings.transfer_seconds
 
     def seconds(self, load, r):
         """Request 02: seconds count for type 2 alone."""

@@ -57,14 +57,14 @@ class Maker:
         counts = [self.usual([1, 1, 2, 3, 4], [0, 5, 255], 0.04) for _ in range(2)]
         walks = bytes(self.usual([0, 0, 1, 2, 3, 5], [60, 255], 0.05) for _ in range(sum(counts)))
         self.walks = walks[:counts[0]] or b"\0"
-        seconds = self.usual([0, 60, 120, 180, 300], [3600, 15300, 15300, 59, 61, 15299, 15360, 65520, 65535], 0.04)
+        change = self.usual([0, 60, 90, 180, 300, rng.randrange(600)], [59, 61, 3600, 15299, 15300, 15301, 15360, 65520, 65535], 0.08)
         transfers = self.usual([0, 1, 1, 1], [2, 3, 255], 0.03)
         self.now = self.usual([0, 1000, 1_700_000_000], [2**40, -2**40, 2**40 + 1, -2**40 - 1, *ENDS[:2]], 0.08)
         self.epochs = [self.now - rng.choice([0, 0, 600, 25200]) + day * 86400 * rng.choice([0, 0, 1]) for day in range(3)]
         if self.seldom():
             self.epochs[rng.randrange(3)] = rng.choice([*ENDS, 2**40 + 1])
         clocks = [max(-2**63, min(2**63 - 1, time)) for time in (self.now, *self.epochs)]
-        return record(1, bytes(counts), walks, struct.pack(">HBqqqq", seconds, transfers, *clocks))
+        return record(1, bytes(counts), walks, struct.pack(">HBqqqq", change, transfers, *clocks))
 
     def stop_id(self):
         if self.seldom(0.06):
@@ -153,16 +153,36 @@ class Maker:
             parts += [self.search()] + self.some(self.AFTER, rng.choice([0, 1, 3, 8]))
         return parts
 
-    def ends(self, transfers):
+    def ends(self, transfers, change=0):
         """An opening, a stop of the origin and one of the target."""
         self.forget()
         self.stops = 2
-        return [record(1, b"\1\1\0\0", struct.pack(">HBqqqq", 0, transfers, 0, 0, 0, 0)),
+        return [record(1, b"\1\1\0\0", struct.pack(">HBqqqq", change, transfers, 0, 0, 0, 0)),
                 record(2, text(b"s0"), b"\0\0\0\0\x0f"), record(2, text(b"s1"), b"\0\0\0\0\xf0")]
 
-    def ride(self, trip, departure, arrival):
-        return [record(3, struct.pack(">HBIH", trip, 0, i, i), optional(time, number("I")), optional(time, number("I")), b"\0\0")
+    def ride(self, trip, departure, arrival, stops=(0, 1)):
+        return [record(3, struct.pack(">HBIH", trip, 0, i, stops[i]), optional(time, number("I")), optional(time, number("I")), b"\0\0")
                 for i, time in enumerate((departure, arrival))]
+
+    def changing(self):
+        """Changes at one platform, or between two of a station, that are just made or just missed; now and then by a rule."""
+        rng = self.rng
+        change = self.usual([0, 60, 90, 180, rng.randrange(600), rng.randrange(15301)], [15299, 15300, 15301], 0.05)
+        seconds, parts = change, self.ends(1, change) + [record(2, text(b"s2"), b"\0\0\1\0\0")]
+        parts += [record(2, text(name), b"\0\1", text(b"s2"), b"\0\0\0") for name in (b"s3", b"s4")]
+        self.stops = 5
+        if rng.random() < 0.4:
+            ends, kind = rng.choice([(2, 2), (3, 4), (3, 2), (2, 3)]), rng.randrange(4)
+            given = max(0, change + rng.choice([-60, -1, 0, 1, 60]))
+            parts.append(record(4, struct.pack(">HHB", *ends, kind), b"\1", struct.pack(">H", given)))
+            seconds = rng.choice([change, given])
+        for trip in range(0, 2 * rng.randint(1, 3), 2):
+            self.leaves.append(rng.randrange(2000))
+            arrival = self.leaves[-1] + rng.randrange(600)
+            departure = max(0, arrival + seconds + rng.choice([-1, 0, 0, 1]))
+            parts += self.ride(trip, self.leaves[-1], arrival, (0, 3))
+            parts += self.ride(trip + 1, departure, departure + rng.randrange(600), (rng.choice([3, 4]), 1))
+        return parts + [self.search()] + self.some(self.AFTER, 4)
 
     def many(self):
         """A table that is cut, or a list that falls: many rides between two stops, then a search and queries."""
@@ -190,7 +210,7 @@ class Maker:
         rng, parts = self.rng, []
         for _ in range(rng.choice([1, 1, 1, 2, 2, 3, 4])):
             way = rng.random()
-            parts += self.many() if way < 0.003 else self.full() if way < 0.006 else self.load()
+            parts += self.many() if way < 0.003 else self.full() if way < 0.006 else self.changing() if way < 0.12 else self.load()
         if self.seldom():
             parts += self.some(self.WEIGHTS, 3)
             del parts[0]

@@ -7,7 +7,7 @@ Input that begins with byte 83 is one step file; other input is a batch, with a 
 A kind of record is one method of Steps and one line of KINDS.
 """
 import io, sys
-from fields import Fields, Refused, Settings, first_cause
+from fields import Fields, Refused
 from reader import batch, figures, spaced
 from reading import Journey, Reading
 
@@ -20,12 +20,8 @@ class Malformed(Exception):
 
 class StepFields(Fields):
     """The fields of load files of version 2, as far as there are such: the transfer setting is two bytes of seconds."""
-    def settings(self):
-        origins, targets = self.numbers("BB")
-        walks = self.walks(origins), self.walks(targets)
-        seconds, transfers, now, *epochs = self.numbers("HBqqqq")
-        first_cause([(seconds % 60 != 0 or seconds > 255 * 60, 18)])   # until request 05 a load holds minutes, in a byte
-        return Settings(*walks, seconds // 60, transfers, now, epochs)
+    def change(self):
+        return self.number("H")
 
     def nothing(self):
         return []

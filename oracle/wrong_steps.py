@@ -7,7 +7,9 @@ Exits with 1 if the fixed list doesn't tell one.
 """
 import pathlib, random, sys
 sys.dont_write_bytecode = True
+from fields import first_cause
 from reader import batch
+from reading import Reading
 from step_files import made
 from steps import Malformed, Steps
 
@@ -63,8 +65,23 @@ class MalformedPrintsLoad(Steps):
             yield from self.last()
 
 
+def misread(name, **parts):
+    """The steps of a wrong reading of 01 and 02."""
+    reading = type(name, (Reading,), parts)
+    return type(name, (Steps,), {"__init__": lambda self: Steps.__init__(self, reading())})
+
+
+def change_tested_last(self, step, causes):
+    first_cause([causes[0], *causes[2:], causes[1]] if step == "open" else causes)
+
+
+CHANGES = [misread("ChangeBelow15300", CHANGE=15299), misread("ChangeUpTo15301", CHANGE=15301), misread("ChangeOfAnySize", CHANGE=65535),
+           misread("ChangeTestedLast", refuse=change_tested_last),
+           misread("ChangeInMinutes", change=lambda self, load: load.settings.transfer_seconds // 60 * 60),
+           misread("ChangeToTheNextMinute", change=lambda self, load: -load.settings.transfer_seconds // 60 * -60),
+           misread("ChangeTimes60", change=lambda self, load: load.settings.transfer_seconds * 60)]
 READINGS = [RefusedCallCuts, RefusedSearchKeeps, RefusedOpeningCloses, FirstLoadStays, NextAtLeave, NextWithoutSecond, SecondOf32Bits,
-            MalformedPrintsLoad]
+            MalformedPrintsLoad, *CHANGES]
 
 
 def telling(reading, files):

@@ -50,6 +50,15 @@ class Number:
         return str(value)
 
 
+class WholeMinutes(Number):
+    """Seconds in a text, minutes in the file: one of version 1 keeps minutes (request 05)."""
+    def parse(self, word, ids):
+        seconds = U16.parse(word, ids)
+        if seconds % 60 or seconds > 60 * self.most:
+            raise ValueError(f"{word}; a file of version 1 keeps minutes, so it is to be a multiple of 60, up to {60 * self.most}")
+        return seconds // 60
+
+
 class Time(Number):
     """Seconds after the day's epoch; in a text also h:mm:ss."""
     def parse(self, word, ids):
@@ -217,4 +226,6 @@ FIELDS = {
              ("seconds", Optional(U16), "none")],
     "search": [],
 }
+# other words for a field: what it is there, and how it is read
+OTHER = {"transfer-seconds": ("transfer-minutes", WholeMinutes("B"))}
 KINDS = dict(enumerate(FIELDS, 1))

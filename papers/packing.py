@@ -1,6 +1,6 @@
 """A paper as text to a load file: one record a line (papers/README.md)."""
 import re
-from fields import FIELDS, KINDS
+from fields import FIELDS, KINDS, OTHER
 
 WORD = re.compile(r'(?:([a-z-]+)=)?("(?:[^"\\]|\\.)*"|[^\s"#]+)(?=[\s#]|$)', re.ASCII)
 
@@ -23,25 +23,26 @@ def words(line):
 
 def given(kind, pairs):
     """The fields that the line names, each once."""
-    found = {}
-    for key, value in pairs:
-        if key not in [field for field, _, _ in FIELDS[kind]]:
-            raise ValueError(f"a {kind} has no field {key or value}")
+    found, known = {}, [key for key, _, _ in FIELDS[kind]]
+    for word, value in pairs:
+        key = OTHER[word][0] if word in OTHER else word
+        if key not in known:
+            raise ValueError(f"a {kind} has no field {word or value}")
         if key in found:
-            raise ValueError(f"{key} stands twice")
-        found[key] = value
+            raise ValueError(f"{word} stands twice" if found[key][0] == word else f"{word} beside {found[key][0]}")
+        found[key] = word, value
     return found
 
 
 def values(kind, found, ids):
     for key, field, default in FIELDS[kind]:
-        word = found.get(key, default)
-        if word is None:
+        word, value = found.get(key, (key, default))
+        if value is None:
             raise ValueError(f"{key} is missing")
         try:
-            yield key, field.parse(word, ids)
+            yield key, (OTHER[word][1] if word in OTHER else field).parse(value, ids)
         except ValueError as error:
-            raise ValueError(f"{key}: {error}")
+            raise ValueError(f"{word}: {error}")
 
 
 def record(line, ids):

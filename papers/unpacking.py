@@ -24,6 +24,7 @@ class Notes:
         origins, targets = fields["walks"]
         return [f"origin {i}: {walk} minutes" for i, walk in enumerate(origins)] \
             + [f"target {i}: {walk} minutes" for i, walk in enumerate(targets)] \
+            + [f"a change: {60 * fields['transfer-minutes']} seconds"] \
             + ["starts at " + ", ".join(f"{clock(self.now - epoch)} of day {day}" for day, epoch in enumerate(self.epochs))]
 
     def stop(self, fields):

@@ -78,7 +78,8 @@ pub settings-match : (s : Settings) → Matches (settingsTests s) (settingsCause
 unfolding settingsTests overCounts
 settings-match s = (
   refl,
-  dec-or (ltb 4 (s .origins)) _ (dec-ltb 4 (s .origins)) (dec-or (ltb 4 (s .targets)) (ltb 1 (s .«max_transfers»)) (dec-ltb 4 (s .targets)) (dec-ltb 1 (s .«max_transfers»))),
+  dec-or (ltb 4 (s .origins)) _ (dec-ltb 4 (s .origins)) (dec-or (ltb 4 (s .targets)) _ (dec-ltb 4 (s .targets))
+      (dec-or (ltb 1 (s .«max_transfers»)) (ltb 15300 (s .«transfer_seconds»)) (dec-ltb 1 (s .«max_transfers»)) (dec-ltb 15300 (s .«transfer_seconds»)))),
   λ a. (refl, dec-clock s, λ b. tt),
 )
 

@@ -1,5 +1,5 @@
 -- In the load that the search was handed, parents, sides, changes and joins are those stated here.
-use Prim.Native.Nat.{ℕ, _+_, _*_, _≤_, _<_}
+use Prim.Native.Nat.{ℕ, _+_, _≤_, _<_}
 use mathlib.Core.Path.{_≡_, refl, sym, ap, subst, _∙_}
 use mathlib.Core.Logic.{_⊎_, inl, inr, _↔_}
 use mathlib.Core.Bool.{Bool, true, false, not, cond, _&&_, _||_, true≢false, false≢true}
@@ -11,7 +11,7 @@ use lib.Seq.{getD-take}
 use borrow.Author.Tests.{leb-true, le-leb, eqb-true, eqb-false, eq-eqb, ne-eqb, lt-ltb, not-true}
 use Rattle.laws.proofs.Bools.{and-true, and-true-left, and-true-right, or-true-cases, or-true-left, or-true-right, cond-by}
 use Rattle.settings.specs.declared.Settings.{Settings}
-use Rattle.settings.specs.Settings.{canonicalOf, changeSeconds}
+use Rattle.settings.specs.Settings.{canonicalOf}
 use Rattle.calls.specs.declared.Call.{Call}
 use Rattle.rules.specs.declared.Rule.{Rule}
 use Rattle.rules.specs.declared.RuleInput.{RuleInput}
@@ -202,13 +202,13 @@ module _ (s : Settings) (p : Load) (fs : List Filling) (w : Start s p fs) where
             or-true-right (eqb x y) _ (or-true-right (not (eqb fp 65535) && eqb fp tp) _ (and-true _ _ (ap not (ne-eqb (placeIn p x) 65535 b)) (eq-eqb (placeIn p x) (placeIn p y) a)))
 
     -- the change time of the load is that of the settings
-    minutes : changeSeconds (p .settings .«transfer_minutes») ≡ s .«transfer_minutes» * 60
+    change : p .settings .«transfer_seconds» ≡ s .«transfer_seconds»
     unfolding canonicalOf
-    minutes = ap (λ (z : Settings). z .«transfer_minutes» * 60) (w .settings)
+    change = ap (λ (z : Settings). z .«transfer_seconds») (w .settings)
 
-    change-is : changeIn p x y ≡ changeOf (chosen e (map ruleOf (rulesIn fs))) close (s .«transfer_minutes» * 60)
+    change-is : changeIn p x y ≡ changeOf (chosen e (map ruleOf (rulesIn fs))) close (s .«transfer_seconds»)
     unfolding transferOf endsOf
-    change-is = λ k. changeOf (chosen e (w .held .rules k)) close (minutes k)
+    change-is = λ k. changeOf (chosen e (w .held .rules k)) close (change k)
 
     pub takes-in : (n : ℕ) → changeIn p x y ≡ Takes n → Change F x y n
     takes-in n q = change-in F e known fores rears close nears n (sym change-is ∙ q)

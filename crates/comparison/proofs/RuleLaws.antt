@@ -185,43 +185,43 @@ module _ (F : Feed) (e : Ends) (known : Taken (F .rules))
   Near = (e .from ≡ e .to) ⊎ (((p : ℕ) × Parent (F .stops) (e .from) p × Parent (F .stops) (e .to) p) ⊎ F .Place (e .from) (e .to))
 
   module _ (close : Bool) (nears : (close ≡ true) ↔ Near) where
-    abbrev minutes : ℕ
-    minutes = F .settings .«transfer_minutes» * 60
+    abbrev change : ℕ
+    change = F .settings .«transfer_seconds»
 
-    rule-in : (q : Rule) (n : ℕ) → promised.Best e (map ruleOf (F .rules)) q → changeOf (By q) close minutes ≡ Takes n → ByRule F (e .from) (e .to) n
+    rule-in : (q : Rule) (n : ℕ) → promised.Best e (map ruleOf (F .rules)) q → changeOf (By q) close change ≡ Takes n → ByRule F (e .from) (e .to) n
     rule-in q n w t = go (best-told q w)
       where
         go : Told q → ByRule F (e .from) (e .to) n
         go v = record {
           by = v .by;
           chosen = v .chosen;
-          gives = gives-in (v .by) minutes n (known .types (v .by) (v .chosen .taken)) (ap (λ (r : Rule). ruleChange r minutes) (v .is) ∙ t);
+          gives = gives-in (v .by) change n (known .types (v .by) (v .chosen .taken)) (ap (λ (r : Rule). ruleChange r change) (v .is) ∙ t);
         }
 
-    pub change-in : (n : ℕ) → changeOf (chosen e (map ruleOf (F .rules))) close minutes ≡ Takes n → Change F (e .from) (e .to) n
+    pub change-in : (n : ℕ) → changeOf (chosen e (map ruleOf (F .rules))) close change ≡ Takes n → Change F (e .from) (e .to) n
     change-in n t = go (chosen e (map ruleOf (F .rules))) (chosen-right e (map ruleOf (F .rules))) t
       where
-        go : (c : picked.Chosen) → promised.Right e (map ruleOf (F .rules)) c → changeOf c close minutes ≡ Takes n → Change F (e .from) (e .to) n
+        go : (c : picked.Chosen) → promised.Right e (map ruleOf (F .rules)) c → changeOf c close change ≡ Takes n → Change F (e .from) (e .to) n
         go (By q) w x = inl (rule-in q n w x)
         go Open w x = two close refl x
           where
-            two : (b : Bool) → close ≡ b → cond b (Takes minutes) Never ≡ Takes n → Change F (e .from) (e .to) n
+            two : (b : Bool) → close ≡ b → cond b (Takes change) Never ≡ Takes n → Change F (e .from) (e .to) n
             two true p y = inr (record {
               no-rule = λ r m a. true≢false (sym (applies-out r m a) ∙ w (ruleOf r) (Memᴰ·map ruleOf m));
               near = nears .0 p;
-              takes = sym (takes-same minutes n y);
+              takes = sym (takes-same change n y);
             })
             two false p y = absurd (never-takes n y)
 
-    pub change-out : (n : ℕ) → Change F (e .from) (e .to) n → changeOf (chosen e (map ruleOf (F .rules))) close minutes ≡ Takes n
+    pub change-out : (n : ℕ) → Change F (e .from) (e .to) n → changeOf (chosen e (map ruleOf (F .rules))) close change ≡ Takes n
     change-out n (inl w) =
         let c : chosen e (map ruleOf (F .rules)) ≡ By (ruleOf (w .by)) = told-best (w .by) (w .chosen) _ (chosen-right e (map ruleOf (F .rules))) in
-        ap (λ (x : picked.Chosen). changeOf x close minutes) c ∙ gives-out (w .by) minutes n (w .gives)
+        ap (λ (x : picked.Chosen). changeOf x close change) c ∙ gives-out (w .by) change n (w .gives)
     change-out n (inr w) = go (chosen e (map ruleOf (F .rules))) (chosen-right e (map ruleOf (F .rules)))
       where
-        go : (c : picked.Chosen) → promised.Right e (map ruleOf (F .rules)) c → changeOf c close minutes ≡ Takes n
-        go Open v = cond-by (Takes minutes) Never (nears .1 (w .near)) ∙ ap Takes (sym (w .takes))
+        go : (c : picked.Chosen) → promised.Right e (map ruleOf (F .rules)) c → changeOf c close change ≡ Takes n
+        go Open v = cond-by (Takes change) Never (nears .1 (w .near)) ∙ ap Takes (sym (w .takes))
         go (By q) v = two (best-told q v)
           where
-            two : Told q → changeOf (By q) close minutes ≡ Takes n
+            two : Told q → changeOf (By q) close change ≡ Takes n
             two t = absurd (w .no-rule (t .by) (t .chosen .taken) (t .chosen .applies))

@@ -81,8 +81,8 @@ Seconds Absent v = v ≡ 0
 abbrev pub Larger : ℕ → ℕ → ℕ → Type 0
 Larger a b n = ((a ≤ b) × (n ≡ b)) ⊎ ((b ≤ a) × (n ≡ a))
 
--- what a rule gives, by its type; `change` is `transfer_minutes` × 60. "Types 0 and 1 now give" that "whatever the seconds say" (request
--- 02), type 2 gives max(seconds, that); "type 3 forbids", so it has no case
+-- what a rule gives, by its type; `change` is the setting `transfer_seconds` (request 05). "Types 0 and 1 now give" that "whatever the seconds
+-- say" (request 02), type 2 gives max(seconds, that); "type 3 forbids", so it has no case
 pub data Gives (change : ℕ) (r : RuleInput) (n : ℕ) : Type 0 where
   type-zero : r .«transfer_type» ≡ 0 → n ≡ change → Gives change r n
   type-one : r .«transfer_type» ≡ 1 → n ≡ change → Gives change r n
@@ -92,13 +92,13 @@ pub data Gives (change : ℕ) (r : RuleInput) (n : ℕ) : Type 0 where
 pub record ByRule (F : Feed) (x y n : ℕ) : Type 0 where
   pub by : RuleInput
   pub chosen : Chosen F x y by
-  pub gives : Gives (F .settings .«transfer_minutes» * 60) by n
+  pub gives : Gives (F .settings .«transfer_seconds») by n
 
--- "With no rule, same stop, same parent or same place gives `transfer_minutes` × 60; else none"
+-- "With no rule, same stop, same parent or same place gives" the change time; "else none"
 pub record ByNearness (F : Feed) (x y n : ℕ) : Type 0 where
   pub no-rule : (q : RuleInput) → List·Memᴰ q (F .rules) → Applies F x y q → ⊥
   pub near : (x ≡ y) ⊎ (((p : ℕ) × Parent (F .stops) x p × Parent (F .stops) y p) ⊎ F .Place x y)
-  pub takes : n ≡ F .settings .«transfer_minutes» * 60
+  pub takes : n ≡ F .settings .«transfer_seconds»
 
 abbrev pub Change : Feed → ℕ → ℕ → ℕ → Type 0
 Change F x y n = ByRule F x y n ⊎ ByNearness F x y n

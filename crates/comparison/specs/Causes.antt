@@ -56,9 +56,10 @@ abbrev pub Beyond : ℤ → Type 0
 Beyond (pos n) = 1099511627776 < n
 Beyond (negsuc n) = 1099511627776 ≤ n
 
+-- "count above 4, `max_transfers` above 1"; of the change time "a value above 15300 belongs to refusal 1" (request 05)
 abbrev pub settingsCauses : Settings → List Cause
 settingsCauses s =
-    cause (4 < s .origins ⊎ 4 < s .targets ⊎ 1 < s .«max_transfers») (Refused SettingsRange)
+    cause (4 < s .origins ⊎ 4 < s .targets ⊎ 1 < s .«max_transfers» ⊎ 15300 < s .«transfer_seconds») (Refused SettingsRange)
     ∷ cause (Beyond (s .now) ⊎ ((day : ℕ) × (day ≤ 2) × Beyond (getD (s .epochs) day (pos 0)))) (Refused ClockRange)
     ∷ []
 

@@ -31,7 +31,7 @@ seenAt trip arrives departs may-board may-alight = record {
   «alight_request» = false;
 }
 
--- 3 minutes, and no rule
+-- a change time of 3 minutes, and no rule
 abbrev pub noRule : Feed
 noRule = record { settings = someSettings; stops = []; rules = []; calls = []; horizon = 21600; Place = λ x y. ⊥ }
 

@@ -23,14 +23,14 @@ use Rattle.steps.specs.Lists.{endOf}
 use Rattle.comparison.specs.Taken.{State, fresh}
 use Rattle.comparison.specs.Runs.{Runs, Admitted}
 
--- walk 5, target walk 2, 3 minutes, so many changes
+-- walk 5, target walk 2, a change time of 3 minutes, so many changes
 abbrev pub settingsWith : ℕ → Settings
 settingsWith changes = record {
   origins = 1;
   targets = 1;
   «origin_walks» = 5 ∷ 0 ∷ 0 ∷ 0 ∷ [];
   «target_walks» = 2 ∷ 0 ∷ 0 ∷ 0 ∷ [];
-  «transfer_minutes» = 3;
+  «transfer_seconds» = 180;
   «max_transfers» = changes;
   now = pos 0;
   epochs = pos 0 ∷ pos 0 ∷ pos 0 ∷ [];

@@ -1,5 +1,5 @@
 -- What a filled record hands in.
-use Prim.Native.Nat.{ℕ, _+_}
+use Prim.Native.Nat.{ℕ, _+_, _*_}
 use mathlib.Core.Bool.{cond}
 use mathlib.Core.List.{List, [], _∷_}
 use lib.Ieee.{binary64, ofBits}
@@ -17,13 +17,14 @@ use Rattle.fields.specs.Layout.{hasAt, nameAt, parentAt, typeAt, positio
 unfoldable pub walksAt : List ℕ → ℕ → List ℕ
 walksAt b at = byteAt b at ∷ byteAt b (at + 1) ∷ byteAt b (at + 2) ∷ byteAt b (at + 3) ∷ []
 
+-- version 1 keeps minutes, "multiplied by 60 when read" (request 05)
 unfoldable pub settingsIn : List ℕ → Settings
 settingsIn b = record {
   origins = byteAt b 1;
   targets = byteAt b 2;
   «origin_walks» = walksAt b 3;
   «target_walks» = walksAt b (targetWalksAt b);
-  «transfer_minutes» = byteAt b (minutesAt b);
+  «transfer_seconds» = byteAt b (minutesAt b) * 60;
   «max_transfers» = byteAt b (minutesAt b + 1);
   now = i64At b (minutesAt b + 2);
   epochs = i64At b (minutesAt b + 10) ∷ i64At b (minutesAt b + 18) ∷ i64At b (minutesAt b + 26) ∷ [];

@@ -44,12 +44,14 @@ pub fn settings_in(b: &[u8]) -> Settings
     let origin_walks = walks_at(b, 3);
     let target_walks = walks_at(b, target_walks_at(b));
     let epochs = [i64_at(b, at + 10), i64_at(b, at + 18), i64_at(b, at + 26)];
+    let minutes = byte_at(b, at) as u16;
+    let transfer_seconds = minutes * 60;
     Settings {
         origins: byte_at(b, 1),
         targets: byte_at(b, 2),
         origin_walks,
         target_walks,
-        transfer_minutes: byte_at(b, at),
+        transfer_seconds,
         max_transfers: byte_at(b, at + 1),
         now: i64_at(b, at + 2),
         epochs,

@@ -34,7 +34,7 @@ steps r b o k = taken-settled r b k .1 ∙ rw o refl
 -- settings that are not sent back open a load
 not-sent-back : (s : Settings) → isRefused (openAnswer s) ≡ false → openAnswer s ≡ Taken
 unfolding firstAnswer settingsTests
-not-sent-back s e = go (overCounts (s .origins) (s .targets) (s .«max_transfers»)) (not (allNear (s .now) (s .epochs))) e
+not-sent-back s e = go (overCounts (s .origins) (s .targets) (s .«max_transfers») (s .«transfer_seconds»)) (not (allNear (s .now) (s .epochs))) e
   where
     go : (x y : Bool) → isRefused (cond x (Refused SettingsRange) (cond y (Refused ClockRange) Taken)) ≡ false → cond x (Refused SettingsRange) (cond y (Refused ClockRange) Taken) ≡ Taken
     go true y e = absurd (true≢false e)

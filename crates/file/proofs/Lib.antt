@@ -5,3 +5,4 @@ pub mod RecordLaws
 pub mod AnsweredLaws
 pub mod HandedLaws
 pub mod ListedLaws
+pub mod MinutesLaws

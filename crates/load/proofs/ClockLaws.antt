@@ -15,7 +15,7 @@ use Rattle.load.specs.Load.{emptyLoad}
 use Rattle.load.specs.Sound.{Opens}
 use Rattle.load.specs.Clock.{OpenedTime}
 
-pub open-fails : (s : Settings) → Opens s → (overCounts (s .origins) (s .targets) (s .«max_transfers») ≡ false) × (not (allNear (s .now) (s .epochs)) ≡ false)
+pub open-fails : (s : Settings) → Opens s → (overCounts (s .origins) (s .targets) (s .«max_transfers») (s .«transfer_seconds») ≡ false) × (not (allNear (s .now) (s .epochs)) ≡ false)
 unfolding settingsTests
 open-fails s o = let w = first-taken _ _ refl (answer-is-first (settingsTests s)) o in (w .0, w .1 .0)
 

@@ -62,7 +62,7 @@ fn blank_settings() -> Settings
         targets: 0,
         origin_walks: [0u8; 4],
         target_walks: [0u8; 4],
-        transfer_minutes: 0,
+        transfer_seconds: 0,
         max_transfers: 0,
         now: 0,
         epochs: [0i64; 3],

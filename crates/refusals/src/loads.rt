@@ -24,7 +24,7 @@ fn settings() -> Settings {
         targets: 1,
         origin_walks: [0u8; 4],
         target_walks: [0u8; 4],
-        transfer_minutes: 0,
+        transfer_seconds: 0,
         max_transfers: 0,
         now: 1000,
         epochs: [1000, 1000, 0],

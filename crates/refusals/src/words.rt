@@ -13,20 +13,35 @@ use place::Degrees;
 use settings::Settings;
 use stops::StopInput;
 
-fn open(label: &[u8], origins: u8, targets: u8, transfers: u8, now: i64, a: i64, b: i64, c: i64) {
-    let stepped = Load::open(Settings {
+fn opened(label: &[u8], settings: Settings) {
+    let stepped = Load::open(settings);
+    let answer = stepped.answer;
+    show::words(OPEN, label);
+    show::only(answer);
+}
+
+fn settings(origins: u8, targets: u8, transfers: u8, now: i64, a: i64, b: i64, c: i64) -> Settings {
+    Settings {
         origins,
         targets,
         origin_walks: [0u8; 4],
         target_walks: [0u8; 4],
-        transfer_minutes: 0,
+        transfer_seconds: 0,
         max_transfers: transfers,
         now,
         epochs: [a, b, c],
-    });
-    let answer = stepped.answer;
-    show::words(OPEN, label);
-    show::only(answer);
+    }
+}
+
+fn open(label: &[u8], origins: u8, targets: u8, transfers: u8, now: i64, a: i64, b: i64, c: i64) {
+    opened(label, settings(origins, targets, transfers, now, a, b, c));
+}
+
+// A change time beside settings that open but for the start.
+fn open_changing(label: &[u8], seconds: u16, now: i64) {
+    let mut s = settings(4, 4, 1, now, 0, 0, 0);
+    s.transfer_seconds = seconds;
+    opened(label, s);
 }
 
 // No load is opened, so no step follows.
@@ -51,6 +66,11 @@ pub fn opens() {
         -1099511627776,
     );
     open(b"1+2", 5, 4, 1, 1099511627777, 0, 0, 0);
+    open_changing(b"15300 seconds", 15300, 0);
+    open_changing(b"15301 seconds", 15301, 0);
+    open_changing(b"65535 seconds", 65535, 0);
+    open_changing(b"15300 seconds, 2", 15300, 1099511627777);
+    open_changing(b"15301 seconds, 1+2", 15301, 1099511627777);
 }
 
 // Which text of a stop is told; the station's is its parent too.

@@ -20,7 +20,7 @@ at-one-stop parents places stop change = rw (eq-eqb stop stop refl)
 -- whether the departure is late enough is all that is asked
 by-departure : (l : Load) (f : Ride) (b : Call) → SameStop l f b → joinsIn l f b ≡ leb 1180 (b .departure)
 by-departure l f b s =
-    rw (s .at-stop, lt-ltb (b .stop) 128 (s .known), s .no-rule, s .other-run, s .minutes, s .arrives, at-one-stop _ _ (b .stop) 180)
+    rw (s .at-stop, lt-ltb (b .stop) 128 (s .known), s .no-rule, s .other-run, s .three-minutes, s .arrives, at-one-stop _ _ (b .stop) 180)
 
 pub marked-joins : MarkedJoins
 marked-joins =

@@ -12,7 +12,6 @@ use Rattle.laws.specs.Bounds.{least}
 use Rattle.laws.specs.Lists.{foldl}
 use Rattle.laws.proofs.Bools.{cond-by, cond-not}
 use Rattle.laws.proofs.Bounds.{least-under, take-least}
-use Rattle.settings.specs.Settings.{changeSeconds}
 use Rattle.stops.specs.declared.Stop.{Stop}
 use Rattle.stops.specs.Sound.{stopAt}
 use Rattle.stops.specs.Taken.{blankStop}
@@ -186,15 +185,15 @@ unfolding timetableOf
 max-is l = refl
 
 entry-number : (l : Load) (rules : List Rule) (p q : ℕ) → rules ≡ take (l .«rule_count») (l .rules)
-    → entryOf rules (parentsOf (l .stops)) (placesOf (take (l .«stop_count») (l .stops))) p (changeSeconds (l .settings .«transfer_minutes»)) q ≡ changeNumber (changeIn l p q)
+    → entryOf rules (parentsOf (l .stops)) (placesOf (take (l .«stop_count») (l .stops))) p (l .settings .«transfer_seconds») q ≡ changeNumber (changeIn l p q)
 unfolding entryOf
 entry-number l rules p q e =
-    ap (λ (rs : List Rule). changeNumber (transferOf rs (parentsOf (l .stops)) (placesOf (take (l .«stop_count») (l .stops))) p q (changeSeconds (l .settings .«transfer_minutes»)))) e
+    ap (λ (rs : List Rule). changeNumber (transferOf rs (parentsOf (l .stops)) (placesOf (take (l .«stop_count») (l .stops))) p q (l .settings .«transfer_seconds»))) e
 
 module _ (l : Load) (calls : List Call) (f g flat parents places st st′ : List ℕ) (change depth : ℕ) where
   pub offered-is : Feeds f calls (l .stops) (l .settings) → ((i : ℕ) → getD f i 0 < 65536) → length (l .stops) ≡ 128 → length (l .rules) ≡ 128
       → ((n : ℕ) → n ≤ 128 → rulesOf flat n ≡ take n (l .rules)) → parents ≡ parentsOf (l .stops) → places ≡ placesOf (take (l .«stop_count») (l .stops))
-      → change ≡ changeSeconds (l .settings .«transfer_minutes»)
+      → change ≡ l .settings .«transfer_seconds»
       → HoldsChanges g f (l .«call_count») depth (λ p q. entryOf (rulesOf flat (least (l .«rule_count») 128)) parents places p change q)
       → depth ≡ l .settings .«max_transfers» → view st ≡ going [] (l .«table_horizon») (l .«table_limits») → view st′ ≡ offerAll (view st) (rowsOf f g (l .«call_count») depth)
       → view st′ ≡ offeredOf l calls

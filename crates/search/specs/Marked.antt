@@ -7,9 +7,9 @@ use Rattle.profile.specs.declared.Ride.{Ride}
 use Rattle.load.specs.declared.Load.{Load}
 use Rattle.search.specs.Timetable.{oneRun, joinsIn}
 
--- a load with 3 minutes and no rule, a ride that arrives at 1000, and a call of another trip or day at the stop where it ends
+-- a load with a change time of 3 minutes and no rule, a ride that arrives at 1000, and a call of another trip or day at the stop where it ends
 pub record SameStop (l : Load) (f : Ride) (b : Call) : Type 0 where
-  pub minutes : l .settings .«transfer_minutes» ≡ 3
+  pub three-minutes : l .settings .«transfer_seconds» ≡ 180
   pub no-rule : l .«rule_count» ≡ 0
   pub other-run : oneRun f b ≡ false
   pub at-stop : f .to ≡ b .stop

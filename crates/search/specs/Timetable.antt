@@ -3,7 +3,6 @@ use mathlib.Core.Bool.{Bool, false, cond, _&&_}
 use Prim.Native.Nat.{ℕ}
 use lib.Dec.{eqb, ltb}
 use lib.ListN.{take, getD}
-use Rattle.settings.specs.Settings.{changeSeconds}
 use Rattle.stops.specs.Sound.{stopAt}
 use Rattle.calls.specs.declared.Call.{Call}
 use Rattle.profile.specs.declared.Ride.{Ride}
@@ -18,7 +17,7 @@ use Rattle.load.specs.declared.Load.{Load}
 abbrev pub changeIn : Load → ℕ → ℕ → Change
 changeIn l from to =
     transferOf (take (l .«rule_count») (l .rules)) (parentsOf (l .stops)) (placesOf (take (l .«stop_count») (l .stops))) from to
-    (changeSeconds (l .settings .«transfer_minutes»))
+    (l .settings .«transfer_seconds»)
 
 -- a ride and a call are of one trip and day
 abbrev pub oneRun : Ride → Call → Bool

@@ -17,7 +17,6 @@ use read_back::journeys_of;
 use refusal::Answer;
 use refusal::Refusal;
 use rides::paths::endpoint_paths;
-use settings::change_seconds;
 use state::count;
 use state::fresh;
 use state::horizon;
@@ -55,7 +54,6 @@ fn offered(load: Load, calls: [Call; 512]) -> [u16; 654]
     let flat = flat_rules(rules);
     let parents = parents_of(stops);
     let places = group_places(stops, load.stop_count);
-    let change = change_seconds(settings.transfer_minutes);
     let depth = settings.max_transfers as u16;
     let changes = changes_of(
         &feed,
@@ -65,7 +63,7 @@ fn offered(load: Load, calls: [Call; 512]) -> [u16; 654]
         load.rule_count,
         &parents,
         &places,
-        change,
+        settings.transfer_seconds,
     );
     let mut st = fresh(load.table_horizon, load.table_limits);
     numbers(&feed);

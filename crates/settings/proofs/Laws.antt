@@ -49,30 +49,34 @@ module _ (now : ℤ) (es : List ℤ) where
   unfolding allNear
   by-third h i j k = rw (h, i, j) k
 
-module _ (o t m : ℕ) where
-  pub many-origins : 4 < o → true ≡ overCounts o t m
+module _ (o t m n : ℕ) where
+  pub many-origins : 4 < o → true ≡ overCounts o t m n
   unfolding overCounts
   many-origins h = rw (lt-ltb 4 o h)
 
-  pub many-targets : o ≤ 4 → 4 < t → true ≡ overCounts o t m
+  pub many-targets : o ≤ 4 → 4 < t → true ≡ overCounts o t m n
   unfolding overCounts
   many-targets h k = rw (le-ltb 4 o h, lt-ltb 4 t k)
 
-  pub by-transfers : o ≤ 4 → t ≤ 4 → ltb 1 m ≡ overCounts o t m
+  pub many-transfers : o ≤ 4 → t ≤ 4 → 1 < m → true ≡ overCounts o t m n
   unfolding overCounts
-  by-transfers h k = rw (le-ltb 4 o h, le-ltb 4 t k)
+  many-transfers h k l = rw (le-ltb 4 o h, le-ltb 4 t k, lt-ltb 1 m l)
+
+  pub by-seconds : o ≤ 4 → t ≤ 4 → m ≤ 1 → ltb 15300 n ≡ overCounts o t m n
+  unfolding overCounts
+  by-seconds h k l = rw (le-ltb 4 o h, le-ltb 4 t k, le-ltb 1 m l)
 
 -- the answers to settings: 1, 2, or taken
 module _ (s : Settings) where
-  pub over : overCounts (s .origins) (s .targets) (s .«max_transfers») ≡ true → Refused SettingsRange ≡ firstAnswer (settingsTests s)
+  pub over : overCounts (s .origins) (s .targets) (s .«max_transfers») (s .«transfer_seconds») ≡ true → Refused SettingsRange ≡ firstAnswer (settingsTests s)
   unfolding settingsTests
   over h = first-is-answer _ _ (hit h)
 
-  pub far : overCounts (s .origins) (s .targets) (s .«max_transfers») ≡ false → allNear (s .now) (s .epochs) ≡ false → Refused ClockRange ≡ firstAnswer (settingsTests s)
+  pub far : overCounts (s .origins) (s .targets) (s .«max_transfers») (s .«transfer_seconds») ≡ false → allNear (s .now) (s .epochs) ≡ false → Refused ClockRange ≡ firstAnswer (settingsTests s)
   unfolding settingsTests
   far h k = first-is-answer _ _ (miss h (hit (rw k)))
 
-  pub fine : overCounts (s .origins) (s .targets) (s .«max_transfers») ≡ false → allNear (s .now) (s .epochs) ≡ true → Taken ≡ firstAnswer (settingsTests s)
+  pub fine : overCounts (s .origins) (s .targets) (s .«max_transfers») (s .«transfer_seconds») ≡ false → allNear (s .now) (s .epochs) ≡ true → Taken ≡ firstAnswer (settingsTests s)
   unfolding settingsTests
   fine h k = first-is-answer _ _ (miss h (miss (rw k) none))
 
@@ -82,6 +86,6 @@ unfolding walksOf
 walks-made n w ea eb ec ed = λ i. ea i ∷ eb i ∷ ec i ∷ ed i ∷ []
 
 pub settings-made : (s : Settings) {x : ℤ} {o t : List ℕ} → x ≡ s .now → o ≡ walksOf (s .origins) (s .«origin_walks») → t ≡ walksOf (s .targets) (s .«target_walks»)
-    → _≡_ {A = Settings} (record { origins = s .origins; targets = s .targets; «origin_walks» = o; «target_walks» = t; «transfer_minutes» = s .«transfer_minutes»; «max_transfers» = s .«max_transfers»; now = x; epochs = s .epochs }) (canonicalOf s)
+    → _≡_ {A = Settings} (record { origins = s .origins; targets = s .targets; «origin_walks» = o; «target_walks» = t; «transfer_seconds» = s .«transfer_seconds»; «max_transfers» = s .«max_transfers»; now = x; epochs = s .epochs }) (canonicalOf s)
 unfolding canonicalOf
-settings-made s ex eo et = λ i. record { origins = s .origins; targets = s .targets; «origin_walks» = eo i; «target_walks» = et i; «transfer_minutes» = s .«transfer_minutes»; «max_transfers» = s .«max_transfers»; now = ex i; epochs = s .epochs }
+settings-made s ex eo et = λ i. record { origins = s .origins; targets = s .targets; «origin_walks» = eo i; «target_walks» = et i; «transfer_seconds» = s .«transfer_seconds»; «max_transfers» = s .«max_transfers»; now = ex i; epochs = s .epochs }

@@ -1,5 +1,5 @@
 -- **Settings** of a load: which are sent back, with 1 or 2, and how a load holds the others.
-use Prim.Native.Nat.{ℕ, _*_}
+use Prim.Native.Nat.{ℕ}
 use mathlib.Core.Bool.{Bool, not, cond, _&&_, _||_}
 use mathlib.Core.List.{List, [], _∷_}
 use lib.Dec.{ltb}
@@ -11,9 +11,9 @@ use Rattle.refusal.specs.declared.Answer.the-variants.{Refused}
 use Rattle.refusal.specs.declared.Refusal.the-variants.{SettingsRange, ClockRange}
 use Rattle.settings.specs.declared.Settings.{Settings}
 
--- a count above 4, `max_transfers` above 1
-unfoldable pub overCounts : ℕ → ℕ → ℕ → Bool
-overCounts origins targets transfers = ltb 4 origins || (ltb 4 targets || ltb 1 transfers)
+-- a count above 4, `max_transfers` above 1, a change time above 15300 seconds (request 05)
+unfoldable pub overCounts : ℕ → ℕ → ℕ → ℕ → Bool
+overCounts origins targets transfers seconds = ltb 4 origins || (ltb 4 targets || (ltb 1 transfers || ltb 15300 seconds))
 
 -- at most 2^40 in size
 unfoldable pub near : ℤ → Bool
@@ -26,7 +26,7 @@ allNear now epochs = near now && (near (getD epochs 0 (pos 0)) && (near (getD ep
 -- why settings are sent back, in the scope's order: 1, 2
 unfoldable pub settingsTests : Settings → List (Bool × Answer)
 settingsTests s =
-    (overCounts (s .origins) (s .targets) (s .«max_transfers»), Refused SettingsRange)
+    (overCounts (s .origins) (s .targets) (s .«max_transfers») (s .«transfer_seconds»), Refused SettingsRange)
     ∷ (not (allNear (s .now) (s .epochs)), Refused ClockRange)
     ∷ []
 
@@ -44,12 +44,8 @@ canonicalOf s = record {
   targets = s .targets;
   «origin_walks» = walksOf (s .origins) (s .«origin_walks»);
   «target_walks» = walksOf (s .targets) (s .«target_walks»);
-  «transfer_minutes» = s .«transfer_minutes»;
+  «transfer_seconds» = s .«transfer_seconds»;
   «max_transfers» = s .«max_transfers»;
   now = s .now;
   epochs = s .epochs;
 }
-
--- the change time: `transfer_minutes` × 60
-abbrev pub changeSeconds : ℕ → ℕ
-changeSeconds minutes = minutes * 60

@@ -2,7 +2,7 @@
 ghost use mathlib.Core.Path.{_≡_};
 ghost use mathlib.Core.Bool.{_||_};
 ghost use Rattle.refusal.specs.First.{firstAnswer};
-ghost use Rattle.settings.specs.Settings.{near, allNear, overCounts, settingsTests, walksOf, canonicalOf, changeSeconds, keptWalk};
+ghost use Rattle.settings.specs.Settings.{near, allNear, overCounts, settingsTests, walksOf, canonicalOf, keptWalk};
 use refusal::Answer;
 use refusal::Refusal;
 
@@ -12,7 +12,7 @@ pub struct Settings {
     pub targets: u8,
     pub origin_walks: [u8; 4],
     pub target_walks: [u8; 4],
-    pub transfer_minutes: u8,
+    pub transfer_seconds: u16,
     pub max_transfers: u8,
     pub now: i64,
     pub epochs: [i64; 3],
@@ -42,8 +42,8 @@ fn all_near(now: i64, epochs: [i64; 3]) -> bool
     false
 }
 
-fn over_counts(origins: u8, targets: u8, transfers: u8) -> bool
-    ensures { λ r. ⌜ r ≡ overCounts origins targets transfers ⌝ }
+fn over_counts(origins: u8, targets: u8, transfers: u8, seconds: u16) -> bool
+    ensures { λ r. ⌜ r ≡ overCounts origins targets transfers seconds ⌝ }
 {
     if 4 < origins {
         return true;
@@ -51,14 +51,17 @@ fn over_counts(origins: u8, targets: u8, transfers: u8) -> bool
     if 4 < targets {
         return true;
     }
-    1 < transfers
+    if 1 < transfers {
+        return true;
+    }
+    15300 < seconds
 }
 
 // Why settings are sent back: 1, 2.
 pub fn settings_answer(s: Settings) -> Answer
     ensures { λ r. ⌜ r ≡ firstAnswer (settingsTests s) ⌝ }
 {
-    if over_counts(s.origins, s.targets, s.max_transfers) {
+    if over_counts(s.origins, s.targets, s.max_transfers, s.transfer_seconds) {
         return Answer::Refused(Refusal::SettingsRange);
     }
     let epochs = s.epochs;
@@ -99,16 +102,9 @@ pub fn canonical(s: Settings) -> Settings
         targets: s.targets,
         origin_walks,
         target_walks,
-        transfer_minutes: s.transfer_minutes,
+        transfer_seconds: s.transfer_seconds,
         max_transfers: s.max_transfers,
         now: s.now,
         epochs,
     }
-}
-
-// The seconds that a change takes where no rule says more.
-pub fn change_seconds(minutes: u8) -> u16
-    ensures { λ r. ⌜ r ≡ changeSeconds minutes ⌝ }
-{
-    (minutes as u16) * 60
 }

@@ -1,6 +1,7 @@
--- What any list of steps leaves: a sound load, with the settings that it was opened with.
+-- What any list of steps leaves: a sound load, with the settings that it was opened with, whose change time is at most 15300 seconds.
 use mathlib.Core.Path.{_≡_}
 use mathlib.Core.List.{List}
+use Prim.Native.Nat.{_≤_}
 use Rattle.settings.specs.declared.Settings.{Settings}
 use Rattle.settings.specs.Settings.{canonicalOf}
 use Rattle.load.specs.Sound.{Opens, Sound}
@@ -9,3 +10,7 @@ use Rattle.steps.specs.Lists.{endOf}
 
 abbrev pub HandedSound : Type 0
 HandedSound = (s : Settings) (xs : List Step) → Opens s → (endOf s xs .settings ≡ canonicalOf s) × Sound (endOf s xs)
+
+-- "seconds, 0 to 15300": no load has a change time above that (request 05)
+abbrev pub ChangeInRange : Type 0
+ChangeInRange = (s : Settings) (xs : List Step) → Opens s → endOf s xs .settings .«transfer_seconds» ≤ 15300

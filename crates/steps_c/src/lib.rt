@@ -18,7 +18,7 @@ fn settings() -> Settings
         targets: 1,
         origin_walks: [0u8; 4],
         target_walks: [0u8; 4],
-        transfer_minutes: 0,
+        transfer_seconds: 0,
         max_transfers: 0,
         now: 0,
         epochs: [0i64; 3],

@@ -1,5 +1,5 @@
--- "Type 3 forbids"; request 02: "Types 0 and 1 now give `transfer_minutes` × 60 whatever the seconds say", and type 2 max(seconds, that).
--- "With no rule, same stop, same parent or same place gives `transfer_minutes` × 60; else none."
+-- "Type 3 forbids"; types 0 and 1 give the change time, `transfer_seconds` (request 05), "whatever the seconds say" (request 02), and type 2
+-- max(seconds, that). "With no rule, same stop, same parent or same place gives" it; "else none."
 -- And "`join`: trip or day differs, and arrival + transfer seconds is at most departure."
 use Rattle.laws.specs.Bounds.{most}
 use mathlib.Core.Bool.{Bool, not, false, cond, _&&_, _||_}

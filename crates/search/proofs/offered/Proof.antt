@@ -18,9 +18,6 @@ parents-of-requires c κs = search needs
 group-places-requires : tie.Need-group-places-requires
 group-places-requires c κs = search needs
 
-change-seconds-requires : tie.Need-change-seconds-requires
-change-seconds-requires c κs = search needs
-
 changes-of-requires : tie.Need-changes-of-requires
 changes-of-requires c κs = search needs
 
@@ -42,12 +39,12 @@ endpoint-paths-requires c κs = search needs
 returns : tie.Need-returns
 returns c =
     let made = c .before .before .before .before .before .before .before in
-    let grouped = made .before .before .before .before .before .before .before in
+    let grouped = made .before .before .before .before .before .before in
     let fed = grouped .before .before .before in
     let s = fed .before .before .before .before in
     let l = s .args .load in
     offered-is l (s .args .calls) _ _ _ _ _ _ _ _ _ (fed .feed-of .ensures) (c .before .before .before .before .numbers .ensures) (stops-long l _ (s .good .0)) (rules-long l _ (s .good .0))
-    (grouped .before .before .flat-rules .ensures .1) (grouped .before .parents-of .ensures) (grouped .group-places .ensures) (made .before .before .before .before .before .before .change-seconds .ensures) (made .changes-of .ensures) refl
+    (grouped .before .before .flat-rules .ensures .1) (grouped .before .parents-of .ensures) (grouped .group-places .ensures) refl (made .changes-of .ensures) refl
     (c .before .before .before .before .before .before .fresh .ensures) (c .endpoint-paths .ensures)
 
 pub offered-spec : {M : Type 1} → statement M
@@ -58,7 +55,6 @@ offered-spec =
     flat-rules-requires
     parents-of-requires
     group-places-requires
-    change-seconds-requires
     cast-depth
     changes-of-requires
     fresh-requires

@@ -1,6 +1,6 @@
 -- Field by field.
 use mathlib.Core.Path.{ap, _∙_}
-use Prim.Native.Nat.{ℕ, _+_}
+use Prim.Native.Nat.{ℕ, _+_, _*_}
 use mathlib.Core.List.{[], _∷_}
 use Rattle.fields.proofs.NumberLaws.{i64-again}
 use Rattle.fields.specs.Numbers.{byteAt}
@@ -42,6 +42,12 @@ i64-at-requires-3 c κs = search needs
 byte-at-requires : tie.Need-byte-at-requires
 byte-at-requires c κs = search needs
 
+cast-minutes : tie.Need-cast-minutes
+cast-minutes c = search needs
+
+mul-transfer-seconds : tie.Need-mul-transfer-seconds
+mul-transfer-seconds c = search needs
+
 byte-at-requires-2 : tie.Need-byte-at-requires-2
 byte-at-requires-2 c κs = search needs
 
@@ -65,11 +71,11 @@ unfolding settingsIn
 returns c = let b = c .before .before .before .before .before .before .before .before .before .before .before .before .before .args .b .now in
     let at = c .before .before .before .before .before .before .before .before .before .before .before .minutes-at .ensures .0 in
     λ t. record {
-      origins = c .before .before .before .before .byte-at .ensures t;
-      targets = c .before .before .before .byte-at2 .ensures t;
+      origins = c .before .before .before .byte-at2 .ensures t;
+      targets = c .before .before .byte-at3 .ensures t;
       «origin_walks» = c .before .before .before .before .before .before .before .before .before .before .walks-at .ensures t;
       «target_walks» = (c .before .before .before .before .before .before .before .before .walks-at2 .ensures ∙ ap (walksAt b) (c .before .before .before .before .before .before .before .before .before .target-walks-at .ensures)) t;
-      «transfer_minutes» = (c .before .before .byte-at3 .ensures ∙ ap (byteAt b) at) t;
+      «transfer_seconds» = (c .before .before .before .before .byte-at .ensures ∙ ap (byteAt b) at) t * 60;
       «max_transfers» = (c .before .byte-at4 .ensures ∙ ap (λ (n : ℕ). byteAt b (n + 1)) at) t;
       now = i64-again b 2 (record { sfits = c .i64-at4 .ok }) (c .i64-at4 .ensures) at t;
       epochs =
@@ -94,6 +100,8 @@ settings-in-spec =
     add-i64-at-3
     i64-at-requires-3
     byte-at-requires
+    cast-minutes
+    mul-transfer-seconds
     byte-at-requires-2
     byte-at-requires-3
     add-byte-at
