@@ -5,6 +5,7 @@ Written from the words of 01, its constants for the place test from `same_place_
 from collections import namedtuple
 from fields import Fields, first_cause
 from places import Places
+from weeks import Weeks
 
 Call = namedtuple("Call", "trip day sequence stop arrival departure board alight board_request alight_request")
 Ride = namedtuple("Ride", "trip day src dst departure arrival board_request alight_request")
@@ -16,9 +17,10 @@ class Load:
         self.settings, self.stops, self.rules, self.searched = settings, [], [], False
         self.handed, self.table, self.answers = [], [], ""   # calls answered taken, and as the window leaves them
         self.horizon, self.limits, self.kept, self.places = 21600, 0, [], None
+        self.dates, self.services, self.exceptions, self.answered = None, [], [], False   # request 03; whether a call was answered
 
 
-class Reading(Places):
+class Reading(Places, Weeks):
     ENDS, TRANSFERS, TIME, ID, NAME, STOPS, RULES, CALLS, LIST, LEAST = 4, 1, 2**40, 32, 64, 128, 128, 512, 64, 3600
     CHANGE = 15300   # seconds, request 05
 
@@ -32,12 +34,18 @@ class Reading(Places):
     def long_change(self, s):
         return s.transfer_seconds > self.CHANGE
 
-    def open(self, s):
-        self.refuse("open", [
+    def opening_causes(self, s):
+        return [
             (max(len(s.origin_walks), len(s.target_walks)) > self.ENDS or s.max_transfers > self.TRANSFERS, 1),
             (self.long_change(s), 1),
-            (any(abs(t) > self.TIME for t in (s.now, *s.epochs)), 2)])
+            (any(abs(t) > self.TIME for t in (s.now, *s.epochs)), 2)]
+
+    def opened(self, s):
         return Load(s)
+
+    def open(self, s):
+        self.refuse("open", self.opening_causes(s))
+        return self.opened(s)
 
     def needed(self, s):
         return s.location_type == 0 and s.parent is None and self.usable(s.position)
@@ -120,9 +128,11 @@ class Reading(Places):
     def bad_call(self, load, c):
         return c.stop >= len(load.stops) or c.trip == 65535 or c.day > 2 or c.pickup > 3 or c.drop_off > 3
 
-    def call(self, load, c):
-        self.refuse("call", [(load.searched, 15), (self.bad_call(load, c), 9)])
-        load.answers += "t" if self.taken(load, c) else "o"
+    def call(self, load, c, service=b""):
+        self.refuse("call", [(load.searched, 15), (self.bad_call(load, c), 9), (self.unknown_service(load, service), 21)])
+        taken = self.taken_of(load, c, service)
+        load.answers += "t" if taken else "o"
+        load.answered = load.answered or self.is_answer(taken)
 
     def taken(self, load, c):
         if c.arrival is None or c.departure is None:

@@ -5,8 +5,9 @@ ids and numbers are mostly such that steps are taken, and now and then such that
 """
 import struct
 from damage import damage_once
+from records import FIRST, number, optional, record, text
+from week_files import WeekMaker
 
-FIRST = b"\x53"
 ENDS = [-2**63, 2**63 - 1, -2**63 + 1, 2**63 - 2, -1, 0, 1, 2**31, 2**32, -2**40, 2**40, 65535, 65536]
 HORIZONS = [21600, 16200, 12150, 9113, 6835, 5127, 3846, 3600]
 PLACES = [(52.0, 5.0), (52.001124, 5.0), (52.001125, 5.0), (52.002248, 5.0), (-33.9, 179.9999999), (-33.9, -179.9999999), (91.0, 0.0),
@@ -14,27 +15,11 @@ PLACES = [(52.0, 5.0), (52.001124, 5.0), (52.001125, 5.0), (52.002248, 5.0), (-3
 NAMES = [b"Main Street", b"main  street", b"MAIN\tSTREET", b"Quay", b" ", b"", b"a\x01b", b"Caf\xc3\xa9", b"\xff", b"n" * 64, b"n" * 65]
 
 
-def text(data):
-    return bytes([len(data)]) + data
-
-
-def optional(value, packed):
-    return b"\0" if value is None else b"\1" + packed(value)
-
-
-def number(code):
-    return lambda value: struct.pack(">" + code, value)
-
-
-def record(kind, *fields):
-    body = bytes([kind]) + b"".join(fields)
-    return struct.pack(">H", len(body)) + body
-
-
-class Maker:
+class Maker(WeekMaker):
     # kinds of the steps between an opening and its search, and of those after it
-    WEIGHTS = {"stop": 5, "call": 12, "rule": 3, "search": 0.1, "best": 1, "next_after": 1}
-    AFTER = {"stop": 1, "call": 1, "rule": 1, "search": 1, "best": 8, "next_after": 6}
+    WEIGHTS = {"stop": 5, "call": 12, "rule": 3, "search": 0.1, "best": 1, "next_after": 1, "service": 0.1, "exception": 0.1, "call_of": 1}
+    AFTER = {"stop": 1, "call": 1, "rule": 1, "search": 1, "best": 8, "next_after": 6, "service": 0.4, "exception": 0.4, "call_of": 0.6}
+    DATED = {**WEIGHTS, "call": 0.5, "call_of": 12, "service": 0.4, "exception": 0.4}   # as WEIGHTS, in a load with dates
 
     def __init__(self, rng):
         self.rng = rng
@@ -43,6 +28,7 @@ class Maker:
     def forget(self):
         self.stops, self.stations, self.trips, self.now, self.epochs = 0, [], {}, 0, [0, 0, 0]
         self.walks, self.leaves = b"\0", [0]   # walks of the origins; leaves that a journey may have
+        self.forget_week()
 
     def seldom(self, share=0.02):
         return self.rng.random() < share
@@ -146,9 +132,10 @@ class Maker:
 
     def load(self):
         """An opening, stops, steps of any kind, mostly a search, and steps after it."""
-        rng = self.rng
-        parts = [self.settings()] + [self.stop() for _ in range(rng.choice([0, 2, 3, 3, 4, 4, 6]))]
-        parts += self.some(self.WEIGHTS, rng.choice([0, 3, 10, 20, 30, 40]))
+        rng, dated = self.rng, self.rng.random() < 0.5
+        parts = [self.dated(), *self.week()] if dated else [self.settings()]
+        parts += [self.stop() for _ in range(rng.choice([0, 2, 3, 3, 4, 4, 6]))]
+        parts += self.some(self.DATED if dated else self.WEIGHTS, rng.choice([0, 3, 10, 20, 30, 40]))
         if rng.random() < 0.8:
             parts += [self.search()] + self.some(self.AFTER, rng.choice([0, 1, 3, 8]))
         return parts
@@ -210,7 +197,8 @@ class Maker:
         rng, parts = self.rng, []
         for _ in range(rng.choice([1, 1, 1, 2, 2, 3, 4])):
             way = rng.random()
-            parts += self.many() if way < 0.003 else self.full() if way < 0.006 else self.changing() if way < 0.12 else self.load()
+            one = self.many() if way < 0.003 else self.full() if way < 0.006 else self.changing() if way < 0.12 else self.load()
+            parts += self.dated_ones(one) if way < 0.12 and rng.random() < 0.4 else one
         if self.seldom():
             parts += self.some(self.WEIGHTS, 3)
             del parts[0]

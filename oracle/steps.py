@@ -10,6 +10,7 @@ import io, sys
 from fields import Fields, Refused
 from reader import batch, figures, spaced
 from reading import Journey, Reading
+from weeks import Service, ServiceDate
 
 FIRST = 83
 
@@ -22,6 +23,18 @@ class StepFields(Fields):
     """The fields of load files of version 2, as far as there are such: the transfer setting is two bytes of seconds."""
     def change(self):
         return self.number("H")
+
+    def dated(self):
+        return self.settings(), self.numbers("III")
+
+    def service(self):
+        return Service(self.text(), [self.mark() for _ in range(7)], *self.numbers("II"))
+
+    def exception(self):
+        return ServiceDate(self.text(), *self.numbers("IB"))
+
+    def call_of(self):
+        return self.call(), self.text()
 
     def nothing(self):
         return []
@@ -37,7 +50,9 @@ class Steps:
     """The steps of one file. A method is handed a record's fields, and says the line that is printed."""
     # kind: the name of its fields, its method, and whether it needs a load
     KINDS = {1: ("settings", "settings", False), 2: ("stop", "stop", True), 3: ("call", "call", True), 4: ("rule", "rule", True),
-             5: ("nothing", "search", True), 12: ("best", "best", True), 13: ("next_after", "next_after", True)}
+             5: ("nothing", "search", True), 6: ("service", "service", True), 7: ("exception", "exception", True),
+             10: ("call_of", "call_of", True), 11: ("dated", "dated", False),
+             12: ("best", "best", True), 13: ("next_after", "next_after", True)}
 
     def __init__(self, reading=None):
         self.reading, self.load = reading or Reading(), None
@@ -50,10 +65,25 @@ class Steps:
         self.reading.stop(self.load, stop)
         return "taken"
 
-    def call(self, call):
+    def dated(self, given):
+        self.load = self.reading.open_dated(*given)
+        return "opened"
+
+    def service(self, service):
+        self.reading.service(self.load, service)
+        return "taken"
+
+    def exception(self, exception):
+        self.reading.exception(self.load, exception)
+        return "taken"
+
+    def call_of(self, given):
+        return self.call(*given)
+
+    def call(self, call, service=b""):
         cuts = self.load.horizon, self.load.limits, self.load.table, self.load.handed
         try:
-            self.reading.call(self.load, call)
+            self.reading.call(self.load, call, service)
         except Refused:   # a call that is refused at a full table has cut nothing
             self.load.horizon, self.load.limits, self.load.table, self.load.handed = cuts
             raise

@@ -12,13 +12,14 @@ from reader import batch
 from reading import Reading
 from step_files import made
 from steps import Malformed, Steps
+import wrong_weeks
 
 FIXED = pathlib.Path(__file__).resolve().parent.parent / "crates" / "drive" / "stdin"
 
 
 class RefusedCallCuts(Steps):
-    def call(self, call):
-        self.reading.call(self.load, call)
+    def call(self, call, service=b""):
+        self.reading.call(self.load, call, service)
         return "taken" if self.load.answers[-1] == "t" else "outside"
 
 
@@ -80,8 +81,10 @@ CHANGES = [misread("ChangeBelow15300", CHANGE=15299), misread("ChangeUpTo15301",
            misread("ChangeInMinutes", change=lambda self, load: load.settings.transfer_seconds // 60 * 60),
            misread("ChangeToTheNextMinute", change=lambda self, load: -load.settings.transfer_seconds // 60 * -60),
            misread("ChangeTimes60", change=lambda self, load: load.settings.transfer_seconds * 60)]
-READINGS = [RefusedCallCuts, RefusedSearchKeeps, RefusedOpeningCloses, FirstLoadStays, NextAtLeave, NextWithoutSecond, SecondOf32Bits,
-            MalformedPrintsLoad, *CHANGES]
+READINGS = {way.__name__: way for way in (RefusedCallCuts, RefusedSearchKeeps, RefusedOpeningCloses, FirstLoadStays, NextAtLeave,
+                                          NextWithoutSecond, SecondOf32Bits, MalformedPrintsLoad, *CHANGES)}
+# request 03's: the steps right, over a reading that isn't
+READINGS.update((name, lambda reading=reading: Steps(reading())) for name, reading in wrong_weeks.READINGS.items())
 
 
 def telling(reading, files):
@@ -97,7 +100,7 @@ def main():
     with FIXED.open("rb") as stream:
         fixed = read(batch(stream))
     some = read(made(random.Random(f"wrong {i}")) for i in range(count))
-    told = [(reading.__name__, telling(reading, some), telling(reading, fixed)) for reading in READINGS]
+    told = [(name, telling(reading, some), telling(reading, fixed)) for name, reading in READINGS.items()]
     for name, random_files, fixed_files in told:
         print(f"{name}: {random_files} of {count} random files, {fixed_files} of {len(fixed)} fixed ones")
     sys.exit(any(fixed_files == 0 for _, _, fixed_files in told))

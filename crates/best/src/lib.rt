@@ -115,7 +115,7 @@ pub fn best(load: Load, second: i64) -> Found
 }
 
 // The larger of the second and the one after a leave.
-fn after(second: i64, leave: u16) -> i64
+pub fn after(second: i64, leave: u16) -> i64
     ensures { λ r. ⌜ r ≡ afterOf second leave ⌝ }
 {
     let later = (leave as u32) + 1;

@@ -1,6 +1,6 @@
 -- epoch + seconds − now in an `i64`: near settings keep it far from the ends.
 use mathlib.Core.Path.{_≡_, refl, sym, ap, subst, _∙_}
-use mathlib.Core.Bool.{Bool, true, false, not, cond, _&&_, true≢false}
+use mathlib.Core.Bool.{true, false, not, cond, _&&_, true≢false}
 use Prim.Native.Nat.{ℕ, suc, _+_, _-_, _^_, _≤_, _<_}
 use native.Mathlib.Omega.{arith}
 use borrow.Author.Tests.{leb-true, ltb-false}
@@ -11,7 +11,7 @@ use mir.Syntax.{w32, w64}
 use mir.Val.{SFits, Fits, toZ, ofZ}
 use mir.Facts.{toZ-pos}
 use Rattle.calls.specs.declared.Offset.the-variants.{Before, At}
-use Rattle.laws.proofs.Bools.{and-true-left}
+use Rattle.laws.proofs.Bools.{and-true-left, of-not}
 use Rattle.laws.proofs.Ints.{again, small, natAbs-+ℤ, natAbs-negℤ}
 use Rattle.settings.specs.Settings.{near}
 use Rattle.calls.specs.Windows.{timeOf, timeAfter}
@@ -19,12 +19,8 @@ use Rattle.calls.specs.Windows.{timeOf, timeAfter}
 near-size : (z : ℤ) → near z ≡ true → natAbs z ≤ 1099511627776
 unfolding near
 near-size (pos n) h = leb-true n 1099511627776 h
-near-size (negsuc n) h = below-top n (ltb-false 1099511627775 n (turned (ltb 1099511627775 n) (and-true-left (not (ltb 1099511627775 n)) true h)))
+near-size (negsuc n) h = below-top n (ltb-false 1099511627775 n (of-not (ltb 1099511627775 n) (and-true-left (not (ltb 1099511627775 n)) true h)))
   where
-    turned : (b : Bool) → not b ≡ true → b ≡ false
-    turned true k = sym k
-    turned false k = refl
-
     below-top : (m : ℕ) → m ≤ 1099511627775 → suc m ≤ 1099511627776
     below-top m k = omega arith
 

@@ -1,12 +1,11 @@
 -- The call step keeps a table sound.
 use Prim.Native.Nat.{ℕ, suc, _+_, _-_, _≤_, _<_}
 use mathlib.Core.Path.{_≡_, refl, sym, ap, subst, _∙_}
-use mathlib.Core.Logic.{_⊎_, inl, inr}
-use mathlib.Core.List.{List, [], _∷_, _++_, tail-eq-of-cons-eq, List·Memᴰ, List·Memᴰ·head, List·Memᴰ·tail, List·Memᴰ·not-nil, List·Memᴰ·cases-cons}
+use mathlib.Core.List.{List, [], _∷_, _++_, tail-eq-of-cons-eq}
 use mathlib.Core.Bool.{cond, Bool, true, false, not, _&&_, _||_}
 use native.Mathlib.Numerals.{add-one}
 use native.Mathlib.Omega.{arith}
-use borrow.Author.Tests.{leb-true, leb-false, ltb-true, ltb-false, eqb-true}
+use borrow.Author.Tests.{leb-true, leb-false, ltb-true, ltb-false}
 use lib.Dec.{leb, ltb, eqb}
 use lib.ListN.{length, getD, take, drop, set, replicate, length-set, length-append, length-replicate, length-take}
 use lib.Seq.{drop-cons, drop-set-lt, take-suc-set, take-append-seam, drop-append-seam}
@@ -22,7 +21,6 @@ use Rattle.refusal.specs.declared.Answer.{Answer}
 use Rattle.refusal.specs.declared.Answer.the-variants.{Taken, Outside, Refused}
 use Rattle.calls.specs.Windows.{timeOf, timeAfter, before, after, within, held, allowed, seenCall, seen}
 use Rattle.calls.specs.Tables.{blankCall, dueBy, trim, trimAll, cut, less, put}
-use Rattle.laws.specs.Lists.{gather}
 use Rattle.laws.proofs.Bools.{and-true-left}
 use Rattle.refusal.specs.First.{firstAnswer, AllFail}
 use Rattle.refusal.proofs.FirstLaws.{taken-all-fail}
@@ -30,42 +28,11 @@ use Rattle.settings.specs.Settings.{near}
 use Rattle.calls.specs.Calls.{unTimed, secondsOf, known, callTests, callTime, callFit, callOn, ended, goesOn}
 use Rattle.calls.specs.Sound.{All, oneOf, horizons, CallSound, TableSound, EmptySound, CallKeepsSound}
 use Rattle.laws.proofs.Pack.{length-gather}
+use Rattle.laws.proofs.Every.{one-of}
+pub use Rattle.laws.proofs.Every.{all-append, all-gather, all-mem, mem-all}
 use Rattle.calls.proofs.Fits.{Ends, stands, enters, turned, Keeps, ends}
 
--- ---- what has P
-pub all-append : {A : Type 0} (P : A → Type 0) (xs ys : List A) → All P xs → All P ys → All P (xs ++ ys)
-all-append P [] ys p q = q
-all-append P (x ∷ xs) ys p q = (p .0, all-append P xs ys (p .1) q)
-
-pub all-gather : {A B : Type 0} (P : A → Type 0) (Q : B → Type 0) (p : A → Bool) (f : A → B) → ((x : A) → P x → p x ≡ true → Q (f x)) → (xs : List A) → All P xs → All Q (gather p f xs)
-all-gather P Q p f k [] h = tt
-all-gather P Q p f k (x ∷ xs) h = go (all-gather P Q p f k xs (h .1)) (p x) refl
-  where
-    go : All Q (gather p f xs) → (b : Bool) → p x ≡ b → All Q (cond b (f x ∷ gather p f xs) (gather p f xs))
-    go r true e = (k x (h .0) e, r)
-    go r false e = r
-
-pub all-mem : {A : Type 0} (P : A → Type 0) (xs : List A) → All P xs → (x : A) → List·Memᴰ x xs → P x
-all-mem P [] h x m = absurd (List·Memᴰ·not-nil m)
-all-mem P (y ∷ ys) h x m = go (List·Memᴰ·cases-cons m) (all-mem P ys (h .1) x)
-  where
-    go : (x ≡ y) ⊎ List·Memᴰ x ys → (List·Memᴰ x ys → P x) → P x
-    go (inl e) ih = subst P (sym e) (h .0)
-    go (inr k) ih = ih k
-
-pub mem-all : {A : Type 0} (P : A → Type 0) (xs : List A) → ((x : A) → List·Memᴰ x xs → P x) → All P xs
-mem-all P [] h = tt
-mem-all P (y ∷ ys) h = (h y (List·Memᴰ·head refl), mem-all P ys (λ x m. h x (List·Memᴰ·tail m)))
-
 -- ---- horizons
-found : (h : ℕ) (P : ℕ → Type 0) (ms : List ℕ) → oneOf h ms ≡ true → All P ms → P h
-found h P [] e p = let z : _≡_ {A = ℕ} 0 1 = cc in absurd (omega arith)
-found h P (m ∷ ms) e p = go (found h P ms) (eqb h m) refl e
-  where
-    go : (oneOf h ms ≡ true → All P ms → P h) → (b : Bool) → eqb h m ≡ b → (b || oneOf h ms) ≡ true → P h
-    go f true q r = subst P (sym (eqb-true h m q)) (p .0)
-    go f false q r = f r (p .1)
-
 abbrev Falls : ℕ → Type 0
 Falls h = 3600 ≤ less h → (oneOf (less h) horizons ≡ true) × (_≡_ {A = ℕ} 1 (cond (eqb (less h) 21600) 0 1))
 
@@ -73,7 +40,7 @@ lowest : 3600 ≤ 2885 → ⊥
 lowest h = omega arith
 
 falls : (h : ℕ) → oneOf h horizons ≡ true → Falls h
-falls h e = found h Falls horizons e
+falls h e = one-of h Falls horizons e
     ((λ k. (refl, refl)), ((λ k. (refl, refl)), ((λ k. (refl, refl)), ((λ k. (refl, refl)), ((λ k. (refl, refl)), ((λ k. (refl, refl)), ((λ k. absurd (lowest k)), tt)))))))
 
 -- ---- a call that a cut leaves

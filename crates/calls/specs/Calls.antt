@@ -1,6 +1,6 @@
 -- What a call is answered, in the scope's order: 15, 9, absent time, 10, outside, 11; and the table that it leaves.
 use Prim.Native.Nat.{ℕ}
-use mathlib.Core.List.{List, [], _∷_}
+use mathlib.Core.List.{List, [], _∷_, _++_}
 use mathlib.Core.Bool.{Bool, true, false, not, cond, _&&_, _||_}
 use lib.ListN.{getD}
 use lib.Dec.{ltb, leb}
@@ -41,14 +41,16 @@ unTimed i = absent (i .arrival) || absent (i .departure)
 abbrev pub reversed : CallInput → Bool
 reversed i = ltb (secondsOf (i .departure)) (secondsOf (i .arrival))
 
+-- what is asked of the fields, and of the times: 15, 9; absent time, 10
+abbrev pub fieldTests : Bool → ℕ → CallInput → List (Bool × Answer)
+fieldTests searched stops i = (searched, Refused AlreadySearched) ∷ (not (known stops i), Refused FieldRange) ∷ []
+
+abbrev pub timeTests : CallInput → List (Bool × Answer)
+timeTests i = (unTimed i, Outside) ∷ (reversed i, Refused TimesReversed) ∷ []
+
 -- what is asked before the table: 15, 9, absent time, 10
 unfoldable pub callTests : Bool → ℕ → CallInput → List (Bool × Answer)
-callTests searched stops i =
-    (searched, Refused AlreadySearched)
-    ∷ (not (known stops i), Refused FieldRange)
-    ∷ (unTimed i, Outside)
-    ∷ (reversed i, Refused TimesReversed)
-    ∷ []
+callTests searched stops i = fieldTests searched stops i ++ timeTests i
 
 -- a time of the call, from the start
 abbrev pub callTime : Settings → CallInput → Seconds → Offset

@@ -52,12 +52,16 @@ reachedFit r a d i = record {
 abbrev pub FittedReached : Type 0
 FittedReached = (t : Table) (a d : Offset) (i : CallInput) → fitted t a d i ≡ reachedFit (reached t a d) a d i
 
--- the tests of a call in the scope's order, each with its answer: 15, 9, absent time, 10, outside, 11
-abbrev pub callCauses : Settings → Bool → ℕ → Table → CallInput → List (Bool × Answer)
-callCauses s searched stops t i =
+-- the same of a call's own times: outside, 11
+abbrev pub callWindow : Settings → Table → CallInput → List (Bool × Answer)
+callWindow s t i =
     let a = callTime s i (i .arrival) in
     let d = callTime s i (i .departure) in
-    callTests searched stops i ++ reachedTests (reached t a d) a d
+    reachedTests (reached t a d) a d
+
+-- the tests of a call in the scope's order, each with its answer: 15, 9, absent time, 10, outside, 11
+abbrev pub callCauses : Settings → Bool → ℕ → Table → CallInput → List (Bool × Answer)
+callCauses s searched stops t i = callTests searched stops i ++ callWindow s t i
 
 -- the answer is that of the first that holds
 abbrev pub CallAnswered : Type 0

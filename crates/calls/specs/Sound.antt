@@ -1,25 +1,17 @@
 -- A table that the steps make: its count is in range, the tail blank, calls ordered and within the horizon, marks only where they mean something.
 use Prim.Native.Nat.{ℕ, _-_, _≤_, _<_}
 use mathlib.Core.Path.{_≡_}
-use mathlib.Core.Bool.{Bool, true, false, cond, _||_}
+use mathlib.Core.Bool.{Bool, true, cond}
 use mathlib.Core.List.{List, [], _∷_}
 use lib.Dec.{eqb}
 use lib.ListN.{length, take, drop, replicate}
 use Rattle.settings.specs.declared.Settings.{Settings}
 use Rattle.calls.specs.declared.Call.{Call}
+pub use Rattle.laws.specs.Lists.{All, oneOf}
 use Rattle.calls.specs.declared.CallInput.{CallInput}
 use Rattle.calls.specs.declared.Table.{Table}
 use Rattle.calls.specs.Tables.{blankCall}
 use Rattle.calls.specs.Calls.{callOn}
-
--- P of each element
-abbrev pub All : {A : Type 0} → (A → Type 0) → List A → Type 0
-All P [] = Unit {0}
-All P (x ∷ xs) = P x × All P xs
-
-abbrev pub oneOf : ℕ → List ℕ → Bool
-oneOf n [] = false
-oneOf n (m ∷ ms) = eqb n m || oneOf n ms
 
 -- the horizons that a table has, from its opening to its last cut
 abbrev pub horizons : List ℕ

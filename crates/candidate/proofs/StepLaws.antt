@@ -1,90 +1,31 @@
 -- What the loops of an offer do, turn by turn.
 use mathlib.Core.Path.{_≡_, refl, sym, ap, _∙_}
-use mathlib.Core.Bool.{Bool, true, false, not, cond, _&&_, true≢false}
-use mathlib.Core.Logic.{_≢_, _⊎_, inl, inr}
+use mathlib.Core.Bool.{Bool, true, false, not, cond}
+use mathlib.Core.Logic.{_≢_}
 use mathlib.Core.List.{List, [], _∷_, _++_, append-nil}
-use Prim.Native.Nat.{ℕ, suc, _+_, _*_, _-_, _≤_, _<_, max}
+use Prim.Native.Nat.{ℕ, suc, _+_, _-_, _≤_, _<_, max}
 use native.Mathlib.Omega.{arith}
 use native.Mathlib.Numerals.{add-one}
-use lib.Dec.{ltb}
-use borrow.Author.Tests.{ltb-true, ltb-false, le-ltb}
 use lib.ListN.{length, getD, take, drop, length-take, drop-of-length-le}
 use lib.Seq.{getD-set-other, take-suc, take-suc-set, drop-cons, getD-take, take-take}
 use Rattle.laws.specs.Lists.{filterb}
-use Rattle.laws.proofs.Bools.{and-true, and-true-left, and-true-right, or-false-right, test}
+use Rattle.laws.proofs.Bools.{or-false-right}
 use Rattle.laws.proofs.Lists.{filterb-append}
 use Rattle.profile.specs.Journeys.{cov, due, noRow}
 use Rattle.profile.specs.Kept.{latest}
 use Rattle.profile.specs.Walk.{place, near}
-use Rattle.profile.proofs.CoverLaws.{cov-early, cov-later}
 use Rattle.profile.proofs.WalkLaws.{place-le, place-before, passes-found, passes-none}
 use Rattle.profile.specs.declared.Row.{Row}
 use Rattle.state.specs.View.{rowAt, rows, countOf}
-use Rattle.candidate.specs.Pieces.{putRow, apartBy, Ends, nearTo, nearAt, Skipped, passing, stays, Packed, Moved, latestDue}
+use Rattle.candidate.specs.Pieces.{putRow, nearTo, nearAt, Skipped, passing, stays, Packed, Moved, latestDue}
 use Rattle.candidate.proofs.PutLaws.{put-long, put-tail, rows-put}
 use Rattle.state.proofs.RowLaws.{rows-length, rows-get}
 use Rattle.state.proofs.ViewLaws.{few}
 
 -- ---- the first that is near
 
--- two rows of which one both leaves and arrives before the other: neither covers the other
-below-apart : (a b : Row) → (ltb (a .leave) (b .leave) && ltb (a .arrival) (b .arrival)) ≡ true → (cov a b ≡ false) × (cov b a ≡ false)
-below-apart a b e =
-    let l : a .leave < b .leave = ltb-true (a .leave) (b .leave) (and-true-left (ltb (a .leave) (b .leave)) (ltb (a .arrival) (b .arrival)) e) in
-    let m : a .arrival < b .arrival = ltb-true (a .arrival) (b .arrival) (and-true-right (ltb (a .leave) (b .leave)) (ltb (a .arrival) (b .arrival)) e) in
-    (sym (cov-early a b l), sym (cov-later b a (omega arith) m))
-
-apart-near : (k o : Row) → apartBy (k .leave) (k .arrival) (o .leave) (o .arrival) ≡ true → nearTo o k ≡ false
-unfolding apartBy nearTo
-apart-near k o e = go (test (ltb (k .leave) (o .leave))) e
-  where
-    go : (ltb (k .leave) (o .leave) ≡ true) ⊎ (ltb (k .leave) (o .leave) ≡ false)
-        → cond (ltb (k .leave) (o .leave)) (ltb (k .arrival) (o .arrival)) (ltb (o .leave) (k .leave) && ltb (o .arrival) (k .arrival)) ≡ true → near cov k o ≡ false
-    go (inl t) e =
-        let d : ltb (k .arrival) (o .arrival) ≡ true = rw t at e in
-        let (x, y) = below-apart k o (and-true (ltb (k .leave) (o .leave)) (ltb (k .arrival) (o .arrival)) t d) in
-        rw (x, y)
-    go (inr t) e =
-        let d : (ltb (o .leave) (k .leave) && ltb (o .arrival) (k .arrival)) ≡ true = rw t at e in
-        let (x, y) = below-apart o k d in
-        rw (x, y)
-
-apart-self : (x a b : ℕ) → apartBy x a x b ≡ false
-unfolding apartBy
-apart-self x a b = rw (le-ltb x x (omega arith))
-
--- the walk ends at slot c
-ends-there : (l : List ℕ) (i c : ℕ) (o : Row) → Ends l c o → i ≡ c → apartBy (getD l (i * 10) 0) (getD l (i * 10 + 1) 0) (o .leave) (o .arrival) ≡ false
-unfolding Ends
-ends-there l i c o m e = rw (e, m) (apart-self (o .leave) (getD l (c * 10 + 1) 0) (o .arrival))
-
-module _ (l : List ℕ) (c i : ℕ) (o : Row) {b : Bool} (few : c ≤ 64) (le : i ≤ c) (m : Ends l c o)
-    (e : b ≡ apartBy (getD l (i * 10) 0) (getD l (i * 10 + 1) 0) (o .leave) (o .arrival)) (t : b ≡ true) where
-  pub apart-below : i < c
-  apart-below = go (test (ltb i c))
-    where
-      go : (ltb i c ≡ true) ⊎ (ltb i c ≡ false) → i < c
-      go (inl x) = ltb-true i c x
-      go (inr x) = absurd (true≢false (sym t ∙ e ∙ ends-there l i c o m (omega (arith, ltb-false i c x))))
-
-  pub apart-row : nearTo o (getD (rows l) i noRow) ≡ false
-  unfolding rowAt
-  apart-row = ap (nearTo o) (rows-get l i (omega arith)) ∙ apart-near (rowAt l i) o (sym e ∙ t)
-
-module _ (k o : Row) (b : Bool) (e : b ≡ cov k o) where
-  pub near-covering : b ≡ true → nearTo o k ≡ true
-  unfolding nearTo
-  near-covering t = rw (← e, t) refl
-
-  pub near-other : (d : Bool) → b ≡ false → d ≡ cov o k → nearTo o k ≡ d
-  unfolding nearTo
-  near-other d f ed = rw (← e, f) (sym ed)
-
 pub skip-none : (o : Row) (ks : List Row) (i : ℕ) → Skipped o ks i i
 skip-none o ks i = record { same = refl; up = omega arith }
-
-pub skip-on : (o : Row) (ks : List Row) (i j r : ℕ) → Skipped o ks i j → Skipped o ks j r → Skipped o ks i r
-skip-on o ks i j r s t = record { same = s .same ∙ t .same; up = omega (arith, s .up, t .up) }
 
 module _ (l : List ℕ) (n i : ℕ) (o : Row) (few : n ≤ 65) (lt : i < n) where
   next : drop i (take n (rows l)) ≡ getD (rows l) i noRow ∷ drop (suc i) (take n (rows l))

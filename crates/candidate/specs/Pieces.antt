@@ -1,6 +1,6 @@
 -- What the private functions of an offer do to the array, piece by piece.
 use mathlib.Core.Path.{_≡_}
-use mathlib.Core.Bool.{Bool, true, false, not, cond, _&&_}
+use mathlib.Core.Bool.{Bool, true, false, not, cond}
 use mathlib.Core.List.{List, [], _∷_}
 use Prim.Native.Nat.{ℕ, _+_, _*_, _≤_}
 use lib.Dec.{leb, ltb}
@@ -8,6 +8,7 @@ use lib.ListN.{getD, length, set, take, drop}
 use Rattle.laws.specs.Lists.{filterb}
 use Rattle.laws.specs.Arrays.{puts}
 use Rattle.profile.specs.declared.Row.{Row}
+use Rattle.profile.specs.Figures.{lexb}
 use Rattle.profile.specs.Kept.{St, latest, settle}
 use Rattle.profile.specs.Walk.{place, near, passes}
 use Rattle.profile.specs.Journeys.{cov, due, noRow}
@@ -35,11 +36,15 @@ nearTo o k = near cov k o
 unfoldable pub nearAt : Row → List Row → ℕ
 nearAt o ks = place (λ k. near cov k o) ks
 
--- one of the two leaves and arrives before the other, by leave and arrival
-unfoldable pub apartBy : ℕ → ℕ → ℕ → ℕ → Bool
-apartBy l a m b = cond (ltb l m) (ltb a b) (ltb m l && ltb b a)
+-- (arrival, rides, walk), compared in that order, is no larger than another such three
+unfoldable pub rankBy : ℕ → ℕ → ℕ → ℕ → ℕ → ℕ → Bool
+rankBy a r w b s v = lexb a b (lexb r s (leb w v))
 
--- slot c, behind the c kept rows, leaves when o does: it is not apart from o, so that a walk ends there
+-- what the walk of o does at row i of c, which is k: 0, it goes on; 1, o is passed over; 2, it stops
+unfoldable pub turnOf : ℕ → ℕ → Row → Row → ℕ
+turnOf i c o k = cond (ltb i c) (cond (cov k o) 1 (cond (cov o k) 2 0)) 2
+
+-- slot c, behind the c kept rows, leaves when o does: only there is it asked whether the walk is at its end
 unfoldable pub Ends : List ℕ → ℕ → Row → Type 0
 Ends l c o = getD l (c * 10) 0 ≡ o .leave
 

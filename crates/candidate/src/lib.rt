@@ -6,7 +6,11 @@ ghost use lib.ListN.{length, set, take};
 ghost use Rattle.profile.specs.Journeys.{due, rowOf};
 ghost use Rattle.state.specs.View.{rowAt, rows, countOf, horizonOf, view};
 ghost use Rattle.candidate.specs.Offer.{offerTo, readsTo, passedOver};
-ghost use Rattle.candidate.specs.Pieces.{stored, putRow, apartBy, Ends, nearAt, Skipped, passing, stays, Packed, Moved, Open, latestDue, settled};
+ghost use Rattle.candidate.specs.Pieces.{stored, putRow, Ends, stays, Packed, Moved, Open, latestDue, settled};
+
+mod walk;
+
+use crate::walk::first_near;
 use profile::Row;
 use profile::figures::covers;
 use profile::no_row;
@@ -15,69 +19,6 @@ use state::horizon;
 use state::known;
 use state::row_at;
 use state::too_late;
-
-// Whether one of two rows, given by leave and arrival, both leaves and arrives before the other; then neither covers the other.
-fn apart(l: u16, a: u16, m: u16, b: u16) -> bool
-    ensures { λ r. ⌜ r ≡ apartBy l a m b ⌝ }
-{
-    if l < m {
-        return a < b;
-    }
-    if m < l {
-        return b < a;
-    }
-    false
-}
-
-// The next place from `from` on whose row is not apart from o; c at the latest.
-fn skip(st: &[u16; 654], from: usize, c: usize, o: Row) -> usize
-    requires { ⌜ (length (now st) ≡ 654) × (c ≤ 64) × (from ≤ c) × Ends (now st) c o ⌝ }
-    ensures { λ r. ⌜ Skipped o (take c (rows (now (st .entry)))) from r × (r ≤ c) ⌝ }
-{
-    let mut i = from;
-    while apart(st[i * 10], st[i * 10 + 1], o.leave, o.arrival) {
-        i += 1;
-    }
-    i
-}
-
-// Where a walk stops: the place of the first kept row that covers the offer or that it covers, else their number; whether it is passed over.
-// The place is a u16: as a usize the compiler carries ten times its value through the loop as well.
-struct Found {
-    at: u16,
-    passes: bool,
-}
-
-// The walk of o over the c kept rows.
-fn first_near(st: &[u16; 654], c: usize, o: Row) -> Found
-    requires { ⌜ (length (now st) ≡ 654) × (c ≤ 64) × Ends (now st) c o ⌝ }
-    ensures { λ r. ⌜ (r .at ≡ nearAt o (take c (rows (now (st .entry))))) × (r .passes ≡ passing o (take c (rows (now (st .entry))))) ⌝ }
-{
-    let mut i = 0usize;
-    loop {
-        let j = skip(st, i, c, o);
-        if j >= c {
-            return Found {
-                at: j as u16,
-                passes: false,
-            };
-        }
-        let k = row_at(st, j);
-        if covers(k, o) {
-            return Found {
-                at: j as u16,
-                passes: true,
-            };
-        }
-        if covers(o, k) {
-            return Found {
-                at: j as u16,
-                passes: false,
-            };
-        }
-        i = j + 1;
-    }
-}
 
 // Whether the row k stays: if o does not cover it, or, without `by`, if it is due by h.
 fn stays_on(by: bool, o: Row, h: u16, k: Row) -> bool
@@ -212,7 +153,7 @@ fn walked(st: &mut [u16; 654], c: usize, o: Row) -> usize
     if f.passes {
         return f.at as usize + 1;
     }
-    let j = f.at as usize;
+    let j = f.start as usize / 10;
     let n = pack(st, j, j, c, true, o, 0);
     added(st, n, o);
     c
@@ -262,7 +203,7 @@ pub fn candidate(
 {
     known(*st);
     if too_late(st, arrival) {
-        return 0;
+        return 0usize;
     }
     let due = narrow(horizon(st), arrival);
     consider(

@@ -3,7 +3,7 @@ use Prim.Native.Nat.{ℕ, _≤_, _<_}
 use mathlib.Core.Path.{_≡_, refl, sym, ap, subst, _∙_}
 use mathlib.Core.Logic.{_⊎_, inl, inr, _↔_}
 use mathlib.Core.Bool.{Bool, true, false, not, _&&_, true≢false, false≢true}
-use mathlib.Core.List.{List, [], _∷_}
+use mathlib.Core.List.{List, [], _∷_, _++_}
 use native.Mathlib.Omega.{arith}
 use lib.Dec.{leb, ltb}
 use borrow.Author.Tests.{ltb-true, ltb-false, lt-ltb}
@@ -21,20 +21,23 @@ use Rattle.calls.specs.declared.Table.{Table}
 use Rattle.calls.specs.declared.Seconds.{Seconds}
 use Rattle.calls.specs.declared.Seconds.the-variants.{Given, Absent}
 use Rattle.calls.specs.Windows as windows
-use Rattle.calls.specs.Calls.{absent, secondsOf, known, unTimed, reversed, callTests, callTime, callFit}
+use Rattle.calls.specs.Calls.{absent, secondsOf, known, unTimed, reversed, fieldTests, timeTests, callTime, callFit}
 use Rattle.calls.specs.Tables.{less}
 use Rattle.calls.specs.Reached.{isFull, reached}
 use Rattle.calls.specs.Reached as tests
 use Rattle.calls.proofs.ReachedLaws.{fitted-reached}
 use Rattle.load.specs.declared.Load.{Load}
 use Rattle.load.specs.Load.{tableOf}
-use Rattle.load.specs.Filling.{Filling}
+use Rattle.week.specs.Weeks.{running}
+use Rattle.load.specs.Steps.{runningTests}
+use Rattle.load.specs.Filling.{Filling, call, causes}
 use Rattle.comparison.specs.Taken.{callsIn}
 use Rattle.comparison.specs.Horizon.{Fits}
 use Rattle.comparison.specs.Causes.{Reversed, Fitting, callCauses}
 use Rattle.comparison.proofs.Deciding.{Decides, Matches, dec-not-ltb, dec-not-leb, dec-is, dec-or, dec-nand, dec-as}
 use Rattle.comparison.proofs.OneLaws.{one-fits}
 use Rattle.comparison.proofs.SettingLaws.{Opened}
+use Rattle.comparison.proofs.WeekLaws.{dec-unknown, dec-resting}
 use Rattle.comparison.proofs.StartLaws.{Start, stateAt}
 use Rattle.comparison.proofs.HorizonLaws.{fits, showing}
 
@@ -76,7 +79,7 @@ module _ (i : CallInput) where
       (dec-nand (ltb (i .stop) n) (ltb (i .trip) 65535) (dec-not-ltb (i .stop) n) (dec-not-ltb (i .trip) 65535))
       (dec-not-leb (i .day) 2)) (dec-not-leb (i .pickup) 3)) (dec-not-leb (i .«drop_off») 3))
 
-  day-known : (n : ℕ) → not (known n i) ≡ false → i .day ≤ 2
+  pub day-known : (n : ℕ) → not (known n i) ≡ false → i .day ≤ 2
   day-known n e = go (ltb 2 (i .day)) refl
     where
       go : (b : Bool) → ltb 2 (i .day) ≡ b → i .day ≤ 2
@@ -153,9 +156,8 @@ module _ (s : Settings) (l : Load) (fs : List Filling) (w : Start s l fs) (o : O
     dec-full : out ≡ false → Decides filled (Fitting s (stateAt l fs) i (Refused NoRoom))
     dec-full e = let f = dec-fitting (Refused NoRoom) in dec-as filled (f .0) (f .1) (two-full out filled e)
 
-  by-held : Matches (tests.callCauses z (l .searched) (l .«stop_count») t i) (callCauses s (stateAt l fs) i)
-  unfolding callTests
-  by-held = (
+  by-held : (name : List ℕ) → Matches (fieldTests (l .searched) (l .«stop_count») i ++ runningTests (running (l .week) name (i .day)) ++ timeTests i ++ tests.callWindow z t i) (callCauses s (stateAt l fs) name i)
+  by-held name = (
     refl,
     dec-is (l .searched),
     λ p. (
@@ -163,15 +165,25 @@ module _ (s : Settings) (l : Load) (fs : List Filling) (w : Start s l fs) (o : O
       subst (λ (k : ℕ). Decides (not (known (l .«stop_count») i)) (k ≤ i .stop ⊎ 65535 ≤ i .trip ⊎ 2 < i .day ⊎ 3 < i .pickup ⊎ 3 < i .«drop_off»)) (w .held .stops) (dec-fields i (l .«stop_count»)),
       λ k. (
         refl,
-        dec-or (absent (i .arrival)) (absent (i .departure)) (dec-absent (i .arrival)) (dec-absent (i .departure)),
-        λ u. (
+        dec-unknown (w .held .week) (stateAt l fs) refl refl name (i .day),
+        λ m. (
           refl,
-          dec-reversed i u,
-          λ r. (refl, dec-out u (day-known i (l .«stop_count») k), λ e. (refl, dec-full u (day-known i (l .«stop_count») k) e, λ f. tt)),
+          dec-resting (w .held .week) (stateAt l fs) refl refl name (i .day) (day-known i (l .«stop_count») k) m,
+          λ n. (
+            refl,
+            dec-or (absent (i .arrival)) (absent (i .departure)) (dec-absent (i .arrival)) (dec-absent (i .departure)),
+            λ u. (
+              refl,
+              dec-reversed i u,
+              λ r. (refl, dec-out u (day-known i (l .«stop_count») k), λ e. (refl, dec-full u (day-known i (l .«stop_count») k) e, λ f. tt)),
+            ),
+          ),
         ),
       ),
     ),
   )
 
-  pub call-match : Matches (tests.callCauses (l .settings) (l .searched) (l .«stop_count») (tableOf l) i) (callCauses s (stateAt l fs) i)
-  call-match = subst (λ (x : Settings). Matches (tests.callCauses x (l .searched) (l .«stop_count») (tableOf l) i) (callCauses s (stateAt l fs) i)) (sym (w .settings)) by-held
+  pub call-match : (name : List ℕ) → Matches (causes l (call name i)) (callCauses s (stateAt l fs) name i)
+  call-match name =
+      subst (λ (x : Settings). Matches (fieldTests (l .searched) (l .«stop_count») i ++ runningTests (running (l .week) name (i .day)) ++ timeTests i ++ tests.callWindow x (tableOf l) i) (callCauses s (stateAt l fs) name i))
+      (sym (w .settings)) (by-held name)

@@ -3,6 +3,7 @@ use Prim.Native.Nat.{ℕ, zero, suc, _+_, _-_, _≤_, _<_}
 use mathlib.Core.Path.{_≡_, refl, sym, ap, subst, _∙_}
 use mathlib.Core.Logic.{_⊎_, inl, inr}
 use mathlib.Core.Bool.{Bool, true, false, not, cond, _&&_, true≢false, false≢true}
+use mathlib.Core.Option.{Option, none, some}
 use mathlib.Core.List.{List, [], _∷_, map, List·Memᴰ, List·Memᴰ·head, List·Memᴰ·tail, List·Memᴰ·not-nil, List·Memᴰ·cases-cons}
 use native.Mathlib.Omega.{arith}
 use lib.Dec.{leb, ltb, eqb}
@@ -32,11 +33,16 @@ use Rattle.rules.specs.declared.MinTime.{MinTime}
 use Rattle.rules.specs.declared.MinTime.the-variants.{Given, Absent}
 use Rattle.rules.specs.Rules.{samePair, typeRight, ruleTests, ruleOf}
 use Rattle.load.specs.declared.Load.{Load}
-use Rattle.load.specs.Steps.{stationIn}
+use Rattle.calendar.specs.Dates.{isDate}
+use Rattle.calendar.proofs.Dates.{dated}
+use Rattle.services.specs.Wrong.{noDate, datesWrong}
+use Rattle.week.specs.Weeks.{named}
+use Rattle.load.specs.Steps.{Opening, dateTests, openTests, stationIn}
 use Rattle.load.specs.Filling.{Filling}
 use Rattle.comparison.specs.Taken.{StopGiven, stopsIn, rulesIn}
 use Rattle.comparison.specs.Admitted.{Nth}
-use Rattle.comparison.specs.Causes.{Beyond, settingsCauses, Needed, stopCauses, ruleCauses}
+use Rattle.comparison.specs.Services.{NoDate}
+use Rattle.comparison.specs.Causes.{Beyond, dateCauses, openingCauses, Needed, stopCauses, ruleCauses}
 use Rattle.comparison.proofs.NthLaws.{nth-below, nth-one, bytes-same, same-bytes}
 use Rattle.comparison.proofs.Deciding.{Decides, Matches, not-is, dec-ltb, dec-leb, dec-eqb, dec-not-ltb, dec-not-leb, dec-is, dec-not, dec-or, dec-and, dec-nand, dec-as}
 use Rattle.stops.proofs.SoundLaws.{found}
@@ -74,14 +80,33 @@ dec-clock s =
     back (suc (suc zero), l, w) = inr (inr w)
     back (suc (suc (suc k)), l, w) = absurd (omega arith)
 
-pub settings-match : (s : Settings) → Matches (settingsTests s) (settingsCauses s)
-unfolding settingsTests overCounts
-settings-match s = (
-  refl,
-  dec-or (ltb 4 (s .origins)) _ (dec-ltb 4 (s .origins)) (dec-or (ltb 4 (s .targets)) _ (dec-ltb 4 (s .targets))
-      (dec-or (ltb 1 (s .«max_transfers»)) (ltb 15300 (s .«transfer_seconds»)) (dec-ltb 1 (s .«max_transfers»)) (dec-ltb 15300 (s .«transfer_seconds»)))),
-  λ a. (refl, dec-clock s, λ b. tt),
+-- dates
+pub dec-date : (d : ℕ) → Decides (not (isDate d)) (NoDate d)
+dec-date d = (
+  λ e y m n w. true≢false (sym (dated d .1 (y, m, n, w)) ∙ not-is (isDate d) e),
+  λ f. ap not (not-true (isDate d) (λ e. let (y, m, n, w) = dated d .0 e in f y m n w)),
 )
+
+dec-dates : (dates : List ℕ) → Decides (datesWrong dates) ((d : ℕ) × List·Memᴰ d dates × NoDate d)
+unfolding datesWrong
+dec-dates dates = (
+  λ e. let (d, m, q) = anyb-mem noDate dates e in (d, m, dec-date d .0 q),
+  λ (d, m, q). mem-anyb noDate m (dec-date d .1 q),
+)
+
+dates-match : (d : Option (List ℕ)) → Matches (dateTests d) (dateCauses d)
+dates-match none = tt
+dates-match (some dates) = (refl, dec-dates dates, λ a. tt)
+
+pub opening-match : (o : Opening) → Matches (openTests o) (openingCauses o)
+unfolding settingsTests overCounts
+opening-match o =
+    let s = o .settings in (
+      refl,
+      dec-or (ltb 4 (s .origins)) _ (dec-ltb 4 (s .origins)) (dec-or (ltb 4 (s .targets)) _ (dec-ltb 4 (s .targets))
+          (dec-or (ltb 1 (s .«max_transfers»)) (ltb 15300 (s .«transfer_seconds»)) (dec-ltb 1 (s .«max_transfers»)) (dec-ltb 15300 (s .«transfer_seconds»)))),
+      λ a. (refl, dec-clock s, λ b. dates-match (o .dates)),
+    )
 
 -- ---- stops by their ids
 

@@ -8,7 +8,11 @@ pub mod Deciding
 pub mod OneLaws
 pub mod Pairs
 pub mod KeyLaws
+pub mod RunsOnLaws
+pub mod WeekLaws
+pub mod WeekStepLaws
 pub mod TakenLaws
+pub mod RunningLaws
 pub mod StartLaws
 pub mod RuleLaws
 pub mod PlaceLaws
@@ -20,6 +24,7 @@ pub mod OfferedLaws
 pub mod HorizonLaws
 pub mod NeighbourLaws
 pub mod CauseLaws
+pub mod ServiceLaws
 pub mod CallLaws
 pub mod SearchingLaws
 pub mod RunLaws

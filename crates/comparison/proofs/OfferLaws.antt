@@ -1,24 +1,25 @@
 -- The program's offers stand in the order stated here.
-use Prim.Native.Nat.{ℕ, _+_, _*_, _/_, _<_, min}
-use mathlib.Core.Path.{_≡_, refl, sym, subst, _∙_}
+use Prim.Native.Nat.{ℕ, _*_, _/_, _<_, min}
+use mathlib.Core.Path.{_≡_, refl, subst}
 use mathlib.Core.Logic.{_⊎_, inl, inr}
-use mathlib.Core.Bool.{Bool, true, false, cond}
-use mathlib.Core.List.{List, [], _∷_, _++_, map, map-append, List·Memᴰ, List·Memᴰ·not-nil, List·Memᴰ·append-cases, List·Memᴰ·eq-of-singleton}
-use native.Mathlib.Omega.{arith}
+use mathlib.Core.Bool.{true, cond}
+use mathlib.Core.List.{List, [], _∷_, _++_, map, List·Memᴰ, List·Memᴰ·append-cases, Memᴰ·of-map}
 use lib.Dec.{eqb, leb, ltb}
 use borrow.Author.Tests.{ltb-true}
-use Rattle.laws.specs.Lists.{concatMap}
-use Rattle.laws.specs.Tails.{overTails}
+use Rattle.laws.specs.Lists.{concatMap, takeWhile}
+use Rattle.laws.specs.Bits.{bitsFrom}
 use Rattle.laws.proofs.Folds.{concatMap-mem}
-use Rattle.laws.proofs.Tails.{cond-mem, overTails-mem}
+use Rattle.laws.proofs.Tails.{cond-mem}
 use Rattle.calls.specs.declared.Call.{Call}
 use Rattle.profile.specs.declared.Journey.{Journey}
 use Rattle.profile.proofs.FiguresLaws.{lexb-true}
+use Rattle.ways.specs.Rides.{Leg, leg, First, firstRide, Network, alightings, rides, firstRides, joinedRides, directs, changes, journeys}
+use Rattle.ways.proofs.ImageLaws.{journeys-map}
 use Rattle.offers.specs.Order.{earlier, Rising}
-use Rattle.offers.specs.Offers.{Timetable, rideOf, directOf, changeOf, sameRun, runOf, originsOf, targetsOf, lastAt, lastAlight, lastBoard, directAt, changesAt, alightAt, originAt, boardAt, offersIn}
+use Rattle.offers.specs.Offers.{Timetable, rideOf, directOf, changeOf, networkOf, offers, sorted}
 use Rattle.comparison.specs.Neighbours.{CallBefore}
-use Rattle.comparison.specs.OfferOrder.{Offer, alone, changing, Before, Ascending}
-use Rattle.comparison.proofs.Pairs.{Pairs, pairs-append, pairs-cond, pairs-concat, pairs-tails, pairs-while, pairs-bits}
+use Rattle.comparison.specs.OfferOrder.{Offer, alone, changing, Sooner, Before, Ascending}
+use Rattle.comparison.proofs.Pairs.{Pairs, pairs-append, pairs-cond, pairs-concat, pairs-tails, pairs-while, pairs-filter, pairs-map, pairs-bits}
 
 pub call-before : (b c : Call) → earlier b c ≡ true → CallBefore b c
 call-before b c e = one (lexb-true (b .trip) (c .trip) _ e)
@@ -33,174 +34,161 @@ call-before b c e = one (lexb-true (b .trip) (c .trip) _ e)
 
 -- ---- the offers with their calls
 
-map-tails : {A B C : Type 0} (f : A → C) (g : B → List B → List A) (h : B → List B → List C) → ((y : B) (ys : List B) → map f (g y ys) ≡ h y ys) → (ys : List B) → map f (overTails g ys) ≡ overTails h ys
-map-tails f g h e [] = refl
-map-tails f g h e (y ∷ ys) = map-append f (g y ys) (overTails g ys) ∙ (λ k. e y ys k ++ map-tails f g h e ys k)
+abbrev pub byAlone : First Call → ℕ → Offer
+byAlone f k = alone (f .ride .b) (f .o) (f .ride .a) k
 
-map-each : {A B C : Type 0} (f : A → C) (g : B → List A) (h : B → List C) → ((y : B) → map f (g y) ≡ h y) → (ys : List B) → map f (concatMap g ys) ≡ concatMap h ys
-map-each f g h e [] = refl
-map-each f g h e (y ∷ ys) = map-append f (g y) (concatMap g ys) ∙ (λ k. e y k ++ map-each f g h e ys k)
+abbrev pub byChanging : First Call → Leg Call → ℕ → Offer
+byChanging f l k = changing (f .ride .b) (f .o) (f .ride .a) (l .b) (l .a) k
 
-map-if : {A C : Type 0} (f : A → C) (c : Bool) (xs : List A) (ys : List C) → map f xs ≡ ys → map f (cond c xs []) ≡ cond c ys []
-map-if f true xs ys e = e
-map-if f false xs ys e = refl
+abbrev pub keys : Timetable → List Call → List Offer
+keys t s = journeys (networkOf t) byAlone byChanging (t .max-transfers) s
 
-before-by : (x y e f : Offer) → x ≡ e → y ≡ f → Before e f → Before x y
-before-by x y e f p q w = subst (λ (z : Offer). Before z y) (sym p) (subst (λ (z : Offer). Before e z) (sym q) w)
+abbrev pub toJ : Timetable → Offer → Journey
+toJ t (alone b o a k) = directOf t (rideOf b a) o k
+toJ t (changing b o a c d k) = changeOf t (rideOf b a) (rideOf c d) o k
 
-module _ (t : Timetable) where
-  abbrev pub toJ : Offer → Journey
-  toJ (alone b o a k) = directOf t (rideOf b a) o k
-  toJ (changing b o a c d k) = changeOf t (rideOf b a) (rideOf c d) o k
+-- the same journeys
+pub same-offers : (t : Timetable) → map (toJ t) (keys t (sorted t)) ≡ offers t
+unfolding offers
+same-offers t = journeys-map (networkOf t) (toJ t) byAlone byChanging (t .max-transfers) (sorted t)
 
-  module _ (b : Call) (o : ℕ) (a : Call) where
-    abbrev pub kLastAt : Call → Call → ℕ → List Offer
-    kLastAt c d k = cond (t .joins (rideOf b a) c) (changing b o a c d k ∷ []) []
+-- ---- rides in order
 
-    abbrev pub kLastAlight : Call → Call → List Offer
-    kLastAlight c d = cond (d .alight) (concatMap (kLastAt c d) (targetsOf t d)) []
+abbrev RideBefore : Leg Call → Leg Call → Type 0
+RideBefore r q = CallBefore (r .b) (q .b) ⊎ ((r .b ≡ q .b) × CallBefore (r .a) (q .a))
 
-    abbrev pub kLastBoard : Call → List Call → List Offer
-    kLastBoard c later = cond (c .board) (concatMap (kLastAlight c) (runOf c later)) []
+abbrev FirstBefore : First Call → First Call → Type 0
+FirstBefore f g =
+    CallBefore (f .ride .b) (g .ride .b) ⊎ ((f .ride .b ≡ g .ride .b) × ((f .o < g .o) ⊎ ((f .o ≡ g .o) × CallBefore (f .ride .a) (g .ride .a))))
 
-    abbrev pub kChanges : List Call → List Offer
-    kChanges s = cond (eqb (t .max-transfers) 1) (overTails kLastBoard s) []
+module _ (N : Network Call) (bits : (b : Call) → Pairs _<_ (N .origins b)) where
+  run-pairs : (b : Call) (later : List Call) → Pairs CallBefore later → Pairs CallBefore (alightings N b later)
+  run-pairs b later p = pairs-filter CallBefore (N .alight) (takeWhile (N .same b) later) (pairs-while CallBefore (N .same b) later p)
 
-    abbrev pub kDirect : ℕ → List Offer
-    kDirect k = alone b o a k ∷ []
-
-    abbrev pub kAlight : List Call → List Offer
-    kAlight s = cond (a .alight) (concatMap kDirect (targetsOf t a) ++ kChanges s) []
-
-    -- their calls
-    last-at : (c d : Call) (k : ℕ) (x : Offer) → List·Memᴰ x (kLastAt c d k) → x ≡ changing b o a c d k
-    last-at c d k x m = List·Memᴰ·eq-of-singleton (cond-mem (t .joins (rideOf b a) c) (changing b o a c d k ∷ []) m .1)
-
-    last-alight : (c d : Call) (x : Offer) → List·Memᴰ x (kLastAlight c d) → (k : ℕ) × (x ≡ changing b o a c d k)
-    last-alight c d x m =
-        let (k, i, n) = concatMap-mem (kLastAt c d) (targetsOf t d) (cond-mem (d .alight) (concatMap (kLastAt c d) (targetsOf t d)) m .1) in
-        (k, last-at c d k x n)
-
-    last-board : (c : Call) (later : List Call) (x : Offer) → List·Memᴰ x (kLastBoard c later) → (d : Call) × (k : ℕ) × (x ≡ changing b o a c d k)
-    last-board c later x m =
-        let (d, i, n) = concatMap-mem (kLastAlight c) (runOf c later) (cond-mem (c .board) (concatMap (kLastAlight c) (runOf c later)) m .1) in
-        let (k, e) = last-alight c d x n in
-        (d, k, e)
-
-    changes : (s : List Call) (x : Offer) → List·Memᴰ x (kChanges s) → (c : Call) × (d : Call) × (k : ℕ) × (x ≡ changing b o a c d k)
-    changes s x m =
-        let (c, cs, tl, n) = overTails-mem kLastBoard s (cond-mem (eqb (t .max-transfers) 1) (overTails kLastBoard s) m .1) in
-        let (d, k, e) = last-board c cs x n in
-        (c, d, k, e)
-
-    directs : (x : Offer) → List·Memᴰ x (concatMap kDirect (targetsOf t a)) → (k : ℕ) × (x ≡ alone b o a k)
-    directs x m = let (k, i, n) = concatMap-mem kDirect (targetsOf t a) m in (k, List·Memᴰ·eq-of-singleton n)
-
-    -- in order
-    pairs-last-at : (c d : Call) (k : ℕ) → Pairs Before (kLastAt c d k)
-    pairs-last-at c d k = pairs-cond Before (t .joins (rideOf b a) c) (changing b o a c d k ∷ []) (λ y m. absurd (List·Memᴰ·not-nil m), tt)
-
-    pairs-last-alight : (c d : Call) → Pairs Before (kLastAlight c d)
-    pairs-last-alight c d = pairs-cond Before (d .alight) _ (pairs-concat Before _<_ (kLastAt c d) (targetsOf t d) (pairs-bits (min (t .targets) 4) 0 (t .members (d .stop) / 16)) (pairs-last-at c d)
-        (λ k k′ l x y m n. before-by x y _ _ (last-at c d k x m) (last-at c d k′ y n) (inr (refl, inr (refl, inr (refl, inr (refl, inr (refl, l))))))))
-
-    pairs-last-board : (c : Call) (later : List Call) → Pairs CallBefore later → Pairs Before (kLastBoard c later)
-    pairs-last-board c later p = pairs-cond Before (c .board) _ (pairs-concat Before CallBefore (kLastAlight c) (runOf c later) (pairs-while CallBefore (sameRun c) later p) (pairs-last-alight c)
-        (λ d d′ l x y m n. before-by x y _ _ (last-alight c d x m .1) (last-alight c d′ y n .1) (inr (refl, inr (refl, inr (refl, inr (refl, inl l)))))))
-
-    pairs-changes : (s : List Call) → Pairs CallBefore s → Pairs Before (kChanges s)
-    pairs-changes s p = pairs-cond Before (eqb (t .max-transfers) 1) _ (pairs-tails Before CallBefore kLastBoard s p pairs-last-board
-        (λ c c′ cs cs′ l x y m n. before-by x y _ _ (last-board c cs x m .2) (last-board c′ cs′ y n .2) (inr (refl, inr (refl, inr (refl, inl l))))))
-
-    pairs-alight : (s : List Call) → Pairs CallBefore s → Pairs Before (kAlight s)
-    pairs-alight s p = pairs-cond Before (a .alight) _ (pairs-append Before (concatMap kDirect (targetsOf t a)) (kChanges s)
-        (pairs-concat Before _<_ kDirect (targetsOf t a) (pairs-bits (min (t .targets) 4) 0 (t .members (a .stop) / 16)) (λ k. (λ y m. absurd (List·Memᴰ·not-nil m), tt))
-        (λ k k′ l x y m n. before-by x y _ _ (List·Memᴰ·eq-of-singleton m) (List·Memᴰ·eq-of-singleton n) (inr (refl, inr (refl, inr (refl, l))))))
-        (pairs-changes s p)
-        (λ x y m n. before-by x y _ _ (directs x m .1) (changes s y n .3) (inr (refl, inr (refl, inr (refl, tt))))))
-
-    -- the same journeys
-    same-alight : (s : List Call) → map toJ (kAlight s) ≡ alightAt t s o b a
-    unfolding alightAt directAt changesAt lastBoard lastAlight lastAt
-    same-alight s = map-if toJ (a .alight) _ _ (map-append toJ (concatMap kDirect (targetsOf t a)) (kChanges s)
-        ∙ (λ i. map-each toJ kDirect (directAt t o (rideOf b a)) (λ k. refl) (targetsOf t a) i
-        ++ map-if toJ (eqb (t .max-transfers) 1) (overTails kLastBoard s) (overTails (lastBoard t o (rideOf b a)) s)
-        (map-tails toJ kLastBoard (lastBoard t o (rideOf b a)) (λ c cs. map-if toJ (c .board) _ _
-        (map-each toJ (kLastAlight c) (lastAlight t o (rideOf b a) c) (λ d. map-if toJ (d .alight) _ _
-        (map-each toJ (kLastAt c d) (lastAt t o (rideOf b a) c d) (λ k. map-if toJ (t .joins (rideOf b a) c) _ _ refl) (targetsOf t d))) (runOf c cs))) s) i))
-
-  -- the calls that a key has in front
-  abbrev HasA : Call → ℕ → Call → Offer → Type 0
-  HasA b o a (alone b′ o′ a′ k) = (b ≡ b′) × (o ≡ o′) × (a ≡ a′)
-  HasA b o a (changing b′ o′ a′ c d k) = (b ≡ b′) × (o ≡ o′) × (a ≡ a′)
-
-  abbrev HasO : Call → ℕ → Offer → Type 0
-  HasO b o x = (a : Call) × HasA b o a x
-
-  alight-has : (s : List Call) (b : Call) (o : ℕ) (a : Call) (x : Offer) → List·Memᴰ x (kAlight b o a s) → HasA b o a x
-  alight-has s b o a x m = go (List·Memᴰ·append-cases (concatMap (kDirect b o a) (targetsOf t a)) (cond-mem (a .alight) (concatMap (kDirect b o a) (targetsOf t a) ++ kChanges b o a s) m .1))
+  rides-pairs : (s : List Call) → Pairs CallBefore s → Pairs RideBefore (rides N s)
+  unfolding rides
+  rides-pairs s p =
+      pairs-tails RideBefore CallBefore (λ b later. cond (N .board b) (map (leg b) (alightings N b later)) []) s p
+      (λ b later q. pairs-cond RideBefore (N .board b) _ (pairs-map RideBefore CallBefore (leg b) (alightings N b later) (run-pairs b later q) (λ a a′ l. inr (refl, l))))
+      (λ b c later later′ l r q m n. inl (subst (λ (x : Call). CallBefore x (q .b)) (boards b later r m) (subst (CallBefore b) (boards c later′ q n) l)))
     where
-      go : List·Memᴰ x (concatMap (kDirect b o a) (targetsOf t a)) ⊎ List·Memᴰ x (kChanges b o a s) → HasA b o a x
-      go (inl n) = subst (HasA b o a) (sym (directs b o a x n .1)) (refl, refl, refl)
-      go (inr n) = subst (HasA b o a) (sym (changes b o a s x n .3)) (refl, refl, refl)
+      boards : (b : Call) (later : List Call) (r : Leg Call) → List·Memᴰ r (cond (N .board b) (map (leg b) (alightings N b later)) []) → b ≡ r .b
+      boards b later r m = let (a, i, e) = Memᴰ·of-map (leg b) (alightings N b later) (cond-mem (N .board b) _ m .1) in λ n. e n .b
 
-  -- before, by the first that differs
-  by-a : (b : Call) (o : ℕ) (a a′ : Call) (x y : Offer) → HasA b o a x → HasA b o a′ y → CallBefore a a′ → Before x y
-  by-a b o a a′ (alone b₁ o₁ a₁ k₁) (alone b₂ o₂ a₂ k₂) (p, q, r) (p′, q′, r′) l = inr (sym p ∙ p′, inr (sym q ∙ q′, inl (subst (λ (z : Call). CallBefore z a₂) r (subst (CallBefore a) r′ l))))
-  by-a b o a a′ (alone b₁ o₁ a₁ k₁) (changing b₂ o₂ a₂ c₂ d₂ k₂) (p, q, r) (p′, q′, r′) l = inr (sym p ∙ p′, inr (sym q ∙ q′, inl (subst (λ (z : Call). CallBefore z a₂) r (subst (CallBefore a) r′ l))))
-  by-a b o a a′ (changing b₁ o₁ a₁ c₁ d₁ k₁) (alone b₂ o₂ a₂ k₂) (p, q, r) (p′, q′, r′) l = inr (sym p ∙ p′, inr (sym q ∙ q′, inl (subst (λ (z : Call). CallBefore z a₂) r (subst (CallBefore a) r′ l))))
-  by-a b o a a′ (changing b₁ o₁ a₁ c₁ d₁ k₁) (changing b₂ o₂ a₂ c₂ d₂ k₂) (p, q, r) (p′, q′, r′) l = inr (sym p ∙ p′, inr (sym q ∙ q′, inl (subst (λ (z : Call). CallBefore z a₂) r (subst (CallBefore a) r′ l))))
+  -- from one origin, and from each
+  from : Call → List Call → ℕ → List (First Call)
+  from b later o = map (firstRide o b) (alightings N b later)
 
-  by-o : (b : Call) (o o′ : ℕ) (a a′ : Call) (x y : Offer) → HasA b o a x → HasA b o′ a′ y → o < o′ → Before x y
-  by-o b o o′ a a′ (alone b₁ o₁ a₁ k₁) (alone b₂ o₂ a₂ k₂) (p, q, r) (p′, q′, r′) l = inr (sym p ∙ p′, inl (omega arith))
-  by-o b o o′ a a′ (alone b₁ o₁ a₁ k₁) (changing b₂ o₂ a₂ c₂ d₂ k₂) (p, q, r) (p′, q′, r′) l = inr (sym p ∙ p′, inl (omega arith))
-  by-o b o o′ a a′ (changing b₁ o₁ a₁ c₁ d₁ k₁) (alone b₂ o₂ a₂ k₂) (p, q, r) (p′, q′, r′) l = inr (sym p ∙ p′, inl (omega arith))
-  by-o b o o′ a a′ (changing b₁ o₁ a₁ c₁ d₁ k₁) (changing b₂ o₂ a₂ c₂ d₂ k₂) (p, q, r) (p′, q′, r′) l = inr (sym p ∙ p′, inl (omega arith))
+  from-is : (b : Call) (later : List Call) (o : ℕ) (f : First Call) → List·Memᴰ f (from b later o) → (a : Call) × (firstRide o b a ≡ f)
+  unfolding from
+  from-is b later o f m = let (a, i, e) = Memᴰ·of-map (firstRide o b) (alightings N b later) m in (a, e)
 
-  by-b : (b b′ : Call) (o o′ : ℕ) (a a′ : Call) (x y : Offer) → HasA b o a x → HasA b′ o′ a′ y → CallBefore b b′ → Before x y
-  by-b b b′ o o′ a a′ (alone b₁ o₁ a₁ k₁) (alone b₂ o₂ a₂ k₂) (p, q, r) (p′, q′, r′) l = inl (subst (λ (z : Call). CallBefore z b₂) p (subst (CallBefore b) p′ l))
-  by-b b b′ o o′ a a′ (alone b₁ o₁ a₁ k₁) (changing b₂ o₂ a₂ c₂ d₂ k₂) (p, q, r) (p′, q′, r′) l = inl (subst (λ (z : Call). CallBefore z b₂) p (subst (CallBefore b) p′ l))
-  by-b b b′ o o′ a a′ (changing b₁ o₁ a₁ c₁ d₁ k₁) (alone b₂ o₂ a₂ k₂) (p, q, r) (p′, q′, r′) l = inl (subst (λ (z : Call). CallBefore z b₂) p (subst (CallBefore b) p′ l))
-  by-b b b′ o o′ a a′ (changing b₁ o₁ a₁ c₁ d₁ k₁) (changing b₂ o₂ a₂ c₂ d₂ k₂) (p, q, r) (p′, q′, r′) l = inl (subst (λ (z : Call). CallBefore z b₂) p (subst (CallBefore b) p′ l))
+  board-pairs : (b : Call) (later : List Call) → Pairs CallBefore later → Pairs FirstBefore (concatMap (from b later) (N .origins b))
+  unfolding from
+  board-pairs b later q =
+      pairs-concat FirstBefore _<_ (from b later) (N .origins b) (bits b)
+      (λ o. pairs-map FirstBefore CallBefore (firstRide o b) (alightings N b later) (run-pairs b later q) (λ a a′ l. inr (refl, inr (refl, l))))
+      (λ o p l f g m n. let (a, e) = from-is b later o f m in let (c, d) = from-is b later p g n in
+      subst (λ (x : First Call). FirstBefore x g) e (subst (FirstBefore (firstRide o b a)) d (inr (refl, inl l))))
 
-  module _ (s : List Call) (p : Pairs CallBefore s) where
-    abbrev pub kOrigin : Call → List Call → ℕ → List Offer
-    kOrigin b later o = cond (leb (t .origin-walk o * 60) (b .departure)) (concatMap (λ a. kAlight b o a s) (runOf b later)) []
+  firsts-pairs : (s : List Call) → Pairs CallBefore s → Pairs FirstBefore (firstRides N s)
+  unfolding firstRides from
+  firsts-pairs s p =
+      pairs-tails FirstBefore CallBefore (λ b later. cond (N .board b) (concatMap (from b later) (N .origins b)) []) s p
+      (λ b later q. pairs-cond FirstBefore (N .board b) _ (board-pairs b later q))
+      (λ b c later later′ l f g m n. let (o, a, e) = boards b later f m in let (p, d, k) = boards c later′ g n in
+      subst (λ (x : First Call). FirstBefore x g) e (subst (FirstBefore (firstRide o b a)) k (inl l)))
+    where
+      boards : (b : Call) (later : List Call) (f : First Call) → List·Memᴰ f (cond (N .board b) (concatMap (from b later) (N .origins b)) []) → (o : ℕ) × (a : Call) × (firstRide o b a ≡ f)
+      boards b later f m =
+          let (o, i, n) = concatMap-mem (from b later) (N .origins b) (cond-mem (N .board b) _ m .1) in
+          let (a, e) = from-is b later o f n in
+          (o, a, e)
 
-    abbrev pub kBoard : Call → List Call → List Offer
-    kBoard b later = cond (b .board) (concatMap (kOrigin b later) (originsOf t b)) []
+-- ---- offers in order
 
-    abbrev pub kOffers : List Offer
-    kOffers = overTails kBoard s
+-- the offer is of the first ride
+abbrev Of : First Call → Offer → Type 0
+Of f x = ((k : ℕ) × (byAlone f k ≡ x)) ⊎ ((l : Leg Call) × (k : ℕ) × (byChanging f l k ≡ x))
 
-    origin-has : (b : Call) (later : List Call) (o : ℕ) (x : Offer) → List·Memᴰ x (kOrigin b later o) → (a : Call) × HasA b o a x
-    origin-has b later o x m =
-        let (a, i, n) = concatMap-mem (λ a. kAlight b o a s) (runOf b later) (cond-mem (leb (t .origin-walk o * 60) (b .departure)) (concatMap (λ a. kAlight b o a s) (runOf b later)) m .1) in
-        (a, alight-has s b o a x n)
+before-by : (x y e f : Offer) → e ≡ x → f ≡ y → Before e f → Before x y
+before-by x y e f p q w = subst (λ (z : Offer). Before z y) p (subst (λ (z : Offer). Before e z) q w)
 
-    board-has : (b : Call) (later : List Call) (x : Offer) → List·Memᴰ x (kBoard b later) → (o : ℕ) × (a : Call) × HasA b o a x
-    board-has b later x m =
-        let (o, i, n) = concatMap-mem (kOrigin b later) (originsOf t b) (cond-mem (b .board) (concatMap (kOrigin b later) (originsOf t b)) m .1) in
-        let (a, h) = origin-has b later o x n in
-        (o, a, h)
+sooner : (f g : First Call) (Rest : Type 0) → FirstBefore f g → Sooner (f .ride .b) (f .o) (f .ride .a) (g .ride .b) (g .o) (g .ride .a) Rest
+sooner f g Rest (inl l) = inl l
+sooner f g Rest (inr (e, inl l)) = inr (e, inl l)
+sooner f g Rest (inr (e, inr (q, l))) = inr (e, inr (q, inl l))
 
-    pairs-origin : (b : Call) (later : List Call) → Pairs CallBefore later → (o : ℕ) → Pairs Before (kOrigin b later o)
-    pairs-origin b later q o = pairs-cond Before (leb (t .origin-walk o * 60) (b .departure)) _ (pairs-concat Before CallBefore (λ a. kAlight b o a s) (runOf b later) (pairs-while CallBefore (sameRun b) later q) (λ a. pairs-alight b o a s p)
-        (λ a a′ l x y m n. by-a b o a a′ x y (alight-has s b o a x m) (alight-has s b o a′ y n) l))
+by-first : (f g : First Call) → FirstBefore f g → (x y : Offer) → Of f x → Of g y → Before x y
+by-first f g w x y (inl (k, e)) (inl (k′, e′)) = before-by x y (byAlone f k) (byAlone g k′) e e′ (sooner f g _ w)
+by-first f g w x y (inl (k, e)) (inr (l′, k′, e′)) = before-by x y (byAlone f k) (byChanging g l′ k′) e e′ (sooner f g _ w)
+by-first f g w x y (inr (l, k, e)) (inl (k′, e′)) = before-by x y (byChanging f l k) (byAlone g k′) e e′ (sooner f g _ w)
+by-first f g w x y (inr (l, k, e)) (inr (l′, k′, e′)) = before-by x y (byChanging f l k) (byChanging g l′ k′) e e′ (sooner f g _ w)
 
-    pairs-board : (b : Call) (later : List Call) → Pairs CallBefore later → Pairs Before (kBoard b later)
-    pairs-board b later q = pairs-cond Before (b .board) _ (pairs-concat Before _<_ (kOrigin b later) (originsOf t b) (pairs-bits (min (t .origins) 4) 0 (t .members (b .stop))) (pairs-origin b later q)
-        (λ o o′ l x y m n. let (a, h) = origin-has b later o x m in let (a′, h′) = origin-has b later o′ y n in by-o b o o′ a a′ x y h h′ l))
+module _ (t : Timetable) (s : List Call) (p : Pairs CallBefore s) where
+  bits : (b : Call) → Pairs _<_ (networkOf t .origins b)
+  unfolding networkOf
+  bits b = pairs-filter _<_ (λ o. leb (t .origin-walk o * 60) (b .departure)) (bitsFrom (min (t .origins) 4) 0 (t .members (b .stop))) (pairs-bits (min (t .origins) 4) 0 (t .members (b .stop)))
 
-    pub pairs-offers : Pairs Before kOffers
-    pairs-offers = pairs-tails Before CallBefore kBoard s p pairs-board
-        (λ b b′ bs bs′ l x y m n. let (o, a, h) = board-has b bs x m in let (o′, a′, h′) = board-has b′ bs′ y n in by-b b b′ o o′ a a′ x y h h′ l)
+  targets : (a : Call) → Pairs _<_ (networkOf t .targets a)
+  unfolding networkOf
+  targets a = pairs-bits (min (t .targets) 4) 0 (t .members (a .stop) / 16)
 
-    pub same-offers : map toJ kOffers ≡ offersIn t s
-    unfolding offersIn boardAt originAt
-    same-offers = map-tails toJ kBoard (boardAt t s) (λ b later. map-if toJ (b .board) _ _
-        (map-each toJ (kOrigin b later) (originAt t s b later) (λ o. map-if toJ (leb (t .origin-walk o * 60) (b .departure)) _ _
-        (map-each toJ (λ a. kAlight b o a s) (alightAt t s o b) (λ a. same-alight b o a s) (runOf b later))) (originsOf t b))) s
+  module _ (f : First Call) where
+    abbrev alones : List Offer
+    alones = directs (networkOf t) byAlone byChanging f
+
+    abbrev changings : List Offer
+    changings = changes (networkOf t) byAlone byChanging s f
+
+    alone-of : (x : Offer) → List·Memᴰ x alones → (k : ℕ) × (byAlone f k ≡ x)
+    unfolding directs
+    alone-of x m = let (k, i, e) = Memᴰ·of-map (byAlone f) (networkOf t .targets (f .ride .a)) m in (k, e)
+
+    last-of : (l : Leg Call) (x : Offer) → List·Memᴰ x (map (byChanging f l) (networkOf t .targets (l .a))) → (k : ℕ) × (byChanging f l k ≡ x)
+    last-of l x m = let (k, i, e) = Memᴰ·of-map (byChanging f l) (networkOf t .targets (l .a)) m in (k, e)
+
+    changing-of : (x : Offer) → List·Memᴰ x changings → (l : Leg Call) × (k : ℕ) × (byChanging f l k ≡ x)
+    unfolding changes
+    changing-of x m =
+        let (l, i, n) = concatMap-mem (λ l. map (byChanging f l) (networkOf t .targets (l .a))) (joinedRides (networkOf t) s (f .ride)) m in
+        let (k, e) = last-of l x n in
+        (l, k, e)
+
+    alone-pairs : Pairs Before alones
+    unfolding directs
+    alone-pairs = pairs-map Before _<_ (byAlone f) (networkOf t .targets (f .ride .a)) (targets (f .ride .a)) (λ k k′ l. inr (refl, inr (refl, inr (refl, l))))
+
+    changing-pairs : Pairs Before changings
+    unfolding changes joinedRides
+    changing-pairs =
+        pairs-concat Before RideBefore (λ l. map (byChanging f l) (networkOf t .targets (l .a))) (joinedRides (networkOf t) s (f .ride))
+        (pairs-filter RideBefore (λ l. networkOf t .joins (f .ride) (l .b)) (rides (networkOf t) s) (rides-pairs (networkOf t) bits s p))
+        (λ l. pairs-map Before _<_ (byChanging f l) (networkOf t .targets (l .a)) (targets (l .a)) (λ k k′ h. inr (refl, inr (refl, inr (refl, inr (refl, inr (refl, h)))))))
+        (λ l l′ w x y m n. let (k, e) = last-of l x m in let (k′, e′) = last-of l′ y n in before-by x y (byChanging f l k) (byChanging f l′ k′) e e′ (inr (refl, inr (refl, inr (refl, later l l′ w)))))
+      where
+        later : (l l′ : Leg Call) {Rest : Type 0} → RideBefore l l′ → CallBefore (l .b) (l′ .b) ⊎ ((l .b ≡ l′ .b) × (CallBefore (l .a) (l′ .a) ⊎ ((l .a ≡ l′ .a) × Rest)))
+        later l l′ (inl h) = inl h
+        later l l′ (inr (q, h)) = inr (q, inl h)
+
+    after-pairs : Pairs Before (alones ++ cond (eqb (t .max-transfers) 1) changings [])
+    after-pairs =
+        pairs-append Before alones (cond (eqb (t .max-transfers) 1) changings []) alone-pairs (pairs-cond Before (eqb (t .max-transfers) 1) changings changing-pairs)
+        (λ x y m n. let (k, e) = alone-of x m in let (l, k′, e′) = changing-of y (cond-mem (eqb (t .max-transfers) 1) changings n .1) in
+        before-by x y (byAlone f k) (byChanging f l k′) e e′ (inr (refl, inr (refl, inr (refl, tt)))))
+
+    after-of : (x : Offer) → List·Memᴰ x (alones ++ cond (eqb (t .max-transfers) 1) changings []) → Of f x
+    after-of x m = go (List·Memᴰ·append-cases alones m)
+      where
+        go : List·Memᴰ x alones ⊎ List·Memᴰ x (cond (eqb (t .max-transfers) 1) changings []) → Of f x
+        go (inl n) = inl (alone-of x n)
+        go (inr n) = inr (changing-of x (cond-mem (eqb (t .max-transfers) 1) changings n .1))
+
+  pub pairs-offers : Pairs Before (keys t s)
+  unfolding journeys
+  pairs-offers =
+      pairs-concat Before FirstBefore (λ f. alones f ++ cond (eqb (t .max-transfers) 1) (changings f) []) (firstRides (networkOf t) s) (firsts-pairs (networkOf t) bits s p) after-pairs
+      (λ f g w x y m n. by-first f g w x y (after-of f x m) (after-of g y n))
 
 pub ascends : (es : List Offer) → Pairs Before es → Ascending es
 ascends [] p = tt

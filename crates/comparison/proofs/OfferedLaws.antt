@@ -1,27 +1,22 @@
 -- The program's offers are those stated here, and no other list is.
-use Prim.Native.Nat.{ℕ, _+_, _*_, _/_, _<_, min}
+use Prim.Native.Nat.{ℕ, _+_, _*_, _<_}
 use mathlib.Core.Path.{_≡_, refl, sym, ap, subst, _∙_}
 use mathlib.Core.Logic.{_⊎_, inl, inr}
 use mathlib.Core.Bool.{true}
-use mathlib.Core.List.{List, [], _∷_, _++_, map, List·Memᴰ, List·Memᴰ·head, List·Memᴰ·tail, List·Memᴰ·not-nil, List·Memᴰ·cases-cons, List·Memᴰ·append-cases, List·Memᴰ·eq-of-singleton, Memᴰ·append-left, Memᴰ·append-right}
+use mathlib.Core.List.{List, [], _∷_, map, List·Memᴰ, List·Memᴰ·head, List·Memᴰ·tail, List·Memᴰ·not-nil, List·Memᴰ·cases-cons}
 use native.Mathlib.Omega.{arith}
-use lib.Dec.{eqb, leb}
 use lib.ListN.{getD}
-use borrow.Author.Tests.{leb-true, le-leb, eqb-true, eq-eqb}
-use Rattle.laws.specs.Lists.{concatMap}
-use Rattle.laws.specs.Tails.{overTails}
-use Rattle.laws.proofs.Folds.{concatMap-mem, mem-concatMap}
-use Rattle.laws.proofs.Tails.{cond-mem, mem-cond, overTails-mem, mem-overTails}
-use Rattle.laws.proofs.Bits.{bits-set, set-bits}
 use Rattle.settings.specs.declared.Settings.{Settings}
 use Rattle.calls.specs.declared.Call.{Call}
 use Rattle.profile.specs.declared.Ride.{Ride}
 use Rattle.profile.specs.declared.Journey.{Journey}
 use Rattle.load.specs.declared.Load.{Load}
 use Rattle.load.specs.Filling.{Filling}
-use Rattle.offers.specs.Offers.{Timetable, rideOf, runOf, originsOf, targetsOf, sorted, offers}
+use Rattle.ways.specs.Rides.{Leg, leg, firstRide}
+use Rattle.ways.proofs.RideLaws.{Alone, Changing, journeys-mem, mem-alone, mem-changing}
+use Rattle.offers.specs.Offers.{Timetable, rideOf, networkOf, sorted, offers}
 use Rattle.offers.specs.Admitted.{Rides, Starts, Ends, Clear}
-use Rattle.offers.proofs.OfferLaws.{clear-rising, rides-found, found-rides}
+use Rattle.offers.proofs.OfferLaws.{clear-rising, rides-found, found-rides, starts-set, set-starts, ends-set, set-ends}
 use Rattle.search.specs.Timetable.{timetableOf}
 use Rattle.comparison.specs.Admitted.{Feed, Between, IsRide}
 use Rattle.comparison.specs.Neighbours.{CallBefore}
@@ -31,7 +26,7 @@ use Rattle.comparison.proofs.Pairs.{Pairs, one-pairs}
 use Rattle.comparison.proofs.SettingLaws.{Opened}
 use Rattle.comparison.proofs.StartLaws.{Start, stateAt, same-feed}
 use Rattle.comparison.proofs.AdmittedLaws.{ride-is, direct-in, change-in, direct-out, change-out}
-use Rattle.comparison.proofs.OfferLaws.{toJ, kLastAt, kLastAlight, kLastBoard, kChanges, kDirect, kAlight, kOrigin, kBoard, kOffers, pairs-offers, same-offers, ascends, rises}
+use Rattle.comparison.proofs.OfferLaws.{byAlone, byChanging, keys, toJ, pairs-offers, same-offers, ascends, rises}
 
 -- ---- the calls of an offer
 
@@ -39,78 +34,50 @@ abbrev KeyOf : Timetable → Offer → Type 0
 KeyOf t (alone b o a k) = Rides (t .calls) b a × Starts t b o × Ends t a k
 KeyOf t (changing b o a c d k) = (t .max-transfers ≡ 1) × Rides (t .calls) b a × Rides (t .calls) c d × Starts t b o × Ends t d k × (t .joins (rideOf b a) c ≡ true)
 
+-- the network joins as the timetable does
+joins-is : (t : Timetable) (r : Leg Call) (c : Call) → networkOf t .joins r c ≡ true → t .joins (rideOf (r .b) (r .a)) c ≡ true
+unfolding networkOf
+joins-is t r c e = e
+
+is-joins : (t : Timetable) (r : Leg Call) (c : Call) → t .joins (rideOf (r .b) (r .a)) c ≡ true → networkOf t .joins r c ≡ true
+unfolding networkOf
+is-joins t r c e = e
+
 module _ (t : Timetable) (clear : Clear t) where
   p : Pairs CallBefore (sorted t)
   p = rises (sorted t) (clear-rising t clear)
 
-  abbrev keys : List Offer
-  keys = kOffers t (sorted t) p
-
-  ends-in : (a : Call) (k : ℕ) → List·Memᴰ k (targetsOf t a) → Ends t a k
-  ends-in a k m = let (h, d) = bits-set (min (t .targets) 4) (t .members (a .stop) / 16) m in record { count = h; member = d }
-
-  in-ends : (a : Call) (k : ℕ) → Ends t a k → List·Memᴰ k (targetsOf t a)
-  in-ends a k w = set-bits (min (t .targets) 4) (t .members (a .stop) / 16) k (w .count) (w .member)
-
-  module _ (b : Call) (o : ℕ) (a : Call) (r : Rides (t .calls) b a) (st : Starts t b o) where
-    change-key : (x : Offer) → List·Memᴰ x (kChanges t b o a (sorted t)) → KeyOf t x
-    change-key x m =
-        let (one, m₁) = cond-mem (eqb (t .max-transfers) 1) (overTails (kLastBoard t b o a) (sorted t)) m in
-        let (c, cs, tl, m₂) = overTails-mem (kLastBoard t b o a) (sorted t) m₁ in
-        let (pb, m₃) = cond-mem (c .board) (concatMap (kLastAlight t b o a c) (runOf c cs)) m₂ in
-        let (d, n, m₄) = concatMap-mem (kLastAlight t b o a c) (runOf c cs) m₃ in
-        let (q, m₅) = cond-mem (d .alight) (concatMap (kLastAt t b o a c d) (targetsOf t d)) m₄ in
-        let (k, i, m₆) = concatMap-mem (kLastAt t b o a c d) (targetsOf t d) m₅ in
-        let (j, m₇) = cond-mem (t .joins (rideOf b a) c) (changing b o a c d k ∷ []) m₆ in
-        subst (KeyOf t) (sym (List·Memᴰ·eq-of-singleton {b = changing b o a c d k} m₇)) (eqb-true (t .max-transfers) 1 one, r, rides-found t clear c d cs tl n pb q, st, ends-in d k i, j)
-
-    direct-key : (x : Offer) → List·Memᴰ x (concatMap (kDirect t b o a) (targetsOf t a)) → KeyOf t x
-    direct-key x m =
-        let (k, i, n) = concatMap-mem (kDirect t b o a) (targetsOf t a) m in
-        subst (KeyOf t) (sym (List·Memᴰ·eq-of-singleton n)) (r, st, ends-in a k i)
-
-    -- what stands at these calls is in the list
-    within : (x : Offer) → List·Memᴰ x (concatMap (kDirect t b o a) (targetsOf t a) ++ kChanges t b o a (sorted t)) → List·Memᴰ x keys
-    within x m =
-        let (cs, tl, n) = found-rides t clear b a r in
-        mem-overTails (kBoard t (sorted t) p) b cs (sorted t) tl
-        (mem-cond (b .board) (concatMap (kOrigin t (sorted t) p b cs) (originsOf t b)) (r .board)
-        (mem-concatMap (kOrigin t (sorted t) p b cs) (set-bits (min (t .origins) 4) (t .members (b .stop)) o (st .count) (st .member))
-        (mem-cond (leb (t .origin-walk o * 60) (b .departure)) (concatMap (λ x. kAlight t b o x (sorted t)) (runOf b cs)) (le-leb (t .origin-walk o * 60) (b .departure) (st .walked))
-        (mem-concatMap (λ x. kAlight t b o x (sorted t)) n
-        (mem-cond (a .alight) (concatMap (kDirect t b o a) (targetsOf t a) ++ kChanges t b o a (sorted t)) (r .alight) m)))))
-
-  key-in : (x : Offer) → List·Memᴰ x keys → KeyOf t x
-  key-in x m =
-      let (b, cs, tl, m₁) = overTails-mem (kBoard t (sorted t) p) (sorted t) m in
-      let (pb, m₂) = cond-mem (b .board) (concatMap (kOrigin t (sorted t) p b cs) (originsOf t b)) m₁ in
-      let (o, i, m₃) = concatMap-mem (kOrigin t (sorted t) p b cs) (originsOf t b) m₂ in
-      let (w, m₄) = cond-mem (leb (t .origin-walk o * 60) (b .departure)) (concatMap (λ x. kAlight t b o x (sorted t)) (runOf b cs)) m₃ in
-      let (a, n, m₅) = concatMap-mem (λ x. kAlight t b o x (sorted t)) (runOf b cs) m₄ in
-      let (q, m₆) = cond-mem (a .alight) (concatMap (kDirect t b o a) (targetsOf t a) ++ kChanges t b o a (sorted t)) m₅ in
-      let (h, d) = bits-set (min (t .origins) 4) (t .members (b .stop)) i in
-      go b o a (rides-found t clear b a cs tl n pb q) (record { count = h; member = d; walked = leb-true (t .origin-walk o * 60) (b .departure) w })
-      (List·Memᴰ·append-cases (concatMap (kDirect t b o a) (targetsOf t a)) {t = kChanges t b o a (sorted t)} m₆)
+  key-in : (x : Offer) → List·Memᴰ x (keys t (sorted t)) → KeyOf t x
+  key-in x m = go (journeys-mem (networkOf t) byAlone byChanging (t .max-transfers) (sorted t) x m)
     where
-      go : (b : Call) (o : ℕ) (a : Call) → Rides (t .calls) b a → Starts t b o
-          → List·Memᴰ x (concatMap (kDirect t b o a) (targetsOf t a)) ⊎ List·Memᴰ x (kChanges t b o a (sorted t)) → KeyOf t x
-      go b o a r st (inl m) = direct-key b o a r st x m
-      go b o a r st (inr m) = change-key b o a r st x m
+      go : Alone (networkOf t) byAlone byChanging (t .max-transfers) (sorted t) x ⊎ Changing (networkOf t) byAlone byChanging (t .max-transfers) (sorted t) x → KeyOf t x
+      go (inl w) =
+          let r = w .f .ride in
+          subst (KeyOf t) (sym (w .is)) (rides-found t clear (r .b) (r .a) (w .ride), starts-set t (r .b) (w .origin), ends-set t (r .a) (w .target))
+      go (inr w) =
+          let r = w .f .ride in
+          let l = w .l in
+          subst (KeyOf t) (sym (w .is))
+          (w .may, rides-found t clear (r .b) (r .a) (w .ride), rides-found t clear (l .b) (l .a) (w .last), starts-set t (r .b) (w .origin), ends-set t (l .a) (w .target), joins-is t r (l .b) (w .joined))
 
-  key-mem : (x : Offer) → KeyOf t x → List·Memᴰ x keys
+  key-mem : (x : Offer) → KeyOf t x → List·Memᴰ x (keys t (sorted t))
   key-mem (alone b o a k) (r, st, en) =
-      within b o a r st (alone b o a k) (Memᴰ·append-left (kChanges t b o a (sorted t)) (mem-concatMap (kDirect t b o a) (in-ends a k en) (List·Memᴰ·head refl)))
+      mem-alone (networkOf t) byAlone byChanging (t .max-transfers) (sorted t) (alone b o a k)
+      (record { f = firstRide o b a; k = k; ride = found-rides t clear b a r; origin = set-starts t b o st; target = set-ends t a k en; is = refl })
   key-mem (changing b o a c d k) (e, r, r′, st, en, j) =
-      let (cs, tl, n) = found-rides t clear c d r′ in
-      within b o a r st (changing b o a c d k)
-      (Memᴰ·append-right (concatMap (kDirect t b o a) (targetsOf t a))
-      (mem-cond (eqb (t .max-transfers) 1) (overTails (kLastBoard t b o a) (sorted t)) (eq-eqb (t .max-transfers) 1 e)
-      (mem-overTails (kLastBoard t b o a) c cs (sorted t) tl
-      (mem-cond (c .board) (concatMap (kLastAlight t b o a c) (runOf c cs)) (r′ .board)
-      (mem-concatMap (kLastAlight t b o a c) n
-      (mem-cond (d .alight) (concatMap (kLastAt t b o a c d) (targetsOf t d)) (r′ .alight)
-      (mem-concatMap (kLastAt t b o a c d) (in-ends d k en)
-      (mem-cond (t .joins (rideOf b a) c) (changing b o a c d k ∷ []) j (List·Memᴰ·head refl)))))))))
+      mem-changing (networkOf t) byAlone byChanging (t .max-transfers) (sorted t) (changing b o a c d k)
+      (record {
+        f = firstRide o b a;
+        l = leg c d;
+        k = k;
+        may = e;
+        ride = found-rides t clear b a r;
+        origin = set-starts t b o st;
+        last = found-rides t clear c d r′;
+        joined = is-joins t (leg b a) c j;
+        target = set-ends t d k en;
+        is = refl;
+      })
 
 -- ---- what was taken gives these offers
 
@@ -140,11 +107,10 @@ module _ (s : Settings) (l : Load) (fs : List Filling) (w : Start s l fs) (o : O
       subst (KeyOf t) (λ n. changing (eb n) (ei n) (ea n) (ec n) (ed n) (ek n)) (u .may, u .first, u .last, u .starts, u .ends, u .joined)
 
   by-load : Offered F (offers t)
-  unfolding offers
   by-load = record {
-    offers = keys t clear;
-    ascending = ascends (keys t clear) (pairs-offers t (sorted t) (p t clear));
-    each = subst (Each F (keys t clear)) (same-offers t (sorted t) (p t clear)) (each-gives (keys t clear) (key-in t clear));
+    offers = keys t (sorted t);
+    ascending = ascends (keys t (sorted t)) (pairs-offers t (sorted t) (p t clear));
+    each = subst (Each F (keys t (sorted t))) (same-offers t) (each-gives (keys t (sorted t)) (key-in t clear));
     all = λ x j g. key-mem t clear x (given x j g);
   }
 

@@ -11,11 +11,11 @@ use Rattle.calls.specs.declared.Call.{Call}
 use Rattle.load.specs.Filling.{call}
 use Rattle.steps.specs.Steps.{Step}
 use Rattle.comparison.specs.Window.{Shown}
-use Rattle.comparison.specs.Taken.{callsIn, State, more, upTo}
+use Rattle.comparison.specs.Taken.{callsIn, State, more, upTo, shut}
 use Rattle.comparison.specs.Horizon.{Fits, outside, room, full, cut}
 use Rattle.comparison.specs.Causes.{causesOf}
 use Rattle.comparison.specs.Runs as runs
-use Rattle.comparison.specs.Runs.{After, sent-back, a-stop, a-rule, a-call, a-search, Runs, end, step}
+use Rattle.comparison.specs.Runs.{After, sent-back, a-stop, a-rule, a-call, resting, a-service, an-exception, a-search, Runs, end, step}
 use Rattle.comparison.proofs.WindowLaws.{one-shown}
 use Rattle.comparison.proofs.Deciding.{one-first}
 
@@ -50,12 +50,17 @@ pub one-after : (s : Settings) (t : State) (x : Step) (a : Answer) (u v : State)
 one-after s t _ _ _ _ sent-back sent-back = refl
 one-after s t _ _ _ _ a-stop a-stop = refl
 one-after s t _ _ _ _ a-rule a-rule = refl
-one-after s t _ _ _ _ (a-call {i = i} {h = h} {m = m} f) (a-call {h = k} {m = n} f′) =
+one-after s t _ _ _ _ (a-call {name = name} {i = i} {h = h} {m = m} f) (a-call {h = k} {m = n} f′) =
     let w = one-fits s (callsIn (t .taken)) i (t .horizon) (t .limits) _ _ h k m n f f′ in
-    λ j. upTo (more t (call i)) (w .horizon j) (w .mark j)
-one-after s t _ _ _ _ (runs.outside {i = i} {h = h} {m = m} f) (runs.outside {h = k} {m = n} f′) =
+    λ j. shut (upTo (more t (call name i)) (w .horizon j) (w .mark j))
+one-after s t _ _ _ _ (resting r) (resting r′) = refl
+one-after s t _ _ _ _ (resting r) (runs.outside n f) = absurd (n r)
+one-after s t _ _ _ _ (runs.outside n f) (resting r) = absurd (n r)
+one-after s t _ _ _ _ (runs.outside {i = i} {h = h} {m = m} r f) (runs.outside {h = k} {m = n} r′ f′) =
     let w = one-fits s (callsIn (t .taken)) i (t .horizon) (t .limits) _ _ h k m n f f′ in
-    λ j. upTo t (w .horizon j) (w .mark j)
+    λ j. shut (upTo t (w .horizon j) (w .mark j))
+one-after s t _ _ _ _ a-service a-service = refl
+one-after s t _ _ _ _ an-exception an-exception = refl
 one-after s t _ _ _ _ a-search a-search = refl
 
 -- a list of steps has one list of answers, and leaves one state

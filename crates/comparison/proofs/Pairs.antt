@@ -3,12 +3,13 @@ use Prim.Native.Nat.{ℕ, zero, suc, _/_, _%_, _<_}
 use mathlib.Core.Path.{_≡_, refl, sym, subst}
 use mathlib.Core.Logic.{_⊎_, inl, inr}
 use mathlib.Core.Bool.{Bool, true, false, cond}
-use mathlib.Core.List.{List, [], _∷_, _++_, List·Memᴰ, List·Memᴰ·head, List·Memᴰ·tail, List·Memᴰ·not-nil, List·Memᴰ·cases-cons, List·Memᴰ·append-cases}
+use mathlib.Core.List.{List, [], _∷_, _++_, map, List·Memᴰ, List·Memᴰ·head, List·Memᴰ·tail, List·Memᴰ·not-nil, List·Memᴰ·cases-cons, List·Memᴰ·append-cases, Memᴰ·of-map}
 use native.Mathlib.Omega.{arith}
 use lib.Dec.{eqb}
-use Rattle.laws.specs.Lists.{concatMap, takeWhile}
+use Rattle.laws.specs.Lists.{concatMap, filterb, takeWhile}
 use Rattle.laws.specs.Tails.{overTails}
 use Rattle.laws.specs.Bits.{bitsFrom}
+use Rattle.laws.proofs.Lists.{filterb-mem}
 use Rattle.laws.proofs.Folds.{concatMap-mem}
 use Rattle.laws.proofs.Tails.{overTails-mem, takeWhile-mem, tail-mem}
 use Rattle.laws.proofs.Bits.{bits-mem}
@@ -52,6 +53,18 @@ pairs-while S p (y ∷ ys) w = go (p y) (pairs-while S p ys (w .1))
     go : (b : Bool) → Pairs S (takeWhile p ys) → Pairs S (cond b (y ∷ takeWhile p ys) [])
     go true v = (λ z m. w .0 z (takeWhile-mem p ys m .0), v)
     go false v = tt
+
+pub pairs-filter : {B : Type 0} (S : B → B → Type 0) (p : B → Bool) (ys : List B) → Pairs S ys → Pairs S (filterb p ys)
+pairs-filter S p [] w = tt
+pairs-filter S p (y ∷ ys) w = go (p y) (pairs-filter S p ys (w .1))
+  where
+    go : (b : Bool) → Pairs S (filterb p ys) → Pairs S (cond b (y ∷ filterb p ys) (filterb p ys))
+    go true v = (λ z m. w .0 z (filterb-mem p ys m .0), v)
+    go false v = v
+
+pub pairs-map : {A B : Type 0} (R : A → A → Type 0) (S : B → B → Type 0) (f : B → A) (ys : List B) → Pairs S ys → ((y z : B) → S y z → R (f y) (f z)) → Pairs R (map f ys)
+pairs-map R S f [] w h = tt
+pairs-map R S f (y ∷ ys) w h = (λ x m. let (z, i, e) = Memᴰ·of-map f ys m in subst (R (f y)) e (h y z (w .0 z i)), pairs-map R S f ys (w .1) h)
 
 pub pairs-bits : (n b m : ℕ) → Pairs _<_ (bitsFrom n b m)
 pairs-bits zero b m = tt

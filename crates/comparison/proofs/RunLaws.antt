@@ -1,9 +1,9 @@
 -- Each step of a list is answered for the first of its causes, and the load holds what its answers say was taken.
 use mathlib.Core.Path.{_≡_, refl, sym, ap, subst, _∙_}
-use mathlib.Core.Bool.{Bool, true, false, cond, true≢false}
+use mathlib.Core.Bool.{Bool, true, false, not, cond, true≢false, false≢true}
 use mathlib.Core.Logic.{inl}
 use mathlib.Core.List.{List, [], _∷_, _++_, append-nil}
-use mathlib.Core.Option.{Option·getD}
+use mathlib.Core.Option.{Option, none, some, Option·getD, Option·none-ne-some}
 use Prim.Native.Nat.{ℕ, _+_}
 use native.Mathlib.Omega.{arith}
 use lib.ListN.{set}
@@ -17,7 +17,7 @@ use Rattle.stops.specs.declared.StopInput.{StopInput}
 use Rattle.stops.specs.Answer.{stopTests}
 use Rattle.stops.specs.Taken.{stopOf}
 use Rattle.calls.specs.declared.CallInput.{CallInput}
-use Rattle.calls.specs.Calls.{callTests, callOn}
+use Rattle.calls.specs.Calls.{known, callOn}
 use Rattle.calls.specs.Shown.{tableCalls}
 use Rattle.rules.specs.declared.RuleInput.{RuleInput}
 use Rattle.rules.specs.Rules.{ruleTests, ruleOf}
@@ -25,30 +25,45 @@ use Rattle.offers.specs.Order.{inOrder}
 use Rattle.offers.specs.Admitted.{Clear}
 use Rattle.offers.proofs.SearchLaws.{search-found}
 use Rattle.load.specs.declared.Load.{Load}
-use Rattle.load.specs.Load.{emptyLoad, tableOf, withTable, withStops, withRules}
-use Rattle.load.specs.Steps.{opened, stationIn, stopAnswer, stopSpec, callFitted, callSpec, ruleAnswer, ruleSpec}
-use Rattle.load.specs.Filling.{Filling, stop, call, rule}
+use Rattle.load.specs.declared.Stepped.{Stepped}
+use Rattle.load.specs.Load.{emptyOf, tableOf, withTable, withStops, withRules, withWeek}
+use Rattle.load.specs.Steps.{Opening, opened, stationIn, stopAnswer, stopSpec, callFitted, plainCall, isUnknown, isResting, closedLoad, ruleAnswer, ruleSpec, serviceSpec, exceptionSpec}
+use Rattle.load.specs.Filling.{Filling, stop, call, rule, service, exception}
+use Rattle.load.specs.Sound.{Opens}
+use Rattle.load.proofs.StepLaws as calls
+use Rattle.laws.proofs.Bools.{cond-not, or-true-left}
+use Rattle.services.specs.Exceptions.{daysOn, exceptedOf}
+use Rattle.week.specs.declared.Week.{Week}
+use Rattle.week.specs.declared.Running.the-variants.{Runs as Runs·, Rests as Rests·}
+use Rattle.week.specs.Weeks.{undatedWeek, datedWeek, closedWeek, serviceOf, withServices, serviceTests, serviceAnswer, serviceOn, exceptionTests, exceptionAnswer, placeIn, serviceIn, exceptionOn, running}
+use Rattle.week.proofs.SoundLaws.{undated-closed}
 use Rattle.search.specs.Timetable.{timetableOf}
 use Rattle.search.specs.Search as search-specs
 use Rattle.search.specs.Search.{searchSpec}
 use Rattle.steps.specs.Steps.{Step, filling, search, stepped, causes}
 use Rattle.steps.specs.Lists.{next, ran, handed, start}
-use Rattle.steps.proofs.StepLaws.{first-holds, searched-stays, filled-searched, taken-searches, untaken-stays}
+use Rattle.search.proofs.RunLaws.{untaken-stays}
+use Rattle.steps.proofs.StepLaws.{first-holds, searched-stays, filled-searched, taken-searches}
 use Rattle.steps.proofs.HeldLaws.{step-sound}
 use Rattle.steps.proofs.AcceptedLaws.{step-settings}
 use Rattle.steps.proofs.AnsweredLaws.{step-answered}
-use Rattle.comparison.specs.Taken.{callsIn, State, fresh, done}
+use Rattle.steps.proofs.DatedLaws.{search-week}
+use Rattle.comparison.specs.Taken.{callsIn, State, fresh, done, shut}
+use Rattle.comparison.specs.Services.{Resting}
 use Rattle.comparison.specs.Horizon.{Fits}
 use Rattle.comparison.specs.Causes.{First, causesOf}
-use Rattle.comparison.specs.Runs.{After, sent-back, a-stop, a-rule, a-call, outside, a-search, Runs, end, step}
+use Rattle.comparison.specs.Runs.{After, sent-back, a-stop, a-rule, a-call, resting, outside, a-service, an-exception, a-search, Runs, end, step}
 use Rattle.comparison.specs.Demands.{answersFrom}
 use Rattle.comparison.proofs.Deciding.{Matches, first-matches}
 use Rattle.comparison.proofs.TakenLaws.{given, fill-held}
-use Rattle.comparison.proofs.SettingLaws.{Opened}
+use Rattle.comparison.proofs.SettingLaws.{Opened, opens}
+use Rattle.comparison.proofs.WeekLaws.{datesOf, dec-resting}
+use Rattle.comparison.proofs.RunningLaws.{fill-runs}
 use Rattle.comparison.proofs.StartLaws.{Start, begins, opened-start, stateAt}
 use Rattle.comparison.proofs.HorizonLaws.{call-fits, showing}
 use Rattle.comparison.proofs.CauseLaws.{stop-match, rule-match}
-use Rattle.comparison.proofs.CallLaws.{call-match}
+use Rattle.comparison.proofs.ServiceLaws.{service-match, exception-match}
+use Rattle.comparison.proofs.CallLaws.{day-known, call-match}
 use Rattle.comparison.proofs.SearchingLaws.{search-match, search-height, search-mark, search-sorts}
 
 -- ---- a step that is only taken or sent back
@@ -74,6 +89,14 @@ rule-outside : (l : Load) (i : RuleInput) → ruleAnswer l i ≡ Outside → ⊥
 unfolding ruleTests
 rule-outside l i e = never-outside _ (refl, (refl, (refl, (refl, (refl, tt))))) e
 
+service-outside : (l : Load) (name : List ℕ) (start to : ℕ) → serviceAnswer (l .week) (l .searched) name start to ≡ Outside → ⊥
+unfolding serviceTests
+service-outside l name start to e = never-outside _ (refl, (refl, (refl, (refl, (refl, tt))))) e
+
+exception-outside : (l : Load) (name : List ℕ) (date kind : ℕ) → exceptionAnswer (l .week) (l .searched) name date kind ≡ Outside → ⊥
+unfolding exceptionTests
+exception-outside l name date kind e = never-outside _ (refl, (refl, (refl, tt))) e
+
 search-outside : (l : Load) → searchSpec l .answer ≡ Outside → ⊥
 search-outside l e = never-outside (search-specs.searchCauses l) (refl, (refl, (refl, tt))) (sym (first-is-answer _ _ (step-answered l search .first)) ∙ e)
 
@@ -90,8 +113,10 @@ module _ (s : Settings) (o : Opened s) (l : Load) (fs : List Filling) (w : Start
 
   matches : (x : Step) → Matches (causes l x) (causesOf s t x)
   matches (filling (stop id name parent i)) = stop-match s l fs w id name parent i
-  matches (filling (call i)) = call-match s l fs w o i
+  matches (filling (call name i)) = call-match s l fs w o i name
   matches (filling (rule i)) = rule-match s l fs w i
+  matches (filling (service name weekdays start to)) = service-match s l fs w name start to
+  matches (filling (exception name date kind)) = exception-match s l fs w name date kind
   matches search = search-match s l fs w o
 
   first : (x : Step) → First (stepped l x .answer) (causesOf s t x)
@@ -114,7 +139,7 @@ module _ (s : Settings) (o : Opened s) (l : Load) (fs : List Filling) (w : Start
   same x a m v = subst (λ (gs : List Filling). After s t x a (stateAt m gs)) (sym (append-nil fs)) v
 
   after : (x : Step) → After s t x (stepped l x .answer) (stateAt (next l x) (fs ++ taking l x))
-  unfolding stopSpec callSpec ruleSpec
+  unfolding stopSpec plainCall ruleSpec serviceSpec serviceOn exceptionSpec exceptionOn
   after (filling (stop id name parent i)) = go (stopAnswer l id name parent i) refl
     where
       go : (a : Answer) → stopAnswer l id name parent i ≡ a → After s (stateAt l fs) (filling (stop id name parent i)) a
@@ -129,25 +154,69 @@ module _ (s : Settings) (o : Opened s) (l : Load) (fs : List Filling) (w : Start
       go Taken e = a-rule
       go Outside e = absurd (rule-outside l i e)
       go (Refused r) e = same (filling (rule i)) (Refused r) l sent-back
-  after (filling (call i)) = go (callFitted l i .answer) refl
+  after (filling (call name i)) = by _ (calls.called l name i)
     where
-      go : (a : Answer) → callFitted l i .answer ≡ a → After s (stateAt l fs) (filling (call i)) a
-          (stateAt (cond (isRefused a) l (withTable l (callFitted l i .table))) (fs ++ cond (isTaken a) (call i ∷ []) []))
-      go Taken e = a-call (fits-as i Taken e refl)
-      go Outside e = same (filling (call i)) Outside (withTable l (callFitted l i .table)) (outside (fits-as i Outside e refl))
-      go (Refused r) e = same (filling (call i)) (Refused r) l sent-back
+      -- without dates services are closed from the opening, and none is asked for
+      shut-so : l .week .dated ≡ false → l .week .closed ≡ true
+      shut-so d = ap (λ (v : Week). v .closed) (w .sound .week .undated d) ∙ undated-closed
+
+      never-rests : l .week .dated ≡ false → Resting (stateAt l fs) name (i .day) → ⊥
+      never-rests d ((ds, e), f) = Option·none-ne-some ds (sym (cond-not _ _ d) ∙ e)
+
+      closed-as : (d : l .week .dated ≡ false) (gs : List Filling) (h m : ℕ) (a : Answer) → After s (stateAt l fs) (filling (call name i)) a (shut (record { taken = gs; horizon = h; limits = m; searched = l .searched; dates = datesOf (l .week); closed = l .week .closed }))
+          → After s (stateAt l fs) (filling (call name i)) a (record { taken = gs; horizon = h; limits = m; searched = l .searched; dates = datesOf (l .week); closed = l .week .closed })
+      closed-as d gs h m a = subst (λ (c : Bool). After s (stateAt l fs) (filling (call name i)) a (record { taken = gs; horizon = h; limits = m; searched = l .searched; dates = datesOf (l .week); closed = c })) (sym (shut-so d))
+
+      plain : l .week .dated ≡ false → (a : Answer) → callFitted l i .answer ≡ a → After s (stateAt l fs) (filling (call name i)) a
+          (stateAt (cond (isRefused a) l (withTable l (callFitted l i .table))) (fs ++ cond (isTaken a) (call name i ∷ []) []))
+      plain d Taken e = closed-as d _ _ _ Taken (a-call (fits-as i Taken e refl))
+      plain d Outside e = same (filling (call name i)) Outside (withTable l (callFitted l i .table)) (closed-as d _ _ _ Outside (outside (never-rests d) (fits-as i Outside e refl)))
+      plain d (Refused r) e = same (filling (call name i)) (Refused r) l sent-back
+
+      -- a service that runs doesn't rest
+      awake : (known (l .«stop_count») i ≡ true) × (running (l .week) name (i .day) ≡ Runs·) → Resting (stateAt l fs) name (i .day) → ⊥
+      awake (k, r) x = false≢true (sym (ap isResting r) ∙ dec-resting (w .held .week) (stateAt l fs) refl refl name (i .day) (day-known i (l .«stop_count») (ap not k)) (ap isUnknown r) .1 x)
+
+      passes : (known (l .«stop_count») i ≡ true) × (running (l .week) name (i .day) ≡ Runs·) → (a : Answer) → callFitted l i .answer ≡ a → After s (stateAt l fs) (filling (call name i)) a
+          (stateAt (cond (isRefused a) l (withWeek (cond (isRefused a) l (withTable l (callFitted l i .table))) (closedWeek (l .week)))) (fs ++ cond (isTaken a) (call name i ∷ []) []))
+      passes g Taken e = a-call (fits-as i Taken e refl)
+      passes g Outside e = same (filling (call name i)) Outside (withWeek (withTable l (callFitted l i .table)) (closedWeek (l .week))) (outside (awake g) (fits-as i Outside e refl))
+      passes g (Refused r) e = same (filling (call name i)) (Refused r) l sent-back
+
+      rests : (known (l .«stop_count») i ≡ true) × (running (l .week) name (i .day) ≡ Rests·) → Resting (stateAt l fs) name (i .day)
+      rests (k, r) = dec-resting (w .held .week) (stateAt l fs) refl refl name (i .day) (day-known i (l .«stop_count») (ap not k)) (ap isUnknown r) .0 (ap isResting r)
+
+      by : (r : Stepped) → calls.Called l name i r → After s (stateAt l fs) (filling (call name i)) (r .answer) (stateAt (r .load) (fs ++ cond (isTaken (r .answer)) (call name i ∷ []) []))
+      by _ (calls.without d) = plain d (callFitted l i .answer) refl
+      by _ (calls.goes-on d g) = passes (calls.gate-passed (l .searched) (l .«stop_count») i _ g .1) (callFitted l i .answer) refl
+      by _ (calls.stays-out d g) = same (filling (call name i)) Outside (closedLoad l) (resting (rests (calls.gate-rests (l .searched) (l .«stop_count») i _ g)))
+      by _ (calls.sent-back d r g) = same (filling (call name i)) (Refused r) l sent-back
+  after (filling (service name weekdays start to)) = go (serviceAnswer (l .week) (l .searched) name start to) refl
+    where
+      go : (a : Answer) → serviceAnswer (l .week) (l .searched) name start to ≡ a → After s (stateAt l fs) (filling (service name weekdays start to)) a
+          (stateAt (withWeek l (cond (isTaken a) (withServices (l .week) (set (l .week .services) (l .week .«service_count») (serviceOf name weekdays start to)) (l .week .«service_count» + 1)) (l .week))) (fs ++ cond (isTaken a) (service name weekdays start to ∷ []) []))
+      go Taken e = a-service
+      go Outside e = absurd (service-outside l name start to e)
+      go (Refused r) e = same (filling (service name weekdays start to)) (Refused r) l sent-back
+  after (filling (exception name date kind)) = go (exceptionAnswer (l .week) (l .searched) name date kind) refl
+    where
+      go : (a : Answer) → exceptionAnswer (l .week) (l .searched) name date kind ≡ a → After s (stateAt l fs) (filling (exception name date kind)) a
+          (stateAt (withWeek l (cond (isTaken a) (withServices (l .week) (set (l .week .services) (placeIn (l .week) name) (exceptedOf (serviceIn (l .week) name) (daysOn (l .week .dates) date) kind)) (l .week .«service_count»)) (l .week))) (fs ++ cond (isTaken a) (exception name date kind ∷ []) []))
+      go Taken e = an-exception
+      go Outside e = absurd (exception-outside l name date kind e)
+      go (Refused r) e = same (filling (exception name date kind)) (Refused r) l sent-back
   after search = same search (searchSpec l .answer) (searchSpec l .load) (go (searchSpec l .answer) refl)
     where
       go : (a : Answer) → searchSpec l .answer ≡ a → After s (stateAt l fs) search a (stateAt (searchSpec l .load) fs)
       go Taken e =
-          let q : stateAt (searchSpec l .load) fs ≡ done (stateAt l fs) = λ k. record { taken = fs; horizon = search-height l k; limits = search-mark l k; searched = taken-searches l (ap isTaken e) .searched k } in
+          let q : stateAt (searchSpec l .load) fs ≡ done (stateAt l fs) = λ k. record { taken = fs; horizon = search-height l k; limits = search-mark l k; searched = taken-searches l (ap isTaken e) .searched k; dates = datesOf (search-week l k); closed = search-week l k .closed } in
           subst (After s (stateAt l fs) search Taken) (sym q) a-search
       go Outside e = absurd (search-outside l e)
       go (Refused r) e = subst (λ (m : Load). After s (stateAt l fs) search (Refused r) (stateAt m fs)) (sym (untaken-stays l (ap isTaken e))) sent-back
 
   -- a load that is still not searched goes on holding what was taken
   began : (x : Step) → next l x .searched ≡ false → Start s (next l x) (fs ++ taking l x)
-  began (filling x) e = record { sound = step-sound l (filling x) (w .sound); settings = step-settings l (filling x) ∙ w .settings; held = fill-held l x fs (w .sound) (w .held); fresh = e }
+  began (filling x) e = record { sound = step-sound l (filling x) (w .sound); settings = step-settings l (filling x) ∙ w .settings; held = fill-held l x fs (w .sound) (w .held); fresh = e; runs = fill-runs l x fs (w .runs) }
   began search e = go (isTaken (searchSpec l .answer)) refl
     where
       go : (b : Bool) → isTaken (searchSpec l .answer) ≡ b → Start s (searchSpec l .load) (fs ++ [])
@@ -162,16 +231,20 @@ back l x e s fs q =
     (subst (λ (a : Answer). After s (stateAt l fs) x a (stateAt l fs)) (sym q) sent-back)
 
 answered-15 : (l : Load) (x : Step) → l .searched ≡ true → stepped l x .answer ≡ Refused AlreadySearched
-unfolding stopTests callTests ruleTests
+unfolding stopTests ruleTests serviceTests exceptionTests
 answered-15 l (filling (stop id name parent i)) e = first-holds (step-answered l (filling (stop id name parent i)) .first) e
-answered-15 l (filling (call i)) e = first-holds (step-answered l (filling (call i)) .first) e
+answered-15 l (filling (call name i)) e = first-holds (step-answered l (filling (call name i)) .first) e
 answered-15 l (filling (rule i)) e = first-holds (step-answered l (filling (rule i)) .first) e
+answered-15 l (filling (service name weekdays start to)) e = first-holds (step-answered l (filling (service name weekdays start to)) .first) (or-true-left (l .searched) (l .week .closed) e)
+answered-15 l (filling (exception name date kind)) e = first-holds (step-answered l (filling (exception name date kind)) .first) (or-true-left (l .searched) (l .week .closed) e)
 answered-15 l search e = first-holds (step-answered l search .first) e
 
 first-15 : (s : Settings) (l : Load) (fs : List Filling) (x : Step) → l .searched ≡ true → stepped l x .answer ≡ Refused AlreadySearched → First (stepped l x .answer) (causesOf s (stateAt l fs) x)
 first-15 s l fs (filling (stop id name parent i)) e q = inl (e, q)
-first-15 s l fs (filling (call i)) e q = inl (e, q)
+first-15 s l fs (filling (call name i)) e q = inl (e, q)
 first-15 s l fs (filling (rule i)) e q = inl (e, q)
+first-15 s l fs (filling (service name weekdays start to)) e q = inl (inl e, q)
+first-15 s l fs (filling (exception name date kind)) e q = inl (inl e, q)
 first-15 s l fs search e q = inl (e, q)
 
 stays-on : (l : Load) (x : Step) → l .searched ≡ true → next l x .searched ≡ true
@@ -195,6 +268,7 @@ pub record Ended (s : Settings) (q m : Load) (fs : List Filling) : Type 0 where
   pub mark : q .«table_limits» ≡ m .«table_limits»
   pub clear : Clear (timetableOf q)
   pub calls : tableCalls (tableOf m) ≡ inOrder (tableCalls (tableOf q))
+  pub week : q .week ≡ m .week
 
 pub record Walked (s : Settings) (p l : Load) (xs : List Step) (fs : List Filling) : Type 0 where
   pub taken : List Filling
@@ -214,6 +288,7 @@ taken-ends s xs p l fs w t =
       mark = sym (search-mark l);
       clear = search-found (timetableOf l) _ _ _ _ _ (n .finds .is) .0;
       calls = search-sorts l t;
+      week = sym (search-week l);
     }))
 
 pub walk : (s : Settings) → Opened s → (xs : List Step) (p l : Load) (fs : List Filling) → Start s l fs → Walked s p l xs fs
@@ -240,9 +315,13 @@ walk s o (x ∷ xs) p l fs w = go (next l x .searched) refl (λ e. walk s o xs (
     }
 
 -- from the opening
-pub walked : (s : Settings) → Opened s → (xs : List Step) → Walked s (opened s) (opened s) xs []
-walked s o xs = walk s o xs (opened s) (opened s) [] (opened-start s)
+pub walked : (o : Opening) → Opens o → (xs : List Step) → Walked (o .settings) (opened o) (opened o) xs []
+walked o w xs = walk (o .settings) (opens o w) xs (opened o) (opened o) [] (opened-start o w)
 
-pub opened-state : (s : Settings) → stateAt (opened s) [] ≡ fresh
-unfolding emptyLoad
-opened-state s = refl
+pub opened-state : (o : Opening) → stateAt (opened o) [] ≡ fresh (o .dates)
+unfolding emptyOf undatedWeek datedWeek
+opened-state o = go (o .dates)
+  where
+    go : (d : Option (List ℕ)) → stateAt (opened (record { settings = o .settings; dates = d })) [] ≡ fresh d
+    go none = refl
+    go (some dates) = refl

@@ -25,7 +25,8 @@ use Rattle.load.specs.Filling.{Filling}
 use Rattle.search.specs.Timetable.{timetableOf}
 use Rattle.search.specs.Search as search
 use Rattle.search.specs.Search.{outcomeOf, settled, searchSpec, isNever, wouldFall}
-use Rattle.steps.proofs.StepLaws.{search-runs, taken-searches}
+use Rattle.search.proofs.RunLaws.{search-runs}
+use Rattle.steps.proofs.StepLaws.{taken-searches}
 use Rattle.comparison.specs.Taken.{callsIn}
 use Rattle.comparison.specs.Feeds.{feedOf}
 use Rattle.comparison.specs.Neighbours.{Clashing}

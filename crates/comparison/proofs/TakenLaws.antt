@@ -3,6 +3,7 @@ use Prim.Native.Nat.{ℕ, _+_, _-_, _≤_, _<_}
 use mathlib.Core.Path.{_≡_, refl, sym, ap, subst, _∙_}
 use mathlib.Core.Logic.{_⊎_, inl, inr}
 use mathlib.Core.Bool.{Bool, true, false, not, cond, _&&_, true≢false, false≢true}
+use mathlib.Core.Option.{Option, none, some}
 use mathlib.Core.List.{List, [], _∷_, _++_, map, map-append, append-assoc, append-nil, List·Memᴰ, List·Memᴰ·not-nil, List·Memᴰ·append-cases, List·Memᴰ·eq-of-singleton}
 use native.Mathlib.Omega.{arith}
 use native.Mathlib.Numerals.{add-one}
@@ -45,15 +46,24 @@ use Rattle.stops.specs.Taken.{stopOf, blankStop}
 use Rattle.stops.specs.Sound.{stopAt}
 use Rattle.stops.proofs.SoundLaws.{found, id-kept, name-kept, needed-usable}
 use Rattle.stops.proofs.Laws as stops
+use Rattle.stops.proofs.Laws.{id-short}
 use Rattle.load.specs.declared.Load.{Load}
-use Rattle.load.specs.Load.{emptyLoad, tableOf, withTable, withStops, withRules}
-use Rattle.load.specs.Steps.{opened, stationIn, stopAnswer, stopSpec, callFitted, callSpec, ruleAnswer, ruleSpec}
-use Rattle.load.specs.Filling.{Filling, stop, call, rule, filled}
-use Rattle.load.specs.Sound.{Sound}
+use Rattle.load.specs.declared.Stepped.{Stepped}
+use Rattle.load.specs.Load.{emptyOf, tableOf, withTable, withStops, withRules, withWeek}
+use Rattle.load.specs.Steps.{Opening, weekOf, opened, stationIn, stopAnswer, stopSpec, callFitted, plainCall, ruleAnswer, ruleSpec, serviceSpec, exceptionSpec}
+use Rattle.load.specs.Filling.{Filling, stop, call, rule, service, exception, filled}
+use Rattle.load.specs.Sound.{Three, Opens, Sound}
+use Rattle.load.proofs.StepLaws.{Called, without, goes-on, stays-out, sent-back, called}
+use Rattle.services.specs.Exceptions.{daysOn, exceptedOf}
+use Rattle.week.specs.declared.Week.{Week}
+use Rattle.week.specs.Weeks.{undatedWeek, datedWeek, closedWeek, serviceOf, withServices, serviceAnswer, serviceOn, exceptionAnswer, placeIn, serviceIn, exceptionOn}
+use Rattle.week.proofs.StepLaws.{service-passed, exception-passed}
 use Rattle.comparison.specs.Taken.{StopGiven, stopsIn, callsIn, rulesIn}
 use Rattle.comparison.specs.Admitted.{Nth}
 use Rattle.comparison.proofs.NthLaws.{nth-more, nth-new, bytes-same, calls-append, rules-append, stops-append}
 use Rattle.comparison.proofs.KeyLaws.{KeyHeld}
+use Rattle.comparison.proofs.WeekLaws.{WeekHeld}
+use Rattle.comparison.proofs.WeekStepLaws.{opened-week, week-more, week-service, week-exception}
 
 -- ---- an outside call is outside up to the horizon that it leaves
 
@@ -147,10 +157,25 @@ pub record Held (l : Load) (fs : List Filling) : Type 0 where
   pub rules : take (l .«rule_count») (l .rules) ≡ map ruleOf (rulesIn fs)
   pub stops : l .«stop_count» ≡ length (stopsIn fs)
   pub each : (k : ℕ) → k < l .«stop_count» → HeldAs (stopAt (l .stops) k) (stopsIn fs) k
+  pub week : WeekHeld (l .week) fs
 
-pub opened-holds : (s : Settings) → Held (opened s) []
-unfolding emptyLoad
-opened-holds s = record { calls = refl; days = λ i m. absurd (List·Memᴰ·not-nil m); rules = refl; stops = refl; each = λ k h. absurd (omega arith) }
+-- the week of an opening holds nothing yet
+week-opened : (d : Option (List ℕ)) → Three d → WeekHeld (weekOf d) []
+unfolding undatedWeek datedWeek
+week-opened none th = opened-week (weekOf none) refl (λ e. absurd (false≢true e))
+week-opened (some dates) th = opened-week (weekOf (some dates)) refl (λ e. th)
+
+pub opened-holds : (o : Opening) → Opens o → Held (opened o) []
+unfolding emptyOf
+opened-holds o w = record { calls = refl; days = λ i m. absurd (List·Memᴰ·not-nil m); rules = refl; stops = refl; each = λ k h. absurd (omega arith); week = week-opened (o .dates) (w .1) }
+
+-- the load with a week that holds it too
+pub held-week : (l : Load) (fs : List Filling) (v : Week) → Held l fs → WeekHeld v fs → Held (withWeek l v) fs
+held-week l fs v w h = record { calls = w .calls; days = w .days; rules = w .rules; stops = w .stops; each = w .each; week = h }
+
+-- closed, a week holds the same
+pub week-closed : (w : Week) (fs : List Filling) → WeekHeld w fs → WeekHeld (closedWeek w) fs
+week-closed w fs v = record { services = v .services; short = v .short; apart = v .apart; orphan = v .orphan; three = v .three }
 
 -- more stops keep one
 held-more : (st : Stop) (ss ts : List StopGiven) (k : ℕ) → HeldAs st ss k → HeldAs st (ss ++ ts) k
@@ -274,6 +299,7 @@ module _ (l : Load) (fs : List Filling) (sound : Sound l) (w : Held l fs) where
       rules = w .rules ∙ ap (map ruleOf) (sym rules-new);
       stops = ap (λ (k : ℕ). k + 1) (w .stops) ∙ sym (snoc-length (stopsIn fs) new) ∙ ap length (sym stops-new);
       each = λ k h. subst (λ (ss : List StopGiven). HeldAs (stopAt (set (l .stops) n st) k) ss k) (sym stops-new) (every k h);
+      week = week-more (l .week) fs (stop id name parent i) refl (λ m. refl) (w .week);
     }
 
   -- ---- a rule
@@ -306,29 +332,30 @@ module _ (l : Load) (fs : List Filling) (sound : Sound l) (w : Held l fs) where
       rules = one-more;
       stops = w .stops ∙ ap length (sym rule-stops);
       each = λ k h. subst (λ (ss : List StopGiven). HeldAs (stopAt (l .stops) k) ss k) (sym rule-stops) (w .each k h);
+      week = week-more (l .week) fs (rule i) refl (λ m. refl) (w .week);
     }
 
   -- ---- a call
 
-  module _ (i : CallInput) where
+  module _ (name : List ℕ) (i : CallInput) where
     abbrev fit : Fitted
     fit = callFitted l i
 
     abbrev cs : List Filling
-    cs = fs ++ call i ∷ []
+    cs = fs ++ call name i ∷ []
 
     -- what is in the table after the step, refused or not
     step : Shows (l .settings) (fit .table) (callsIn fs ++ takenOf (l .settings) (l .searched) (l .«stop_count») (tableOf l) i)
     step = step-shows (l .settings) (l .searched) (l .«stop_count») (tableOf l) i (callsIn fs) (sound .table) (w .calls)
 
     call-calls : callsIn cs ≡ callsIn fs ++ i ∷ []
-    call-calls = calls-append fs (call i ∷ [])
+    call-calls = calls-append fs (call name i ∷ [])
 
     call-rules : rulesIn cs ≡ rulesIn fs
-    call-rules = rules-append fs (call i ∷ []) ∙ append-nil (rulesIn fs)
+    call-rules = rules-append fs (call name i ∷ []) ∙ append-nil (rulesIn fs)
 
     call-stops : stopsIn cs ≡ stopsIn fs
-    call-stops = stops-append fs (call i ∷ []) ∙ append-nil (stopsIn fs)
+    call-stops = stops-append fs (call name i ∷ []) ∙ append-nil (stopsIn fs)
 
     call-held : fit .answer ≡ Taken → Held (withTable l (fit .table)) cs
     call-held e = record {
@@ -337,6 +364,7 @@ module _ (l : Load) (fs : List Filling) (sound : Sound l) (w : Held l fs) where
       rules = w .rules ∙ ap (map ruleOf) (sym call-rules);
       stops = w .stops ∙ ap length (sym call-stops);
       each = λ k h. subst (λ (ss : List StopGiven). HeldAs (stopAt (l .stops) k) ss k) (sym call-stops) (w .each k h);
+      week = week-more (l .week) fs (call name i) refl (λ m. refl) (w .week);
     }
       where
         day : (j : CallInput) → List·Memᴰ j (callsIn fs) ⊎ List·Memᴰ j (i ∷ []) → j .day ≤ 2
@@ -352,6 +380,30 @@ module _ (l : Load) (fs : List Filling) (sound : Sound l) (w : Held l fs) where
       rules = w .rules;
       stops = w .stops;
       each = w .each;
+      week = w .week;
+    }
+
+  -- ---- a service, an exception
+
+  -- what was taken beside stops, calls and rules leaves these
+  module _ (x : Filling) (no-call : callsIn (x ∷ []) ≡ []) (no-rule : rulesIn (x ∷ []) ≡ []) (no-stop : stopsIn (x ∷ []) ≡ []) where
+    beside-calls : callsIn (fs ++ x ∷ []) ≡ callsIn fs
+    beside-calls = calls-append fs (x ∷ []) ∙ ap (λ (r : List CallInput). callsIn fs ++ r) no-call ∙ append-nil (callsIn fs)
+
+    beside-rules : rulesIn (fs ++ x ∷ []) ≡ rulesIn fs
+    beside-rules = rules-append fs (x ∷ []) ∙ ap (λ (r : List RuleInput). rulesIn fs ++ r) no-rule ∙ append-nil (rulesIn fs)
+
+    beside-stops : stopsIn (fs ++ x ∷ []) ≡ stopsIn fs
+    beside-stops = stops-append fs (x ∷ []) ∙ ap (λ (r : List StopGiven). stopsIn fs ++ r) no-stop ∙ append-nil (stopsIn fs)
+
+    beside-held : (v : Week) → WeekHeld v (fs ++ x ∷ []) → Held (withWeek l v) (fs ++ x ∷ [])
+    beside-held v h = record {
+      calls = w .calls ∙ ap (windowed (l .settings) (l .«table_horizon»)) (sym beside-calls);
+      days = λ j m. w .days j (subst (List·Memᴰ j) beside-calls m);
+      rules = w .rules ∙ ap (map ruleOf) (sym beside-rules);
+      stops = w .stops ∙ ap length (sym beside-stops);
+      each = λ k h. subst (λ (ss : List StopGiven). HeldAs (stopAt (l .stops) k) ss k) (sym beside-stops) (w .each k h);
+      week = h;
     }
 
 -- ---- every step that fills
@@ -360,7 +412,7 @@ abbrev pub given : Load → Filling → List Filling
 given l x = cond (isTaken (filled l x .answer)) (x ∷ []) []
 
 pub fill-held : (l : Load) (x : Filling) (fs : List Filling) → Sound l → Held l fs → Held (filled l x .load) (fs ++ given l x)
-unfolding stopSpec callSpec ruleSpec
+unfolding stopSpec plainCall ruleSpec serviceSpec serviceOn exceptionSpec exceptionOn
 fill-held l (stop id name parent i) fs sound w = go (isTaken (stopAnswer l id name parent i)) refl
   where
     go : (b : Bool) → isTaken (stopAnswer l id name parent i) ≡ b
@@ -372,9 +424,42 @@ fill-held l (rule i) fs sound w = go (isTaken (ruleAnswer l i)) refl
     go : (b : Bool) → isTaken (ruleAnswer l i) ≡ b → Held (cond b (withRules l (set (l .rules) (l .«rule_count») (ruleOf i)) (l .«rule_count» + 1)) l) (fs ++ cond b (rule i ∷ []) [])
     go true e = rule-held l fs sound w i (taken-is _ e)
     go false e = held-same l fs sound w
-fill-held l (call i) fs sound w = go (callFitted l i .answer) refl
+fill-held l (call name i) fs sound w = by _ (called l name i)
   where
-    go : (a : Answer) → callFitted l i .answer ≡ a → Held (cond (isRefused a) l (withTable l (callFitted l i .table))) (fs ++ cond (isTaken a) (call i ∷ []) [])
-    go Taken e = call-held l fs sound w i e
-    go Outside e = subst (Held (withTable l (callFitted l i .table))) (sym (append-nil fs)) (out-held l fs sound w i e)
+    go : (a : Answer) → callFitted l i .answer ≡ a → Held (cond (isRefused a) l (withTable l (callFitted l i .table))) (fs ++ cond (isTaken a) (call name i ∷ []) [])
+    go Taken e = call-held l fs sound w name i e
+    go Outside e = subst (Held (withTable l (callFitted l i .table))) (sym (append-nil fs)) (out-held l fs sound w name i e)
     go (Refused r) e = held-same l fs sound w
+
+    -- with its services closed
+    shut : (m : Load) (gs : List Filling) → m .week ≡ l .week → Held m gs → Held (withWeek m (closedWeek (l .week))) gs
+    shut m gs e v = held-week m gs (closedWeek (l .week)) v (subst (λ (u : Week). WeekHeld (closedWeek u) gs) e (week-closed (m .week) gs (v .week)))
+
+    closes : (a : Answer) → callFitted l i .answer ≡ a
+        → Held (cond (isRefused a) l (withWeek (cond (isRefused a) l (withTable l (callFitted l i .table))) (closedWeek (l .week)))) (fs ++ cond (isTaken a) (call name i ∷ []) [])
+    closes Taken e = shut _ _ refl (go Taken e)
+    closes Outside e = shut _ _ refl (go Outside e)
+    closes (Refused r) e = go (Refused r) e
+
+    by : (r : Stepped) → Called l name i r → Held (r .load) (fs ++ cond (isTaken (r .answer)) (call name i ∷ []) [])
+    by _ (without d) = go (callFitted l i .answer) refl
+    by _ (goes-on d e) = closes (callFitted l i .answer) refl
+    by _ (stays-out d e) = shut l (fs ++ []) refl (held-same l fs sound w)
+    by _ (sent-back d r e) = held-same l fs sound w
+fill-held l (service name weekdays start end) fs sound w = go (isTaken (serviceAnswer (l .week) (l .searched) name start end)) refl
+  where
+    go : (b : Bool) → isTaken (serviceAnswer (l .week) (l .searched) name start end) ≡ b
+        → Held (withWeek l (cond b (withServices (l .week) (set (l .week .services) (l .week .«service_count») (serviceOf name weekdays start end)) (l .week .«service_count» + 1)) (l .week))) (fs ++ cond b (service name weekdays start end ∷ []) [])
+    go true e =
+        let p = service-passed (l .week) (l .searched) name weekdays start end _ refl e in
+        beside-held l fs sound w (service name weekdays start end) refl refl refl _
+        (week-service (l .week) fs name weekdays start end (sound .week) (w .week) (p .room) (id-short name (p .name-right)) (p .new))
+    go false e = held-same l fs sound w
+fill-held l (exception name date kind) fs sound w = go (isTaken (exceptionAnswer (l .week) (l .searched) name date kind)) refl
+  where
+    go : (b : Bool) → isTaken (exceptionAnswer (l .week) (l .searched) name date kind) ≡ b
+        → Held (withWeek l (cond b (withServices (l .week) (set (l .week .services) (placeIn (l .week) name) (exceptedOf (serviceIn (l .week) name) (daysOn (l .week .dates) date) kind)) (l .week .«service_count»)) (l .week))) (fs ++ cond b (exception name date kind ∷ []) [])
+    go true e =
+        let p = exception-passed (l .week) (l .searched) name date kind _ refl e in
+        beside-held l fs sound w (exception name date kind) refl refl refl _ (week-exception (l .week) fs name date kind (w .week) (p .known))
+    go false e = held-same l fs sound w

@@ -1,8 +1,10 @@
 -- "Why a call is sent back", as propositions over what was taken before and what is handed in, in 01's order: "Settings 1, 2. Stop 15, 3,
--- 5, 6, 7, 8, 4. Call 15, 9, absent time, 10, outside, 11. Rule 15, 9, 12, 13, 11. Search 15, 14, 11."
+-- 5, 6, 7, 8, 4. Call 15, 9, absent time, 10, outside, 11. Rule 15, 9, 12, 13, 11. Search 15, 14, 11." With request 03: settings with dates 1,
+-- 2, 20; service 15, 3, 5, 20, 22; exception 15, 20, 21; of a call 21 and a day when the service doesn't run, after 9.
 use mathlib.Core.Path.{_≡_}
 use mathlib.Core.Logic.{_⊎_}
 use mathlib.Core.Bool.{true, false, cond}
+use mathlib.Core.Option.{Option, none, some}
 use mathlib.Core.List.{List, [], _∷_, List·Memᴰ}
 use Prim.Native.Nat.{ℕ, _≤_, _<_}
 use lib.IntN.{ℤ, pos, negsuc}
@@ -12,6 +14,7 @@ use Rattle.refusal.specs.declared.Answer.the-variants.{Taken, Outside, Refused}
 use Rattle.refusal.specs.declared.Refusal.the-variants.{SettingsRange, ClockRange}
 use Rattle.refusal.specs.declared.Refusal.the-variants.{IdLength, StopsFull, IdTaken, LocationType, ParentUnknown, NameUnusable}
 use Rattle.refusal.specs.declared.Refusal.the-variants.{FieldRange, TimesReversed, NoRoom, RuleType, PairTaken, Neighbours, AlreadySearched}
+use Rattle.refusal.specs.declared.Refusal.the-variants.{DateWrong, ServiceUnknown, ServicesFull}
 use Rattle.refusal.specs.First.{answerNumber}
 use Rattle.settings.specs.declared.Settings.{Settings}
 use Rattle.place.specs.Positions.{positionOf, isUsable}
@@ -22,9 +25,11 @@ use Rattle.calls.specs.declared.Seconds.the-variants as seconds
 use Rattle.rules.specs.declared.RuleInput.{RuleInput}
 use Rattle.rules.specs.declared.MinTime.the-variants as min-time
 use Rattle.profile.specs.declared.Journey.{Journey}
-use Rattle.load.specs.Filling.{stop, call, rule}
+use Rattle.load.specs.Steps.{Opening}
+use Rattle.load.specs.Filling.{stop, call, rule, service, exception}
 use Rattle.steps.specs.Steps.{Step, filling, search}
-use Rattle.comparison.specs.Taken.{StopGiven, stopsIn, callsIn, rulesIn, State}
+use Rattle.comparison.specs.Taken.{StopGiven, stopsIn, callsIn, rulesIn, servicesIn, State}
+use Rattle.comparison.specs.Services.{NoDate, Named, Unknown, Resting}
 use Rattle.comparison.specs.Feeds.{feedOf}
 use Rattle.comparison.specs.Horizon.{Fits}
 use Rattle.comparison.specs.Neighbours.{Clashing}
@@ -56,12 +61,18 @@ abbrev pub Beyond : ℤ → Type 0
 Beyond (pos n) = 1099511627776 < n
 Beyond (negsuc n) = 1099511627776 ≤ n
 
+-- the dates, where there are any
+abbrev pub dateCauses : Option (List ℕ) → List Cause
+dateCauses none = []
+dateCauses (some dates) = cause ((d : ℕ) × List·Memᴰ d dates × NoDate d) (Refused DateWrong) ∷ []
+
 -- "count above 4, `max_transfers` above 1"; of the change time "a value above 15300 belongs to refusal 1" (request 05)
-abbrev pub settingsCauses : Settings → List Cause
-settingsCauses s =
+abbrev pub openingCauses : Opening → List Cause
+openingCauses o =
+    let s = o .settings in
     cause (4 < s .origins ⊎ 4 < s .targets ⊎ 1 < s .«max_transfers» ⊎ 15300 < s .«transfer_seconds») (Refused SettingsRange)
     ∷ cause (Beyond (s .now) ⊎ ((day : ℕ) × (day ≤ 2) × Beyond (getD (s .epochs) day (pos 0)))) (Refused ClockRange)
-    ∷ []
+    ∷ dateCauses (o .dates)
 
 -- ---- stop
 
@@ -98,10 +109,12 @@ pub record Reversed (i : CallInput) : Type 0 where
 abbrev pub Fitting : Settings → State → CallInput → Answer → Type 0
 Fitting s t i a = (h : ℕ) × (m : ℕ) × Fits s (callsIn (t .taken)) i (t .horizon) (t .limits) a h m
 
-abbrev pub callCauses : Settings → State → CallInput → List Cause
-callCauses s t i =
+abbrev pub callCauses : Settings → State → List ℕ → CallInput → List Cause
+callCauses s t name i =
     cause (t .searched ≡ true) (Refused AlreadySearched)
     ∷ cause (length (stopsIn (t .taken)) ≤ i .stop ⊎ 65535 ≤ i .trip ⊎ 2 < i .day ⊎ 3 < i .pickup ⊎ 3 < i .«drop_off») (Refused FieldRange)
+    ∷ cause (Unknown t name) (Refused ServiceUnknown)
+    ∷ cause (Resting t name (i .day)) Outside
     ∷ cause (i .arrival ≡ seconds.Absent ⊎ i .departure ≡ seconds.Absent) Outside
     ∷ cause (Reversed i) (Refused TimesReversed)
     ∷ cause (Fitting s t i Outside) Outside
@@ -118,6 +131,28 @@ ruleCauses t i =
     ∷ cause (3 < i .«transfer_type» ⊎ ((i .«transfer_type» ≡ 2) × (i .seconds ≡ min-time.Absent))) (Refused RuleType)
     ∷ cause ((q : RuleInput) × List·Memᴰ q (rulesIn (t .taken)) × (q .from ≡ i .from) × (q .to ≡ i .to)) (Refused PairTaken)
     ∷ cause (128 ≤ length (rulesIn (t .taken))) (Refused NoRoom)
+    ∷ []
+
+-- ---- service and exception
+
+-- after the search or after an answered call, or on a load without dates
+abbrev pub Late : State → Type 0
+Late t = t .searched ≡ true ⊎ t .closed ≡ true
+
+abbrev pub serviceCauses : State → List ℕ → ℕ → ℕ → List Cause
+serviceCauses t name start end =
+    cause (Late t) (Refused AlreadySearched)
+    ∷ cause (length name ≡ 0 ⊎ 32 < length name) (Refused IdLength)
+    ∷ cause (Named (t .taken) name) (Refused IdTaken)
+    ∷ cause (NoDate start ⊎ NoDate end) (Refused DateWrong)
+    ∷ cause (64 ≤ length (servicesIn (t .taken))) (Refused ServicesFull)
+    ∷ []
+
+abbrev pub exceptionCauses : State → List ℕ → ℕ → ℕ → List Cause
+exceptionCauses t name date kind =
+    cause (Late t) (Refused AlreadySearched)
+    ∷ cause (NoDate date ⊎ ((kind ≡ 1 → ⊥) × (kind ≡ 2 → ⊥))) (Refused DateWrong)
+    ∷ cause (Named (t .taken) name → ⊥) (Refused ServiceUnknown)
     ∷ []
 
 -- ---- search
@@ -139,6 +174,8 @@ searchCauses s t =
 
 abbrev pub causesOf : Settings → State → Step → List Cause
 causesOf s t (filling (stop id name parent i)) = stopCauses t id name parent i
-causesOf s t (filling (call i)) = callCauses s t i
+causesOf s t (filling (call name i)) = callCauses s t name i
 causesOf s t (filling (rule i)) = ruleCauses t i
+causesOf s t (filling (service name weekdays start end)) = serviceCauses t name start end
+causesOf s t (filling (exception name date kind)) = exceptionCauses t name date kind
 causesOf s t search = searchCauses s t

@@ -9,28 +9,31 @@ use Prim.Native.Nat.{ℕ, _+_, _≤_, _<_}
 use lib.IntN.{ℤ, pos, negsuc}
 use Rattle.refusal.specs.declared.Answer.{Answer}
 use Rattle.settings.specs.declared.Settings.{Settings}
+use Rattle.calls.specs.declared.CallInput.{CallInput}
 use Rattle.calls.specs.declared.Call.{Call}
 use Rattle.calls.specs.Shown.{tableCalls}
 use Rattle.profile.specs.declared.Journey.{Journey}
 use Rattle.load.specs.declared.Load.{Load}
 use Rattle.load.specs.Load.{tableOf}
-use Rattle.load.specs.Steps.{opened, openSpec}
+use Rattle.load.specs.Steps.{Opening, opened, openSpec}
+use Rattle.load.specs.Filling.{call}
 use Rattle.load.specs.Sound.{Opens}
 use Rattle.best.specs.Best.{answerOf, keptOf, bestSpec, nextSpec}
 use Rattle.steps.specs.Steps.{Step, stepped, numbers}
 use Rattle.steps.specs.Lists.{endOf}
-use Rattle.steps.specs.Answered.{Answered, OpeningAnswered}
+use Rattle.steps.specs.Answered.{Answered, openNumbers, OpeningAnswered}
 use Rattle.time.specs.Promises.{Taken as TextTaken, Answered as TextAnswered}
 use Rattle.comparison.specs.Order.{EqualsOrBeats, Same}
 use Rattle.comparison.specs.Kept.{Holds}
 use Rattle.comparison.specs.Best.{BestAt}
 use Rattle.comparison.specs.Window.{Shown}
 use Rattle.comparison.specs.Taken.{callsIn, State, fresh}
+use Rattle.comparison.specs.Services.{Running}
 use Rattle.comparison.specs.Feeds.{feedOf}
 use Rattle.comparison.specs.Neighbours.{Ordered}
 use Rattle.comparison.specs.OfferOrder.{Offered}
 use Rattle.comparison.specs.Falls.{Falls, at}
-use Rattle.comparison.specs.Causes.{First, numbersOf, settingsCauses, causesOf}
+use Rattle.comparison.specs.Causes.{First, numbersOf, openingCauses, causesOf}
 use Rattle.comparison.specs.Runs.{Runs, Admitted}
 
 -- ---- 1: a result, or one of the refusals for its stated cause alone; a refused load comes back unchanged
@@ -55,46 +58,46 @@ pub record Queried (l : Load) (z : ℤ) : Type 0 where
 pub record Demand1 : Type 0 where
   -- a time text has its seconds exactly if it is of the form, and every other is refused with 16
   pub texts : TextTaken × TextAnswered
-  -- settings are answered for the first of their causes
-  pub settings : (s : Settings) → First (openSpec s .answer) (settingsCauses s)
-  pub opening : (s : Settings) → OpeningAnswered s
+  -- an opening, with dates or without, is answered for the first of its causes
+  pub openings : (o : Opening) → First (openSpec o .answer) (openingCauses o)
+  pub opening : (o : Opening) → OpeningAnswered o
   -- so is every step of a list, by what was taken before it; the answers are the only ones, and so is what is taken
-  pub lists : (s : Settings) → Opens s → (xs : List Step) → (v : State) × Runs s fresh xs (answersFrom (opened s) xs) v
+  pub lists : (o : Opening) → Opens o → (xs : List Step) → (v : State) × Runs (o .settings) (fresh (o .dates)) xs (answersFrom (opened o) xs) v
   pub only : (s : Settings) (t : State) (xs : List Step) (rs qs : List Answer) (u v : State) → Runs s t xs rs u → Runs s t xs qs v
       → (rs ≡ qs) × (u ≡ v)
   -- in the scope's order
   pub order : (s : Settings) (t : State) (x : Step) → numbersOf (causesOf s t x) ≡ numbers x
-  pub settings-order : (s : Settings) → numbersOf (settingsCauses s) ≡ 1 ∷ 2 ∷ []
+  pub opening-order : (o : Opening) → numbersOf (openingCauses o) ≡ openNumbers (o .dates)
   -- of any load, one that no step made too: by what it holds; a refused load comes back unchanged
   pub steps : (l : Load) (x : Step) → Answered l x
   -- queries of the load that any list of steps leaves, at every second
-  pub queries : (s : Settings) → Opens s → (xs : List Step) (z : ℤ) → Queried (endOf s xs) z
+  pub queries : (o : Opening) → Opens o → (xs : List Step) (z : ℤ) → Queried (endOf o xs) z
 
 -- ---- 2
 
 -- what the program's best answers at the end
-abbrev pub answer : Settings → List Step → ℤ → Option Journey
+abbrev pub answer : Opening → List Step → ℤ → Option Journey
 answer s xs z = answerOf (bestSpec (endOf s xs) z)
 
 -- the calls of the load
-abbrev pub calls : Settings → List Step → List Call
+abbrev pub calls : Opening → List Step → List Call
 calls s xs = tableCalls (tableOf (endOf s xs))
 
 -- before a search: the calls taken, as they are seen, in the order taken; no journey; "a horizon cut, limit mark" only by the 513th call
-pub record Fills (s : Settings) (xs : List Step) (v : State) : Type 0 where
-  pub shown : Shown s (v .horizon) (callsIn (v .taken)) (calls s xs)
+pub record Fills (s : Opening) (xs : List Step) (v : State) : Type 0 where
+  pub shown : Shown (s .settings) (v .horizon) (callsIn (v .taken)) (calls s xs)
   pub kept : keptOf (endOf s xs) ≡ []
   pub horizon : endOf s xs .horizon ≡ v .horizon
   pub limits : endOf s xs .limits ≡ v .limits
   pub best : (z : ℤ) → answer s xs z ≡ none
 
 -- after it
-pub record Lists (s : Settings) (xs : List Step) (v : State) : Type 0 where
+pub record Lists (s : Opening) (xs : List Step) (v : State) : Type 0 where
   -- the calls taken, as they are seen, put in order
-  pub ordered : Ordered s (v .horizon) (callsIn (v .taken)) (calls s xs)
+  pub ordered : Ordered (s .settings) (v .horizon) (callsIn (v .taken)) (calls s xs)
   -- what is offered, in the paper's order: it says which of equals is the older. "An admitted journey is one so offered"
   pub offers : List Journey
-  pub offered : Offered (feedOf s v) offers
+  pub offered : Offered (feedOf (s .settings) v) offers
   pub admitted : (j : Journey) → List·Memᴰ j offers ↔ Admitted s xs j
   -- "the list holds exactly the journeys due by its horizon that none other beats, the older of equals"
   pub holds : Holds (endOf s xs .horizon) offers (keptOf (endOf s xs))
@@ -108,8 +111,14 @@ pub record Lists (s : Settings) (xs : List Step) (v : State) : Type 0 where
 
 -- of any list of steps, which leaves v taken
 abbrev pub Demand2 : Type 0
-Demand2 = (s : Settings) (xs : List Step) (rs : List Answer) (v : State) → Opens s → Runs s fresh xs rs v
+Demand2 = (s : Opening) (xs : List Step) (rs : List Answer) (v : State) → Opens s → Runs (s .settings) (fresh (s .dates)) xs rs v
     → (v .searched ≡ false → Fills s xs v) × (v .searched ≡ true → Lists s xs v)
+
+-- "What the list must hold is read over the calls of running services": on a load with dates each call that was taken names a service that
+-- was taken and runs on the date of the call's day, by all exceptions that were taken
+abbrev pub OnlyRunning : Type 0
+OnlyRunning = (s : Opening) (xs : List Step) (rs : List Answer) (v : State) → Opens s → Runs (s .settings) (fresh (s .dates)) xs rs v
+    → (dates : List ℕ) → s .dates ≡ some dates → (name : List ℕ) (i : CallInput) → List·Memᴰ (call name i) (v .taken) → Running v name (i .day)
 
 -- ---- 3
 
@@ -136,7 +145,7 @@ abbrev pub Alike : ℕ → Option Journey → Option Journey → Type 0
 Alike g r r′ = (NoneBy g r × NoneBy g r′) ⊎ Both g r r′
 
 -- "each journey that 01 admits in either load by that horizon is equalled or beaten by one admitted in the other"
-abbrev pub MatchedBy : ℕ → Settings → List Step → Settings → List Step → Type 0
+abbrev pub MatchedBy : ℕ → Opening → List Step → Opening → List Step → Type 0
 MatchedBy g s xs s′ xs′ = (j : Journey) → Admitted s xs j → j .arrival ≤ g → (j′ : Journey) × Admitted s′ xs′ j′ × EqualsOrBeats j′ j
 
 -- g is the earlier of two horizons
@@ -145,6 +154,6 @@ Earlier g h h′ = (g ≤ h) × (g ≤ h′) × ((g ≡ h) ⊎ (g ≡ h′))
 
 -- of any two lists, searched or not: a list with no search taken admits none. The horizons are the loads', which demand 2 says from the list
 abbrev pub Demand3 : Type 0
-Demand3 = (s s′ : Settings) (xs xs′ : List Step) (g : ℕ) → s .now ≡ s′ .now → Opens s → Opens s′
+Demand3 = (s s′ : Opening) (xs xs′ : List Step) (g : ℕ) → s .settings .now ≡ s′ .settings .now → Opens s → Opens s′
     → Earlier g (endOf s xs .horizon) (endOf s′ xs′ .horizon)
     → ((z : ℤ) → Second z → Alike g (answer s xs z) (answer s′ xs′ z)) ↔ (MatchedBy g s xs s′ xs′ × MatchedBy g s′ xs′ s xs)

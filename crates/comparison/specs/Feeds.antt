@@ -1,4 +1,6 @@
 -- What was taken, as a `Feed`: what a search is given.
+use mathlib.Core.Bool.{true}
+use mathlib.Core.Option.{none}
 use mathlib.Core.List.{List}
 use Rattle.settings.specs.declared.Settings.{Settings}
 use Rattle.load.specs.declared.Load.{Load}
@@ -20,4 +22,4 @@ feedOf s t = record {
 
 -- the same with the horizon of a load's table, for the proofs
 abbrev pub feedFrom : Settings → Load → List Filling → Feed
-feedFrom s l fs = feedOf s (record { taken = fs; horizon = l .«table_horizon»; limits = l .«table_limits»; searched = l .searched })
+feedFrom s l fs = feedOf s (record { taken = fs; horizon = l .«table_horizon»; limits = l .«table_limits»; searched = l .searched; dates = none; closed = true })

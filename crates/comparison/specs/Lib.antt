@@ -3,6 +3,7 @@ pub mod Kept
 pub mod Best
 pub mod Window
 pub mod Taken
+pub mod Services
 pub mod Admitted
 pub mod Places
 pub mod Feeds

@@ -1,11 +1,17 @@
 -- What is proved, all of it. The contract of `demands()` cites this record, so that no part of it can go unseen.
-use Rattle.comparison.specs.Demands.{Demand1, Demand2, Demand3}
+use Rattle.comparison.specs.Demands.{Demand1, Demand2, OnlyRunning, Demand3}
+use Rattle.steps.specs.Dated.{DatedSame, LateServices, NameUnread}
 use Rattle.comparison.specs.Witness.{Met}
 use Rattle.comparison.specs.Marked.{Starred}
 
 pub record Proved : Type 0 where
   pub first : Demand1
   pub second : Demand2
+  -- request 03
+  pub running : OnlyRunning
+  pub dated : DatedSame
+  pub late : LateServices
+  pub unread : NameUnread
   pub third : Demand3
   -- the premises can be met
   pub met : Met

@@ -12,9 +12,11 @@ use Rattle.stops.specs.declared.StopInput.{StopInput}
 use Rattle.calls.specs.declared.CallInput.{CallInput}
 use Rattle.rules.specs.declared.RuleInput.{RuleInput}
 use Rattle.profile.specs.declared.Journey.{Journey}
-use Rattle.load.specs.Filling.{stop, call, rule}
+use Rattle.load.specs.Steps.{Opening}
+use Rattle.load.specs.Filling.{stop, call, rule, service, exception}
 use Rattle.steps.specs.Steps.{Step, filling, search}
-use Rattle.comparison.specs.Taken.{callsIn, State, fresh, more, upTo, done}
+use Rattle.comparison.specs.Taken.{callsIn, State, fresh, more, upTo, done, shut}
+use Rattle.comparison.specs.Services.{Resting}
 use Rattle.comparison.specs.Admitted.{Admits}
 use Rattle.comparison.specs.Feeds.{feedOf}
 use Rattle.comparison.specs.Horizon.{Fits}
@@ -25,10 +27,15 @@ pub data After (s : Settings) (t : State) : Step → Answer → State → Type 0
   sent-back : {x : Step} {r : Refusal} → After s t x (Refused r) t
   a-stop : {id name parent : List ℕ} {i : StopInput} → After s t (filling (stop id name parent i)) Taken (more t (stop id name parent i))
   a-rule : {i : RuleInput} → After s t (filling (rule i)) Taken (more t (rule i))
-  a-call : {i : CallInput} {h m : ℕ} → Fits s (callsIn (t .taken)) i (t .horizon) (t .limits) Taken h m
-      → After s t (filling (call i)) Taken (upTo (more t (call i)) h m)
-  outside : {i : CallInput} {h m : ℕ} → Fits s (callsIn (t .taken)) i (t .horizon) (t .limits) Outside h m
-      → After s t (filling (call i)) Outside (upTo t h m)
+  -- an answered call closes the services
+  a-call : {name : List ℕ} {i : CallInput} {h m : ℕ} → Fits s (callsIn (t .taken)) i (t .horizon) (t .limits) Taken h m
+      → After s t (filling (call name i)) Taken (shut (upTo (more t (call name i)) h m))
+  -- of one whose service doesn't run the times are unread
+  resting : {name : List ℕ} {i : CallInput} → Resting t name (i .day) → After s t (filling (call name i)) Outside (shut t)
+  outside : {name : List ℕ} {i : CallInput} {h m : ℕ} → (Resting t name (i .day) → ⊥) → Fits s (callsIn (t .taken)) i (t .horizon) (t .limits) Outside h m
+      → After s t (filling (call name i)) Outside (shut (upTo t h m))
+  a-service : {name : List ℕ} {weekdays start end : ℕ} → After s t (filling (service name weekdays start end)) Taken (more t (service name weekdays start end))
+  an-exception : {name : List ℕ} {date kind : ℕ} → After s t (filling (exception name date kind)) Taken (more t (exception name date kind))
   a-search : After s t search Taken (done t)
 
 -- the steps, handed in where t was taken, are answered so and leave v taken
@@ -39,9 +46,9 @@ pub data Runs (s : Settings) : State → List Step → List Answer → State →
 
 -- "Which journeys are admitted is defined from the settings and the list alone: by the stops and rules taken and the calls answered taken
 -- under this paper's rules, as `window` and the table's cuts leave them when the accepted search starts." After it nothing more is taken
-pub record Admitted (s : Settings) (xs : List Step) (j : Journey) : Type 0 where
+pub record Admitted (o : Opening) (xs : List Step) (j : Journey) : Type 0 where
   pub answers : List Answer
   pub end : State
-  pub runs : Runs s fresh xs answers end
+  pub runs : Runs (o .settings) (fresh (o .dates)) xs answers end
   pub searched : end .searched ≡ true
-  pub admits : Admits (feedOf s end) j
+  pub admits : Admits (feedOf (o .settings) end) j

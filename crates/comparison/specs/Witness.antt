@@ -1,6 +1,7 @@
 -- The premises of the demands can be met, by lists that keep a journey: of one ride, and of two that a rule joins. Each by computation.
 use mathlib.Core.Path.{_≡_}
 use mathlib.Core.Bool.{true, false}
+use mathlib.Core.Option.{none}
 use mathlib.Core.List.{List, [], _∷_, map}
 use Prim.Native.Nat.{ℕ}
 use lib.IntN.{pos}
@@ -16,7 +17,8 @@ use Rattle.profile.specs.Journeys.{journeyFigures}
 use Rattle.profile.specs.Instances.{figuresOf}
 use Rattle.load.specs.Sound.{Opens}
 use Rattle.rules.specs.declared.MinTime.the-variants as min-time
-use Rattle.load.specs.Filling.{stop, call, rule}
+use Rattle.load.specs.Steps.{Opening, undated, dated}
+use Rattle.load.specs.Filling.{stop, call, rule, service, exception}
 use Rattle.best.specs.Best.{keptOf}
 use Rattle.steps.specs.Steps.{Step, filling, search}
 use Rattle.steps.specs.Lists.{endOf}
@@ -38,6 +40,9 @@ settingsWith changes = record {
 
 abbrev pub someSettings : Settings
 someSettings = settingsWith 0
+
+abbrev pub someOpening : Opening
+someOpening = undated someSettings
 
 -- a stop with these members, no name, no parent and no position
 abbrev pub someStop : ℕ → StopInput
@@ -68,8 +73,8 @@ abbrev pub oneTrip : ℕ → ℕ → List Step
 oneTrip departs arrives =
     filling (stop (65 ∷ []) [] [] (someStop 1))
     ∷ filling (stop (66 ∷ []) [] [] (someStop 16))
-    ∷ filling (call (callOf 1 1 0 departs))
-    ∷ filling (call (callOf 1 2 1 arrives))
+    ∷ filling (call [] (callOf 1 1 0 departs))
+    ∷ filling (call [] (callOf 1 2 1 arrives))
     ∷ search
     ∷ []
 
@@ -82,39 +87,63 @@ twoTrips departs =
     ∷ filling (stop (67 ∷ []) [] [] (someStop 0))
     ∷ filling (stop (68 ∷ []) [] [] (someStop 16))
     ∷ filling (rule (record { from = 1; to = 2; «transfer_type» = 2; seconds = min-time.Given 240 }))
-    ∷ filling (call (callOf 1 1 0 600))
-    ∷ filling (call (callOf 1 2 1 1000))
-    ∷ filling (call (callOf 2 1 2 departs))
-    ∷ filling (call (callOf 2 2 3 1500))
+    ∷ filling (call [] (callOf 1 1 0 600))
+    ∷ filling (call [] (callOf 1 2 1 1000))
+    ∷ filling (call [] (callOf 2 1 2 departs))
+    ∷ filling (call [] (callOf 2 2 3 1500))
+    ∷ search
+    ∷ []
+
+-- the same trip on a dated load, whose three days are Monday 2 to Wednesday 4 January 2023: a service of Mondays that year, which an exception
+-- may remove on the second; the calls name it
+abbrev pub mondays : List ℕ
+mondays = 77 ∷ []
+
+abbrev pub someDates : Opening
+someDates = dated someSettings (20230102 ∷ 20230103 ∷ 20230104 ∷ [])
+
+abbrev pub datedTrip : ℕ → List Step
+datedTrip removed =
+    filling (service mondays 1 20230101 20231231)
+    ∷ filling (exception mondays removed 2)
+    ∷ filling (stop (65 ∷ []) [] [] (someStop 1))
+    ∷ filling (stop (66 ∷ []) [] [] (someStop 16))
+    ∷ filling (call mondays (callOf 1 1 0 600))
+    ∷ filling (call mondays (callOf 1 2 1 1200))
     ∷ search
     ∷ []
 
 -- the figures of the journeys kept
-abbrev pub keptBy : Settings → List Step → List Figures
+abbrev pub keptBy : Opening → List Step → List Figures
 keptBy s xs = map journeyFigures (keptOf (endOf s xs))
 
 abbrev pub keptFigures : List Step → List Figures
-keptFigures xs = keptBy someSettings xs
+keptFigures xs = keptBy someOpening xs
 
 -- the list is taken whole
 pub record AllTaken (xs : List Step) : Type 0 where
   pub end : State
-  pub runs : Runs someSettings fresh xs (Taken ∷ Taken ∷ Taken ∷ Taken ∷ Taken ∷ []) end
+  pub runs : Runs someSettings (fresh none) xs (Taken ∷ Taken ∷ Taken ∷ Taken ∷ Taken ∷ []) end
   pub searched : end .searched ≡ true
 
 -- a journey with these figures is admitted
-pub record OneAdmitted (s : Settings) (xs : List Step) (f : Figures) : Type 0 where
+pub record OneAdmitted (s : Opening) (xs : List Step) (f : Figures) : Type 0 where
   pub j : Journey
   pub figures : journeyFigures j ≡ f
   pub admitted : Admitted s xs j
 
 pub record Met : Type 0 where
-  pub opens : Opens someSettings
+  pub opens : Opens someOpening
   pub taken : AllTaken (oneTrip 600 1200)
-  pub admitted : OneAdmitted someSettings (oneTrip 600 1200) (figuresOf 300 1320 1 5)
+  pub admitted : OneAdmitted someOpening (oneTrip 600 1200) (figuresOf 300 1320 1 5)
   pub kept : keptFigures (oneTrip 600 1200) ≡ figuresOf 300 1320 1 5 ∷ []
   -- two rides: 1000 + 240 joins 1240, and not 1239
-  pub opens-changing : Opens (settingsWith 1)
-  pub admitted-changing : OneAdmitted (settingsWith 1) (twoTrips 1240) (figuresOf 300 1620 2 5)
-  pub kept-changing : keptBy (settingsWith 1) (twoTrips 1240) ≡ figuresOf 300 1620 2 5 ∷ []
-  pub missed : keptBy (settingsWith 1) (twoTrips 1239) ≡ []
+  pub opens-changing : Opens (undated (settingsWith 1))
+  pub admitted-changing : OneAdmitted (undated (settingsWith 1)) (twoTrips 1240) (figuresOf 300 1620 2 5)
+  pub kept-changing : keptBy (undated (settingsWith 1)) (twoTrips 1240) ≡ figuresOf 300 1620 2 5 ∷ []
+  pub missed : keptBy (undated (settingsWith 1)) (twoTrips 1239) ≡ []
+  -- with dates: the service runs on Monday 2 January, unless that date is removed
+  pub opens-dated : Opens someDates
+  pub admitted-dated : OneAdmitted someDates (datedTrip 20230109) (figuresOf 300 1320 1 5)
+  pub kept-dated : keptBy someDates (datedTrip 20230109) ≡ figuresOf 300 1320 1 5 ∷ []
+  pub removed : keptBy someDates (datedTrip 20230102) ≡ []

@@ -5,6 +5,7 @@ mod numbers;
 mod records;
 mod run;
 mod settings_record;
+mod week_records;
 
 use stdio::input;
 use stdio::out;

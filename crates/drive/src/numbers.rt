@@ -34,6 +34,12 @@ pub fn u16_at(b: &[u8], at: usize) -> u16
     (number_at(b, at, 2) % 65536) as u16
 }
 
+pub fn u32_at(b: &[u8], at: usize) -> u32
+    requires { ⌜ at ≤ 4096 ⌝ }
+{
+    (number_at(b, at, 4) % 4294967296) as u32
+}
+
 // Two's complement.
 fn signed(n: u64) -> i64 {
     if n < 9223372036854775808 {

@@ -3,11 +3,13 @@ ghost use Prim.Native.Nat.{_≤_};
 use crate::numbers::i64_at;
 use crate::numbers::u16_at;
 use crate::settings_record;
+use crate::week_records;
 use best::Found;
 use fields::layout::kind_of;
 use file::Reader;
 use file::record::record;
 use load::Load;
+use load::Stepped;
 use profile::Journey;
 use refusal::Answer;
 use refusal::Refusal;
@@ -64,11 +66,10 @@ fn stopped(out: &mut [u8; 65536], at: usize, reader: Reader) -> Turned
     }
 }
 
-// Settings: another load in place of this one, unless they are refused.
-fn opening(out: &mut [u8; 65536], at: usize, reader: Reader, b: &[u8]) -> Turned
+// An opening: another load in place of this one, unless it is refused.
+fn opening(out: &mut [u8; 65536], at: usize, reader: Reader, s: Stepped) -> Turned
     ensures { λ r. ⌜ r .to ≤ 65536 ⌝ }
 {
-    let s = Load::open(settings_record::given(b));
     let answer = s.answer;
     let to = told(out, at, answer, b"opened");
     if refusal::is_refused(answer) {
@@ -86,12 +87,20 @@ fn opening(out: &mut [u8; 65536], at: usize, reader: Reader, b: &[u8]) -> Turned
     }
 }
 
+// Whether a number is one of a load file's: 17 to 19.
+fn of_file(n: u8) -> bool {
+    if 17 <= n {
+        return n <= 19;
+    }
+    false
+}
+
 // Whether a record was turned away before it was handed to the load.
 fn is_malformed(a: Answer) -> bool {
     match a {
         Answer::Taken => false,
         Answer::Outside => false,
-        Answer::Refused(r) => 17 <= refusal::number(r),
+        Answer::Refused(r) => of_file(refusal::number(r)),
     }
 }
 
@@ -110,6 +119,25 @@ fn filling(out: &mut [u8; 65536], at: usize, reader: Reader, b: &[u8]) -> Turned
         going: true,
         to,
         reader: after,
+    }
+}
+
+// A service, an exception or a call that names a service.
+fn of_week(out: &mut [u8; 65536], at: usize, reader: Reader, b: &[u8]) -> Turned
+    ensures { λ r. ⌜ r .to ≤ 65536 ⌝ }
+{
+    let load = reader.load;
+    let s = week_records::step(load, b);
+    let answer = s.answer;
+    let to = told(out, at, answer, b"taken");
+    let after = s.load;
+    Turned {
+        going: true,
+        to,
+        reader: Reader {
+            opened: true,
+            load: after,
+        },
     }
 }
 
@@ -171,7 +199,9 @@ fn asked(out: &mut [u8; 65536], at: usize, reader: Reader, b: &[u8]) -> Turned
 // How a record is run.
 enum Way {
     Opening,
+    Dated,
     Filling,
+    OfWeek,
     Query,
     Malformed,
 }
@@ -186,12 +216,18 @@ fn way_of(opened: bool, b: &[u8]) -> Way {
     if kind == 1 {
         return way_if(settings_record::filled(b), Way::Opening);
     }
+    if kind == 11 {
+        return way_if(week_records::dated_filled(b), Way::Dated);
+    }
     if opened {
         if kind == 12 {
             return way_if(b.len() == 9, Way::Query);
         }
         if kind == 13 {
             return way_if(b.len() == 11, Way::Query);
+        }
+        if week_records::is_kind(kind) {
+            return way_if(week_records::filled(b), Way::OfWeek);
         }
         return way_if(kind <= 5, Way::Filling);
     }
@@ -203,8 +239,10 @@ pub fn step(out: &mut [u8; 65536], at: usize, reader: Reader, b: &[u8]) -> Turne
     ensures { λ r. ⌜ r .to ≤ 65536 ⌝ }
 {
     match way_of(reader.opened, b) {
-        Way::Opening => opening(out, at, reader, b),
+        Way::Opening => opening(out, at, reader, Load::open(settings_record::given(b))),
+        Way::Dated => opening(out, at, reader, week_records::dated_opening(b)),
         Way::Filling => filling(out, at, reader, b),
+        Way::OfWeek => of_week(out, at, reader, b),
         Way::Query => asked(out, at, reader, b),
         Way::Malformed => stopped(out, at, reader),
     }

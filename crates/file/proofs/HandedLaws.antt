@@ -12,7 +12,7 @@ use Rattle.refusal.specs.First.{firstAnswer, isRefused}
 use Rattle.settings.specs.declared.Settings.{Settings}
 use Rattle.settings.specs.Settings.{overCounts, allNear, settingsTests}
 use Rattle.fields.specs.Records.{settingsIn}
-use Rattle.load.specs.Steps.{openAnswer, opened, openSpec}
+use Rattle.load.specs.Steps.{undated, openAnswer, opened, openSpec}
 use Rattle.load.specs.Sound.{Opens}
 use Rattle.steps.specs.Steps.{stepped}
 use Rattle.steps.specs.Lists.{handed, endOf}
@@ -32,8 +32,8 @@ unfolding steppedBy
 steps r b o k = taken-settled r b k .1 ∙ rw o refl
 
 -- settings that are not sent back open a load
-not-sent-back : (s : Settings) → isRefused (openAnswer s) ≡ false → openAnswer s ≡ Taken
-unfolding firstAnswer settingsTests
+not-sent-back : (s : Settings) → isRefused (openAnswer (undated s)) ≡ false → openAnswer (undated s) ≡ Taken
+unfolding openAnswer firstAnswer settingsTests
 not-sent-back s e = go (overCounts (s .origins) (s .targets) (s .«max_transfers») (s .«transfer_seconds»)) (not (allNear (s .now) (s .epochs))) e
   where
     go : (x y : Bool) → isRefused (cond x (Refused SettingsRange) (cond y (Refused ClockRange) Taken)) ≡ false → cond x (Refused SettingsRange) (cond y (Refused ClockRange) Taken) ≡ Taken
@@ -42,12 +42,12 @@ not-sent-back s e = go (overCounts (s .origins) (s .targets) (s .«max_transfers
     go false false e = refl
 
 opens : (r : Reader) (b : List ℕ) → r .opened ≡ false → isRefused (recordSpec r b .answer) ≡ false
-    → Opens (settingsIn b) × (recordSpec r b .reader ≡ record { opened = true; load = opened (settingsIn b) })
+    → Opens (undated (settingsIn b)) × (recordSpec r b .reader ≡ record { opened = true; load = opened (undated (settingsIn b)) })
 unfolding steppedBy openSpec
 opens r b o k =
     let t = taken-settled r b k in
-    let f : isRefused (openAnswer (settingsIn b)) ≡ false = subst (λ (c : Bool). isRefused ((cond c (stepped (r .load) (stepIn b)) (openSpec (settingsIn b))) .answer) ≡ false) o (t .0) in
-    (not-sent-back (settingsIn b) f, t .1 ∙ rw (o, f) refl)
+    let f : isRefused (openAnswer (undated (settingsIn b))) ≡ false = subst (λ (c : Bool). isRefused ((cond c (stepped (r .load) (stepIn b)) (openSpec (undated (settingsIn b)))) .answer) ≡ false) o (t .0) in
+    ((not-sent-back (settingsIn b) f, tt), t .1 ∙ rw (o, f) refl)
 
 -- ---- the bodies
 
@@ -127,8 +127,8 @@ pub record Fills (zs : List ℕ) (f : Fed) : Type 0 where
   pub head : List ℕ
   pub rest : List (List ℕ)
   pub bodies : bodiesBy (length zs) zs ≡ head ∷ rest
-  pub opens : Opens (settingsIn head)
-  pub ends : f .reader .load ≡ endOf (settingsIn head) (map stepIn rest)
+  pub opens : Opens (undated (settingsIn head))
+  pub ends : f .reader .load ≡ endOf (undated (settingsIn head)) (map stepIn rest)
 
 fills-on : (z : ℕ) (zs : List ℕ) → startsWhole (z ∷ zs) ≡ true → isRefused (recordSpec freshReader (bodyOf (z ∷ zs)) .answer) ≡ false
     → isRefused (fedSpec freshReader (z ∷ zs) .answer) ≡ false → Fills (z ∷ zs) (fedSpec freshReader (z ∷ zs))

@@ -1,7 +1,7 @@
 -- What a record's kind decides: which fields fill it, and what it hands in.
 use mathlib.Core.Path.{_≡_, refl, _∙_}
 use mathlib.Core.Bool.{Bool, true, false, cond}
-use mathlib.Core.List.{List}
+use mathlib.Core.List.{List, []}
 use Prim.Native.Nat.{ℕ}
 use borrow.Author.Tests.{ne-eqb}
 use lib.Dec.{eqb}
@@ -12,7 +12,7 @@ use Rattle.load.specs.declared.Stepped.{Stepped}
 use Rattle.fields.specs.Numbers.{byteAt}
 use Rattle.fields.specs.Layout.{textAt, optionTextAt, nameAt, parentAt, settingsFilled, stopFilled, callFilled, ruleFilled, searchFilled}
 use Rattle.fields.specs.Records.{settingsIn, stopIn, callIn, ruleIn}
-use Rattle.load.specs.Steps.{openSpec, stopSpec, callSpec, ruleSpec}
+use Rattle.load.specs.Steps.{undated, openSpec, stopSpec, callSpec, ruleSpec}
 use Rattle.search.specs.Search.{searchSpec}
 use Rattle.file.specs.declared.Reader.{Reader}
 use Rattle.file.specs.Record.{filled, stepIn, steppedBy}
@@ -31,7 +31,7 @@ filled-search b n1 n2 n3 n4 = rw (ne-eqb _ _ n1, ne-eqb _ _ n2, ne-eqb _ _ n3, n
 
 -- a step of the load, by the kind of the record that hands it in
 module _ (r : Reader) (b : List ℕ) where
-  pub stepped-settings : {s : Stepped} {i : Settings} → r .opened ≡ false → i ≡ settingsIn b → s ≡ openSpec i → s ≡ steppedBy r b
+  pub stepped-settings : {s : Stepped} {i : Settings} → r .opened ≡ false → i ≡ settingsIn b → s ≡ openSpec (undated i) → s ≡ steppedBy r b
   unfolding steppedBy
   stepped-settings o q e = e ∙ rw (o, q) refl
 
@@ -40,7 +40,7 @@ module _ (r : Reader) (b : List ℕ) where
   unfolding steppedBy stepIn
   stepped-stop o k e = e ∙ rw (o, k) refl
 
-  pub stepped-call : {s : Stepped} {i : CallInput} → r .opened ≡ true → byteAt b 0 ≡ 3 → i ≡ callIn b → s ≡ callSpec (r .load) i → s ≡ steppedBy r b
+  pub stepped-call : {s : Stepped} {i : CallInput} → r .opened ≡ true → byteAt b 0 ≡ 3 → i ≡ callIn b → s ≡ callSpec (r .load) [] i → s ≡ steppedBy r b
   unfolding steppedBy stepIn
   stepped-call o k q e = e ∙ rw (o, k, q) refl
 

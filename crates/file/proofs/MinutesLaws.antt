@@ -10,6 +10,7 @@ use Rattle.fields.specs.Numbers.{byteAt}
 use Rattle.fields.specs.Layout.{minutesAt}
 use Rattle.fields.specs.Records.{settingsIn}
 use Rattle.load.specs.declared.Load.{Load}
+use Rattle.load.specs.Steps.{undated}
 use Rattle.steps.specs.Lists.{endOf}
 use Rattle.steps.proofs.HandedLaws.{handed-sound}
 use Rattle.file.specs.Record.{stepIn}
@@ -35,8 +36,8 @@ minutes-read xs taken b bs bodies m e =
     let (first, others) = same-head (h .head) b (h .rest) bs (sym (h .bodies) ∙ bodies) in
     let given : settingsIn (h .head) ≡ withSeconds (settingsIn b) (60 * m) = ap settingsIn first ∙ in-seconds b m e in
     record {
-      load = h .ends ∙ (λ i. endOf (given i) (map stepIn (others i)));
+      load = h .ends ∙ (λ i. endOf (undated (given i)) (map stepIn (others i)));
       held =
           ap (λ (l : Load). l .settings .«transfer_seconds») (h .ends)
-          ∙ ap (λ (s : Settings). s .«transfer_seconds») (handed-sound (settingsIn (h .head)) (map stepIn (h .rest)) (h .opens) .0 ∙ ap canonicalOf given);
+          ∙ ap (λ (s : Settings). s .«transfer_seconds») (handed-sound (undated (settingsIn (h .head))) (map stepIn (h .rest)) (h .opens) .0 ∙ ap canonicalOf given);
     }

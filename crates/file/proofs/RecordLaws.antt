@@ -12,11 +12,11 @@ use Rattle.refusal.specs.declared.Answer.{Answer}
 use Rattle.refusal.specs.declared.Answer.the-variants.{Taken, Outside, Refused}
 use Rattle.refusal.specs.First.{First, AllFail, firstAnswer, isRefused, answerNumber}
 use Rattle.refusal.proofs.FirstLaws.{answer-is-first, first-append, first-past}
-use Rattle.calls.specs.Sound.{oneOf}
+use Rattle.laws.specs.Lists.{oneOf}
 use Rattle.fields.specs.Numbers.{byteAt}
 use Rattle.fields.specs.Records.{settingsIn}
 use Rattle.load.specs.declared.Stepped.{Stepped}
-use Rattle.load.specs.Steps.{opened, openSpec}
+use Rattle.load.specs.Steps.{undated, opened, openSpec}
 use Rattle.steps.specs.Steps.{stepped}
 use Rattle.steps.proofs.AnsweredLaws.{step-answered, opening-answered}
 use Rattle.file.specs.declared.Reader.{Reader}
@@ -49,12 +49,12 @@ stepping : (r : Reader) (b : List ℕ) → Stepping r b (steppedBy r b .answer)
 unfolding steppedBy
 stepping r b = go (r .opened)
   where
-    go : (o : Bool) → Stepping (record { opened = o; load = r .load }) b ((cond o (stepped (r .load) (stepIn b)) (openSpec (settingsIn b))) .answer)
+    go : (o : Bool) → Stepping (record { opened = o; load = r .load }) b ((cond o (stepped (r .load) (stepIn b)) (openSpec (undated (settingsIn b)))) .answer)
     go true = let w = step-answered (r .load) (stepIn b) in record { first = w .first; taken = w .taken; listed = w .listed }
-    go false = let w = opening-answered (settingsIn b) in record { first = w .first; taken = w .taken; listed = w .listed }
+    go false = let w = opening-answered (undated (settingsIn b)) in record { first = w .first; taken = w .taken; listed = w .listed }
 
 -- a record that is sent back has 18 or 19
-tests-listed : (opened : Bool) (b : List ℕ) (ns : List ℕ) → isRefused (firstAnswer (recordTests opened b)) ≡ true → oneOf (answerNumber (firstAnswer (recordTests opened b))) (0 ∷ 18 ∷ 19 ∷ ns) ≡ true
+pub tests-listed : (opened : Bool) (b : List ℕ) (ns : List ℕ) → isRefused (firstAnswer (recordTests opened b)) ≡ true → oneOf (answerNumber (firstAnswer (recordTests opened b))) (0 ∷ 18 ∷ 19 ∷ ns) ≡ true
 unfolding recordTests firstAnswer
 tests-listed opened b ns e = go (eqb (length b) 0) (not (kindRight opened (byteAt b 0))) (not (filled b)) e
   where

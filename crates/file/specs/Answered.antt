@@ -8,7 +8,7 @@ use Rattle.refusal.specs.declared.Refusal.the-variants.{FileVersion}
 use Rattle.refusal.specs.declared.Answer.{Answer}
 use Rattle.refusal.specs.declared.Answer.the-variants.{Refused}
 use Rattle.refusal.specs.First.{First, isRefused, answerNumber}
-use Rattle.calls.specs.Sound.{oneOf}
+use Rattle.laws.specs.Lists.{oneOf}
 use Rattle.fields.specs.Numbers.{byteAt}
 use Rattle.file.specs.declared.Reader.{Reader}
 use Rattle.file.specs.declared.Took.{Took}

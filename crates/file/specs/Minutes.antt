@@ -7,6 +7,7 @@ use Rattle.settings.specs.declared.Settings.{Settings}
 use Rattle.fields.specs.Numbers.{byteAt}
 use Rattle.fields.specs.Layout.{minutesAt}
 use Rattle.fields.specs.Records.{settingsIn}
+use Rattle.load.specs.Steps.{undated}
 use Rattle.steps.specs.Lists.{endOf}
 use Rattle.file.specs.Record.{stepIn}
 use Rattle.file.specs.File.{readSpec}
@@ -27,7 +28,7 @@ withSeconds s n = record {
 
 -- the load of settings with 60 m seconds, which it holds
 pub record InSeconds (xs : List ℕ) (b : List ℕ) (bs : List (List ℕ)) (m : ℕ) : Type 0 where
-  pub load : readSpec xs .reader .load ≡ endOf (withSeconds (settingsIn b) (60 * m)) (map stepIn bs)
+  pub load : readSpec xs .reader .load ≡ endOf (undated (withSeconds (settingsIn b) (60 * m))) (map stepIn bs)
   pub held : readSpec xs .reader .load .settings .«transfer_seconds» ≡ 60 * m
 
 -- of every file that is read to its end, by the byte of minutes m in its first record

@@ -12,11 +12,10 @@ use Rattle.refusal.specs.First.{First, AllFail, firstAnswer, isRefused, answerN
 use Rattle.fields.specs.Numbers.{byteAt}
 use Rattle.fields.specs.Layout.{textAt, optionTextAt, nameAt, parentAt, settingsFilled, stopFilled, callFilled, ruleFilled, searchFilled}
 use Rattle.fields.specs.Records.{settingsIn, stopIn, callIn, ruleIn}
-use Rattle.settings.specs.Settings.{settingsTests}
-use Rattle.calls.specs.Sound.{oneOf}
+use Rattle.laws.specs.Lists.{oneOf}
 use Rattle.load.specs.declared.Stepped.{Stepped}
 use Rattle.load.specs.Load.{emptyLoad, blankSettings}
-use Rattle.load.specs.Steps.{openSpec}
+use Rattle.load.specs.Steps.{undated, openTests, openSpec}
 use Rattle.load.specs.Filling.{stop, call, rule}
 use Rattle.steps.specs.Steps.{Step, filling, search, stepped, causes, numbers}
 use Rattle.file.specs.declared.Reader.{Reader}
@@ -49,11 +48,11 @@ recordTests opened b =
 unfoldable pub stepIn : List ℕ → Step
 stepIn b =
     cond (eqb (byteAt b 0) 2) (filling (stop (textAt b 1) (optionTextAt b (nameAt b)) (optionTextAt b (parentAt b)) (stopIn b)))
-    (cond (eqb (byteAt b 0) 3) (filling (call (callIn b))) (cond (eqb (byteAt b 0) 4) (filling (rule (ruleIn b))) search))
+    (cond (eqb (byteAt b 0) 3) (filling (call [] (callIn b))) (cond (eqb (byteAt b 0) 4) (filling (rule (ruleIn b))) search))
 
 -- the settings open a load; every other record is handed to it
 unfoldable pub steppedBy : Reader → List ℕ → Stepped
-steppedBy r b = cond (r .opened) (stepped (r .load) (stepIn b)) (openSpec (settingsIn b))
+steppedBy r b = cond (r .opened) (stepped (r .load) (stepIn b)) (openSpec (undated (settingsIn b)))
 
 -- a refused record leaves the reader as it was
 unfoldable pub settled : Reader → Stepped → Took
@@ -67,7 +66,7 @@ recordSpec r b =
 
 -- the tests of the opening or of the step, and the numbers of their answers
 abbrev pub causesBy : Reader → List ℕ → List (Bool × Answer)
-causesBy r b = cond (r .opened) (causes (r .load) (stepIn b)) (settingsTests (settingsIn b))
+causesBy r b = cond (r .opened) (causes (r .load) (stepIn b)) (openTests (undated (settingsIn b)))
 
 abbrev pub numbersBy : Reader → List ℕ → List ℕ
 numbersBy r b = cond (r .opened) (numbers (stepIn b)) (1 ∷ 2 ∷ [])

@@ -1,12 +1,12 @@
--- What stands in an array after numbers are stored one after the other; and the elements of a list made index by index.
-use mathlib.Core.Path.{_≡_, refl, ap, _∙_}
+-- What stands in an array after numbers are stored one after the other.
+use mathlib.Core.Path.{_≡_, refl, _∙_}
 use mathlib.Core.Logic.{_≢_}
 use mathlib.Core.List.{List, [], _∷_}
 use Prim.Native.Nat.{ℕ, zero, suc, _+_, _≤_, _<_}
 use native.Mathlib.Omega.{arith}
 use lib.ListN.{length, getD, set, length-set}
 use lib.Seq.{getD-set-same, getD-set-other}
-use Rattle.laws.specs.Arrays.{puts, tab}
+use Rattle.laws.specs.Arrays.{puts}
 
 pub length-puts : (vs l : List ℕ) (a k : ℕ) → length (puts l a k vs) ≡ length l
 length-puts [] l a k = refl
@@ -32,14 +32,3 @@ puts-in (v ∷ vs) l a k zero h r =
 puts-in (v ∷ vs) l a k (suc j) h r =
     let e : a + (k + suc j) ≡ a + (suc k + j) = omega arith in
     rw e (puts-in vs (set l (a + k) v) a (suc k) j (omega arith) (omega (arith, length-set l (a + k) v)))
-
-pub length-tab : {A : Type 0} (f : ℕ → A) (k i : ℕ) → length (tab f k i) ≡ k
-unfolding tab
-length-tab f zero i = refl
-length-tab f (suc k) i = ap suc (length-tab f k (suc i))
-
-pub getD-tab : {A : Type 0} (f : ℕ → A) (k i j : ℕ) (d : A) → j < k → getD (tab f k i) j d ≡ f (i + j)
-unfolding tab
-getD-tab f zero i j d h = absurd (omega arith)
-getD-tab f (suc k) i zero d h = let e : i + 0 ≡ i = omega arith in rw e refl
-getD-tab f (suc k) i (suc j) d h = let e : i + suc j ≡ suc i + j = omega arith in rw e (getD-tab f k (suc i) j d (omega arith))

@@ -5,10 +5,11 @@ use mathlib.Core.Bool.{Bool, true, false, cond}
 use mathlib.Core.List.{[], _∷_, List·Memᴰ, List·Memᴰ·head, List·Memᴰ·tail, List·Memᴰ·not-nil, List·Memᴰ·cases-cons}
 use Prim.Native.Nat.{ℕ, zero, suc, _+_, _*_, _/_, _%_, _^_, _<_}
 use native.Mathlib.Omega.{arith}
-use native.Mathlib.Nat.{not-suc-le-zero, le-of-suc-le-suc}
+use native.Mathlib.Nat.{le-of-suc-le-suc}
 use lib.Count.{trailingZeros}
 use lib.Dec.{eqb, lit<}
 use lib.Pow.{mod-pow-add, mod-mod-pow}
+use Rattle.laws.proofs.Every.{Each, each-at}
 use Rattle.laws.specs.Bits.{digit, bitsFrom, bitsOf, lowOf, cleared, Lowest, LowestFirst}
 
 pub bits-mem : (n b m : ℕ) {k : ℕ} → List·Memᴰ k (bitsFrom n b m) → (i : ℕ) × (i < n) × (k ≡ b + i) × (digit i m ≡ true)
@@ -75,15 +76,6 @@ bits-masked (suc n) k b m =
     rw (q, low, high, bits-masked n k (suc b) (m / 2))
 
 -- ---- the lowest set digit
-
-abbrev Each : (ℕ → Type 0) → ℕ → Type 0
-Each P zero = Unit {0}
-Each P (suc n) = P 0 × Each (λ k. P (suc k)) n
-
-each-at : (P : ℕ → Type 0) (n : ℕ) → Each P n → (k : ℕ) → k < n → P k
-each-at P zero ps k h = absurd (not-suc-le-zero h)
-each-at P (suc n) ps zero h = ps .0
-each-at P (suc n) ps (suc k) h = each-at (λ k. P (suc k)) n (ps .1) k (le-of-suc-le-suc h)
 
 lowest-each : Each (λ k. Lowest (suc k)) 15
 unfolding bitsOf lowOf cleared trailingZeros

@@ -1,7 +1,7 @@
 -- Laws of `||`, `&&` and `not` as equations with true and false.
 use mathlib.Core.Path.{_≡_, refl}
 use mathlib.Core.Logic.{_⊎_, inl, inr}
-use mathlib.Core.Bool.{Bool, true, false, cond, _&&_, _||_, true≢false, false≢true}
+use mathlib.Core.Bool.{Bool, true, false, not, cond, _&&_, _||_, true≢false, false≢true}
 
 pub or-true-cases : (a b : Bool) → (a || b) ≡ true → (a ≡ true) ⊎ (b ≡ true)
 or-true-cases true b e = inl refl
@@ -43,6 +43,10 @@ test false = inr refl
 pub not-true : (b : Bool) → (b ≡ true → ⊥) → b ≡ false
 not-true true n = absurd (n refl)
 not-true false n = refl
+
+pub of-not : (b : Bool) → not b ≡ true → b ≡ false
+of-not true e = absurd (false≢true e)
+of-not false e = refl
 
 pub and-by : {p : Bool} (q : Bool) → p ≡ true → (p && q) ≡ q
 and-by q e = rw e

@@ -16,11 +16,13 @@ pub mod Arrays
 pub mod Regions
 pub mod Maps
 pub mod Tails
+pub mod Flat
 pub mod Bits
 pub mod Places
 pub mod Insertion
 pub mod Tables
 pub mod Order
-pub mod Stores
 pub mod Bounds
+pub mod Every
+pub mod Lex
 pub mod Agree

@@ -3,9 +3,9 @@ use mathlib.Core.Path.{_≡_, refl, sym, ap, _∙_, subst}
 use mathlib.Core.Logic.{_⊎_, inl, inr}
 use mathlib.Core.Bool.{Bool, true, false, cond, _||_, true≢false, false≢true}
 use mathlib.Core.List.{List, [], _∷_, _++_, append-assoc, append-nil, List·Memᴰ, List·Memᴰ·head, List·Memᴰ·tail, List·Memᴰ·not-nil, List·Memᴰ·cases-cons}
-use Prim.Native.Nat.{suc, _+_, _≤_, _<_}
+use Prim.Native.Nat.{ℕ, suc, _+_, _≤_, _<_}
 use native.Mathlib.Omega.{arith}
-use lib.ListN.{length}
+use lib.ListN.{length, getD}
 use Rattle.laws.specs.Lists.{filterb, anyb}
 use Rattle.laws.proofs.Bools.{or-true-cases, or-true-left, or-true-right, not-true}
 
@@ -104,3 +104,9 @@ module _ {A : Type 0} where
       go : (ys : List A) → P ys → (zs : List A) → P (ys ++ zs)
       go ys h [] = rw append-nil h
       go ys h (z ∷ zs) = subst P (append-assoc ys (z ∷ []) zs) (go (ys ++ z ∷ []) (step ys z h) zs)
+
+module _ {A : Type 0} (d : A) where
+  -- an element of a list stands at some place
+  pub mem-getD : {x : A} {l : List A} → List·Memᴰ x l → (n : ℕ) × (n < length l) × (getD l n d ≡ x)
+  mem-getD (List·Memᴰ·head q) = (0, omega arith, sym q)
+  mem-getD (List·Memᴰ·tail m) = let (n, h, e) = mem-getD m in (suc n, omega arith, e)

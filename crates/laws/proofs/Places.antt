@@ -20,13 +20,12 @@ module _ {A B : Type 0} where
   concatMap-cond false g [] = refl
   concatMap-cond false g (x ∷ xs) = concatMap-cond false g xs
 
-  -- each place, with the places after it
-  pub tails-span : (at : ℕ → B) (g : B → List B → List A) (n k i : ℕ) → n ≡ i + k
-      → overTails g (map at (span i k)) ≡ concatMap (λ m. g (at m) (map at (span (m + 1) (n - (m + 1))))) (span i k)
-  tails-span at g n zero i e = refl
-  tails-span at g n (suc k) i e =
-      let q : n - (i + 1) ≡ k = omega arith in
-      rw (q, add-one i, tails-span at g n k (suc i) (omega arith))
+-- each of the numbers up to n, with those after it
+pub tails-span : {A : Type 0} (g : ℕ → List ℕ → List A) (n k i : ℕ) → n ≡ i + k → overTails g (span i k) ≡ concatMap (λ m. g m (span (m + 1) (n - (m + 1)))) (span i k)
+tails-span g n zero i e = refl
+tails-span g n (suc k) i e =
+    let q : n - (i + 1) ≡ k = omega arith in
+    rw (q, add-one i, tails-span g n k (suc i) (omega arith))
 
 module _ {A B : Type 0} where
   pub map-cond : (c : Bool) (f : A → B) (xs : List A) → map f (cond c xs []) ≡ cond c (map f xs) []

@@ -8,3 +8,4 @@ pub mod Bits
 pub mod Tables
 pub mod Order
 pub mod Bounds
+pub mod Lex

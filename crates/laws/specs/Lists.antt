@@ -3,6 +3,7 @@ use mathlib.Core.Bool.{Bool, false, cond, _||_}
 use mathlib.Core.Option.{Option, none, some}
 use mathlib.Core.List.{List, [], _∷_, _++_}
 use Prim.Native.Nat.{ℕ, zero, suc, _-_}
+use lib.Dec.{eqb}
 use lib.ListN.{length, replicate}
 
 module _ {A : Type 0} where
@@ -26,6 +27,11 @@ module _ {A : Type 0} where
   takeWhile p [] = []
   takeWhile p (x ∷ xs) = cond (p x) (x ∷ takeWhile p xs) []
 
+  -- P of each element
+  abbrev pub All : (A → Type 0) → List A → Type 0
+  All P [] = Unit {0}
+  All P (x ∷ xs) = P x × All P xs
+
   -- a list, and b after it up to n elements
   abbrev pub padded : A → ℕ → List A → List A
   padded b n l = l ++ replicate (n - length l) b
@@ -45,6 +51,11 @@ module _ {A S : Type 0} where
   abbrev pub foldl : (S → A → S) → S → List A → S
   foldl f s [] = s
   foldl f s (x ∷ xs) = foldl f (f s x) xs
+
+-- whether n is in the list
+abbrev pub oneOf : ℕ → List ℕ → Bool
+oneOf n [] = false
+oneOf n (m ∷ ms) = eqb n m || oneOf n ms
 
 -- the n numbers from a
 abbrev pub span : ℕ → ℕ → List ℕ

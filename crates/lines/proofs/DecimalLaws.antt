@@ -8,7 +8,7 @@ use borrow.Author.Tests.{ltb-true, ltb-false, lt-ltb, le-ltb}
 use lib.Dec.{ltb}
 use lib.ListN.{length, getD, length-append}
 use Rattle.laws.proofs.Folds.{foldl-append}
-use Rattle.calls.specs.Sound.{All}
+use Rattle.laws.proofs.Every.{all-append}
 use Rattle.lines.specs.Buffer.{Put}
 use Rattle.lines.proofs.BufferLaws.{put-then, put-as, put-within}
 use Rattle.lines.specs.Decimal.{decimalBy, decimal, valueOf, IsDigit, Spells, DecimalRight}
@@ -48,10 +48,6 @@ pub decimal-more : (n : ℕ) → 10 ≤ n → n < 65536 → decimal n ≡ decima
 unfolding decimal decimalBy
 decimal-more n h f = rw (le-ltb n 10 h) (ap (λ (ds : List ℕ). ds ++ ((48 + n % 10) ∷ [])) (by-more 3 (n / 10) (omega arith)))
 
-all-then : (xs : List ℕ) (y : ℕ) → All IsDigit xs → IsDigit y → All IsDigit (xs ++ y ∷ [])
-all-then [] y h p = (p, tt)
-all-then (x ∷ xs) y h p = (h .0, all-then xs y (h .1) p)
-
 first-then : (xs : List ℕ) (y : ℕ) → 48 < getD xs 0 0 → 48 < getD (xs ++ y ∷ []) 0 0
 first-then [] y h = absurd (omega arith)
 first-then (x ∷ xs) y h = h
@@ -65,7 +61,7 @@ one-right n h = record { digits = ((omega arith, omega arith), tt); value = omeg
 then-right : (n : ℕ) (ds : List ℕ) → 10 ≤ n → Spells (n / 10) ds → Spells n (ds ++ ((48 + n % 10) ∷ []))
 then-right n ds h s =
     record {
-      digits = all-then ds (48 + n % 10) (s .digits) (omega arith, omega arith);
+      digits = all-append IsDigit ds ((48 + n % 10) ∷ []) (s .digits) ((omega arith, omega arith), tt);
       value = value-then ds (n % 10) ∙ omega (arith, s .value);
       first = λ p. first-then ds (48 + n % 10) (s .first (omega arith));
       nought = λ e. absurd (omega arith);

@@ -6,7 +6,7 @@ use mathlib.Core.List.{List, [], _∷_, _++_}
 use lib.Dec.{ltb}
 use lib.ListN.{getD}
 use Rattle.laws.specs.Lists.{foldl}
-use Rattle.calls.specs.Sound.{All}
+use Rattle.laws.specs.Lists.{All}
 
 -- at most k digits
 unfoldable pub decimalBy : ℕ → ℕ → List ℕ

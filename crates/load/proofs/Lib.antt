@@ -3,3 +3,4 @@ pub mod SoundLaws
 pub mod AnswerLaws
 pub mod TableLaws
 pub mod ClockLaws
+pub mod WeekLaws

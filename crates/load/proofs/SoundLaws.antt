@@ -1,7 +1,8 @@
--- An opened load is sound, and stop, call and rule keep a load sound.
+-- An opened load is sound, and the steps that fill it keep it sound.
 use Prim.Native.Nat.{ℕ, _+_}
 use mathlib.Core.Path.{_≡_, refl}
 use mathlib.Core.Bool.{Bool, true, false, cond}
+use mathlib.Core.Option.{Option, none, some}
 use mathlib.Core.List.{List}
 use native.Mathlib.Omega.{arith}
 use Rattle.refusal.specs.First.{isRefused, isTaken}
@@ -15,14 +16,24 @@ use Rattle.calls.proofs.KnownLaws.{call-keeps-known, more-stops-known}
 use Rattle.rules.specs.declared.RuleInput.{RuleInput}
 use Rattle.rules.proofs.SoundLaws.{no-rules-sound, rule-keeps-sound, more-stops-sound}
 use Rattle.load.specs.declared.Load.{Load}
-use Rattle.load.specs.Load.{emptyLoad, tableOf, withTable}
-use Rattle.load.specs.Steps.{stationIn, stopAnswer, stopLoad, stopSpec, callFitted, callSpec, ruleAnswer, ruleLoad, ruleSpec}
-use Rattle.load.specs.Filling.{stop, call, rule}
+use Rattle.week.specs.declared.Week.{Week}
+use Rattle.week.specs.Weeks.{closedWeek}
+use Rattle.week.specs.Sound.{WeekSound}
+use Rattle.week.proofs.SoundLaws.{undated-sound, dated-sound, closed-sound, service-keeps-sound, exception-keeps-sound}
+use Rattle.load.specs.declared.Stepped.{Stepped}
+use Rattle.load.specs.Load.{emptyOf, tableOf, withTable, withWeek}
+use Rattle.load.specs.Steps.{weekOf, stationIn, stopAnswer, stopLoad, stopSpec, callFitted, plainCall, closing, callSpec, ruleAnswer, ruleLoad, ruleSpec, serviceSpec, exceptionSpec}
+use Rattle.load.specs.Filling.{stop, call, rule, service, exception}
 use Rattle.load.specs.Sound.{Sound, OpenSound, FillKeepsSound}
+use Rattle.load.proofs.StepLaws.{Called, without, goes-on, stays-out, sent-back, called}
+
+pub week-sound : (d : Option (List ℕ)) → WeekSound (weekOf d)
+week-sound none = undated-sound
+week-sound (some dates) = dated-sound dates
 
 pub open-sound : OpenSound
-unfolding emptyLoad
-open-sound s = record {
+unfolding emptyOf
+open-sound o = record {
   stops = no-stops-sound;
   table = empty-sound;
   calls-known = tt;
@@ -34,6 +45,7 @@ open-sound s = record {
   none-kept = λ e. refl;
   same-horizon = λ e. refl;
   same-limits = λ e. refl;
+  week = week-sound (o .dates);
 }
 
 stop-sound : (l : Load) (id name parent : List ℕ) (i : StopInput) → Sound l → Sound (stopSpec l id name parent i .load)
@@ -53,12 +65,13 @@ stop-sound l id name parent i s = go (isTaken (stopAnswer l id name parent i)) r
       none-kept = s .none-kept;
       same-horizon = s .same-horizon;
       same-limits = s .same-limits;
+      week = s .week;
     })
     go false e = rw e s
 
-call-sound : (l : Load) (i : CallInput) → Sound l → Sound (callSpec l i .load)
-unfolding callSpec
-call-sound l i s = go (isRefused (callFitted l i .answer)) refl
+plain-sound : (l : Load) (i : CallInput) → Sound l → Sound (plainCall l i .load)
+unfolding plainCall
+plain-sound l i s = go (isRefused (callFitted l i .answer)) refl
   where
     go : (b : Bool) → isRefused (callFitted l i .answer) ≡ b → Sound (cond b l (withTable l (callFitted l i .table)))
     go true e = s
@@ -74,7 +87,49 @@ call-sound l i s = go (isRefused (callFitted l i .answer)) refl
       none-kept = s .none-kept;
       same-horizon = λ x. refl;
       same-limits = λ x. refl;
+      week = s .week;
     }
+
+-- the load with a sound week
+pub with-week-sound : (l : Load) (w : Week) → Sound l → WeekSound w → Sound (withWeek l w)
+with-week-sound l w s v = record {
+  stops = s .stops;
+  table = s .table;
+  calls-known = s .calls-known;
+  rules = s .rules;
+  few = s .few;
+  long = s .long;
+  blank = s .blank;
+  in-order = s .in-order;
+  none-kept = s .none-kept;
+  same-horizon = s .same-horizon;
+  same-limits = s .same-limits;
+  week = v;
+}
+
+closing-sound : (l : Load) (r : Stepped) → Sound l → Sound (r .load) → Sound (closing l r .load)
+closing-sound l r s v = go (isRefused (r .answer))
+  where
+    go : (b : Bool) → Sound (cond b l (withWeek (r .load) (closedWeek (l .week))))
+    go true = s
+    go false = with-week-sound (r .load) (closedWeek (l .week)) v (closed-sound (l .week) (s .week))
+
+call-sound : (l : Load) (name : List ℕ) (i : CallInput) → Sound l → Sound (callSpec l name i .load)
+call-sound l name i s = go _ (called l name i)
+  where
+    go : (r : Stepped) → Called l name i r → Sound (r .load)
+    go _ (without d) = plain-sound l i s
+    go _ (goes-on d e) = closing-sound l (plainCall l i) s (plain-sound l i s)
+    go _ (stays-out d e) = with-week-sound l (closedWeek (l .week)) s (closed-sound (l .week) (s .week))
+    go _ (sent-back d r e) = s
+
+service-sound : (l : Load) (name : List ℕ) (weekdays start end : ℕ) → Sound l → Sound (serviceSpec l name weekdays start end .load)
+unfolding serviceSpec
+service-sound l name weekdays start end s = with-week-sound l _ s (service-keeps-sound (l .week) (l .searched) name weekdays start end (s .week))
+
+exception-sound : (l : Load) (name : List ℕ) (date kind : ℕ) → Sound l → Sound (exceptionSpec l name date kind .load)
+unfolding exceptionSpec
+exception-sound l name date kind s = with-week-sound l _ s (exception-keeps-sound (l .week) (l .searched) name date kind (s .week))
 
 rule-sound : (l : Load) (i : RuleInput) → Sound l → Sound (ruleSpec l i .load)
 unfolding ruleSpec
@@ -93,10 +148,13 @@ rule-sound l i s = go (isTaken (ruleAnswer l i)) refl
       none-kept = s .none-kept;
       same-horizon = s .same-horizon;
       same-limits = s .same-limits;
+      week = s .week;
     })
     go false e = rw e s
 
 pub fill-keeps-sound : FillKeepsSound
 fill-keeps-sound l (stop id name parent i) s = stop-sound l id name parent i s
-fill-keeps-sound l (call i) s = call-sound l i s
+fill-keeps-sound l (call name i) s = call-sound l name i s
 fill-keeps-sound l (rule i) s = rule-sound l i s
+fill-keeps-sound l (service name weekdays start end) s = service-sound l name weekdays start end s
+fill-keeps-sound l (exception name date kind) s = exception-sound l name date kind s

@@ -1,7 +1,8 @@
 -- The table lemma: after any steps the table is the calls answered taken, as the window shows them at its horizon.
-use Prim.Native.Nat.{ℕ, _+_}
+use Prim.Native.Nat.{ℕ, _+_, _≤_}
 use mathlib.Core.Path.{_≡_, refl, sym, ap, _∙_}
 use mathlib.Core.Bool.{Bool, true, false, cond}
+use mathlib.Core.Logic.{_⊎_, inl, inr, ⊎-elim}
 use mathlib.Core.List.{List, [], _∷_, _++_, append-assoc, append-nil}
 use native.Mathlib.Omega.{arith}
 use Rattle.refusal.specs.First.{isRefused, isTaken}
@@ -13,17 +14,23 @@ use Rattle.stops.specs.Taken.{stopOf}
 use Rattle.rules.specs.Rules.{ruleOf}
 use Rattle.calls.specs.declared.CallInput.{CallInput}
 use Rattle.calls.specs.declared.Table.{Table}
-use Rattle.calls.specs.Shown.{windowed, tableCalls, Shows, takenOf}
+use Rattle.calls.specs.declared.View.the-variants.{Out}
+use Rattle.calls.specs.Calls.{window}
+use Rattle.calls.specs.Shown.{windowed, tableCalls, Shows, takenOf, Meets}
 use Rattle.calls.proofs.ShownLaws.{step-shows, refused-same}
 use Rattle.calls.proofs.FallLaws as fall
 use Rattle.calls.proofs.FallLaws.{outside-same}
 use Rattle.rules.specs.declared.RuleInput.{RuleInput}
+use Rattle.week.specs.declared.Week.{Week}
+use Rattle.week.specs.Weeks.{closedWeek}
 use Rattle.load.specs.declared.Load.{Load}
-use Rattle.load.specs.Load.{emptyLoad, tableOf, withTable, withStops, withRules}
-use Rattle.load.specs.Steps.{opened, stationIn, stopAnswer, stopSpec, callFitted, callSpec, ruleAnswer, ruleSpec}
-use Rattle.load.specs.Filling.{Filling, stop, call, rule, filled, filledBy}
+use Rattle.load.specs.declared.Stepped.{Stepped}
+use Rattle.load.specs.Load.{emptyOf, tableOf, withTable, withStops, withRules, withWeek}
+use Rattle.load.specs.Steps.{Opening, opened, stationIn, stopAnswer, stopSpec, callFitted, plainCall, closedLoad, closing, callSpec, ruleAnswer, ruleSpec, serviceSpec, exceptionSpec}
+use Rattle.load.specs.Filling.{Filling, stop, call, rule, service, exception, filled, filledBy}
 use Rattle.load.specs.Sound.{Sound}
 use Rattle.load.specs.Table.{takenCall, takenCalls, TableLemma, OneOfSeven, NeverRises, FallsOnlyFull, OutsideUnchanged}
+use Rattle.load.proofs.StepLaws.{Called, without, goes-on, stays-out, sent-back, called, call-undated}
 use Rattle.load.proofs.SoundLaws.{open-sound, fill-keeps-sound}
 
 -- what two loads share, a choice between them has
@@ -34,13 +41,33 @@ either-same f m l false e = refl
 -- ---- what a step leaves
 
 -- a step keeps the settings, and a stop or rule keeps the table
-call-table : (l : Load) (i : CallInput) → tableOf (callSpec l i .load) ≡ callFitted l i .table
-unfolding callSpec
-call-table l i = go (isRefused (callFitted l i .answer)) refl
+plain-table : (l : Load) (i : CallInput) → tableOf (plainCall l i .load) ≡ callFitted l i .table
+unfolding plainCall
+plain-table l i = go (isRefused (callFitted l i .answer)) refl
   where
     go : (b : Bool) → isRefused (callFitted l i .answer) ≡ b → tableOf (cond b l (withTable l (callFitted l i .table))) ≡ callFitted l i .table
     go true e = sym (refused-same (l .settings) (l .searched) (l .«stop_count») (tableOf l) i e)
     go false e = refl
+
+-- closing the services keeps the table, the settings and what is seen
+pub closing-same : {X : Type 0} (f : Load → X) (l : Load) (i : CallInput) → ((m : Load) (w : Week) → f (withWeek m w) ≡ f m) → f (closing l (plainCall l i) .load) ≡ f (plainCall l i .load)
+unfolding plainCall
+closing-same f l i k = go (isRefused (callFitted l i .answer))
+  where
+    go : (b : Bool) → f (cond b l (withWeek (cond b l (withTable l (callFitted l i .table))) (closedWeek (l .week)))) ≡ f (cond b l (withTable l (callFitted l i .table)))
+    go true = refl
+    go false = k (withTable l (callFitted l i .table)) (closedWeek (l .week))
+
+-- a call leaves what its week and its gate say: the table of the call's own step, or the table as it was
+pub call-left : {X : Type 0} (f : Load → X) (l : Load) (name : List ℕ) (i : CallInput) → ((m : Load) (w : Week) → f (withWeek m w) ≡ f m)
+    → (f (callSpec l name i .load) ≡ f (plainCall l i .load)) ⊎ ((f (callSpec l name i .load) ≡ f l) × (isTaken (callSpec l name i .answer) ≡ false))
+call-left f l name i k = go _ (called l name i)
+  where
+    go : (r : Stepped) → Called l name i r → (f (r .load) ≡ f (plainCall l i .load)) ⊎ ((f (r .load) ≡ f l) × (isTaken (r .answer) ≡ false))
+    go _ (without d) = inl refl
+    go _ (goes-on d e) = inl (closing-same f l i k)
+    go _ (stays-out d e) = inr (k l (closedWeek (l .week)), refl)
+    go _ (sent-back d r e) = inr (refl, refl)
 
 -- the load with one stop or rule more
 abbrev stopped : Load → List ℕ → List ℕ → List ℕ → StopInput → Load
@@ -57,37 +84,72 @@ rule-table : (l : Load) (i : RuleInput) → tableOf (ruleSpec l i .load) ≡ tab
 unfolding ruleSpec
 rule-table l i = either-same tableOf (ruled l i) l (isTaken (ruleAnswer l i)) refl
 
+service-table : (l : Load) (name : List ℕ) (weekdays start end : ℕ) → tableOf (serviceSpec l name weekdays start end .load) ≡ tableOf l
+unfolding serviceSpec
+service-table l name weekdays start end = refl
+
+exception-table : (l : Load) (name : List ℕ) (date kind : ℕ) → tableOf (exceptionSpec l name date kind .load) ≡ tableOf l
+unfolding exceptionSpec
+exception-table l name date kind = refl
+
 abbrev settingsOf : Load → Settings
 settingsOf l = l .settings
 
+plain-settings : (l : Load) (i : CallInput) → plainCall l i .load .settings ≡ l .settings
+unfolding plainCall
+plain-settings l i = either-same settingsOf l (withTable l (callFitted l i .table)) (isRefused (callFitted l i .answer)) refl
+
+-- what a call's own step keeps, the call keeps
+pub call-keeps : {X : Type 0} (f : Load → X) (l : Load) (name : List ℕ) (i : CallInput) → ((m : Load) (w : Week) → f (withWeek m w) ≡ f m) → f (plainCall l i .load) ≡ f l → f (callSpec l name i .load) ≡ f l
+call-keeps f l name i k e = ⊎-elim (λ q. q ∙ e) (λ q. q .0) (call-left f l name i k)
+
 -- a step keeps the settings
 pub fill-settings : (l : Load) (x : Filling) → filled l x .load .settings ≡ l .settings
-unfolding stopSpec callSpec ruleSpec
+unfolding stopSpec ruleSpec serviceSpec exceptionSpec
 fill-settings l (stop id name parent i) = either-same settingsOf (stopped l id name parent i) l (isTaken (stopAnswer l id name parent i)) refl
-fill-settings l (call i) = either-same settingsOf l (withTable l (callFitted l i .table)) (isRefused (callFitted l i .answer)) refl
+fill-settings l (call name i) = call-keeps settingsOf l name i (λ m w. refl) (plain-settings l i)
 fill-settings l (rule i) = either-same settingsOf (ruled l i) l (isTaken (ruleAnswer l i)) refl
+fill-settings l (service name weekdays start end) = refl
+fill-settings l (exception name date kind) = refl
 
 -- ---- the table shows the calls taken
 
 abbrev pub ShowsIn : Load → List CallInput → Type 0
 ShowsIn l is = Shows (l .settings) (tableOf l) is
 
--- the answer of the call step is that of its table
-call-taken : (l : Load) (i : CallInput) → takenOf (l .settings) (l .searched) (l .«stop_count») (tableOf l) i ≡ takenCall l (call i)
-unfolding callSpec
-call-taken l i = refl
+-- the answer of the call's own step is that of its table
+plain-taken : (l : Load) (i : CallInput) → takenOf (l .settings) (l .searched) (l .«stop_count») (tableOf l) i ≡ cond (isTaken (plainCall l i .answer)) (i ∷ []) []
+unfolding plainCall
+plain-taken l i = refl
 
 same-shows : (l m : Load) (is : List CallInput) → m .settings ≡ l .settings → tableOf m ≡ tableOf l → ShowsIn l is → ShowsIn m (is ++ [])
 same-shows l m is es et q =
     ap tableCalls et ∙ q ∙ (λ k. windowed (sym es k) (sym et k .horizon) (sym (append-nil is) k))
 
+plain-shows : (l : Load) (i : CallInput) (is : List CallInput) → Sound l → ShowsIn l is → ShowsIn (plainCall l i .load) (is ++ cond (isTaken (plainCall l i .answer)) (i ∷ []) [])
+plain-shows l i is s q =
+    ap tableCalls (plain-table l i)
+    ∙ step-shows (l .settings) (l .searched) (l .«stop_count») (tableOf l) i is (s .table) q
+    ∙ (λ k. windowed (sym (plain-settings l i) k) (sym (plain-table l i) k .horizon) (is ++ plain-taken l i k))
+
+call-shows : (l : Load) (name : List ℕ) (i : CallInput) (is : List CallInput) → Sound l → ShowsIn l is → ShowsIn (callSpec l name i .load) (is ++ takenCall l (call name i))
+call-shows l name i is s q = go _ (called l name i)
+  where
+    go : (r : Stepped) → Called l name i r → ShowsIn (r .load) (is ++ cond (isTaken (r .answer)) (i ∷ []) [])
+    go _ (without d) = plain-shows l i is s q
+    go _ (goes-on d e) =
+        let same = closing-same settingsOf l i (λ m w. refl) in
+        let table = closing-same tableOf l i (λ m w. refl) in
+        ap tableCalls table ∙ plain-shows l i is s q ∙ (λ k. windowed (sym same k) (sym table k .horizon) (is ++ cond (isTaken (plainCall l i .answer)) (i ∷ []) []))
+    go _ (stays-out d e) = same-shows l (closedLoad l) is refl refl q
+    go _ (sent-back d r e) = same-shows l l is refl refl q
+
 pub fill-shows : (l : Load) (x : Filling) (is : List CallInput) → Sound l → ShowsIn l is → ShowsIn (filled l x .load) (is ++ takenCall l x)
 fill-shows l (stop id name parent i) is s q = same-shows l (stopSpec l id name parent i .load) is (fill-settings l (stop id name parent i)) (stop-table l id name parent i) q
 fill-shows l (rule i) is s q = same-shows l (ruleSpec l i .load) is (fill-settings l (rule i)) (rule-table l i) q
-fill-shows l (call i) is s q =
-    ap tableCalls (call-table l i)
-    ∙ step-shows (l .settings) (l .searched) (l .«stop_count») (tableOf l) i is (s .table) q
-    ∙ (λ k. windowed (sym (fill-settings l (call i)) k) (sym (call-table l i) k .horizon) (is ++ call-taken l i k))
+fill-shows l (call name i) is s q = call-shows l name i is s q
+fill-shows l (service name weekdays start end) is s q = same-shows l (serviceSpec l name weekdays start end .load) is (fill-settings l (service name weekdays start end)) (service-table l name weekdays start end) q
+fill-shows l (exception name date kind) is s q = same-shows l (exceptionSpec l name date kind .load) is (fill-settings l (exception name date kind)) (exception-table l name date kind) q
 
 filled-sound : (xs : List Filling) (l : Load) → Sound l → Sound (filledBy l xs)
 filled-sound [] l s = s
@@ -103,31 +165,53 @@ filled-shows (x ∷ xs) l old s q =
     filled-shows xs (filled l x .load) (old ++ takenCall l x) (fill-keeps-sound l x s) (fill-shows l x old s q)
     ∙ ap (windowed (filledBy l (x ∷ xs) .settings) (filledBy l (x ∷ xs) .«table_horizon»)) (append-assoc old (takenCall l x) (takenCalls (filled l x .load) xs))
 
-pub opened-settings : (s : Settings) → opened s .settings ≡ canonicalOf s
-unfolding emptyLoad
-opened-settings s = refl
+pub opened-settings : (o : Opening) → opened o .settings ≡ canonicalOf (o .settings)
+unfolding emptyOf
+opened-settings o = refl
 
-pub opened-shows : (s : Settings) → ShowsIn (opened s) []
-unfolding emptyLoad
-opened-shows s = refl
+pub opened-shows : (o : Opening) → ShowsIn (opened o) []
+unfolding emptyOf
+opened-shows o = refl
 
 pub table-lemma : TableLemma
-table-lemma s xs =
-    filled-shows xs (opened s) [] (open-sound s) (opened-shows s)
-    ∙ ap (λ (x : Settings). windowed x (filledBy (opened s) xs .«table_horizon») (takenCalls (opened s) xs)) (filled-settings xs (opened s) ∙ opened-settings s)
+table-lemma o xs =
+    filled-shows xs (opened o) [] (open-sound o) (opened-shows o)
+    ∙ ap (λ (x : Settings). windowed x (filledBy (opened o) xs .«table_horizon») (takenCalls (opened o) xs)) (filled-settings xs (opened o) ∙ opened-settings o)
 
 pub one-of-seven : OneOfSeven
-one-of-seven s xs = filled-sound xs (opened s) (open-sound s) .table .known
+one-of-seven o xs = filled-sound xs (opened o) (open-sound o) .table .known
+
+abbrev horizonOf : Load → ℕ
+horizonOf l = l .«table_horizon»
+
+plain-horizon : (l : Load) (i : CallInput) → plainCall l i .load .«table_horizon» ≡ callFitted l i .table .horizon
+plain-horizon l i = ap (λ (t : Table). t .horizon) (plain-table l i)
 
 pub never-rises : NeverRises
+unfolding serviceSpec exceptionSpec
 never-rises l (stop id name parent i) = omega (arith, ap (λ (t : Table). t .horizon) (stop-table l id name parent i))
 never-rises l (rule i) = omega (arith, ap (λ (t : Table). t .horizon) (rule-table l i))
-never-rises l (call i) = omega (arith, ap (λ (t : Table). t .horizon) (call-table l i), fall.never-rises (l .settings) (l .searched) (l .«stop_count») (tableOf l) i)
+never-rises l (service name weekdays start end) = omega arith
+never-rises l (exception name date kind) = omega arith
+never-rises l (call name i) = go (call-left horizonOf l name i (λ m w. refl))
+  where
+    go : (callSpec l name i .load .«table_horizon» ≡ plainCall l i .load .«table_horizon») ⊎ ((callSpec l name i .load .«table_horizon» ≡ l .«table_horizon») × (isTaken (callSpec l name i .answer) ≡ false))
+        → callSpec l name i .load .«table_horizon» ≤ l .«table_horizon»
+    go (inl q) = omega (arith, q, plain-horizon l i, fall.never-rises (l .settings) (l .searched) (l .«stop_count») (tableOf l) i)
+    go (inr q) = omega (arith, q .0)
 
 pub falls-only-full : FallsOnlyFull
+unfolding serviceSpec exceptionSpec
 falls-only-full l (stop id name parent i) h = absurd (omega (arith, ap (λ (t : Table). t .horizon) (stop-table l id name parent i)))
 falls-only-full l (rule i) h = absurd (omega (arith, ap (λ (t : Table). t .horizon) (rule-table l i)))
-falls-only-full l (call i) h = (i, refl, fall.falls-only-full (l .settings) (l .searched) (l .«stop_count») (tableOf l) i (omega (arith, ap (λ (t : Table). t .horizon) (call-table l i))))
+falls-only-full l (service name weekdays start end) h = absurd (omega arith)
+falls-only-full l (exception name date kind) h = absurd (omega arith)
+falls-only-full l (call name i) h = (name, i, refl, go (call-left horizonOf l name i (λ m w. refl)))
+  where
+    go : (callSpec l name i .load .«table_horizon» ≡ plainCall l i .load .«table_horizon») ⊎ ((callSpec l name i .load .«table_horizon» ≡ l .«table_horizon») × (isTaken (callSpec l name i .answer) ≡ false))
+        → Meets (l .settings) (tableOf l) i
+    go (inl q) = fall.falls-only-full (l .settings) (l .searched) (l .«stop_count») (tableOf l) i (omega (arith, q, h, plain-horizon l i))
+    go (inr q) = absurd (omega (arith, q .0, h))
 
 -- ---- a call that is outside
 
@@ -148,12 +232,16 @@ same-table l h m = λ k. record {
   horizon = sym h k;
   limits = sym m k;
   searched = l .searched;
+  week = l .week;
 }
 
-pub outside-unchanged : OutsideUnchanged
-unfolding callSpec
-outside-unchanged l i w u o = go (isRefused (callFitted l i .answer))
+plain-unchanged : (l : Load) (i : CallInput) → Sound l → l .searched ≡ false → window (l .settings) (l .«table_horizon») i ≡ Out → plainCall l i .load ≡ l
+unfolding plainCall
+plain-unchanged l i w u o = go (isRefused (callFitted l i .answer))
   where
     go : (b : Bool) → cond b l (withTable l (callFitted l i .table)) ≡ l
     go true = refl
     go false = ap (withTable l) (outside-same (l .settings) (l .searched) (l .«stop_count») (tableOf l) i o) ∙ same-table l (w .same-horizon u) (w .same-limits u)
+
+pub outside-unchanged : OutsideUnchanged
+outside-unchanged l i w u d name o = ap (λ (r : Stepped). r .load) (sym (call-undated l name i d)) ∙ plain-unchanged l i w u o

@@ -15,11 +15,13 @@ use Rattle.stops.specs.declared.Stop.{Stop}
 use Rattle.stops.specs.Taken.{blankStop}
 use Rattle.profile.specs.declared.Journey.{Journey}
 use Rattle.profile.specs.Journeys.{noJourney}
+use Rattle.week.specs.declared.Week.{Week}
+use Rattle.week.specs.Weeks.{undatedWeek}
 use Rattle.load.specs.declared.Load.{Load}
 
 -- nothing taken yet, every slot the record given for it: horizon 21600, limits 0
-abbrev pub emptyWith : Settings → Stop → Call → Rule → Journey → Load
-emptyWith s a b r j = record {
+abbrev pub emptyWith : Settings → Stop → Call → Rule → Journey → Week → Load
+emptyWith s a b r j w = record {
   settings = s;
   stops = replicate 128 a;
   «stop_count» = 0;
@@ -34,10 +36,15 @@ emptyWith s a b r j = record {
   horizon = 21600;
   limits = 0;
   searched = false;
+  week = w;
 }
 
-unfoldable pub emptyLoad : Settings → Load
-emptyLoad s = emptyWith s blankStop blankCall blankRule noJourney
+unfoldable pub emptyOf : Settings → Week → Load
+emptyOf s w = emptyWith s blankStop blankCall blankRule noJourney w
+
+-- without dates
+abbrev pub emptyLoad : Settings → Load
+emptyLoad s = emptyOf s undatedWeek
 
 -- the settings of the load that stands beside a refused opening
 abbrev pub blankSettings : Settings
@@ -67,9 +74,9 @@ pub record Seen : Type 0 where
 abbrev pub seenOf : Load → Seen
 seenOf l = record { journeys = l .journeys; count = l .«journey_count»; horizon = l .horizon; limits = l .limits; searched = l .searched }
 
--- the load with these stops, of which n are taken, this table, these rules, of which m are taken, and this to be seen; the rest is l's
-abbrev pub remade : Load → List Stop → ℕ → Table → List Rule → ℕ → Seen → Load
-remade l ss n t rs m k = record {
+-- the load with these stops, of which n are taken, this table, these rules, of which m are taken, this to be seen and this week; the settings are l's
+abbrev pub remade : Load → List Stop → ℕ → Table → List Rule → ℕ → Seen → Week → Load
+remade l ss n t rs m k w = record {
   settings = l .settings;
   stops = ss;
   «stop_count» = n;
@@ -84,11 +91,12 @@ remade l ss n t rs m k = record {
   horizon = k .horizon;
   limits = k .limits;
   searched = k .searched;
+  week = w;
 }
 
--- the same, with l's stops and rules
+-- the same, with l's stops, rules and week
 abbrev pub withSeen : Load → Table → Seen → Load
-withSeen l t k = remade l (l .stops) (l .«stop_count») t (l .rules) (l .«rule_count») k
+withSeen l t k = remade l (l .stops) (l .«stop_count») t (l .rules) (l .«rule_count») k (l .week)
 
 -- the load with this table; until the search its horizon and limits are the table's
 abbrev pub withTable : Load → Table → Load
@@ -97,8 +105,12 @@ withTable l t =
 
 -- the load with these stops, of which n are taken
 abbrev pub withStops : Load → List Stop → ℕ → Load
-withStops l ss n = remade l ss n (tableOf l) (l .rules) (l .«rule_count») (seenOf l)
+withStops l ss n = remade l ss n (tableOf l) (l .rules) (l .«rule_count») (seenOf l) (l .week)
 
 -- the load with these rules, of which n are taken
 abbrev pub withRules : Load → List Rule → ℕ → Load
-withRules l rs n = remade l (l .stops) (l .«stop_count») (tableOf l) rs n (seenOf l)
+withRules l rs n = remade l (l .stops) (l .«stop_count») (tableOf l) rs n (seenOf l) (l .week)
+
+-- the load with this week
+abbrev pub withWeek : Load → Week → Load
+withWeek l w = remade l (l .stops) (l .«stop_count») (tableOf l) (l .rules) (l .«rule_count») (seenOf l) w

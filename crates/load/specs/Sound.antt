@@ -1,24 +1,31 @@
--- A load that the steps make: sound stops, calls and rules, every call at one of its stops, journeys in order, none before the search, and one
--- horizon until then.
-use Prim.Native.Nat.{_-_, _≤_}
+-- A load that the steps make: sound stops, calls, rules and week, every call at one of its stops, journeys in order, none before the search, and
+-- one horizon until then.
+use Prim.Native.Nat.{ℕ, _-_, _≤_}
 use mathlib.Core.Path.{_≡_}
 use mathlib.Core.Bool.{false}
+use mathlib.Core.Option.{Option, none, some}
+use mathlib.Core.List.{List}
 use lib.ListN.{length, take, drop, replicate}
 use Rattle.refusal.specs.declared.Answer.the-variants.{Taken}
-use Rattle.settings.specs.declared.Settings.{Settings}
 use Rattle.stops.specs.Sound.{StopsSound}
 use Rattle.calls.specs.Sound.{TableSound, StopsKnown}
 use Rattle.rules.specs.Sound.{RulesSound}
 use Rattle.profile.specs.Best.{Ordered}
 use Rattle.profile.specs.Journeys.{noJourney, journeyFigures}
+use Rattle.week.specs.Sound.{WeekSound}
 use Rattle.load.specs.declared.Load.{Load}
 use Rattle.load.specs.Load.{tableOf}
-use Rattle.load.specs.Steps.{openAnswer, opened}
+use Rattle.load.specs.Steps.{Opening, openAnswer, opened}
 use Rattle.load.specs.Filling.{Filling, filled}
 
--- the settings are not sent back
-abbrev pub Opens : Settings → Type 0
-Opens s = openAnswer s ≡ Taken
+-- dates come by threes
+abbrev pub Three : Option (List ℕ) → Type 0
+Three none = Unit {0}
+Three (some dates) = length dates ≡ 3
+
+-- the opening is not sent back
+abbrev pub Opens : Opening → Type 0
+Opens o = (openAnswer o ≡ Taken) × Three (o .dates)
 
 pub record Sound (l : Load) : Type 0 where
   pub stops : StopsSound (l .stops) (l .«stop_count»)
@@ -34,9 +41,10 @@ pub record Sound (l : Load) : Type 0 where
   pub none-kept : l .searched ≡ false → l .«journey_count» ≡ 0
   pub same-horizon : l .searched ≡ false → l .horizon ≡ l .«table_horizon»
   pub same-limits : l .searched ≡ false → l .limits ≡ l .«table_limits»
+  pub week : WeekSound (l .week)
 
 abbrev pub OpenSound : Type 0
-OpenSound = (s : Settings) → Sound (opened s)
+OpenSound = (o : Opening) → Sound (opened o)
 
 abbrev pub FillKeepsSound : Type 0
 FillKeepsSound = (l : Load) (x : Filling) → Sound l → Sound (filled l x .load)

@@ -1,9 +1,12 @@
--- Opening, stop, call and rule: the answer, and the load that is returned. A step that is sent back returns the load given.
+-- Opening, stop, call, rule, service and exception: the answer, and the load that is returned. A step that is sent back returns the load given.
 use Prim.Native.Nat.{ℕ, _+_}
-use mathlib.Core.Bool.{cond}
-use mathlib.Core.List.{List}
+use mathlib.Core.Bool.{Bool, true, false, cond}
+use mathlib.Core.Option.{Option, none, some}
+use mathlib.Core.List.{List, [], _∷_, _++_}
 use lib.ListN.{set}
+use Rattle.refusal.specs.declared.Refusal.the-variants.{DateWrong, ServiceUnknown}
 use Rattle.refusal.specs.declared.Answer.{Answer}
+use Rattle.refusal.specs.declared.Answer.the-variants.{Taken, Outside, Refused}
 use Rattle.refusal.specs.First.{firstAnswer, isRefused, isTaken}
 use Rattle.settings.specs.declared.Settings.{Settings}
 use Rattle.settings.specs.Settings.{settingsTests, canonicalOf}
@@ -14,24 +17,51 @@ use Rattle.stops.specs.Answer.{stationOf, stopTests}
 use Rattle.stops.specs.Taken.{stopOf}
 use Rattle.calls.specs.declared.CallInput.{CallInput}
 use Rattle.calls.specs.declared.Fitted.{Fitted}
-use Rattle.calls.specs.Calls.{callOn}
+use Rattle.calls.specs.Calls.{fieldTests, callOn}
 use Rattle.rules.specs.declared.RuleInput.{RuleInput}
 use Rattle.rules.specs.Rules.{ruleTests, ruleOf}
+use Rattle.services.specs.Wrong.{datesWrong}
+use Rattle.week.specs.declared.Week.{Week}
+use Rattle.week.specs.declared.Running.{Running}
+use Rattle.week.specs.declared.Running.the-variants.{Unknown, Rests, Runs}
+use Rattle.week.specs.Weeks.{undatedWeek, datedWeek, closedWeek, serviceOn, exceptionOn, running}
 use Rattle.load.specs.declared.Load.{Load}
 use Rattle.load.specs.declared.Stepped.{Stepped}
-use Rattle.load.specs.Load.{emptyLoad, blankSettings, tableOf, withTable, withStops, withRules}
+use Rattle.load.specs.Load.{emptyOf, emptyLoad, blankSettings, tableOf, withTable, withStops, withRules, withWeek}
 
--- ---- opening: 1, 2
+-- ---- opening: 1, 2, 20
 
-abbrev pub openAnswer : Settings → Answer
-openAnswer s = firstAnswer (settingsTests s)
+-- the settings, and the dates of the three days where there are any
+pub record Opening : Type 0 where
+  pub settings : Settings
+  pub dates : Option (List ℕ)
 
--- the load that settings open, which are not sent back
-abbrev pub opened : Settings → Load
-opened s = emptyLoad (canonicalOf s)
+abbrev pub undated : Settings → Opening
+undated s = record { settings = s; dates = none }
 
-unfoldable pub openSpec : Settings → Stepped
-openSpec s = record { answer = openAnswer s; load = cond (isRefused (openAnswer s)) (emptyLoad blankSettings) (opened s) }
+abbrev pub dated : Settings → List ℕ → Opening
+dated s dates = record { settings = s; dates = some dates }
+
+abbrev pub dateTests : Option (List ℕ) → List (Bool × Answer)
+dateTests none = []
+dateTests (some dates) = (datesWrong dates, Refused DateWrong) ∷ []
+
+abbrev pub openTests : Opening → List (Bool × Answer)
+openTests o = settingsTests (o .settings) ++ dateTests (o .dates)
+
+unfoldable pub openAnswer : Opening → Answer
+openAnswer o = firstAnswer (openTests o)
+
+abbrev pub weekOf : Option (List ℕ) → Week
+weekOf none = undatedWeek
+weekOf (some dates) = datedWeek dates
+
+-- the load of an opening that is not sent back
+abbrev pub opened : Opening → Load
+opened o = emptyOf (canonicalOf (o .settings)) (weekOf (o .dates))
+
+unfoldable pub openSpec : Opening → Stepped
+openSpec o = record { answer = openAnswer o; load = cond (isRefused (openAnswer o)) (emptyLoad blankSettings) (opened o) }
 
 -- ---- stop: 15, 3, 5, 6, 7, 8, 4
 
@@ -51,7 +81,7 @@ stopSpec l id name parent i = record {
   load = stopLoad l (stopOf id name (stationIn l parent i) i) (stopAnswer l id name parent i);
 }
 
--- ---- call: 15, 9, absent time, 10, outside, 11
+-- ---- call: 15, 9, 21, not running, absent time, 10, outside, 11
 
 abbrev pub callFitted : Load → CallInput → Fitted
 callFitted l i = callOn (l .settings) (l .searched) (l .«stop_count») (tableOf l) i
@@ -59,8 +89,47 @@ callFitted l i = callOn (l .settings) (l .searched) (l .«stop_count») (tableOf
 abbrev pub callLoad : Load → Fitted → Load
 callLoad l f = cond (isRefused (f .answer)) l (withTable l (f .table))
 
-unfoldable pub callSpec : Load → CallInput → Stepped
-callSpec l i = record { answer = callFitted l i .answer; load = callLoad l (callFitted l i) }
+-- a call that its service lets pass: 15, 9, absent time, 10, outside, 11
+unfoldable pub plainCall : Load → CallInput → Stepped
+plainCall l i = record { answer = callFitted l i .answer; load = callLoad l (callFitted l i) }
+
+abbrev pub isUnknown : Running → Bool
+isUnknown Unknown = true
+isUnknown Rests = false
+isUnknown Runs = false
+
+abbrev pub isResting : Running → Bool
+isResting Unknown = false
+isResting Rests = true
+isResting Runs = false
+
+-- what is asked of the service that a call names: 21, outside on a day when it doesn't run
+abbrev pub runningTests : Running → List (Bool × Answer)
+runningTests r = (isUnknown r, Refused ServiceUnknown) ∷ (isResting r, Outside) ∷ []
+
+-- on a dated load, before the call's times: 15, 9, 21, outside on a day when the service doesn't run
+unfoldable pub gateAnswer : Bool → ℕ → Running → CallInput → Answer
+gateAnswer searched stops r i = firstAnswer (fieldTests searched stops i ++ runningTests r)
+
+-- the load, its services closed
+abbrev pub closedLoad : Load → Load
+closedLoad l = withWeek l (closedWeek (l .week))
+
+-- an answered call closes the services
+abbrev pub closing : Load → Stepped → Stepped
+closing l r = record { answer = r .answer; load = cond (isRefused (r .answer)) l (withWeek (r .load) (closedWeek (l .week))) }
+
+abbrev pub gated : Load → CallInput → Answer → Stepped
+gated l i Taken = closing l (plainCall l i)
+gated l i Outside = record { answer = Outside; load = closedLoad l }
+gated l i (Refused r) = record { answer = Refused r; load = l }
+
+unfoldable pub datedCall : Load → Running → CallInput → Stepped
+datedCall l r i = gated l i (gateAnswer (l .searched) (l .«stop_count») r i)
+
+-- the call of a service, whose name is empty where none is named; without dates the name is unread
+unfoldable pub callSpec : Load → List ℕ → CallInput → Stepped
+callSpec l name i = cond (l .week .dated) (datedCall l (running (l .week) name (i .day)) i) (plainCall l i)
 
 -- ---- rule: 15, 9, 12, 13, 11
 
@@ -73,3 +142,19 @@ ruleLoad l i a = cond (isTaken a) (withRules l (set (l .rules) (l .«rule_count�
 
 unfoldable pub ruleSpec : Load → RuleInput → Stepped
 ruleSpec l i = record { answer = ruleAnswer l i; load = ruleLoad l i (ruleAnswer l i) }
+
+-- ---- service: 15, 3, 5, 20, 22
+
+unfoldable pub serviceSpec : Load → List ℕ → ℕ → ℕ → ℕ → Stepped
+serviceSpec l name weekdays start end = record {
+  answer = serviceOn (l .week) (l .searched) name weekdays start end .answer;
+  load = withWeek l (serviceOn (l .week) (l .searched) name weekdays start end .week);
+}
+
+-- ---- exception: 15, 20, 21
+
+unfoldable pub exceptionSpec : Load → List ℕ → ℕ → ℕ → Stepped
+exceptionSpec l name date kind = record {
+  answer = exceptionOn (l .week) (l .searched) name date kind .answer;
+  load = withWeek l (exceptionOn (l .week) (l .searched) name date kind .week);
+}

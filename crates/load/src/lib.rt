@@ -1,15 +1,15 @@
 // The load: settings, stops, calls, rules and journeys, passed by value. It is opened, filled, searched once, then queried.
+mod calling;
+
 ghost use mathlib.Core.Path.{_≡_};
-ghost use Rattle.load.specs.Load.{blankSettings, emptyLoad};
-ghost use Rattle.load.specs.Steps.{openSpec, stopSpec, callSpec, ruleSpec};
+ghost use Rattle.load.specs.Load.{blankSettings, emptyLoad, emptyOf};
+ghost use Rattle.load.specs.Steps.{undated, dated, openAnswer, openSpec, stopSpec, ruleSpec, serviceSpec, exceptionSpec};
 use calls::Call;
-use calls::CallInput;
-use calls::Table;
-use calls::Uncut;
 use calls::blank_call;
 use profile::Journey;
 use profile::no_journey;
 use refusal::Answer;
+use refusal::Refusal;
 use refusal::is_refused;
 use refusal::is_taken;
 use rules::Rule;
@@ -17,6 +17,7 @@ use rules::RuleInput;
 use rules::blank_rule;
 use rules::rule_answer;
 use rules::rule_of;
+use services::dates_wrong;
 use settings::Settings;
 use settings::canonical;
 use settings::settings_answer;
@@ -26,8 +27,9 @@ use stops::Stop;
 use stops::StopInput;
 use stops::taken::blank_stop;
 use stops::taken::stop_of;
-use table::step::call_on;
-use table::step::uncut;
+use week::Week;
+use week::dated;
+use week::undated;
 
 // A slot past its count holds the blank record. `table_horizon` and `table_limits` are the call table's; `horizon` and
 // `limits` are what a query sees, and differ from them only after the search.
@@ -46,6 +48,7 @@ pub struct Load {
     pub horizon: u16,
     pub limits: u8,
     pub searched: bool,
+    pub week: Week,
 }
 
 // What a step answers, and the load that it returns: the load given, where the step is sent back.
@@ -69,8 +72,8 @@ fn blank_settings() -> Settings
     }
 }
 
-fn empty(settings: Settings) -> Load
-    ensures { λ r. ⌜ r ≡ emptyLoad settings ⌝ }
+fn empty(settings: Settings, week: Week) -> Load
+    ensures { λ r. ⌜ r ≡ emptyOf settings week ⌝ }
 {
     let stop = blank_stop();
     let call = blank_call();
@@ -95,6 +98,7 @@ fn empty(settings: Settings) -> Load
         horizon: 21600,
         limits: 0,
         searched: false,
+        week,
     }
 }
 
@@ -102,20 +106,47 @@ fn empty(settings: Settings) -> Load
 pub fn blank() -> Load
     ensures { λ r. ⌜ r ≡ emptyLoad blankSettings ⌝ }
 {
-    empty(blank_settings())
+    empty(blank_settings(), undated())
+}
+
+// Why an opening with dates is sent back: 1, 2, 20.
+fn dated_answer(settings: Settings, dates: [u32; 3]) -> Answer
+    ensures { λ r. ⌜ r ≡ openAnswer (dated settings dates) ⌝ }
+{
+    let answer = settings_answer(settings);
+    if is_refused(answer) {
+        return answer;
+    }
+    if dates_wrong(dates) {
+        return Answer::Refused(Refusal::DateWrong);
+    }
+    Answer::Taken
 }
 
 impl Load {
     // An empty load, or why the settings are sent back: then the load is the empty one of blank settings.
     pub fn open(settings: Settings) -> Stepped
-        ensures { λ r. ⌜ r ≡ openSpec settings ⌝ }
+        ensures { λ r. ⌜ r ≡ openSpec (undated settings) ⌝ }
     {
         let answer = settings_answer(settings);
         if is_refused(answer) {
-            let load = empty(blank_settings());
+            let load = blank();
             return Stepped { answer, load };
         }
-        let load = empty(canonical(settings));
+        let load = empty(canonical(settings), undated());
+        Stepped { answer, load }
+    }
+
+    // The same with the dates of the three days: services may come, and calls name one.
+    pub fn open_dated(settings: Settings, dates: [u32; 3]) -> Stepped
+        ensures { λ r. ⌜ r ≡ openSpec (dated settings dates) ⌝ }
+    {
+        let answer = dated_answer(settings, dates);
+        if is_refused(answer) {
+            let load = blank();
+            return Stepped { answer, load };
+        }
+        let load = empty(canonical(settings), dated(dates));
         Stepped { answer, load }
     }
 
@@ -136,74 +167,6 @@ impl Load {
         Stepped { answer, load: self }
     }
 
-    // A call is taken, lies outside the window, or is sent back. Where nothing is cut, the table is not copied apart.
-    pub fn call(self, input: CallInput) -> Stepped
-        ensures { λ r. ⌜ r ≡ callSpec self input ⌝ }
-    {
-        let settings = self.settings;
-        let at = self.call_count;
-        let told = uncut(
-            settings,
-            self.searched,
-            self.stop_count,
-            at,
-            self.table_horizon,
-            input,
-        );
-        match told {
-            Uncut::In(call) => {
-                let mut next = self;
-                next.calls[at] = call;
-                next.call_count = at + 1;
-                next.horizon = self.table_horizon;
-                next.limits = self.table_limits;
-                Stepped {
-                    answer: Answer::Taken,
-                    load: next,
-                }
-            }
-            Uncut::Outside => {
-                let mut next = self;
-                next.horizon = self.table_horizon;
-                next.limits = self.table_limits;
-                Stepped {
-                    answer: Answer::Outside,
-                    load: next,
-                }
-            }
-            Uncut::Other => self.call_by_cuts(input),
-        }
-    }
-
-    // The same, through the table: what is sent back, and what a full table does.
-    fn call_by_cuts(self, input: CallInput) -> Stepped
-        ensures { λ r. ⌜ r ≡ callSpec self input ⌝ }
-    {
-        let settings = self.settings;
-        let calls = self.calls;
-        let table = Table {
-            calls,
-            count: self.call_count,
-            horizon: self.table_horizon,
-            limits: self.table_limits,
-        };
-        let f = call_on(settings, self.searched, self.stop_count, table, input);
-        let answer = f.answer;
-        if is_refused(answer) {
-            return Stepped { answer, load: self };
-        }
-        let t = f.table;
-        let out = t.calls;
-        let mut next = self;
-        next.calls = out;
-        next.call_count = t.count;
-        next.table_horizon = t.horizon;
-        next.table_limits = t.limits;
-        next.horizon = t.horizon;
-        next.limits = t.limits;
-        Stepped { answer, load: next }
-    }
-
     // A rule is taken or sent back.
     pub fn rule(self, input: RuleInput) -> Stepped
         ensures { λ r. ⌜ r ≡ ruleSpec self input ⌝ }
@@ -218,5 +181,30 @@ impl Load {
             return Stepped { answer, load: next };
         }
         Stepped { answer, load: self }
+    }
+    // A service is taken or sent back.
+    pub fn service(self, name: &[u8], weekdays: u8, start: u32, end: u32) -> Stepped
+        ensures { λ r. ⌜ r ≡ serviceSpec self (now (name .entry)) weekdays start end ⌝ }
+    {
+        let week = self.week;
+        let s = week.service(self.searched, name, weekdays, start, end);
+        let answer = s.answer;
+        let after = s.week;
+        let mut next = self;
+        next.week = after;
+        Stepped { answer, load: next }
+    }
+
+    // An exception to a service is taken or sent back.
+    pub fn exception(self, name: &[u8], date: u32, kind: u8) -> Stepped
+        ensures { λ r. ⌜ r ≡ exceptionSpec self (now (name .entry)) date kind ⌝ }
+    {
+        let week = self.week;
+        let s = week.exception(self.searched, name, date, kind);
+        let answer = s.answer;
+        let after = s.week;
+        let mut next = self;
+        next.week = after;
+        Stepped { answer, load: next }
     }
 }

@@ -5,12 +5,13 @@ use mathlib.Core.Bool.{Bool, true, false, cond}
 use mathlib.Core.List.{List, List·Permᴰ, Permᴰ·symm}
 use Prim.Native.Nat.{ℕ}
 use Rattle.laws.proofs.Sort.{perm-mem}
+use Rattle.ways.specs.Rides.{journeys}
 use Rattle.calls.specs.declared.Call.{Call}
 use Rattle.profile.specs.declared.Journey.{Journey}
 use Rattle.profile.specs.Kept.{searched}
 use Rattle.profile.specs.Journeys.{journeyFigures}
 use Rattle.offers.specs.Order.{earlier, clashes}
-use Rattle.offers.specs.Offers.{Timetable, withCalls, lastAt, lastAlight, lastBoard, directAt, changesAt, alightAt, originAt, boardAt, offersIn, sorted, offers}
+use Rattle.offers.specs.Offers.{Timetable, withCalls, networkOf, directBy, changeBy, sorted, offers}
 use Rattle.offers.specs.Admitted.{Rides, Starts, Ends, Admitted, AdmittedInAnyOrder, OffersInAnyOrder}
 use Rattle.offers.specs.Search.{Outcome, clashing, foundBy, searchOf, SearchInAnyOrder}
 use Rattle.offers.proofs.OrderLaws.{accepted-any-order, clashes-any-order}
@@ -46,8 +47,8 @@ pub admitted-in-any-order : AdmittedInAnyOrder
 admitted-in-any-order t ys p j = (other t ys p j, other (withCalls t ys) (t .calls) (Permᴰ·symm p) j)
 
 pub offers-in-any-order : OffersInAnyOrder
-unfolding lastAt lastAlight lastBoard directAt changesAt alightAt originAt boardAt offersIn offers
-offers-in-any-order t ys p e = ap (offersIn t) (accepted-any-order (t .calls) ys p e)
+unfolding offers networkOf
+offers-in-any-order t ys p e = ap (journeys (networkOf t) (directBy t) (changeBy t) (t .max-transfers)) (accepted-any-order (t .calls) ys p e)
 
 pub search-in-any-order : SearchInAnyOrder
 unfolding searchOf

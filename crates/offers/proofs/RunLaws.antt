@@ -6,13 +6,18 @@ use mathlib.Core.List.{List, [], _∷_, List·Memᴰ, List·Memᴰ·head, List·
 use Prim.Native.Nat.{_≤_, _<_}
 use lib.Dec.{eqb, ltb}
 use borrow.Author.Tests.{lt-ltb, ltb-true, eq-eqb, eqb-true}
+use Rattle.laws.specs.Lists.{takeWhile}
 use Rattle.laws.specs.Tails.{Tail}
 use Rattle.laws.proofs.Bools.{and-true, and-true-left, and-true-right}
 use Rattle.laws.proofs.Tails.{tail-mem, tail-rest, takeWhile-mem}
 use Rattle.calls.specs.declared.Call.{Call}
 use Rattle.offers.specs.Order.{earlier, Run, Rising, Follows}
-use Rattle.offers.specs.Offers.{sameRun, runOf}
+use Rattle.offers.specs.Offers.{sameRun}
 use Rattle.offers.proofs.OrderLaws.{strict-earlier, run-earlier, between}
+
+-- the calls of b's trip and day at the front of a list
+abbrev pub runOf : Call → List Call → List Call
+runOf b later = takeWhile (sameRun b) later
 
 pub run-same : (b a : Call) → Run b a → sameRun b a ≡ true
 run-same b a r = and-true (eqb (b .trip) (a .trip)) (eqb (b .day) (a .day)) (eq-eqb (b .trip) (a .trip) (r .trip)) (eq-eqb (b .day) (a .day) (r .day))

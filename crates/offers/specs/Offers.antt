@@ -1,13 +1,13 @@
--- The journeys that a search offers: a flat list over the calls in order. "For each boarding call in order, then each origin of its stop (a stop's
--- origins are taken lowest set bit first), then each alighting call: boarding needs departure at or above walk × 60. First the direct journeys by
--- target; then, with `max_transfers` 1, each last ride by boarding call, alighting call and target, if it joins."
-use mathlib.Core.Bool.{Bool, cond, _&&_}
-use mathlib.Core.List.{List, [], _∷_, _++_}
+-- The journeys that a search offers, over the calls in order: "For each boarding call in order, then each origin of its stop (a stop's
+-- origins are taken lowest set bit first), then each alighting call", as `journeys` of crate `ways` lists them. Here stands what a
+-- timetable's calls are to it.
+use mathlib.Core.Bool.{Bool, _&&_}
+use mathlib.Core.List.{List}
 use Prim.Native.Nat.{ℕ, _+_, _-_, _*_, _/_, min}
 use lib.Dec.{eqb, leb}
-use Rattle.laws.specs.Lists.{concatMap, takeWhile}
-use Rattle.laws.specs.Tails.{overTails}
+use Rattle.laws.specs.Lists.{filterb}
 use Rattle.laws.specs.Bits.{bitsFrom}
+use Rattle.ways.specs.Rides.{Leg, First, Network, journeys}
 use Rattle.calls.specs.declared.Call.{Call}
 use Rattle.profile.specs.declared.Ride.{Ride}
 use Rattle.profile.specs.declared.Journey.{Journey}
@@ -83,57 +83,43 @@ directOf t f o k = journeyOf t 1 f noRide (f .arrival) o k
 abbrev pub changeOf : Timetable → Ride → Ride → ℕ → ℕ → Journey
 changeOf t f l o k = journeyOf t 2 f l (l .arrival) o k
 
--- ---- the ways that the loops go
+-- ---- what is read of a call
 
 abbrev pub sameRun : Call → Call → Bool
 sameRun b a = eqb (b .trip) (a .trip) && eqb (b .day) (a .day)
 
--- the origins and targets of a call's stop: bits 0 to 3 and bits 4 to 7 of its membership byte, those past the counts ignored
+-- the origins and targets of a call's stop: bits 0 to 3 and bits 4 to 7 of its membership byte, those past the counts ignored; "boarding needs
+-- departure at or above walk × 60"
 abbrev pub originsOf : Timetable → Call → List ℕ
-originsOf t b = bitsFrom (min (t .origins) 4) 0 (t .members (b .stop))
+originsOf t b = filterb (λ o. leb (t .origin-walk o * 60) (b .departure)) (bitsFrom (min (t .origins) 4) 0 (t .members (b .stop)))
 
 abbrev pub targetsOf : Timetable → Call → List ℕ
 targetsOf t a = bitsFrom (min (t .targets) 4) 0 (t .members (a .stop) / 16)
 
--- the later calls of b's trip and day; `later` is what stands after b
-abbrev pub runOf : Call → List Call → List Call
-runOf b later = takeWhile (sameRun b) later
+-- what the rides are made of
+unfoldable pub networkOf : Timetable → Network Call
+networkOf t =
+    record {
+      same = sameRun;
+      board = λ c. c .board;
+      alight = λ c. c .alight;
+      origins = originsOf t;
+      targets = targetsOf t;
+      joins = λ r c. t .joins (rideOf (r .b) (r .a)) c;
+    }
 
--- ---- the offers, from the innermost. s: the calls in order
+-- ---- the offers
 
--- a last ride from b to a, if f joins it
-unfoldable pub lastAt : Timetable → ℕ → Ride → Call → Call → ℕ → List Journey
-lastAt t o f b a k = cond (t .joins f b) (changeOf t f (rideOf b a) o k ∷ []) []
+-- the journeys of a first ride, alone and with a last ride
+abbrev pub directBy : Timetable → First Call → ℕ → Journey
+directBy t f k = directOf t (rideOf (f .ride .b) (f .ride .a)) (f .o) k
 
-unfoldable pub lastAlight : Timetable → ℕ → Ride → Call → Call → List Journey
-lastAlight t o f b a = cond (a .alight) (concatMap (lastAt t o f b a) (targetsOf t a)) []
-
-unfoldable pub lastBoard : Timetable → ℕ → Ride → Call → List Call → List Journey
-lastBoard t o f b later = cond (b .board) (concatMap (lastAlight t o f b) (runOf b later)) []
-
-unfoldable pub directAt : Timetable → ℕ → Ride → ℕ → List Journey
-directAt t o f k = directOf t f o k ∷ []
-
--- with max_transfers 1, each last ride
-unfoldable pub changesAt : Timetable → List Call → ℕ → Ride → List Journey
-changesAt t s o f = cond (eqb (t .max-transfers) 1) (overTails (lastBoard t o f) s) []
-
-unfoldable pub alightAt : Timetable → List Call → ℕ → Call → Call → List Journey
-alightAt t s o b a = cond (a .alight) (concatMap (directAt t o (rideOf b a)) (targetsOf t a) ++ changesAt t s o (rideOf b a)) []
-
-unfoldable pub originAt : Timetable → List Call → Call → List Call → ℕ → List Journey
-originAt t s b later o = cond (leb (t .origin-walk o * 60) (b .departure)) (concatMap (alightAt t s o b) (runOf b later)) []
-
-unfoldable pub boardAt : Timetable → List Call → Call → List Call → List Journey
-boardAt t s b later = cond (b .board) (concatMap (originAt t s b later) (originsOf t b)) []
-
--- of the calls s in order, every offer
-unfoldable pub offersIn : Timetable → List Call → List Journey
-offersIn t s = overTails (boardAt t s) s
+abbrev pub changeBy : Timetable → First Call → Leg Call → ℕ → Journey
+changeBy t f l k = changeOf t (rideOf (f .ride .b) (f .ride .a)) (rideOf (l .b) (l .a)) (f .o) k
 
 abbrev pub sorted : Timetable → List Call
 sorted t = inOrder (t .calls)
 
 -- every offer of a search, in order
 unfoldable pub offers : Timetable → List Journey
-offers t = offersIn t (sorted t)
+offers t = journeys (networkOf t) (directBy t) (changeBy t) (t .max-transfers) (sorted t)

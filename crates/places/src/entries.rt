@@ -10,23 +10,13 @@ ghost use Rattle.places.specs.Keys.{stopKey};
 use crate::Entry;
 use place::PlaceKey;
 use place::Position;
+use place::no_place;
 use stops::Stop;
 
 pub fn at_most(a: usize, b: usize) -> usize
     ensures { λ r. ⌜ r ≡ least a b ⌝ }
 {
     if a <= b { a } else { b }
-}
-
-fn no_place() -> PlaceKey
-    ensures { λ r. ⌜ r ≡ noPlace ⌝ }
-{
-    PlaceKey {
-        tag: 0,
-        hash: 0,
-        lat: 0,
-        lon: 0,
-    }
 }
 
 fn blank_entry() -> Entry

@@ -1,6 +1,5 @@
 -- The claims of specs/Claims.antt, each from the laws of any order on any list.
 use native.Mathlib.Omega.{arith}
-use lib.Dec.{leb}
 use lib.IntN.{ℤ}
 use Rattle.laws.proofs.Sort.{sort-perm, sort-mem, mem-sort}
 use Rattle.profile.specs.Figures.{Figures, covᶠ, dueᶠ}

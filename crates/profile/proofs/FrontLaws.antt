@@ -10,7 +10,7 @@ use lib.Dec.{leb}
 use borrow.Author.Tests.{leb-true, le-leb, lt-leb}
 use lib.ListN.{length, length-append}
 use Rattle.laws.specs.Lists.{filterb, anyb}
-use Rattle.laws.proofs.Bools.{and-true, and-true-left, and-true-right, test, not-true}
+use Rattle.laws.proofs.Bools.{and-true, and-true-left, and-true-right, test, not-true, of-not}
 use Rattle.laws.proofs.Lists.{anyb-mem, mem-anyb, anyb-not, anyb-none, anyb-append, mem-filterb, filterb-cong, filterb-all, length-filterb, snoc-ind}
 use Rattle.profile.specs.Front.{beats, counts, after, front, Order}
 use Rattle.profile.specs.Walk.{near, Antichain}
@@ -155,11 +155,7 @@ module _ {A : Type 0} {cov : A → A → Bool} {due : A → ℕ} (ord : Order co
   pub beats-trans : (q o k : A) → cov q o ≡ true → beats cov o k ≡ true → beats cov q k ≡ true
   beats-trans q o k c b =
       and-true (cov q k) (not (cov k q)) (cov-trans q o k c (and-true-left (cov o k) (not (cov k o)) b))
-      (ap not (not-true (cov k q) (λ f. true≢false (sym (cov-trans k q o f c) ∙ not-not (cov k o) (and-true-right (cov o k) (not (cov k o)) b)))))
-    where
-      not-not : (b : Bool) → not b ≡ true → b ≡ false
-      not-not true e = sym e
-      not-not false e = refl
+      (ap not (not-true (cov k q) (λ f. true≢false (sym (cov-trans k q o f c) ∙ of-not (cov k o) (and-true-right (cov o k) (not (cov k o)) b)))))
 
   -- what covers o is not beaten by o
   pub covers-unbeaten : (k o : A) → cov k o ≡ true → beats cov o k ≡ false

@@ -1,17 +1,14 @@
 -- The four figures of a journey, and the two orders on them: `covers` (equals or beats), by which journeys are kept, and `prefer`, by which best picks.
-use mathlib.Core.Bool.{Bool, _&&_, _||_}
+use mathlib.Core.Bool.{Bool, _&&_}
 use Prim.Native.Nat.{ℕ}
-use lib.Dec.{leb, ltb, eqb}
+use lib.Dec.{leb}
+unfoldable pub use Rattle.laws.specs.Lex.{lexb}
 
 pub record Figures : Type 0 where
   pub leave : ℕ
   pub arrival : ℕ
   pub rides : ℕ
   pub walk : ℕ
-
--- x is below y; or they are equal, and b decides
-unfoldable pub lexb : ℕ → ℕ → Bool → Bool
-lexb x y b = ltb x y || (eqb x y && b)
 
 -- (arrival, rides, walk) of a is no larger than that of b, compared in that order
 abbrev pub lexle : Figures → Figures → Bool

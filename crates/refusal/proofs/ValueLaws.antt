@@ -6,13 +6,13 @@ use mathlib.Core.List.{List, [], _∷_}
 use Prim.Native.Nat.{ℕ}
 use lib.ListN.{getD}
 use Rattle.refusal.specs.declared.Refusal.{Refusal}
-use Rattle.refusal.specs.declared.Refusal.the-variants.{SettingsRange, ClockRange, IdLength, StopsFull, IdTaken, LocationType, ParentUnknown, NameUnusable, FieldRange, TimesReversed, NoRoom, RuleType, PairTaken, Neighbours, AlreadySearched, TimeText, FileVersion, RecordLength, RecordKind}
+use Rattle.refusal.specs.declared.Refusal.the-variants.{SettingsRange, ClockRange, IdLength, StopsFull, IdTaken, LocationType, ParentUnknown, NameUnusable, FieldRange, TimesReversed, NoRoom, RuleType, PairTaken, Neighbours, AlreadySearched, TimeText, FileVersion, RecordLength, RecordKind, DateWrong, ServiceUnknown, ServicesFull, DisplayGroups, CallUnknown}
 use Rattle.refusal.specs.declared.Answer.{Answer}
 use Rattle.refusal.specs.declared.Answer.the-variants.{Taken, Outside, Refused}
 use Rattle.refusal.specs.Causes.{numberOf}
 use Rattle.refusal.specs.First.{answerValue, ValueTells}
 
--- by their numbers; the scope's begin at 1
+-- by their numbers, which begin at 1
 abbrev byNumber : List Refusal
 byNumber =
     SettingsRange
@@ -35,6 +35,11 @@ byNumber =
     ∷ FileVersion
     ∷ RecordLength
     ∷ RecordKind
+    ∷ DateWrong
+    ∷ ServiceUnknown
+    ∷ ServicesFull
+    ∷ DisplayGroups
+    ∷ CallUnknown
     ∷ []
 
 abbrev answerBack : Bool ⊎ ℕ → Answer
@@ -62,6 +67,11 @@ cause-back TimeText = refl
 cause-back FileVersion = refl
 cause-back RecordLength = refl
 cause-back RecordKind = refl
+cause-back DateWrong = refl
+cause-back ServiceUnknown = refl
+cause-back ServicesFull = refl
+cause-back DisplayGroups = refl
+cause-back CallUnknown = refl
 
 answer-back : (a : Answer) → answerBack (answerValue a) ≡ a
 answer-back Taken = refl

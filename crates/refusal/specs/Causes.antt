@@ -1,7 +1,8 @@
--- The sixteen causes of "Why a call is sent back" and the three of request 01's load file, each with its number.
+-- The sixteen causes of "Why a call is sent back", the three of request 01's load file, the three of request 03's services, that of
+-- request 08's display and that of request 11's withdrawal, each with its number.
 use Prim.Native.Nat.{ℕ}
 use Rattle.refusal.specs.declared.Refusal.{Refusal}
-use Rattle.refusal.specs.declared.Refusal.the-variants.{SettingsRange, ClockRange, IdLength, StopsFull, IdTaken, LocationType, ParentUnknown, NameUnusable, FieldRange, TimesReversed, NoRoom, RuleType, PairTaken, Neighbours, AlreadySearched, TimeText, FileVersion, RecordLength, RecordKind}
+use Rattle.refusal.specs.declared.Refusal.the-variants.{SettingsRange, ClockRange, IdLength, StopsFull, IdTaken, LocationType, ParentUnknown, NameUnusable, FieldRange, TimesReversed, NoRoom, RuleType, PairTaken, Neighbours, AlreadySearched, TimeText, FileVersion, RecordLength, RecordKind, DateWrong, ServiceUnknown, ServicesFull, DisplayGroups, CallUnknown}
 
 abbrev pub numberOf : Refusal → ℕ
 numberOf SettingsRange = 1
@@ -23,3 +24,8 @@ numberOf TimeText = 16
 numberOf FileVersion = 17
 numberOf RecordLength = 18
 numberOf RecordKind = 19
+numberOf DateWrong = 20
+numberOf ServiceUnknown = 21
+numberOf ServicesFull = 22
+numberOf DisplayGroups = 23
+numberOf CallUnknown = 24

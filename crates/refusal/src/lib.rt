@@ -42,6 +42,16 @@ pub enum Refusal {
     RecordLength,
     // 19: a kind outside 1 to 5, a first record other than settings, a second settings, a file with no record
     RecordKind,
+    // 20: a date that the calendar hasn't, or an exception type other than 1 and 2
+    DateWrong,
+    // 21: a service that was not taken
+    ServiceUnknown,
+    // 22: the 65th service
+    ServicesFull,
+    // 23: a group of a display above 3 or given twice, a load that is not searched, a start unlike the lowest group's
+    DisplayGroups,
+    // 24: a withdrawal that names no call of the table
+    CallUnknown,
 }
 
 // What a step answers. Only a call can lie outside the window.
@@ -51,7 +61,7 @@ pub enum Answer {
     Refused(Refusal),
 }
 
-// The number of a cause: the scope's, and those of request 01.
+// The number of a cause: the scope's, and those of requests 01, 03, 08 and 11.
 pub fn number(r: Refusal) -> u8
     ensures { λ n. ⌜ n ≡ numberOf r ⌝ }
 {
@@ -75,6 +85,11 @@ pub fn number(r: Refusal) -> u8
         Refusal::FileVersion => 17,
         Refusal::RecordLength => 18,
         Refusal::RecordKind => 19,
+        Refusal::DateWrong => 20,
+        Refusal::ServiceUnknown => 21,
+        Refusal::ServicesFull => 22,
+        Refusal::DisplayGroups => 23,
+        Refusal::CallUnknown => 24,
     }
 }
 

@@ -4,9 +4,13 @@ use crate::loads::text;
 use crate::show;
 use crate::show::ABSENT;
 use crate::show::CALL;
+use crate::show::CALL_OF;
+use crate::show::EXCEPTION;
 use crate::show::NOTHING;
 use crate::show::OUTSIDE;
+use crate::show::RESTS;
 use crate::show::SEARCH;
+use crate::show::SERVICE;
 use crate::show::STOP;
 use calls::CallInput;
 use load::Load;
@@ -28,14 +32,16 @@ fn pick(a: u8, b: u8, n: u8, yes: u16, no: u16) -> u16 {
     if has(a, b, n) { yes } else { no }
 }
 
-// Two that never hold together. An id that is taken is 1 to 32 bytes long; 10 needs both times; the stops of a rule taken are
-// known; a load is searched only where neither 14 nor 11 holds, and takes no call after it.
+// Two that never hold together. An id or a name that is taken is 1 to 32 bytes long; 10 needs both times; the stops of a rule taken are
+// known; a load is searched only where neither 14 nor 11 holds, and takes no call after it; of an unknown service nobody says that it
+// doesn't run.
 fn apart(step: u8, a: u8, b: u8) -> bool {
     match a {
         3 => b == 5,
         ABSENT => b == 10,
         9 => b == 13,
         15 => step == SEARCH,
+        21 => b == RESTS,
         _ => false,
     }
 }
@@ -83,8 +89,45 @@ fn rule(a: u8, b: u8) -> RuleInput {
     )
 }
 
+// A date, or none that the calendar has.
+fn date(a: u8, b: u8) -> u32 {
+    if has(a, b, 20) { 20230229 } else { 20261116 }
+}
+
+fn service(load: Load, a: u8, b: u8) -> Stepped {
+    let name = text(has(a, b, 3), b"", text(has(a, b, 5), b"A", b"new"));
+    load.service(name, 127, date(a, b), 99991231)
+}
+
+fn exception(load: Load, a: u8, b: u8) -> Stepped {
+    load.exception(text(has(a, b, 21), b"unknown", b"A"), date(a, b), 2)
+}
+
+fn call_of(load: Load, a: u8, b: u8) -> Stepped {
+    let name = text(
+        has(a, b, 21),
+        b"unknown",
+        text(has(a, b, RESTS), b"B", b"A"),
+    );
+    load.call_of(name, call(a, b))
+}
+
+// The load with dates that a step is tried on, before it is searched.
+fn unsearched_week(step: u8, a: u8, b: u8) -> Load {
+    if has(a, b, 22) {
+        return loads::week(64);
+    }
+    if has(a, b, 11) {
+        return loads::week_with(step, 512);
+    }
+    loads::week(2)
+}
+
 // The load that a step is tried on, before it is searched.
 fn unsearched(step: u8, a: u8, b: u8) -> Load {
+    if step >= SERVICE {
+        return unsearched_week(step, a, b);
+    }
     if step == SEARCH {
         return loads::rides(pick(a, b, 11, 130, 0), pick(a, b, 14, 600, 0));
     }
@@ -107,6 +150,15 @@ fn load_of(step: u8, a: u8, b: u8) -> Load {
 }
 
 fn stepped(step: u8, load: Load, a: u8, b: u8) -> Stepped {
+    if step == SERVICE {
+        return service(load, a, b);
+    }
+    if step == EXCEPTION {
+        return exception(load, a, b);
+    }
+    if step == CALL_OF {
+        return call_of(load, a, b);
+    }
     if step == STOP {
         return stop(load, a, b);
     }
@@ -131,10 +183,10 @@ fn tried(step: u8, a: u8, b: u8) {
 }
 
 // Each two of the faults in their order; the first is nothing, so each alone too.
-pub fn each(step: u8, faults: [u8; 8]) {
-    for k in 0usize..64 {
-        let i = k / 8;
-        let j = k % 8;
+pub fn each(step: u8, faults: [u8; 9]) {
+    for k in 0usize..81 {
+        let i = k / 9;
+        let j = k % 9;
         if i < j {
             tried(step, faults[i], faults[j]);
         }

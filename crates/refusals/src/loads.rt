@@ -1,10 +1,13 @@
-// Loads that a step is tried on: a small one, and one full of stops, calls or rules.
+// Loads that a step is tried on: a small one, with dates and without, and one full of stops, calls, rules or services.
 ghost use mathlib.Core.Path.{_≡_};
 ghost use Rattle.refusals.specs.Inputs.{timeIn, callOf, minTimeIn, ruleOf};
 use crate::show;
 use crate::show::CALL;
+use crate::show::CALL_OF;
+use crate::show::EXCEPTION;
 use crate::show::RULE;
 use crate::show::SEARCH;
+use crate::show::SERVICE;
 use crate::show::STOP;
 use calls::CallInput;
 use calls::Seconds;
@@ -18,7 +21,7 @@ use settings::Settings;
 use stops::StopInput;
 
 // The start is 1000; days 0 and 1 start with it, and day 2 at 0.
-fn settings() -> Settings {
+pub fn settings() -> Settings {
     Settings {
         origins: 1,
         targets: 1,
@@ -112,8 +115,24 @@ pub fn rule(from: u16, to: u16, kind: u8, timed: bool) -> RuleInput
     }
 }
 
+// A good step of a load with dates: service i, with the name 65 + i, which runs every day but where i is 1; an exception to service 0 on
+// the first day; a call of it, of trip i.
+fn good_of_week(step: u8, load: Load, i: u16) -> Stepped {
+    if step == SERVICE {
+        let name = [(65 + i % 128) as u8];
+        return load.service(&name, if i == 1 { 0 } else { 127 }, 10101, 99991231);
+    }
+    if step == EXCEPTION {
+        return load.exception(b"A", 20261116, 1);
+    }
+    load.call_of(b"A", call(i, 0, 1, 600, 600))
+}
+
 // A good step: stop i, with the id 65 + i; a call of trip i, which stays at every horizon; a rule to stop 2; half a ride.
 fn good(step: u8, load: Load, i: u16) -> Stepped {
+    if step >= SERVICE {
+        return good_of_week(step, load, i);
+    }
     if step == STOP {
         let id = [(65 + i % 128) as u8];
         return load.stop(&id, b"", b"", stop(i));
@@ -150,6 +169,23 @@ pub fn small() -> Load {
     with(RULE, 1, with(STOP, 3, opened))
 }
 
+// The same with dates.
+pub fn on(dates: [u32; 3]) -> Load {
+    let s = Load::open_dated(settings(), dates);
+    let opened = s.load;
+    with(RULE, 1, with(STOP, 3, opened))
+}
+
+// The same on a Monday and the two days after it, with so many services: "A" runs every day, "B" on none.
+pub fn week(n: u16) -> Load {
+    with(SERVICE, n, on([20261116, 20261117, 20261118]))
+}
+
+// That load after so many good steps.
+pub fn week_with(step: u8, n: u16) -> Load {
+    with(step, n, week(2))
+}
+
 // 128 stops, 512 calls, or 128 stops and 128 rules.
 pub fn full_of(step: u8) -> Load {
     if step == CALL {
@@ -172,9 +208,16 @@ pub fn rides(n: u16, second: u16) -> Load {
     next(SEARCH, next(CALL, load, 900), second)
 }
 
-// The step that follows: a call after a rule, else a rule.
+// The step that follows: a call after a rule, a service after an exception and after a call that names one, an exception after a
+// service, else a rule.
 fn following(step: u8) -> u8 {
-    if step == RULE { CALL } else { RULE }
+    match step {
+        RULE => CALL,
+        SERVICE => EXCEPTION,
+        EXCEPTION => SERVICE,
+        CALL_OF => SERVICE,
+        _ => RULE,
+    }
 }
 
 fn after(step: u8, s: Stepped) -> Answer {

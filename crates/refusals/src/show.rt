@@ -13,12 +13,21 @@ pub const RULE: u8 = 3;
 
 pub const SEARCH: u8 = 4;
 
-// What is wrong with a step, beside the scope's numbers: nothing, a time absent, or a call outside the window.
+pub const SERVICE: u8 = 5;
+
+pub const EXCEPTION: u8 = 6;
+
+pub const CALL_OF: u8 = 7;
+
+// What is wrong with a step, beside the scope's numbers: nothing, a time absent, a call outside the window, or one whose service
+// doesn't run.
 pub const NOTHING: u8 = 0;
 
 pub const ABSENT: u8 = 100;
 
 pub const OUTSIDE: u8 = 101;
+
+pub const RESTS: u8 = 102;
 
 fn text(s: &[u8]) {
     io::write_all(STDOUT_FILENO, s);
@@ -30,6 +39,9 @@ fn step(n: u8) {
         STOP => text(b"stop"),
         CALL => text(b"call"),
         RULE => text(b"rule"),
+        SERVICE => text(b"service"),
+        EXCEPTION => text(b"exception"),
+        CALL_OF => text(b"call of a service"),
         _ => text(b"search"),
     }
 }
@@ -38,6 +50,7 @@ fn cause(n: u8) {
     match n {
         ABSENT => text(b"absent"),
         OUTSIDE => text(b"outside"),
+        RESTS => text(b"rests"),
         _ => {
             io::print_decimal(STDOUT_FILENO, n as u64);
         }

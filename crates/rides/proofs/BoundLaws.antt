@@ -17,7 +17,7 @@ use Rattle.laws.proofs.Bits.{bits-none, lowest-first}
 use Rattle.laws.proofs.Bools.{and-true-left, and-true-right, test}
 use Rattle.feed.specs.declared.FeedCall.{FeedCall}
 use Rattle.feed.specs.Feed.{callAt, sameRun, targetMask, targetWalk, arrivalOf}
-use Rattle.rides.specs.Rows.{laterFrom}
+use Rattle.rides.specs.Loops.{laterFrom}
 use Rattle.rides.specs.Bounds.{AtTargets, AtCall, AtBoard, bucketOf, InBucket, Bounds, Filled, Lowered, Suffix}
 use Rattle.rides.proofs.LoopLaws.{later-cons, later-other, later-nil}
 
@@ -79,15 +79,15 @@ module _ (feed : List ℕ) (n j t : ℕ) where
     unfolding AtBoard
     board-other e m w = absurd (List·Memᴰ·not-nil (rw (later-other (callAt feed) n j (j + 1) h eb ea er e) at w))
 
-    next : r ≡ true → laterFrom (callAt feed) n j (j + 1 + 1) ≡ laterFrom (callAt feed) n (j + 1) (j + 1 + 1)
+    pub later-next : r ≡ true → laterFrom (callAt feed) n j (j + 1 + 1) ≡ laterFrom (callAt feed) n (j + 1) (j + 1 + 1)
     unfolding laterFrom
-    next e =
+    later-next e =
         takeWhile-agree (λ k. sameRun (callAt feed j) (callAt feed k)) (λ k. sameRun (callAt feed (j + 1)) (callAt feed k)) (span (j + 1 + 1) (n - (j + 1 + 1)))
         (λ k _. run-same (callAt feed j) (callAt feed (j + 1)) (callAt feed k) (rw (← eb, ← ea, ← er) e))
 
     pub board-next : {l : List ℕ} {v : ℕ} (d : ℕ) → r ≡ true → Filled l feed n (j + 1) → v ≡ getD l (j + 1) 0 → AtCall feed (j + 1) d → t ≡ min v d → AtBoard feed n j t
     unfolding AtBoard AtCall AtTargets
-    board-next {l} {v} d e f ev w et m i y x z = go (List·Memᴰ·cases-cons (rw (later-cons (callAt feed) n j (j + 1) h eb ea er e, next e) at i))
+    board-next {l} {v} d e f ev w et m i y x z = go (List·Memᴰ·cases-cons (rw (later-cons (callAt feed) n j (j + 1) h eb ea er e, later-next e) at i))
       where
         go : (m ≡ j + 1) ⊎ List·Memᴰ m (laterFrom (callAt feed) n (j + 1) (j + 1 + 1)) → t ≤ arrivalOf (targetWalk feed x) (callAt feed m .arrival)
         go (inl q) = let g = w (rw q at y) x (rw q at z) in rw q (omega arith)

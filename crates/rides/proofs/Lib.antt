@@ -1,4 +1,6 @@
+pub mod RowLaws
 pub mod LoopLaws
 pub mod AgreeLaws
 pub mod BoundLaws
 pub mod SkipLaws
+pub mod ReachLaws

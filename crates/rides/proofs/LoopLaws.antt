@@ -18,7 +18,7 @@ use Rattle.candidate.proofs.OfferLaws.{offers-late}
 use Rattle.state.proofs.ViewLaws.{view-is-refused}
 use Rattle.feed.specs.declared.FeedCall.{FeedCall}
 use Rattle.feed.specs.Feed.{sameRun}
-use Rattle.rides.specs.Rows.{overBits, overCalls, overRun, laterFrom}
+use Rattle.rides.specs.Loops.{overBits, overCalls, overRun, laterFrom}
 use Rattle.rides.specs.Offered.{offerAll, Offered}
 
 -- what is left to offer, from the present state, gives what all of it gives from the first

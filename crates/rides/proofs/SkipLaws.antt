@@ -18,7 +18,8 @@ use Rattle.state.specs.View.{view}
 use Rattle.candidate.specs.Offer.{passedOver}
 use Rattle.candidate.proofs.PassedLaws.{cov-no-later, offers-covered}
 use Rattle.feed.specs.declared.FirstRide.{FirstRide}
-use Rattle.rides.specs.Rows.{overBits, overCalls, overRun, laterFrom, changeRow, lastAt, lastAlightRows, lastBoardRows, changeRows}
+use Rattle.rides.specs.Rows.{changeRow}
+use Rattle.rides.specs.Loops.{overBits, overCalls, overRun, laterFrom, lastAt, lastAlightRows, lastBoardRows, changeRows}
 use Rattle.feed.specs.Feed.{callAt, changeAt, targetMask, joined}
 use Rattle.rides.specs.Sheets.{joinsOf, sheetOf}
 use Rattle.rides.specs.Offered.{offerAll, Offered}

@@ -1,13 +1,11 @@
--- The rows that a search offers, as a flat list by the places of the calls. "For each boarding call in order, then each origin of its stop (a stop's
--- origins are taken lowest set bit first), then each alighting call: boarding needs departure at or above walk × 60. First the direct journeys by
--- target; then, with `max_transfers` 1, each last ride by boarding call, alighting call and target, if it joins." The join is tested once for each
--- boarding call of a last ride.
-use mathlib.Core.Bool.{Bool, cond}
-use mathlib.Core.List.{List, [], _∷_, _++_}
-use Prim.Native.Nat.{ℕ, _+_, _-_, _*_}
-use lib.Dec.{eqb, leb}
-use Rattle.laws.specs.Lists.{concatMap, takeWhile, span}
+-- The rows that a search offers, by the places of the calls in order: `journeys` of crate `ways` lists them. Here stands what a place is to it.
+use mathlib.Core.Bool.{Bool}
+use mathlib.Core.List.{List}
+use Prim.Native.Nat.{ℕ, _*_}
+use lib.Dec.{leb}
+use Rattle.laws.specs.Lists.{filterb, span}
 use Rattle.laws.specs.Bits.{bitsOf}
+use Rattle.ways.specs.Rides.{Leg, First, Network, journeys}
 use Rattle.profile.specs.declared.Row.{Row}
 use Rattle.profile.specs.Journeys.{rowOf}
 use Rattle.feed.specs.declared.FeedCall.{FeedCall}
@@ -26,23 +24,6 @@ pub record Sheet : Type 0 where
 -- whether a first ride joins a ride that boards at a place
 abbrev pub Joins : Type 0
 Joins = FirstRide → ℕ → Bool
-
--- ---- the three ways that a loop goes, each from where it stands
-
--- the set digits of a mask
-unfoldable pub overBits : (ℕ → List Row) → ℕ → List Row
-overBits g m = concatMap g (bitsOf m)
-
--- the places from i up to n, n left out
-unfoldable pub overCalls : (ℕ → List Row) → ℕ → ℕ → List Row
-overCalls g n i = concatMap g (span i (n - i))
-
--- the places from j up to n, as far as their calls are of the trip and day of the call at i
-unfoldable pub laterFrom : (ℕ → FeedCall) → ℕ → ℕ → ℕ → List ℕ
-laterFrom at n i j = takeWhile (λ k. sameRun (at i) (at k)) (span j (n - j))
-
-unfoldable pub overRun : (ℕ → List Row) → (ℕ → FeedCall) → ℕ → ℕ → ℕ → List Row
-overRun g at n i j = concatMap g (laterFrom at n i j)
 
 -- ---- rides and rows
 
@@ -69,37 +50,28 @@ directRow s f x = rowOf (f .leave) (arrivalOf (s .target-walk x) (f .arrival)) 1
 unfoldable pub changeRow : Sheet → FirstRide → ℕ → ℕ → ℕ → Row
 changeRow s f j m x = rowOf (f .leave) (arrivalOf (s .target-walk x) (s .at m .arrival)) 2 (f .walk) (f .origin) x (f .board) (f .alight) j m
 
--- ---- the rows, from the innermost: each names what one turn of a loop offers. n: how many calls there are
+-- the rows of a first ride, alone and with a last ride
+abbrev pub firstAt : Sheet → First ℕ → FirstRide
+firstAt s f = firstOf s (f .ride .b) (f .o) (f .ride .a)
 
-unfoldable pub lastAt : Sheet → FirstRide → ℕ → ℕ → ℕ → List Row
-lastAt s f j m x = changeRow s f j m x ∷ []
+abbrev pub directBy : Sheet → First ℕ → ℕ → Row
+directBy s f x = directRow s (firstAt s f) x
 
-unfoldable pub lastAlightRows : Sheet → FirstRide → ℕ → ℕ → List Row
-lastAlightRows s f j m = cond (s .at m .alight) (overBits (lastAt s f j m) (s .targets (s .at m .stop))) []
+abbrev pub changeBy : Sheet → First ℕ → Leg ℕ → ℕ → Row
+changeBy s f l x = changeRow s (firstAt s f) (l .b) (l .a) x
 
-unfoldable pub lastBoardRows : Sheet → Joins → ℕ → FirstRide → ℕ → List Row
-lastBoardRows s joins n f j = cond (s .at j .board) (cond (joins f j) (overRun (lastAlightRows s f j) (s .at) n j (j + 1)) []) []
+-- what the rides are made of; a join reads no origin, so the first is named
+unfoldable pub networkOf : Sheet → Joins → Network ℕ
+networkOf s joins =
+    record {
+      same = λ i k. sameRun (s .at i) (s .at k);
+      board = λ i. s .at i .board;
+      alight = λ i. s .at i .alight;
+      origins = λ i. filterb (λ o. leb (s .origin-walk o * 60) (s .at i .departure)) (bitsOf (s .origins (s .at i .stop)));
+      targets = λ i. bitsOf (s .targets (s .at i .stop));
+      joins = λ r j. joins (firstOf s (r .b) 0 (r .a)) j;
+    }
 
--- with max_transfers 1, each last ride
-unfoldable pub changeRows : Sheet → Joins → ℕ → ℕ → FirstRide → List Row
-changeRows s joins depth n f = cond (eqb depth 1) (overCalls (lastBoardRows s joins n f) n 0) []
-
-unfoldable pub directAt : Sheet → FirstRide → ℕ → List Row
-directAt s f x = directRow s f x ∷ []
-
-unfoldable pub directRows : Sheet → FirstRide → List Row
-directRows s f = overBits (directAt s f) (s .targets (f .stop))
-
--- first the direct journeys, then those with a change
-unfoldable pub alightRows : Sheet → Joins → ℕ → ℕ → ℕ → ℕ → ℕ → List Row
-alightRows s joins depth n i o k = cond (s .at k .alight) (directRows s (firstOf s i o k) ++ changeRows s joins depth n (firstOf s i o k)) []
-
-unfoldable pub originRows : Sheet → Joins → ℕ → ℕ → ℕ → ℕ → List Row
-originRows s joins depth n i o = cond (leb (s .origin-walk o * 60) (s .at i .departure)) (overRun (alightRows s joins depth n i o) (s .at) n i (i + 1)) []
-
-unfoldable pub boardRows : Sheet → Joins → ℕ → ℕ → ℕ → List Row
-boardRows s joins depth n i = cond (s .at i .board) (overBits (originRows s joins depth n i) (s .origins (s .at i .stop))) []
-
--- every row, in order
+-- every row, in order. n: how many calls there are
 unfoldable pub rows : Sheet → Joins → ℕ → ℕ → List Row
-rows s joins depth n = overCalls (boardRows s joins depth n) n 0
+rows s joins depth n = journeys (networkOf s joins) (directBy s) (changeBy s) depth (span 0 n)

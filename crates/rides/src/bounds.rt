@@ -25,7 +25,7 @@ pub fn bound_at(bounds: &[u16; 1024], p: usize) -> u16
     bounds[p]
 }
 
-fn earlier(a: u16, b: u16) -> u16
+pub fn earlier(a: u16, b: u16) -> u16
     ensures { λ r. ⌜ r ≡ min a b ⌝ }
 {
     if a < b { a } else { b }
@@ -57,7 +57,7 @@ fn target_bound(feed: &[u16; 3208], a: u16, mask: u8) -> u16
 }
 
 // The same of the targets of the stop at place m, if one can alight there.
-fn alight_bound(feed: &[u16; 3208], m: usize) -> u16
+pub fn alight_bound(feed: &[u16; 3208], m: usize) -> u16
     requires { ⌜ m < 512 ⌝ }
     ensures { λ r. ⌜ AtCall (now (feed .entry)) m r ⌝ }
 {

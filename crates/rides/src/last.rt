@@ -1,7 +1,7 @@
 // Last rides: what is offered after a first ride, with a change.
 ghost use mathlib.Core.Path.{_≡_};
 ghost use Prim.Native.Nat.{_+_, _≤_, _<_};
-ghost use Rattle.rides.specs.Rows.{overBits, overCalls, overRun, lastAt, lastAlightRows, lastBoardRows, changeRows};
+ghost use Rattle.rides.specs.Loops.{overBits, overCalls, overRun, lastAt, lastAlightRows, lastBoardRows, changeRows};
 ghost use Rattle.feed.specs.Feed.{callAt};
 ghost use Rattle.rides.specs.Sheets.{joinsOf, sheetOf};
 ghost use Rattle.rides.specs.Bounds.{Bounds};

@@ -3,4 +3,5 @@ mod bits;
 mod bounds;
 mod last;
 pub mod paths;
+pub mod reach;
 mod reads;

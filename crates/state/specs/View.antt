@@ -7,7 +7,7 @@ use Prim.Native.Nat.{ℕ, _+_, _*_, min}
 use lib.Dec.{eqb}
 use lib.ListN.{getD, length, take}
 use Rattle.profile.specs.declared.Row.{Row}
-use Rattle.laws.specs.Arrays.{tab}
+use Rattle.laws.specs.Tables.{table}
 use Rattle.profile.specs.Kept.{St, going, refused}
 use Rattle.profile.specs.Journeys.{row}
 
@@ -23,7 +23,7 @@ rowAt l i = slot l i
 
 -- every slot
 unfoldable pub rows : List ℕ → List Row
-rows l = tab (rowAt l) 65 0
+rows l = table 65 (rowAt l)
 
 -- how many are kept: the number stored, read as 64 if it is more
 unfoldable pub countOf : List ℕ → ℕ

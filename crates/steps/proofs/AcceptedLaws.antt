@@ -18,7 +18,8 @@ use Rattle.search.specs.Search.{outcomeOf, settled, searchSpec}
 use Rattle.steps.specs.Steps.{Step, filling, search, stepped}
 use Rattle.steps.specs.Lists.{next, ran, start, startOf}
 use Rattle.steps.specs.Accepted.{takenAfter, ifRan, takenBefore, TableAccepted}
-use Rattle.steps.proofs.StepLaws.{searched-stays, search-runs, filled-searched, taken-searches, untaken-stays}
+use Rattle.search.proofs.RunLaws.{search-runs, untaken-stays}
+use Rattle.steps.proofs.StepLaws.{searched-stays, filled-searched, taken-searches}
 use Rattle.steps.proofs.HeldLaws.{step-sound}
 
 -- a search keeps the settings
@@ -84,6 +85,6 @@ start-settings [] p l e = e
 start-settings (x ∷ xs) p l e = start-settings xs (Option·getD (ran l x) p) (next l x) (ran-settings l p x e ∙ sym (step-settings l x)) ∙ step-settings l x
 
 pub table-accepted : TableAccepted
-table-accepted s xs =
-    accepted-shows xs (opened s) (opened s) [] [] (open-sound s) (opened-shows s) (λ u. opened-shows s)
-    ∙ ap (λ (x : Settings). windowed x (startOf s xs .«table_horizon») (takenBefore [] [] (opened s) xs)) (start-settings xs (opened s) (opened s) refl ∙ opened-settings s)
+table-accepted o xs =
+    accepted-shows xs (opened o) (opened o) [] [] (open-sound o) (opened-shows o) (λ u. opened-shows o)
+    ∙ ap (λ (x : Settings). windowed x (startOf o xs .«table_horizon») (takenBefore [] [] (opened o) xs)) (start-settings xs (opened o) (opened o) refl ∙ opened-settings o)

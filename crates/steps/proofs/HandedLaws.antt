@@ -9,7 +9,7 @@ use Rattle.laws.proofs.Bools.{or-false-right}
 use Rattle.settings.specs.declared.Settings.{Settings}
 use Rattle.settings.specs.Settings.{overCounts, canonicalOf}
 use Rattle.load.specs.declared.Load.{Load}
-use Rattle.load.specs.Steps.{opened}
+use Rattle.load.specs.Steps.{Opening, opened}
 use Rattle.load.specs.Sound.{Opens, Sound}
 use Rattle.load.proofs.SoundLaws.{open-sound}
 use Rattle.load.proofs.ClockLaws.{open-fails}
@@ -31,14 +31,15 @@ list-settings (x ∷ xs) l = list-settings xs (stepped l x .load) ∙ step-setti
 pub handed-sound : HandedSound
 handed-sound s xs o = (list-settings xs (opened s) ∙ opened-settings s, list-sound xs (opened s) (open-sound s))
 
-opens-within : (s : Settings) → Opens s → s .«transfer_seconds» ≤ 15300
+opens-within : (o : Opening) → Opens o → o .settings .«transfer_seconds» ≤ 15300
 unfolding overCounts
-opens-within s o =
+opens-within o w =
+    let s = o .settings in
     ltb-false 15300 (s .«transfer_seconds»)
-    (or-false-right (ltb 1 (s .«max_transfers»)) _ (or-false-right (ltb 4 (s .targets)) _ (or-false-right (ltb 4 (s .origins)) _ (open-fails s o .0))))
+    (or-false-right (ltb 1 (s .«max_transfers»)) _ (or-false-right (ltb 4 (s .targets)) _ (or-false-right (ltb 4 (s .origins)) _ (open-fails o w .0))))
 
 pub change-in-range : ChangeInRange
 unfolding canonicalOf
 change-in-range s xs o =
-    let e : endOf s xs .settings .«transfer_seconds» ≡ s .«transfer_seconds» = ap (λ (z : Settings). z .«transfer_seconds») (handed-sound s xs o .0) in
+    let e : endOf s xs .settings .«transfer_seconds» ≡ s .settings .«transfer_seconds» = ap (λ (z : Settings). z .«transfer_seconds») (handed-sound s xs o .0) in
     omega (arith, e, opens-within s o)

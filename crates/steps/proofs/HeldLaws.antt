@@ -3,12 +3,11 @@ use mathlib.Core.Path.{_≡_, refl, sym, ap, subst, _∙_}
 use mathlib.Core.Bool.{Bool, true, false, cond}
 use mathlib.Core.Option.{Option, none, some, Option·some-injective, Option·none-ne-some, Option·some-ne-none}
 use Rattle.refusal.specs.First.{isTaken}
-use Rattle.settings.specs.declared.Settings.{Settings}
 use Rattle.offers.specs.Machine as machines
-use Rattle.offers.proofs.MachineLaws.{meets-2, meets-3}
+use Rattle.offers.proofs.MachineLaws.{meets-2, meets-3, meets-within, kept-stands as machine-stands}
 use Rattle.load.specs.declared.Load.{Load}
-use Rattle.load.specs.Steps.{opened}
-use Rattle.load.specs.Load.{emptyLoad}
+use Rattle.load.specs.Steps.{Opening, opened}
+use Rattle.load.specs.Load.{emptyOf}
 use Rattle.load.specs.Sound.{Sound}
 use Rattle.load.proofs.SoundLaws.{open-sound, fill-keeps-sound}
 use Rattle.best.specs.Best.{keptOf}
@@ -16,13 +15,15 @@ use Rattle.search.specs.Search.{searchSpec}
 use Rattle.steps.specs.Steps.{Step, filling, search, stepped}
 use Rattle.steps.specs.Lists.{next, ran}
 use Rattle.steps.specs.Held.{SearchedHolds, BestAgrees}
+use Rattle.steps.specs.Within.{KeptStands, AgreesWithin}
 use Rattle.steps.specs.Machine.{machine}
-use Rattle.steps.proofs.SearchSound.{search-sound}
-use Rattle.steps.proofs.StepLaws.{searched-stays, sound-timed, sound-in-time, sound-near, sound-near-new, best-asks, best-none, filled-searched, taken-searches, untaken-stays}
+use Rattle.search.proofs.SearchSound.{search-sound}
+use Rattle.search.proofs.RunLaws.{sound-timed, untaken-stays}
+use Rattle.steps.proofs.StepLaws.{searched-stays, sound-in-time, sound-near, sound-near-new, best-asks, best-none, filled-searched, taken-searches}
 
-opened-new : (s : Settings) → opened s .searched ≡ false
-unfolding emptyLoad
-opened-new s = refl
+opened-new : (o : Opening) → opened o .searched ≡ false
+unfolding emptyOf
+opened-new o = refl
 
 pub step-sound : (l : Load) (x : Step) → Sound l → Sound (stepped l x .load)
 step-sound l (filling x) s = fill-keeps-sound l x s
@@ -80,3 +81,9 @@ searched-holds s xs o d = let w = meets-2 machine steps s xs o d d in record { u
 
 pub best-agrees : BestAgrees
 best-agrees s s′ xs xs′ n o o′ = meets-3 machine steps s s′ xs xs′ n o o′ (λ d. d) (λ d. d)
+
+pub kept-stands : KeptStands
+kept-stands s xs o d = machine-stands machine steps s xs o d d
+
+pub agrees-within : AgreesWithin
+agrees-within s s′ xs xs′ w w′ o o′ d d′ l l′ = meets-within machine steps s s′ xs xs′ w w′ o o′ d d d′ d′ l l′

@@ -1,6 +1,6 @@
 -- What the machine's steps do to a load: a searched load stays, only a search searches, and best reads what is kept.
 use Prim.Native.Nat.{ℕ, _+_, _-_, _≤_}
-use mathlib.Core.Path.{_≡_, refl, sym, ap, _∙_}
+use mathlib.Core.Path.{_≡_, refl, sym, ap, subst, _∙_}
 use mathlib.Core.Logic.{_⊎_, inl, inr}
 use mathlib.Core.Bool.{Bool, true, false, cond, _&&_, true≢false, false≢true}
 use mathlib.Core.Option.{Option, none, some}
@@ -12,7 +12,7 @@ use lib.IntN.{ℤ}
 use lib.ListN.{length, take, set, replicate}
 use lib.Seq.{take-append-seam}
 use Rattle.laws.specs.Lists.{padded}
-use Rattle.laws.proofs.Bools.{cond-by, cond-not, or-true-cases}
+use Rattle.laws.proofs.Bools.{cond-by, cond-not, or-true-cases, or-true-left}
 use Rattle.refusal.specs.declared.Refusal.the-variants.{AlreadySearched}
 use Rattle.refusal.specs.declared.Answer.{Answer}
 use Rattle.refusal.specs.declared.Answer.the-variants.{Refused}
@@ -20,7 +20,7 @@ use Rattle.refusal.specs.First.{First, hit, miss, isRefused, isTaken}
 use Rattle.profile.specs.declared.Journey.{Journey}
 use Rattle.profile.specs.Journeys.{noJourney, journeyFigures}
 use Rattle.profile.specs.Best.{bestℤ}
-use Rattle.calls.specs.Calls.{callTests}
+use Rattle.calls.specs.declared.CallInput.{CallInput}
 use Rattle.calls.specs.Sound.{All, oneOf, horizons, CallSound}
 use Rattle.calls.proofs.SoundLaws.{all-mem}
 use Rattle.rules.specs.Rules.{ruleTests}
@@ -31,17 +31,20 @@ use Rattle.transfer.specs.Changes.{joinsBy, joinOf}
 use Rattle.offers.specs.Order.{Timed}
 use Rattle.offers.specs.Admitted.{InTime}
 use Rattle.offers.specs.Search.{Outcome, clashing, falling, found, answerOf, searchOf}
+use Rattle.week.specs.Weeks.{serviceTests, exceptionTests}
 use Rattle.load.specs.declared.Load.{Load}
 use Rattle.load.specs.declared.Stepped.{Stepped}
 use Rattle.stops.specs.Taken.{stopOf}
 use Rattle.rules.specs.Rules.{ruleOf}
 use Rattle.load.specs.Load.{withStops, withRules, withTable}
-use Rattle.load.specs.Steps.{stationIn, stopAnswer, stopSpec, callFitted, callSpec, ruleAnswer, ruleSpec}
-use Rattle.load.specs.Filling.{Filling, stop, call, rule, filled}
+use Rattle.load.specs.Steps.{stationIn, stopAnswer, stopSpec, callFitted, plainCall, ruleAnswer, ruleSpec, serviceSpec, exceptionSpec}
+use Rattle.load.specs.Filling.{Filling, stop, call, rule, service, exception, filled}
 use Rattle.load.specs.Sound.{Sound}
 use Rattle.load.proofs.AnswerLaws.{step-answered}
+use Rattle.load.proofs.TableLaws.{call-keeps}
 use Rattle.search.specs.Timetable.{changeIn, oneRun, timetableOf}
-use Rattle.search.specs.Search.{outcomeOf, settled, searchSpec}
+use Rattle.search.specs.Search.{outcomeOf, withJourneys, searchSpec}
+use Rattle.search.proofs.RunLaws.{search-again, taken-found}
 use Rattle.best.specs.Best as best
 use Rattle.best.proofs.QueryLaws.{best-of-all}
 use Rattle.steps.specs.Steps.{Step, filling, search, stepped}
@@ -53,34 +56,18 @@ first-holds (hit e) q = refl
 first-holds (miss e f) q = absurd (true≢false (sym q ∙ e))
 
 filled-stays : (l : Load) (x : Filling) → l .searched ≡ true → filled l x .load ≡ l
-unfolding stopTests callTests ruleTests
+unfolding stopTests ruleTests serviceTests exceptionTests
 filled-stays l (stop id name parent i) e = let w = step-answered l (stop id name parent i) in w .unchanged (ap isRefused (first-holds (w .first) e))
-filled-stays l (call i) e = let w = step-answered l (call i) in w .unchanged (ap isRefused (first-holds (w .first) e))
+filled-stays l (call name i) e = let w = step-answered l (call name i) in w .unchanged (ap isRefused (first-holds (w .first) e))
 filled-stays l (rule i) e = let w = step-answered l (rule i) in w .unchanged (ap isRefused (first-holds (w .first) e))
-
-abbrev again : Load → Stepped
-again l = record { answer = Refused AlreadySearched; load = l }
-
-abbrev ran : Load → Stepped
-ran l = record { answer = answerOf (outcomeOf l); load = settled l (outcomeOf l) }
-
-search-again : (l : Load) → l .searched ≡ true → searchSpec l ≡ again l
-unfolding searchSpec
-search-again l e = cond-by (again l) (ran l) e
-
-pub search-runs : (l : Load) → l .searched ≡ false → searchSpec l ≡ ran l
-unfolding searchSpec
-search-runs l e = cond-not (again l) (ran l) e
+filled-stays l (service name weekdays start end) e = let w = step-answered l (service name weekdays start end) in w .unchanged (ap isRefused (first-holds (w .first) (or-true-left (l .searched) (l .week .closed) e)))
+filled-stays l (exception name date kind) e = let w = step-answered l (exception name date kind) in w .unchanged (ap isRefused (first-holds (w .first) (or-true-left (l .searched) (l .week .closed) e)))
 
 pub searched-stays : (l : Load) (x : Step) → l .searched ≡ true → stepped l x .load ≡ l
 searched-stays l (filling x) e = filled-stays l x e
 searched-stays l search e = ap (λ (r : Stepped). r .load) (search-again l e)
 
 -- ---- the demands on a sound load
-
-pub sound-timed : (l : Load) → Sound l → Timed (timetableOf l .calls)
-unfolding timetableOf
-sound-timed l s x m = all-mem (CallSound (l .«table_horizon»)) (take (l .«call_count») (l .calls)) (s .table .each) x m .ordered
 
 joins-late : (c : Change) (a d : ℕ) → joinsBy c a d ≡ true → a ≤ d
 joins-late (Takes s) a d e = omega (arith, leb-true (a + s) d e)
@@ -135,12 +122,18 @@ either-searched : (m l : Load) (b : Bool) → m .searched ≡ l .searched → co
 either-searched m l true e = e
 either-searched m l false e = refl
 
+plain-searched : (l : Load) (i : CallInput) → plainCall l i .load .searched ≡ l .searched
+unfolding plainCall
+plain-searched l i = either-searched l (withTable l (callFitted l i .table)) (isRefused (callFitted l i .answer)) refl
+
 pub filled-searched : (l : Load) (x : Filling) → filled l x .load .searched ≡ l .searched
-unfolding stopSpec callSpec ruleSpec
+unfolding stopSpec ruleSpec serviceSpec exceptionSpec
 filled-searched l (stop id name parent i) =
     either-searched (withStops l (set (l .stops) (l .«stop_count») (stopOf id name (stationIn l parent i) i)) (l .«stop_count» + 1)) l (isTaken (stopAnswer l id name parent i)) refl
-filled-searched l (call i) = either-searched l (withTable l (callFitted l i .table)) (isRefused (callFitted l i .answer)) refl
+filled-searched l (call name i) = call-keeps (λ (m : Load). m .searched) l name i (λ m w. refl) (plain-searched l i)
 filled-searched l (rule i) = either-searched (withRules l (set (l .rules) (l .«rule_count») (ruleOf i)) (l .«rule_count» + 1)) l (isTaken (ruleAnswer l i)) refl
+filled-searched l (service name weekdays start end) = refl
+filled-searched l (exception name date kind) = refl
 
 -- what an accepted search found
 pub record Finds (l m : Load) : Type 0 where
@@ -149,45 +142,20 @@ pub record Finds (l m : Load) : Type 0 where
 kept-back : (ks : List Journey) → take (length ks) (padded noJourney 64 ks) ≡ ks
 kept-back ks = take-append-seam ks (replicate (64 - length ks) noJourney)
 
-search-finds : (l : Load) → l .searched ≡ false → searchSpec l .load .searched ≡ true → Finds l (searchSpec l .load)
-unfolding outcomeOf
-search-finds l u d = rw (search-runs l u) (go (outcomeOf l) refl (rw (search-runs l u) at d))
-  where
-    go : (o : Outcome) → searchOf (timetableOf l) (l .«table_horizon») (l .«table_limits») ≡ o → settled l o .searched ≡ true → Finds l (settled l o)
-    go clashing e q = absurd (true≢false (sym q ∙ u))
-    go falling e q = absurd (true≢false (sym q ∙ u))
-    go (found ks h m) e q = record { is = e ∙ (λ i. found (sym (kept-back ks) i) h m) }
-
 -- a search that is answered taken ran on a load not searched before, and leaves it searched
 pub record Searches (l : Load) : Type 0 where
   pub new : l .searched ≡ false
   pub searched : searchSpec l .load .searched ≡ true
   pub finds : Finds l (searchSpec l .load)
 
-outcome-searched : (l : Load) (o : Outcome) → isTaken (answerOf o) ≡ true → settled l o .searched ≡ true
-outcome-searched l clashing e = absurd (false≢true e)
-outcome-searched l falling e = absurd (false≢true e)
-outcome-searched l (found ks h m) e = refl
-
-outcome-stays : (l : Load) (o : Outcome) → isTaken (answerOf o) ≡ false → settled l o ≡ l
-outcome-stays l clashing e = refl
-outcome-stays l falling e = refl
-outcome-stays l (found ks h m) e = absurd (true≢false e)
-
 pub taken-searches : (l : Load) → isTaken (searchSpec l .answer) ≡ true → Searches l
-taken-searches l t = go (l .searched) refl
-  where
-    go : (b : Bool) → l .searched ≡ b → Searches l
-    go true e = absurd (true≢false (sym t ∙ ap (λ (r : Stepped). isTaken (r .answer)) (search-again l e)))
-    go false e =
-        let s : searchSpec l .load .searched ≡ true =
-        ap (λ (r : Stepped). r .load .searched) (search-runs l e) ∙ outcome-searched l (outcomeOf l) (sym (ap (λ (r : Stepped). isTaken (r .answer)) (search-runs l e)) ∙ t) in
-        record { new = e; searched = s; finds = search-finds l e s }
-
--- and one that is not leaves the load
-pub untaken-stays : (l : Load) → isTaken (searchSpec l .answer) ≡ false → searchSpec l .load ≡ l
-untaken-stays l t = go (l .searched) refl
-  where
-    go : (b : Bool) → l .searched ≡ b → searchSpec l .load ≡ l
-    go true e = searched-stays l search e
-    go false e = ap (λ (r : Stepped). r .load) (search-runs l e) ∙ outcome-stays l (outcomeOf l) (sym (ap (λ (r : Stepped). isTaken (r .answer)) (search-runs l e)) ∙ t)
+unfolding outcomeOf
+taken-searches l t =
+    let w = taken-found l t in
+    let m : Load = withJourneys l (w .kept) (w .to) (w .mark) in
+    let is : searchSpec l .load ≡ m = ap (λ (r : Stepped). r .load) (w .is) in
+    record {
+      new = w .new;
+      searched = ap (λ (n : Load). n .searched) is;
+      finds = subst (Finds l) (sym is) (record { is = w .outcome ∙ (λ i. found (sym (kept-back (w .kept)) i) (w .to) (w .mark)) });
+    }

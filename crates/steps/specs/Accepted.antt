@@ -2,13 +2,12 @@
 use mathlib.Core.Path.{_≡_}
 use mathlib.Core.Option.{Option, none, some}
 use mathlib.Core.List.{List, [], _∷_, _++_}
-use Rattle.settings.specs.declared.Settings.{Settings}
 use Rattle.settings.specs.Settings.{canonicalOf}
 use Rattle.calls.specs.declared.CallInput.{CallInput}
 use Rattle.calls.specs.Shown.{windowed, tableCalls}
 use Rattle.load.specs.declared.Load.{Load}
 use Rattle.load.specs.Load.{tableOf}
-use Rattle.load.specs.Steps.{opened}
+use Rattle.load.specs.Steps.{Opening, opened}
 use Rattle.load.specs.Table.{takenCall}
 use Rattle.steps.specs.Steps.{Step, filling, search}
 use Rattle.steps.specs.Lists.{next, ran, startOf}
@@ -30,5 +29,5 @@ takenBefore ps is l (x ∷ xs) = takenBefore (ifRan (ran l x) (takenAfter is l x
 
 -- the table that the admitted journeys are read from is those calls, each seen through the window at the table's horizon
 abbrev pub TableAccepted : Type 0
-TableAccepted = (s : Settings) (xs : List Step)
-    → tableCalls (tableOf (startOf s xs)) ≡ windowed (canonicalOf s) (startOf s xs .«table_horizon») (takenBefore [] [] (opened s) xs)
+TableAccepted = (o : Opening) (xs : List Step)
+    → tableCalls (tableOf (startOf o xs)) ≡ windowed (canonicalOf (o .settings)) (startOf o xs .«table_horizon») (takenBefore [] [] (opened o) xs)

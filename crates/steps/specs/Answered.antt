@@ -1,16 +1,15 @@
 -- Demand 1, step by step: a result, or one of the refusals for its stated cause alone; a refused load comes back unchanged.
 use mathlib.Core.Path.{_≡_}
 use mathlib.Core.Bool.{Bool, true}
-use mathlib.Core.List.{[], _∷_, map}
+use mathlib.Core.Option.{Option, none, some}
+use mathlib.Core.List.{List, [], _∷_, map}
 use Prim.Native.Nat.{ℕ}
 use Rattle.refusal.specs.declared.Answer.{Answer}
 use Rattle.refusal.specs.declared.Answer.the-variants.{Taken}
 use Rattle.refusal.specs.First.{First, AllFail, isRefused, answerNumber}
-use Rattle.settings.specs.declared.Settings.{Settings}
 use Rattle.calls.specs.Sound.{oneOf}
-use Rattle.settings.specs.Settings.{settingsTests}
 use Rattle.load.specs.declared.Load.{Load}
-use Rattle.load.specs.Steps.{openSpec, opened}
+use Rattle.load.specs.Steps.{Opening, openTests, openSpec, opened}
 use Rattle.load.specs.Sound.{Opens}
 use Rattle.steps.specs.Steps.{Step, stepped, causes, numbers}
 
@@ -29,11 +28,16 @@ pub record Answered (l : Load) (x : Step) : Type 0 where
   pub order : map number (causes l x) ≡ numbers x
   pub unchanged : isRefused (stepped l x .answer) ≡ true → stepped l x .load ≡ l
 
--- of any settings: the same; no load is handed in that could change
-pub record OpeningAnswered (s : Settings) : Type 0 where
-  pub first : First (openSpec s .answer) (settingsTests s)
-  pub taken : openSpec s .answer ≡ Taken → AllFail (settingsTests s)
-  pub listed : oneOf (answerNumber (openSpec s .answer)) (0 ∷ 1 ∷ 2 ∷ []) ≡ true
-  pub order : map number (settingsTests s) ≡ 1 ∷ 2 ∷ []
-  -- settings that are not sent back open the load that the lists of steps start from
-  pub opens : Opens s → openSpec s .load ≡ opened s
+-- 20 only with dates
+abbrev pub openNumbers : Option (List ℕ) → List ℕ
+openNumbers none = 1 ∷ 2 ∷ []
+openNumbers (some dates) = 1 ∷ 2 ∷ 20 ∷ []
+
+-- of any opening: the same; no load is handed in that could change
+pub record OpeningAnswered (o : Opening) : Type 0 where
+  pub first : First (openSpec o .answer) (openTests o)
+  pub taken : openSpec o .answer ≡ Taken → AllFail (openTests o)
+  pub listed : oneOf (answerNumber (openSpec o .answer)) (0 ∷ openNumbers (o .dates)) ≡ true
+  pub order : map number (openTests o) ≡ openNumbers (o .dates)
+  -- an opening that is not sent back gives the load that the lists of steps start from
+  pub opens : Opens o → openSpec o .load ≡ opened o

@@ -7,7 +7,6 @@ use mathlib.Core.Option.{Option}
 use mathlib.Core.List.{List, [], List·Memᴰ}
 use Prim.Native.Nat.{ℕ, min}
 use lib.IntN.{ℤ}
-use Rattle.settings.specs.declared.Settings.{Settings}
 use Rattle.profile.specs.declared.Journey.{Journey}
 use Rattle.profile.specs.Figures.{Figures, covᶠ, dueᶠ}
 use Rattle.profile.specs.Front.{front}
@@ -16,12 +15,13 @@ use Rattle.profile.specs.Best.{readBy, ordered}
 use Rattle.profile.specs.Journeys.{journeyFigures}
 use Rattle.offers.specs.Covered.{I64, CoveredBy}
 use Rattle.load.specs.declared.Load.{Load}
+use Rattle.load.specs.Steps.{Opening}
 use Rattle.load.specs.Sound.{Opens}
 use Rattle.best.specs.Best.{answerOf, keptOf, bestSpec}
 use Rattle.steps.specs.Steps.{Step}
 use Rattle.steps.specs.Lists.{endOf, startOf, Admitted, offersOf}
 
-pub record Holds (s : Settings) (xs : List Step) : Type 0 where
+pub record Holds (s : Opening) (xs : List Step) : Type 0 where
   -- the list is the unbeaten offers due by the horizon, the older of equals, by arrival, rides and walk, least first, then latest leave
   pub unbeaten : keptOf (endOf s xs) ≡ ordered journeyFigures (front (covᶠ journeyFigures) (dueᶠ journeyFigures) (endOf s xs .horizon) (offersOf s xs))
   -- what is offered is what is admitted
@@ -34,7 +34,7 @@ pub record Holds (s : Settings) (xs : List Step) : Type 0 where
 
 -- a searched load holds this
 abbrev pub SearchedHolds : Type 0
-SearchedHolds = (s : Settings) (xs : List Step) → Opens s → endOf s xs .searched ≡ true → Holds s xs
+SearchedHolds = (s : Opening) (xs : List Step) → Opens s → endOf s xs .searched ≡ true → Holds s xs
 
 -- best's answer, read as none if it is due after g, by its leave, arrival, rides and walk
 abbrev pub read : ℕ → Load → ℤ → Option Figures
@@ -42,7 +42,7 @@ read g l z = readBy journeyFigures g (answerOf (bestSpec l z))
 
 -- best agrees at every second exactly if each admits what equals or beats the other's; of any two lists, searched or not
 abbrev pub BestAgrees : Type 0
-BestAgrees = (s s′ : Settings) (xs xs′ : List Step) → s .now ≡ s′ .now → Opens s → Opens s′
+BestAgrees = (s s′ : Opening) (xs xs′ : List Step) → s .settings .now ≡ s′ .settings .now → Opens s → Opens s′
     → let g = min (endOf s xs .horizon) (endOf s′ xs′ .horizon) in
     ((z : ℤ) → I64 z → read g (endOf s xs) z ≡ read g (endOf s′ xs′) z)
     ↔ (CoveredBy g (Admitted s xs) (Admitted s′ xs′) × CoveredBy g (Admitted s′ xs′) (Admitted s xs))

@@ -3,5 +3,7 @@ pub mod Lists
 pub mod Answered
 pub mod Sound
 pub mod Held
+pub mod Within
 pub mod Machine
 pub mod Accepted
+pub mod Dated

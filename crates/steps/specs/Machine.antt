@@ -1,8 +1,7 @@
 -- The load and its steps as a machine of crate `offers`, over which demands 2 and 3 are proved.
-use Rattle.settings.specs.declared.Settings.{Settings}
 use Rattle.offers.specs.Machine.{Machine}
 use Rattle.load.specs.declared.Load.{Load}
-use Rattle.load.specs.Steps.{opened}
+use Rattle.load.specs.Steps.{Opening, opened}
 use Rattle.load.specs.Sound.{Opens}
 use Rattle.search.specs.Timetable.{timetableOf}
 use Rattle.best.specs.Best.{answerOf, keptOf, bestSpec}
@@ -11,11 +10,11 @@ use Rattle.steps.specs.Lists.{next, ran}
 
 abbrev pub machine : Machine
 machine = record {
-  Settings = Settings;
+  Settings = Opening;
   Load = Load;
   Step = Step;
   Opens = Opens;
-  now = λ s. s .now;
+  now = λ o. o .settings .now;
   opened = opened;
   step = next;
   ran = ran;

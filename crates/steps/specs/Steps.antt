@@ -6,10 +6,10 @@ use Rattle.refusal.specs.declared.Answer.{Answer}
 use Rattle.load.specs.declared.Load.{Load}
 use Rattle.load.specs.declared.Stepped.{Stepped}
 use Rattle.load.specs.Filling as fill
-use Rattle.load.specs.Filling.{Filling, stop, call, rule}
+use Rattle.load.specs.Filling.{Filling, stop, call, rule, service, exception}
 use Rattle.search.specs.Search.{searchSpec, searchCauses}
 
--- a stop, a call or a rule is handed in; or the load is searched
+-- a stop, a call, a rule, a service or an exception is handed in; or the load is searched
 pub data Step : Type 0 where
   filling : Filling → Step
   search : Step
@@ -24,9 +24,11 @@ abbrev pub causes : Load → Step → List (Bool × Answer)
 causes l (filling x) = fill.causes l x
 causes l search = searchCauses l
 
--- the numbers of those answers; 0 stands for outside, which a call meets by an absent time and by its window
+-- the numbers of those answers; 0 stands for outside, which a call meets by a service that doesn't run, by an absent time and by its window
 abbrev pub numbers : Step → List ℕ
 numbers (filling (stop id name parent i)) = 15 ∷ 3 ∷ 5 ∷ 6 ∷ 7 ∷ 8 ∷ 4 ∷ []
-numbers (filling (call i)) = 15 ∷ 9 ∷ 0 ∷ 10 ∷ 0 ∷ 11 ∷ []
+numbers (filling (call name i)) = 15 ∷ 9 ∷ 21 ∷ 0 ∷ 0 ∷ 10 ∷ 0 ∷ 11 ∷ []
 numbers (filling (rule i)) = 15 ∷ 9 ∷ 12 ∷ 13 ∷ 11 ∷ []
+numbers (filling (service name weekdays start end)) = 15 ∷ 3 ∷ 5 ∷ 20 ∷ 22 ∷ []
+numbers (filling (exception name date kind)) = 15 ∷ 20 ∷ 21 ∷ []
 numbers search = 15 ∷ 14 ∷ 11 ∷ []

@@ -7,7 +7,7 @@ use Rattle.settings.specs.declared.Settings.{Settings}
 use Rattle.stops.specs.declared.StopInput.{StopInput}
 use Rattle.load.specs.declared.Load.{Load}
 use Rattle.load.specs.declared.Stepped.{Stepped}
-use Rattle.load.specs.Steps.{openSpec, stopSpec}
+use Rattle.load.specs.Steps.{undated, openSpec, stopSpec}
 use Rattle.steps_c.specs.Steps.{plainSettings, plainStop, withStop, withRule, withCall, turns, callsHeld}
 
 pub stop-handed : (k : ℕ) (l : Load) {i : StopInput} {s : Stepped} → i ≡ plainStop → s ≡ stopSpec l (k ∷ 65 ∷ []) [] [] i → s .load ≡ withStop k l
@@ -25,9 +25,9 @@ module _ (step : ℕ → Load → Load) (left : ℕ) (l : Load) {all : Load} whe
   unfolding turns
   last-turn none so = sym (ap (λ (k : ℕ). turns k step l) none) ∙ so
 
-pub all-handed : (a b c : ℕ) {i : Settings} {s : Stepped} {x y z : Load} → i ≡ plainSettings → s ≡ openSpec i → x ≡ turns a withStop (s .load) → y ≡ turns b withRule x → z ≡ turns c withCall y
+pub all-handed : (a b c : ℕ) {i : Settings} {s : Stepped} {x y z : Load} → i ≡ plainSettings → s ≡ openSpec (undated i) → x ≡ turns a withStop (s .load) → y ≡ turns b withRule x → z ≡ turns c withCall y
     → z .«call_count» ≡ callsHeld a b c
 unfolding callsHeld
 all-handed a b c e o p q r =
     ap (λ (l : Load). l .«call_count»)
-    (r ∙ ap (turns c withCall) (q ∙ ap (turns b withRule) (p ∙ ap (λ (s : Stepped). turns a withStop (s .load)) (o ∙ ap openSpec e))))
+    (r ∙ ap (turns c withCall) (q ∙ ap (turns b withRule) (p ∙ ap (λ (s : Stepped). turns a withStop (s .load)) (o ∙ ap (λ (x : Settings). openSpec (undated x)) e))))

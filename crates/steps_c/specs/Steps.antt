@@ -12,7 +12,7 @@ use Rattle.rules.specs.declared.MinTime.the-variants.{Absent}
 use Rattle.calls.specs.declared.CallInput.{CallInput}
 use Rattle.calls.specs.declared.Seconds.the-variants.{Given}
 use Rattle.load.specs.declared.Load.{Load}
-use Rattle.load.specs.Steps.{openSpec, stopSpec, ruleSpec, callSpec}
+use Rattle.load.specs.Steps.{undated, openSpec, stopSpec, ruleSpec, callSpec}
 
 abbrev pub plainSettings : Settings
 plainSettings = record {
@@ -53,7 +53,7 @@ unfoldable pub withRule : ℕ → Load → Load
 withRule k l = ruleSpec l (plainRule k) .load
 
 unfoldable pub withCall : ℕ → Load → Load
-withCall k l = callSpec l (plainCall k) .load
+withCall k l = callSpec l [] (plainCall k) .load
 
 -- ---- many
 
@@ -63,4 +63,4 @@ turns zero step l = l
 turns (suc n) step l = turns n step (step n l)
 
 unfoldable pub callsHeld : ℕ → ℕ → ℕ → ℕ
-callsHeld stops rules calls = turns calls withCall (turns rules withRule (turns stops withStop (openSpec plainSettings .load))) .«call_count»
+callsHeld stops rules calls = turns calls withCall (turns rules withRule (turns stops withStop (openSpec (undated plainSettings) .load))) .«call_count»

@@ -22,7 +22,7 @@ pub fn parent_of(stops: [Stop; 128], count: usize, has: bool, parent: &[u8]) -> 
     Found::Nothing
 }
 
-fn id_wrong(id: &[u8]) -> bool
+pub fn id_wrong(id: &[u8]) -> bool
     ensures { λ r. ⌜ r ≡ idWrong (now (id .entry)) ⌝ }
 {
     if id.len() == 0 {

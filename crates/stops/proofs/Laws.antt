@@ -35,7 +35,7 @@ unfolding stopOf
 made id name f i a b m n p ea em eb en ep =
     λ t. record { id = ea t; «id_len» = em t; name = eb t; «name_len» = en t; named = i .named; parent = ep t; «location_type» = i .«location_type»; located = i .located; degrees = i .degrees; members = i .members }
 
-id-short : (id : List ℕ) → idWrong id ≡ false → length id ≤ 32
+pub id-short : (id : List ℕ) → idWrong id ≡ false → length id ≤ 32
 unfolding idWrong
 id-short id e = ltb-false 32 (length id) (or-false-right (eqb (length id) 0) (ltb 32 (length id)) e)
 

@@ -24,7 +24,7 @@ fn fill(out: &mut [u8], s: &[u8])
 }
 
 // The first 32 bytes, and 0 after them.
-fn text32(s: &[u8]) -> [u8; 32]
+pub fn text32(s: &[u8]) -> [u8; 32]
     ensures { λ r. ⌜ r ≡ heldText 32 (now (s .entry)) ⌝ }
 {
     let mut out = [0u8; 32];
@@ -41,7 +41,7 @@ fn text64(s: &[u8]) -> [u8; 64]
 }
 
 // The length of a text that is held in `most` bytes.
-fn length_to(s: &[u8], most: u8) -> u8
+pub fn length_to(s: &[u8], most: u8) -> u8
     ensures { λ r. ⌜ r ≡ length (take most (now (s .entry))) ⌝ }
 {
     if (most as usize) <= s.len() {

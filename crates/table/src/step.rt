@@ -39,7 +39,7 @@ fn is_absent(s: Seconds) -> bool
 }
 
 // Whether the load knows what the call names.
-fn is_known(stops: usize, input: CallInput) -> bool
+pub fn is_known(stops: usize, input: CallInput) -> bool
     ensures { λ r. ⌜ r ≡ known stops input ⌝ }
 {
     if stops <= input.stop as usize {

@@ -1,12 +1,13 @@
 -- The change between two stops doesn't depend on the order in which the rules were taken: the one of the highest rank is the same.
 use mathlib.Core.Path.{_≡_, refl, sym, ap, _∙_}
 use mathlib.Core.Bool.{true, false, true≢false}
-use mathlib.Core.List.{List, List·Memᴰ, List·Memᴰ·head, List·Memᴰ·tail, List·Permᴰ, Permᴰ·symm}
-use Prim.Native.Nat.{ℕ, suc, _<_}
+use mathlib.Core.List.{List, List·Memᴰ, List·Permᴰ, Permᴰ·symm}
+use Prim.Native.Nat.{ℕ, _<_}
 use native.Mathlib.Omega.{arith}
 use lib.ListN.{length, getD, take, length-take}
 use lib.Seq.{getD-take}
 use Rattle.laws.proofs.Sort.{perm-mem}
+pub use Rattle.laws.proofs.Lists.{mem-getD}
 use Rattle.rules.specs.declared.Rule.{Rule}
 use Rattle.rules.specs.Rules.{blankRule}
 use Rattle.rules.specs.Sound.{ruleAt, RulesSound}
@@ -18,12 +19,6 @@ use Rattle.transfer.specs.Changes.{endsOf, near, changeOf, transferOf}
 use Rattle.transfer.specs.Promises.{Right, TransferInAnyOrder}
 use Rattle.transfer.proofs.Choosing.{chosen-right, best-most, best-taken}
 use Rattle.transfer.proofs.Claims.{ranks-differ}
-
-module _ {A : Type 0} (d : A) where
-  -- an element of a list stands at some place
-  pub mem-getD : {x : A} {l : List A} → List·Memᴰ x l → (n : ℕ) × (n < length l) × (getD l n d ≡ x)
-  mem-getD (List·Memᴰ·head q) = (0, omega arith, sym q)
-  mem-getD (List·Memᴰ·tail m) = let (n, h, e) = mem-getD m in (suc n, omega arith, e)
 
 module _ (stops : ℕ) (rules : List Rule) (count : ℕ) (s : RulesSound stops rules count) where
   -- a rule taken stands at some place below the count

@@ -22,7 +22,7 @@ use Rattle.transfer.specs.Rows.{entryOf, changeRow}
 use Rattle.transfer.specs.declared.Ends.{Ends}
 use Rattle.transfer.specs.Choice.{side, applies, bit, rank}
 use Rattle.transfer.proofs.Laws.{bits}
-use Rattle.transfer.specs.Promises.{Ranked, RankRight, TypeThreeForbids, PairOnce, RanksDiffer, NoneNotNamed, RowJoins, ParentRead}
+use Rattle.transfer.specs.Promises.{RankRight, TypeThreeForbids, PairOnce, RanksDiffer, NoneNotNamed, RowJoins, ParentRead}
 
 pub type-three-forbids : TypeThreeForbids
 unfolding transferOf

@@ -12,7 +12,8 @@ use lib.ListN.{length, getD, take, set, length-set}
 use lib.Seq.{take-suc, getD-set-same, getD-set-other, ext-getD}
 use Rattle.laws.specs.Tables.{table}
 use Rattle.laws.proofs.Tables.{getD-table, length-table}
-use Rattle.laws.proofs.Stores.{stores, stores-long, stores-low, stores-in}
+use Rattle.laws.specs.Arrays.{puts}
+use Rattle.laws.proofs.Arrays.{length-puts, puts-low, puts-in}
 use Rattle.rules.specs.declared.Rule.{Rule}
 use Rattle.rules.specs.Rules.{blankRule}
 use Rattle.transfer.specs.Choice.{bit}
@@ -20,7 +21,7 @@ use Rattle.transfer.specs.Copied.{numbers, flatAt, flatRules, ruleAt, ru
 
 -- five numbers from a place on
 abbrev pub five : List ℕ → ℕ → ℕ → ℕ → ℕ → ℕ → ℕ → List ℕ
-five l at p q r s t = stores (set l at p) at 1 (q ∷ r ∷ s ∷ t ∷ [])
+five l at p q r s t = puts (set l at p) at 1 (q ∷ r ∷ s ∷ t ∷ [])
 
 timed-bit : (b : Bool) → eqb (bit b) 1 ≡ b
 timed-bit true = refl
@@ -28,12 +29,12 @@ timed-bit false = refl
 
 module _ (l : List ℕ) (i p q r s v : ℕ) where
   pub five-long : length (five l (i * 5) p q r s v) ≡ length l
-  five-long = stores-long (q ∷ r ∷ s ∷ v ∷ []) (set l (i * 5) p) (i * 5) 1 ∙ length-set l (i * 5) p
+  five-long = length-puts (q ∷ r ∷ s ∷ v ∷ []) (set l (i * 5) p) (i * 5) 1 ∙ length-set l (i * 5) p
 
   low : (x : ℕ) → x < i * 5 → getD (five l (i * 5) p q r s v) x 0 ≡ getD l x 0
   low x h =
       let n : x ≢ i * 5 = λ e. omega arith in
-      stores-low (q ∷ r ∷ s ∷ v ∷ []) (set l (i * 5) p) (i * 5) 1 x (omega arith) ∙ getD-set-other l (i * 5) x p 0 n
+      puts-low (q ∷ r ∷ s ∷ v ∷ []) (set l (i * 5) p) (i * 5) 1 x (omega arith) ∙ getD-set-other l (i * 5) x p 0 n
 
   -- the rules before it stay
   pub rule-before : (k : ℕ) → k < i → ruleAt (five l (i * 5) p q r s v) k ≡ ruleAt l k
@@ -53,9 +54,9 @@ rule-here l i x v e h k =
     let vs = x .to ∷ x .«transfer_type» ∷ x .seconds ∷ v ∷ [] in
     let m = set l (i * 5) (x .from) in
     let long : length m ≡ length l = length-set l (i * 5) (x .from) in
-    let at : (j : ℕ) → j < 4 → getD (stores m (i * 5) 1 vs) (i * 5 + (1 + j)) 0 ≡ getD vs j 0 = λ j b. stores-in vs m (i * 5) 1 j b (omega arith) in
+    let at : (j : ℕ) → j < 4 → getD (puts m (i * 5) 1 vs) (i * 5 + (1 + j)) 0 ≡ getD vs j 0 = λ j b. puts-in vs m (i * 5) 1 j b (omega arith) in
     λ t. record {
-      from = (stores-low vs m (i * 5) 1 (i * 5) (omega arith) ∙ getD-set-same l (i * 5) (x .from) 0 (omega arith)) t;
+      from = (puts-low vs m (i * 5) 1 (i * 5) (omega arith) ∙ getD-set-same l (i * 5) (x .from) 0 (omega arith)) t;
       to = at 0 (omega arith) t;
       «transfer_type» = (ap (λ (z : ℕ). z % 256) (at 1 (omega arith)) ∙ mod-eq-of-lt k) t;
       seconds = at 2 (omega arith) t;
@@ -71,13 +72,13 @@ five-here l i x v e h zero b =
     let vs = x .to ∷ x .«transfer_type» ∷ x .seconds ∷ v ∷ [] in
     let m = set l (i * 5) (x .from) in
     let z : i * 5 + 0 ≡ i * 5 = omega arith in
-    ap (λ (k : ℕ). getD (stores m (i * 5) 1 vs) k 0) z ∙ stores-low vs m (i * 5) 1 (i * 5) (omega arith) ∙ getD-set-same l (i * 5) (x .from) 0 (omega arith)
+    ap (λ (k : ℕ). getD (puts m (i * 5) 1 vs) k 0) z ∙ puts-low vs m (i * 5) 1 (i * 5) (omega arith) ∙ getD-set-same l (i * 5) (x .from) 0 (omega arith)
 five-here l i x v e h (suc j) b =
     let vs = x .to ∷ x .«transfer_type» ∷ x .seconds ∷ v ∷ [] in
     let m = set l (i * 5) (x .from) in
     let long : length m ≡ length l = length-set l (i * 5) (x .from) in
     let z : i * 5 + suc j ≡ i * 5 + (1 + j) = omega arith in
-    ap (λ (k : ℕ). getD (stores m (i * 5) 1 vs) k 0) z ∙ stores-in vs m (i * 5) 1 j (omega arith) (omega arith)
+    ap (λ (k : ℕ). getD (puts m (i * 5) 1 vs) k 0) z ∙ puts-in vs m (i * 5) 1 j (omega arith) (omega arith)
     ∙ ap (λ (y : ℕ). getD (x .to ∷ x .«transfer_type» ∷ x .seconds ∷ y ∷ []) j 0) e
 
 -- one rule more

@@ -2,6 +2,7 @@
 use native.Mathlib.Omega.{arith}
 use Rattle.state.proofs.ViewLaws.{few}
 use Rattle.candidate.proofs.StepLaws.{packs-from}
+use Rattle.candidate.proofs.TurnLaws.{place-of}
 use Rattle.candidate.proofs.OfferLaws.{offered-passed, offered-added, packed-open}
 use Rattle.candidate.proofs.walked.Statement.{statement}
 use Rattle.candidate.proofs.walked.Tie as tie
@@ -39,7 +40,7 @@ pack-requires : tie.Need-pack-requires
 pack-requires c κs =
     let q = c .before .before .before in
     let p = q .before .before .pre in
-    packs-from _ _ _ _ (p .3) (q .first-near .ensures .0) (p .0)
+    packs-from _ _ _ _ (p .3) (place-of _ _ _ (q .first-near .ensures .2) (q .first-near .ensures .0)) (p .0)
 
 added-requires : tie.Need-added-requires
 added-requires c κs =

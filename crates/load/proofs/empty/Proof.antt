@@ -17,7 +17,7 @@ no-journey-requires : tie.Need-no-journey-requires
 no-journey-requires c κs = search needs
 
 returns : tie.Need-returns
-returns c = empty-made _ _ _ _ _ (c .before .before .before .blank-stop .ensures) (c .before .before .blank-call .ensures) (c .before .blank-rule .ensures) (c .no-journey .ensures)
+returns c = empty-made _ _ _ _ _ _ (c .before .before .before .blank-stop .ensures) (c .before .before .blank-call .ensures) (c .before .blank-rule .ensures) (c .no-journey .ensures)
 
 pub empty-spec : {M : Type 1} → statement M
 empty-spec =

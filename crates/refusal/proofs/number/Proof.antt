@@ -61,6 +61,21 @@ enum-told-18 c = search needs
 enum-told-19 : tie.Need-enum-told-19
 enum-told-19 c = search needs
 
+enum-told-20 : tie.Need-enum-told-20
+enum-told-20 c = search needs
+
+enum-told-21 : tie.Need-enum-told-21
+enum-told-21 c = search needs
+
+enum-told-22 : tie.Need-enum-told-22
+enum-told-22 c = search needs
+
+enum-told-23 : tie.Need-enum-told-23
+enum-told-23 c = search needs
+
+enum-told-24 : tie.Need-enum-told-24
+enum-told-24 c = search needs
+
 returns : tie.Need-returns
 returns c = rw (c .enum-told .given .1) refl
 
@@ -118,6 +133,21 @@ returns-18 c = rw (c .enum-told18 .given .1) refl
 returns-19 : tie.Need-returns-19
 returns-19 c = rw (c .enum-told19 .given .1) refl
 
+returns-20 : tie.Need-returns-20
+returns-20 c = rw (c .enum-told20 .given .1) refl
+
+returns-21 : tie.Need-returns-21
+returns-21 c = rw (c .enum-told21 .given .1) refl
+
+returns-22 : tie.Need-returns-22
+returns-22 c = rw (c .enum-told22 .given .1) refl
+
+returns-23 : tie.Need-returns-23
+returns-23 c = rw (c .enum-told23 .given .1) refl
+
+returns-24 : tie.Need-returns-24
+returns-24 c = rw (c .enum-told24 .given .1) refl
+
 pub number-spec : {M : Type 1} → statement M
 number-spec =
     tie.close
@@ -141,6 +171,11 @@ number-spec =
     enum-told-17
     enum-told-18
     enum-told-19
+    enum-told-20
+    enum-told-21
+    enum-told-22
+    enum-told-23
+    enum-told-24
     returns
     returns-2
     returns-3
@@ -159,4 +194,9 @@ number-spec =
     returns-16
     returns-17
     returns-18
-    returns-19)
+    returns-19
+    returns-20
+    returns-21
+    returns-22
+    returns-23
+    returns-24)

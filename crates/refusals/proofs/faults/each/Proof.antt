@@ -1,4 +1,4 @@
--- The loop ends: it counts up to 64.
+-- The loop ends: it counts up to 81.
 use Prim.Native.Nat.{_≤_, _-_}
 use native.Mathlib.Omega.{arith}
 use borrow.Author.Needs.{needs}
@@ -6,10 +6,10 @@ use Rattle.refusals.proofs.faults.each.Statement.{statement}
 use Rattle.refusals.proofs.faults.each.Tie as tie
 
 abbrev Inv-loop : tie.InvT-loop
-Inv-loop step faults k₀ k = k ≤ 64
+Inv-loop step faults k₀ k = k ≤ 81
 
 abbrev μ-loop : tie.MeasureT-loop
-μ-loop step faults k₀ k = 64 - k
+μ-loop step faults k₀ k = 81 - k
 
 loop-holds : tie.Need-loop-holds Inv-loop μ-loop
 loop-holds c = omega arith

@@ -1,7 +1,7 @@
 -- `change_rides` meets its contract: every last ride, if changes are allowed; none is walked if every one would be passed over.
 use borrow.Author.Tests.{eq-eqb, ne-eqb}
 use borrow.Author.Needs.{needs}
-use Rattle.rides.specs.Rows.{changeRows}
+use Rattle.rides.specs.Loops.{changeRows}
 use Rattle.rides.proofs.LoopLaws.{nothing, seen-first, seen-last}
 use Rattle.rides.proofs.SkipLaws.{skip-changes}
 use Rattle.rides.proofs.last.change_rides.Statement.{statement}

@@ -1,6 +1,6 @@
 -- `last_alight` meets its contract: the targets of the stop, if the call is alightable.
 use borrow.Author.Needs.{needs}
-use Rattle.rides.specs.Rows.{lastAlightRows}
+use Rattle.rides.specs.Loops.{lastAlightRows}
 use Rattle.rides.specs.Sheets.{sheetOf}
 use Rattle.feed.proofs.FeedLaws.{targets-small}
 use Rattle.rides.proofs.LoopLaws.{nothing}

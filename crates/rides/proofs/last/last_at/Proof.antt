@@ -1,5 +1,6 @@
 -- `last_at` meets its contract.
-use Rattle.rides.specs.Rows.{lastAt, changeRow}
+use Rattle.rides.specs.Rows.{changeRow}
+use Rattle.rides.specs.Loops.{lastAt}
 use Rattle.rides.specs.Sheets.{sheetOf}
 use Rattle.rides.proofs.LoopLaws.{single}
 use borrow.Author.Needs.{needs}

@@ -1,7 +1,7 @@
 -- `last_board` meets its contract: the run's later calls, if the call is boardable, the first ride joins it and one due at its
 -- bound would not be passed over.
 use borrow.Author.Needs.{needs}
-use Rattle.rides.specs.Rows.{lastBoardRows}
+use Rattle.rides.specs.Loops.{lastBoardRows}
 use Rattle.feed.specs.Feed.{joined}
 use Rattle.rides.specs.Sheets.{joinsOf, sheetOf}
 use Rattle.rides.proofs.LoopLaws.{nothing, seen-first, seen-last}

@@ -2,7 +2,7 @@
 use Prim.Native.Nat.{_-_}
 use native.Mathlib.Omega.{arith}
 use borrow.Author.Needs.{needs}
-use Rattle.rides.specs.Rows.{overCalls, lastBoardRows}
+use Rattle.rides.specs.Loops.{overCalls, lastBoardRows}
 use Rattle.rides.specs.Sheets.{joinsOf, sheetOf}
 use Rattle.rides.proofs.LoopLaws.{Left, starts, stops, calls-turn, calls-done}
 use Rattle.rides.proofs.last.last_rides.Statement.{statement}

@@ -1,6 +1,6 @@
 -- `last_targets` meets its contract: a loop over the set digits of the mask.
 use borrow.Author.Needs.{needs}
-use Rattle.rides.specs.Rows.{overBits, lastAt}
+use Rattle.rides.specs.Loops.{overBits, lastAt}
 use Rattle.rides.specs.Sheets.{sheetOf}
 use Rattle.rides.proofs.LoopLaws.{InBits, bits-start, bits-low, bits-less, bits-turn, bits-done}
 use Rattle.rides.proofs.last.last_targets.Statement.{statement}

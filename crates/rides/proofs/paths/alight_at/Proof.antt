@@ -1,5 +1,5 @@
 -- `alight_at` meets its contract: if the call is alightable, the direct journeys, then those with a change.
-use Rattle.rides.specs.Rows.{alightRows}
+use Rattle.rides.specs.Loops.{alightRows}
 use Rattle.rides.specs.Sheets.{sheetOf}
 use Rattle.rides.proofs.LoopLaws.{nothing, both}
 use borrow.Author.Needs.{needs}

@@ -1,6 +1,6 @@
 -- `board_at` meets its contract: the origins of the stop, if the call is boardable.
 use borrow.Author.Needs.{needs}
-use Rattle.rides.specs.Rows.{boardRows}
+use Rattle.rides.specs.Loops.{boardRows}
 use Rattle.rides.specs.Sheets.{sheetOf}
 use Rattle.feed.proofs.FeedLaws.{origins-small}
 use Rattle.rides.proofs.LoopLaws.{nothing}

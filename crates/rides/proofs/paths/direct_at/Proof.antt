@@ -1,5 +1,6 @@
 -- `direct_at` meets its contract.
-use Rattle.rides.specs.Rows.{directAt, directRow}
+use Rattle.rides.specs.Rows.{directRow}
+use Rattle.rides.specs.Loops.{directAt}
 use Rattle.rides.specs.Sheets.{sheetOf}
 use Rattle.rides.proofs.LoopLaws.{single}
 use borrow.Author.Needs.{needs}

@@ -1,6 +1,6 @@
 -- `directs` meets its contract: a loop over the set digits of the stop's targets.
 use borrow.Author.Needs.{needs}
-use Rattle.rides.specs.Rows.{directAt, directRows}
+use Rattle.rides.specs.Loops.{directAt, directRows}
 use Rattle.rides.specs.Sheets.{sheetOf}
 use Rattle.feed.proofs.FeedLaws.{targets-small}
 use Rattle.rides.proofs.LoopLaws.{InBits, bits-start, bits-low, bits-less, bits-turn, bits-done}

@@ -2,8 +2,9 @@
 use Prim.Native.Nat.{_-_, _≤_}
 use native.Mathlib.Omega.{arith}
 use borrow.Author.Needs.{needs}
-use Rattle.rides.specs.Rows.{overCalls, boardRows, rows}
+use Rattle.rides.specs.Loops.{overCalls, boardRows}
 use Rattle.rides.specs.Sheets.{joinsOf, sheetOf, rowsOf}
+use Rattle.rides.proofs.RowLaws.{rows-of-loops}
 use Rattle.rides.proofs.LoopLaws.{Left, starts, stops, calls-turn, calls-done}
 use Rattle.rides.proofs.paths.endpoint_paths.Statement.{statement}
 use Rattle.rides.proofs.paths.endpoint_paths.Tie as tie
@@ -22,8 +23,7 @@ bounds-of-requires : tie.Need-bounds-of-requires Inv-loop μ-loop
 bounds-of-requires c κs = omega (arith, c .at-most-512 .ensures)
 
 loop-holds : tie.Need-loop-holds Inv-loop μ-loop
-unfolding rowsOf rows
-loop-holds c = (omega (arith, c .before .at-most-512 .ensures), rw (← c .before .at-most-512 .ensures) starts)
+loop-holds c = (omega (arith, c .before .at-most-512 .ensures), rw (rows-of-loops, ← c .before .at-most-512 .ensures) starts)
 
 is-refused-requires : tie.Need-is-refused-requires Inv-loop μ-loop
 is-refused-requires c κs = tt

@@ -1,6 +1,6 @@
 -- `origin_at` meets its contract: the run's later calls, if there is time to walk.
 use borrow.Author.Needs.{needs}
-use Rattle.rides.specs.Rows.{originRows}
+use Rattle.rides.specs.Loops.{originRows}
 use Rattle.rides.specs.Sheets.{sheetOf}
 use Rattle.rides.proofs.LoopLaws.{nothing}
 use Rattle.rides.proofs.paths.origin_at.Statement.{statement}

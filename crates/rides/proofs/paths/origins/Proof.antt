@@ -1,6 +1,6 @@
 -- `origins` meets its contract: a loop over the set digits of the mask.
 use borrow.Author.Needs.{needs}
-use Rattle.rides.specs.Rows.{overBits, originRows}
+use Rattle.rides.specs.Loops.{overBits, originRows}
 use Rattle.rides.specs.Sheets.{joinsOf, sheetOf}
 use Rattle.rides.proofs.LoopLaws.{InBits, bits-start, bits-low, bits-less, bits-turn, bits-done}
 use Rattle.rides.proofs.paths.origins.Statement.{statement}

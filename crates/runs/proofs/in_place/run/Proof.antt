@@ -13,20 +13,23 @@ stop-run-requires c κs = search needs
 returns : tie.Need-returns
 returns c = c .stop-run .ensures
 
-call-run-requires : tie.Need-call-run-requires
-call-run-requires c κs = search needs
-
 returns-2 : tie.Need-returns-2
-returns-2 c = c .call-run .ensures
+returns-2 c = left-first _ _
+
+call-run-requires : tie.Need-call-run-requires
+call-run-requires c κs = c .if3 .left
+
+returns-3 : tie.Need-returns-3
+returns-3 c = c .call-run .ensures
 
 rule-run-requires : tie.Need-rule-run-requires
 rule-run-requires c κs = search needs
 
-returns-3 : tie.Need-returns-3
-returns-3 c = c .rule-run .ensures
-
 returns-4 : tie.Need-returns-4
-returns-4 c = left-first _ _
+returns-4 c = c .rule-run .ensures
+
+returns-5 : tie.Need-returns-5
+returns-5 c = left-first _ _
 
 pub run-spec : {M : Type 1} → statement M
 run-spec =
@@ -35,8 +38,9 @@ run-spec =
     kind-ahead-requires
     stop-run-requires
     returns
-    call-run-requires
     returns-2
-    rule-run-requires
+    call-run-requires
     returns-3
-    returns-4)
+    rule-run-requires
+    returns-4
+    returns-5)

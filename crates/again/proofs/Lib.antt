@@ -1,0 +1,10 @@
+pub mod CodeLaws
+pub mod SortLaws
+pub mod SoundLaws
+pub mod OwnLaws
+pub mod WeekLaws
+pub mod BackLaws
+pub mod SearchedLaws
+pub mod AnswerLaws
+pub mod ClashLaws
+pub mod KeptLaws

@@ -1,0 +1,3 @@
+pub mod Again
+pub mod Causes
+pub mod Claims

@@ -1,0 +1,3 @@
+pub mod ShownLaws
+pub mod StepLaws
+pub mod HeldLaws

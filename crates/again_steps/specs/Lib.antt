@@ -1,0 +1,4 @@
+pub mod Steps
+pub mod Machine
+pub mod Claims
+pub mod Held

@@ -1,0 +1,3 @@
+pub mod Shapes
+pub mod Second
+pub mod Kinds

@@ -1,0 +1,3 @@
+pub mod RideLaws
+pub mod ImageLaws
+pub mod RouteLaws

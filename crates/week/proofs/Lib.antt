@@ -1,0 +1,4 @@
+pub mod PlaceLaws
+pub mod StepLaws
+pub mod Known
+pub mod SoundLaws

@@ -1,0 +1,3 @@
+pub mod Weeks
+pub mod Sound
+pub mod Steps

@@ -1,0 +1,4 @@
+pub mod RemovalLaws
+pub mod LeftLaws
+pub mod BackLaws
+pub mod ShownLaws

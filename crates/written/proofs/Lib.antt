@@ -1,0 +1,5 @@
+pub mod StopLaws
+pub mod RuleLaws
+pub mod CallLaws
+pub mod FillLaws
+pub mod EndLaws

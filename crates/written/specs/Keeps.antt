@@ -1,0 +1,37 @@
+-- Opening and every step keep what a written load needs, if the degrees handed in can be written.
+use mathlib.Core.List.{List, [], _∷_}
+use Rattle.load.specs.declared.Load.{Load}
+use Rattle.load.specs.Steps.{Opening, opened}
+use Rattle.load.specs.Filling.{Filling, stop, call, rule, service, exception, filled}
+use Rattle.load.specs.Sound.{Sound, Opens}
+use Rattle.search.specs.Search.{searchSpec}
+use Rattle.steps.specs.Steps.{Step, filling, search}
+use Rattle.steps.specs.Lists.{endOf}
+use Rattle.codec.specs.Kinds.{DegreesHeld}
+use Rattle.written.specs.Kept.{Kept, Whole}
+
+-- the degrees of a stop are f64s, as every float of the program is, and 0 where it has no position: a stop holds them as handed in
+abbrev pub GivesHeld : Filling → Type 0
+GivesHeld (stop id name parent i) = DegreesHeld (i .located) (i .degrees)
+GivesHeld (call name i) = Unit {0}
+GivesHeld (rule i) = Unit {0}
+GivesHeld (service name weekdays start end) = Unit {0}
+GivesHeld (exception name date kind) = Unit {0}
+
+abbrev pub AllGive : List Step → Type 0
+AllGive [] = Unit {0}
+AllGive (filling x ∷ xs) = GivesHeld x × AllGive xs
+AllGive (search ∷ xs) = AllGive xs
+
+abbrev pub OpenKept : Type 0
+OpenKept = (o : Opening) → Opens o → Kept (opened o)
+
+abbrev pub FillKeeps : Type 0
+FillKeeps = (l : Load) (x : Filling) → Sound l → Kept l → GivesHeld x → Kept (filled l x .load)
+
+abbrev pub SearchKeeps : Type 0
+SearchKeeps = (l : Load) → Kept l → Kept (searchSpec l .load)
+
+-- the load at the end of any list of steps
+abbrev pub EndWhole : Type 0
+EndWhole = (o : Opening) (xs : List Step) → Opens o → AllGive xs → Whole (endOf o xs)
