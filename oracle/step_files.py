@@ -17,8 +17,10 @@ NAMES = [b"Main Street", b"main  street", b"MAIN\tSTREET", b"Quay", b" ", b"", b
 
 class Maker(WeekMaker):
     # kinds of the steps between an opening and its search, and of those after it
-    WEIGHTS = {"stop": 5, "call": 12, "rule": 3, "search": 0.1, "best": 1, "next_after": 1, "service": 0.1, "exception": 0.1, "call_of": 1}
-    AFTER = {"stop": 1, "call": 1, "rule": 1, "search": 1, "best": 8, "next_after": 6, "service": 0.4, "exception": 0.4, "call_of": 0.6}
+    WEIGHTS = {"stop": 5, "call": 12, "rule": 3, "search": 0.1, "best": 1, "next_after": 1, "service": 0.1, "exception": 0.1, "call_of": 1,
+               "set_aside": 0.05, "display": 0.05, "best_of_group": 0.05, "next_of_group": 0.05}
+    AFTER = {"stop": 1, "call": 1, "rule": 1, "search": 1, "best": 8, "next_after": 6, "service": 0.4, "exception": 0.4, "call_of": 0.6,
+             "set_aside": 1, "display": 1, "best_of_group": 2, "next_of_group": 1}
     DATED = {**WEIGHTS, "call": 0.5, "call_of": 12, "service": 0.4, "exception": 0.4}   # as WEIGHTS, in a load with dates
 
     def __init__(self, rng):
@@ -126,6 +128,59 @@ class Maker(WeekMaker):
         leave = self.rng.choice([0, 65535, 65534, 21600, self.rng.randrange(6000), *[max(0, min(65535, self.leave()))] * 4])
         return record(13, struct.pack(">qH", self.second(), leave))
 
+    # --- displays ---
+    def group(self):
+        return self.usual(range(4), [4, 255], 0.03)
+
+    def set_aside(self):
+        return record(15, bytes([self.group()]))
+
+    def display(self):
+        return record(16)
+
+    def best_of_group(self):
+        return record(17, bytes([self.group()]), number("q")(self.second()))
+
+    def next_of_group(self):
+        return record(18, bytes([self.group()]), struct.pack(">qH", self.second(), max(0, min(65535, self.leave()))))
+
+    def list_of(self, now):
+        """A load of one start that keeps so many journeys, up to four of them with one arrival."""
+        rng = self.rng
+        self.forget()
+        parts = [record(1, b"\4\1\0\1\2\3\0", struct.pack(">HBqqqq", 0, 0, *[now] * 4))]
+        parts += [record(2, text(b"s%d" % i), b"\0\0\0\0", bytes([1 << i])) for i in range(5)]
+        leave, arrival = rng.randrange(200), rng.choice([900, 3530, 3560, 3580, 3590, 3599, 3600, 4000, 9000]) + rng.choice([0, 1, 2, 60])
+        count, trip, rise = rng.choice([0, 1, 8, 15, 16, 17, 18, 20, 30, 40, 47, 48, 49, 63, 64, 65, 66]), 0, rng.choice([1, 1, 3, 60])
+        while trip < count:
+            for walk in range(min(rng.choice([1, 1, 1, 2, 3, 4]), count - trip)):
+                self.leaves.append(leave)
+                parts += self.ride(trip, leave + 60 * walk, arrival, (walk, 4))
+                trip, leave = trip + 1, leave + rng.choice([1, 1, 2, 5])
+            arrival += rng.choice([1, 1, rise])
+        return parts + [self.search()] * (not self.seldom())
+
+    def aside_as(self, group):
+        return record(15, bytes([self.group() if self.seldom() else group]))
+
+    def asked(self):
+        weights = {"best_of_group": 6, "next_of_group": 3, "best": 1, "display": 0.1}
+        return [self.display()] + self.some(weights, self.rng.choice([0, 4, 12]))
+
+    def displayed(self):
+        """Up to four such lists, mostly of one start. Either a display of all of them, groups apart, or displays of each in several groups;
+        and its groups asked."""
+        rng, parts, now = self.rng, [], self.rng.choice([0, 1000, -5])
+        groups, apart = rng.sample(range(4), 4), rng.random() < 0.5
+        for i in range(rng.choice([1, 2, 2, 3, 3, 4, 4, 4])):
+            parts += self.list_of(now + self.seldom())
+            if apart:
+                parts += [self.aside_as(groups[i])]
+            else:
+                for _ in range(rng.choice([1, 2, 3])):
+                    parts += [self.aside_as(group) for group in rng.sample(groups, rng.choice([1, 2, 3, 4, 4]))] + self.asked()
+        return parts + self.asked() * apart
+
     # --- files ---
     def some(self, weights, count):
         return [getattr(self, name)() for name in self.rng.choices(list(weights), list(weights.values()), k=count)]
@@ -197,12 +252,20 @@ class Maker(WeekMaker):
         rng, parts = self.rng, []
         for _ in range(rng.choice([1, 1, 1, 2, 2, 3, 4])):
             way = rng.random()
-            one = self.many() if way < 0.003 else self.full() if way < 0.006 else self.changing() if way < 0.12 else self.load()
+            if way < 0.003:
+                parts += self.displayed()
+                continue
+            one = self.many() if way < 0.006 else self.full() if way < 0.009 else self.changing() if way < 0.12 else self.load()
             parts += self.dated_ones(one) if way < 0.12 and rng.random() < 0.4 else one
         if self.seldom():
             parts += self.some(self.WEIGHTS, 3)
             del parts[0]
         return FIRST + b"".join(parts)
+
+
+def made_display(rng):
+    """A file of one display."""
+    return FIRST + b"".join(Maker(rng).displayed())
 
 
 def made(rng):

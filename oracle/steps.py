@@ -6,7 +6,8 @@ usage: steps.py      step files on standard input, what `drive` is to print on s
 Input that begins with byte 83 is one step file; other input is a batch, with a line `.` after each file.
 A kind of record is one method of Steps and one line of KINDS.
 """
-import io, sys
+import copy, io, sys
+from displays import Dealing
 from fields import Fields, Refused
 from reader import batch, figures, spaced
 from reading import Journey, Reading
@@ -45,6 +46,15 @@ class StepFields(Fields):
     def next_after(self):
         return self.numbers("qH")
 
+    def group(self):
+        return self.number("B")
+
+    def best_of_group(self):
+        return self.numbers("Bq")
+
+    def next_of_group(self):
+        return self.numbers("BqH")
+
 
 class Steps:
     """The steps of one file. A method is handed a record's fields, and says the line that is printed."""
@@ -52,10 +62,14 @@ class Steps:
     KINDS = {1: ("settings", "settings", False), 2: ("stop", "stop", True), 3: ("call", "call", True), 4: ("rule", "rule", True),
              5: ("nothing", "search", True), 6: ("service", "service", True), 7: ("exception", "exception", True),
              10: ("call_of", "call_of", True), 11: ("dated", "dated", False),
-             12: ("best", "best", True), 13: ("next_after", "next_after", True)}
+             12: ("best", "best", True), 13: ("next_after", "next_after", True),
+             15: ("group", "set_aside", True), 16: ("nothing", "display", False), 17: ("best_of_group", "best_of_group", False),
+             18: ("next_of_group", "next_of_group", False)}
+    ASIDE = 4
 
-    def __init__(self, reading=None):
+    def __init__(self, reading=None, dealing=None):
         self.reading, self.load = reading or Reading(), None
+        self.dealing, self.aside, self.shown = dealing or Dealing(), [], {}
 
     def settings(self, settings):
         self.load = self.reading.open(settings)
@@ -111,6 +125,29 @@ class Steps:
     def next_after(self, asked):
         second, leave = asked
         return self.told(self.reading.next_after(self.load, second, Journey(leave, 0, 0, 0, 0, 0, [])))
+
+    # --- displays ---
+    def set_aside(self, number):
+        if len(self.aside) == self.ASIDE:
+            raise Malformed
+        self.aside.append((number, copy.copy(self.load)))
+        return "aside"
+
+    def display(self, _):
+        given, self.aside, self.shown = self.aside, [], {}
+        self.shown = self.dealing.display(given)
+        return " ; ".join(f"group {number} " + (f"window {group.horizon} shown {len(group.kept)}" if group else "refused 11")
+                          for number, group in self.shown.items())
+
+    def best_of_group(self, asked):
+        number, second = asked
+        group = self.shown.get(number)
+        return self.told(group and self.reading.best(group, second))
+
+    def next_of_group(self, asked):
+        number, second, leave = asked
+        group = self.shown.get(number)
+        return self.told(group and self.reading.next_after(group, second, Journey(leave, 0, 0, 0, 0, 0, [])))
 
     # --- records ---
     def record(self, body):

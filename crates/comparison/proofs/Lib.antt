@@ -30,5 +30,7 @@ pub mod SearchingLaws
 pub mod RunLaws
 pub mod DemandLaws
 pub mod WitnessLaws
+pub mod ShownLaws
+pub mod DisplayLaws
 pub mod MarkedLaws
 pub mod ProvedLaws

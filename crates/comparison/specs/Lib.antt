@@ -15,5 +15,6 @@ pub mod Causes
 pub mod Runs
 pub mod Demands
 pub mod Witness
+pub mod Displays
 pub mod Marked
 pub mod Proved

@@ -23,7 +23,7 @@ pub struct Turned {
     pub reader: Reader,
 }
 
-fn word(out: &mut [u8; 65536], at: usize, word: &[u8]) -> usize
+pub fn word(out: &mut [u8; 65536], at: usize, word: &[u8]) -> usize
     ensures { λ r. ⌜ r ≤ 65536 ⌝ }
 {
     let a = out::text(out, at, word);
@@ -41,7 +41,7 @@ fn told(out: &mut [u8; 65536], at: usize, a: Answer, good: &[u8]) -> usize
     }
 }
 
-fn refused(out: &mut [u8; 65536], at: usize, r: Refusal) -> usize
+pub fn refused(out: &mut [u8; 65536], at: usize, r: Refusal) -> usize
     ensures { λ r. ⌜ r ≤ 65536 ⌝ }
 {
     let a = out::text(out, at, b"refused");
@@ -141,7 +141,7 @@ fn of_week(out: &mut [u8; 65536], at: usize, reader: Reader, b: &[u8]) -> Turned
     }
 }
 
-fn found(out: &mut [u8; 65536], at: usize, f: Found) -> usize
+pub fn found(out: &mut [u8; 65536], at: usize, f: Found) -> usize
     ensures { λ r. ⌜ r ≤ 65536 ⌝ }
 {
     match f {

@@ -1,7 +1,10 @@
 // A step file from its first byte to the lines of its last load.
 ghost use Prim.Native.Nat.{_≤_};
 ghost use lib.ListN.{length};
-use crate::records::Turned;
+use crate::display_records::Board;
+use crate::display_records::display_step;
+use crate::display_records::empty_board;
+use crate::display_records::is_display;
 use crate::records::malformed;
 use crate::records::step;
 use fields::layout::kind_of;
@@ -51,27 +54,60 @@ fn record_end(bytes: &[u8], at: usize) -> usize
     at + 2 + size
 }
 
+// After a record: where the text goes on, the load, and what is set aside and shown; `going` unless the record is malformed.
+struct Run {
+    going: bool,
+    to: usize,
+    reader: Reader,
+    board: Board,
+}
+
+// A record of a display, or one of the load.
+fn record(out: &mut [u8; 65536], at: usize, reader: Reader, board: Board, b: &[u8]) -> Run {
+    if is_display(kind_of(b)) {
+        let t = display_step(out, at, reader, board, b);
+        let next = t.board;
+        return Run {
+            going: t.going,
+            to: t.to,
+            reader,
+            board: next,
+        };
+    }
+    let t = step(out, at, reader, b);
+    let after = t.reader;
+    Run {
+        going: t.going,
+        to: t.to,
+        reader: after,
+        board,
+    }
+}
+
 // A record with its length before it.
-fn whole(out: &mut [u8; 65536], at: usize, reader: Reader, b: &[u8]) -> Turned {
+fn whole(out: &mut [u8; 65536], at: usize, reader: Reader, board: Board, b: &[u8]) -> Run {
     let from = out::least(2, b.len());
-    step(out, at, reader, &b[from..])
+    record(out, at, reader, board, &b[from..])
 }
 
 // The records after the first byte, up to one that is malformed; then the load.
 fn records(out: &mut [u8; 65536], bytes: &[u8]) -> usize {
     let mut to: usize = 0;
     let mut reader = fresh();
+    let mut board = empty_board();
     let mut at: usize = 0;
     while at < bytes.len() {
         let end = record_end(bytes, at);
         if end <= at {
             return malformed(out, to);
         }
-        let t = whole(out, to, reader, &bytes[at..end]);
+        let t = whole(out, to, reader, board, &bytes[at..end]);
         to = t.to;
         if t.going {
             let after = t.reader;
             reader = after;
+            let next = t.board;
+            board = next;
             at = end;
         } else {
             return to;

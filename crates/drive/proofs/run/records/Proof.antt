@@ -7,13 +7,16 @@ use Rattle.drive.proofs.run.records.Statement.{statement}
 use Rattle.drive.proofs.run.records.Tie as tie
 
 abbrev Inv-loop : tie.InvT-loop
-Inv-loop out₀ bytes to₀ reader₀ at₀ out to reader at = at ≤ length bytes
+Inv-loop out₀ bytes to₀ reader₀ board₀ at₀ out to reader board at = at ≤ length bytes
 
 abbrev μ-loop : tie.MeasureT-loop
-μ-loop out₀ bytes to₀ reader₀ at₀ out to reader at = length bytes - at
+μ-loop out₀ bytes to₀ reader₀ board₀ at₀ out to reader board at = length bytes - at
 
 fresh-requires : tie.Need-fresh-requires Inv-loop μ-loop
 fresh-requires c κs = search needs
+
+empty-board-requires : tie.Need-empty-board-requires Inv-loop μ-loop
+empty-board-requires c κs = search needs
 
 loop-holds : tie.Need-loop-holds Inv-loop μ-loop
 loop-holds c = omega arith
@@ -61,6 +64,7 @@ records-spec =
     Inv-loop
     μ-loop
     fresh-requires
+    empty-board-requires
     loop-holds
     record-end-requires
     malformed-requires

@@ -1,0 +1,4 @@
+pub mod PartLaws
+pub mod DisplayLaws
+pub mod ListLaws
+pub mod PromiseLaws

@@ -1,0 +1,4 @@
+pub mod Parts
+pub mod Display
+pub mod Queries
+pub mod Promises
