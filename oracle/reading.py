@@ -1,4 +1,5 @@
 """Document 01 and requests 02, 05, 06, 07 and 09, read slowly: a method for each sentence, so that wrong.py can misread one at a time.
+Request 03 is in weeks.py, 11 in withdrawals.py.
 
 Written from the words of 01, its constants for the place test from `same_place_keys`, which 01 names as the definition.
 """
@@ -6,6 +7,7 @@ from collections import namedtuple
 from fields import Fields, first_cause
 from places import Places
 from weeks import Weeks
+from withdrawals import Withdrawals
 
 Call = namedtuple("Call", "trip day sequence stop arrival departure board alight board_request alight_request")
 Ride = namedtuple("Ride", "trip day src dst departure arrival board_request alight_request")
@@ -18,9 +20,10 @@ class Load:
         self.handed, self.table, self.answers = [], [], ""   # calls answered taken, and as the window leaves them
         self.horizon, self.limits, self.kept, self.places = 21600, 0, [], None
         self.dates, self.services, self.exceptions, self.answered = None, [], [], False   # request 03; whether a call was answered
+        self.before = None   # request 11: of a searched load, the load that was searched
 
 
-class Reading(Places, Weeks):
+class Reading(Places, Weeks, Withdrawals):
     ENDS, TRANSFERS, TIME, ID, NAME, STOPS, RULES, CALLS, LIST, LEAST = 4, 1, 2**40, 32, 64, 128, 128, 512, 64, 3600
     CHANGE = 15300   # seconds, request 05
 
@@ -128,8 +131,9 @@ class Reading(Places, Weeks):
     def bad_call(self, load, c):
         return c.stop >= len(load.stops) or c.trip == 65535 or c.day > 2 or c.pickup > 3 or c.drop_off > 3
 
-    def call(self, load, c, service=b""):
-        self.refuse("call", [(load.searched, 15), (self.bad_call(load, c), 9), (self.unknown_service(load, service), 21)])
+    def answer(self, load, c, service):
+        """A call on an unsearched load."""
+        self.refuse("call", [(self.bad_call(load, c), 9), (self.unknown_service(load, service), 21)])
         taken = self.taken_of(load, c, service)
         load.answers += "t" if taken else "o"
         load.answered = load.answered or self.is_answer(taken)
@@ -275,6 +279,7 @@ class Reading(Places, Weeks):
 
     def search(self, load):
         first_cause([(load.searched, 15)])
+        load.before = self.copied(load)
         calls = sorted(load.table, key=self.call_order)
         first_cause([(any(self.clash(a, b) for a, b in zip(calls, calls[1:])), 14)])
         load.places = self.group(load.stops)

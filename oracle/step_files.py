@@ -4,6 +4,7 @@ Most files open a load, fill it, search it and ask it, with steps of every kind 
 ids and numbers are mostly such that steps are taken, and now and then such that each refusal comes up.
 """
 import struct
+from call_files import CallMaker
 from damage import damage_once
 from records import FIRST, number, optional, record, text
 from week_files import WeekMaker
@@ -15,12 +16,13 @@ PLACES = [(52.0, 5.0), (52.001124, 5.0), (52.001125, 5.0), (52.002248, 5.0), (-3
 NAMES = [b"Main Street", b"main  street", b"MAIN\tSTREET", b"Quay", b" ", b"", b"a\x01b", b"Caf\xc3\xa9", b"\xff", b"n" * 64, b"n" * 65]
 
 
-class Maker(WeekMaker):
+class Maker(WeekMaker, CallMaker):
     # kinds of the steps between an opening and its search, and of those after it
     WEIGHTS = {"stop": 5, "call": 12, "rule": 3, "search": 0.1, "best": 1, "next_after": 1, "service": 0.1, "exception": 0.1, "call_of": 1,
-               "set_aside": 0.05, "display": 0.05, "best_of_group": 0.05, "next_of_group": 0.05}
-    AFTER = {"stop": 1, "call": 1, "rule": 1, "search": 1, "best": 8, "next_after": 6, "service": 0.4, "exception": 0.4, "call_of": 0.6,
-             "set_aside": 1, "display": 1, "best_of_group": 2, "next_of_group": 1}
+               "set_aside": 0.05, "display": 0.05, "best_of_group": 0.05, "next_of_group": 0.05, "withdrawal": 1, "repeated": 0.05,
+               "again": 0.3}
+    AFTER = {"stop": 1, "call": 3, "rule": 1, "search": 1, "best": 8, "next_after": 6, "service": 0.4, "exception": 0.4, "call_of": 2,
+             "set_aside": 0.6, "display": 1, "best_of_group": 2, "next_of_group": 1, "withdrawal": 4, "repeated": 0.5, "again": 1}
     DATED = {**WEIGHTS, "call": 0.5, "call_of": 12, "service": 0.4, "exception": 0.4}   # as WEIGHTS, in a load with dates
 
     def __init__(self, rng):
@@ -31,6 +33,7 @@ class Maker(WeekMaker):
         self.stops, self.stations, self.trips, self.now, self.epochs = 0, [], {}, 0, [0, 0, 0]
         self.walks, self.leaves = b"\0", [0]   # walks of the origins; leaves that a journey may have
         self.forget_week()
+        self.forget_calls()
 
     def seldom(self, share=0.02):
         return self.rng.random() < share
@@ -99,7 +102,7 @@ class Maker(WeekMaker):
             times[rng.randrange(2)] = rng.choice([None, None, 0, 2**32 - 1])
         stop = rng.randrange(self.stops) if self.stops and not self.seldom() else rng.choice([self.stops, 65535])
         kinds = bytes(self.usual([0, 0, 0, 0, 1, 2, 3], [4, 255], 0.01) for _ in range(2))
-        return record(3, struct.pack(">HBIH", *run, sequence, stop), *(optional(t, number("I")) for t in times), kinds)
+        return self.note(record(3, struct.pack(">HBIH", *run, sequence, stop), *(optional(t, number("I")) for t in times), kinds))
 
     def rule(self):
         rng = self.rng
@@ -183,7 +186,8 @@ class Maker(WeekMaker):
 
     # --- files ---
     def some(self, weights, count):
-        return [getattr(self, name)() for name in self.rng.choices(list(weights), list(weights.values()), k=count)]
+        made = [getattr(self, name)() for name in self.rng.choices(list(weights), list(weights.values()), k=count)]
+        return [part for parts in made for part in (parts if isinstance(parts, list) else [parts])]
 
     def load(self):
         """An opening, stops, steps of any kind, mostly a search, and steps after it."""
@@ -192,7 +196,7 @@ class Maker(WeekMaker):
         parts += [self.stop() for _ in range(rng.choice([0, 2, 3, 3, 4, 4, 6]))]
         parts += self.some(self.DATED if dated else self.WEIGHTS, rng.choice([0, 3, 10, 20, 30, 40]))
         if rng.random() < 0.8:
-            parts += [self.search()] + self.some(self.AFTER, rng.choice([0, 1, 3, 8]))
+            parts += [self.search()] + self.some(self.AFTER, rng.choice([0, 1, 3, 8, 16]))
         return parts
 
     def ends(self, transfers, change=0):
@@ -255,8 +259,9 @@ class Maker(WeekMaker):
             if way < 0.003:
                 parts += self.displayed()
                 continue
-            one = self.many() if way < 0.006 else self.full() if way < 0.009 else self.changing() if way < 0.12 else self.load()
-            parts += self.dated_ones(one) if way < 0.12 and rng.random() < 0.4 else one
+            one = (self.many() if way < 0.006 else self.full() if way < 0.009 else self.altered() if way < 0.06
+                   else self.changing() if way < 0.17 else self.load())
+            parts += self.dated_ones(one) if way < 0.17 and rng.random() < 0.4 else one
         if self.seldom():
             parts += self.some(self.WEIGHTS, 3)
             del parts[0]

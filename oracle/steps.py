@@ -12,6 +12,7 @@ from fields import Fields, Refused
 from reader import batch, figures, spaced
 from reading import Journey, Reading
 from weeks import Service, ServiceDate
+from withdrawals import Key
 
 FIRST = 83
 
@@ -37,6 +38,9 @@ class StepFields(Fields):
     def call_of(self):
         return self.call(), self.text()
 
+    def key(self):
+        return Key(*self.numbers("HBI"))
+
     def nothing(self):
         return []
 
@@ -61,7 +65,7 @@ class Steps:
     # kind: the name of its fields, its method, and whether it needs a load
     KINDS = {1: ("settings", "settings", False), 2: ("stop", "stop", True), 3: ("call", "call", True), 4: ("rule", "rule", True),
              5: ("nothing", "search", True), 6: ("service", "service", True), 7: ("exception", "exception", True),
-             10: ("call_of", "call_of", True), 11: ("dated", "dated", False),
+             8: ("key", "withdrawal", True), 10: ("call_of", "call_of", True), 11: ("dated", "dated", False),
              12: ("best", "best", True), 13: ("next_after", "next_after", True),
              15: ("group", "set_aside", True), 16: ("nothing", "display", False), 17: ("best_of_group", "best_of_group", False),
              18: ("next_of_group", "next_of_group", False)}
@@ -101,7 +105,11 @@ class Steps:
         except Refused:   # a call that is refused at a full table has cut nothing
             self.load.horizon, self.load.limits, self.load.table, self.load.handed = cuts
             raise
-        return "taken" if self.load.answers[-1] == "t" else "outside"
+        return "taken" if self.reading.was_taken(self.load) else "outside"
+
+    def withdrawal(self, key):
+        self.reading.withdraw(self.load, key)
+        return "taken"
 
     def rule(self, rule):
         self.reading.rule(self.load, rule)

@@ -145,4 +145,4 @@ misread("empty-name-is-none", shown=lambda self, stop: stop.name or stop.id)
 misread("every-name-needed", needed=lambda self, s: True)
 misread("name-needed-without-position", needed=lambda self, s: s.location_type == 0 and s.parent is None)
 
-import wrong_names, wrong_search, wrong_file  # the rest of the readings
+import wrong_names, wrong_search, wrong_file, wrong_calls  # the rest of the readings

@@ -212,6 +212,6 @@ misread("type-2-without-seconds", bad_rule=lambda self, r: r.transfer_type > 3)
 misread("type-4", bad_rule=lambda self, r: r.transfer_type > 4 or (r.transfer_type == 2 and r.seconds is None))
 for step, number, before in [
         ("open", 2, 1), ("stop", 3, 15), ("stop", 5, 3), ("stop", 6, 5), ("stop", 7, 6), ("stop", 8, 7), ("stop", 8, 6),
-        ("stop", 4, 8), ("stop", 4, 5), ("call", 9, 15), ("rule", 9, 15), ("rule", 12, 9), ("rule", 13, 12), ("rule", 11, 13),
+        ("stop", 4, 8), ("stop", 4, 5), ("rule", 9, 15), ("rule", 12, 9), ("rule", 13, 12), ("rule", 11, 13),
         ("rule", 11, 12)]:
     misread(f"{step}-{number}-before-{before}", refuse=reordered(step, number, before))

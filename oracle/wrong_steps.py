@@ -14,7 +14,7 @@ from reader import batch
 from reading import Reading
 from step_files import made, made_display
 from steps import Malformed, Steps
-import wrong_weeks
+import wrong_calls, wrong_weeks
 
 FIXED = pathlib.Path(__file__).resolve().parent.parent / "crates" / "drive" / "stdin"
 
@@ -22,7 +22,7 @@ FIXED = pathlib.Path(__file__).resolve().parent.parent / "crates" / "drive" / "s
 class RefusedCallCuts(Steps):
     def call(self, call, service=b""):
         self.reading.call(self.load, call, service)
-        return "taken" if self.load.answers[-1] == "t" else "outside"
+        return "taken" if self.reading.was_taken(self.load) else "outside"
 
 
 class RefusedSearchKeeps(Steps):
@@ -129,6 +129,14 @@ class AnyStart(Dealing):
         return False
 
 
+class AsideFollows(Steps):
+    """A load set aside changes with the load."""
+    def set_aside(self, number):
+        line = super().set_aside(number)
+        self.aside[-1] = number, self.load
+        return line
+
+
 class AsideStays(Steps):
     """Loads stay set aside after a display."""
     def display(self, record):
@@ -184,10 +192,11 @@ CHANGES = [misread("ChangeBelow15300", CHANGE=15299), misread("ChangeUpTo15301",
            misread("ChangeToTheNextMinute", change=lambda self, load: -load.settings.transfer_seconds // 60 * -60),
            misread("ChangeTimes60", change=lambda self, load: load.settings.transfer_seconds * 60)]
 READINGS = {way.__name__: way for way in (RefusedCallCuts, RefusedSearchKeeps, RefusedOpeningCloses, FirstLoadStays, NextAtLeave,
-                                          NextWithoutSecond, SecondOf32Bits, MalformedPrintsLoad, *CHANGES, AsideStays,
+                                          NextWithoutSecond, SecondOf32Bits, MalformedPrintsLoad, *CHANGES, AsideFollows, AsideStays,
                                           RefusedDisplayStays, QueriedToHorizon, *map(dealing, DEALINGS))}
-# request 03's: the steps right, over a reading that isn't
-READINGS.update((name, lambda reading=reading: Steps(reading())) for name, reading in wrong_weeks.READINGS.items())
+# requests 03's and 11's: the steps right, over a reading that isn't
+for readings in (wrong_weeks.READINGS, wrong_calls.READINGS):
+    READINGS.update((name, lambda reading=reading: Steps(reading())) for name, reading in readings.items())
 
 
 def telling(reading, files):

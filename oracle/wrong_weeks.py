@@ -209,5 +209,5 @@ misread("not-running-last", taken_of=rests_last)
 # --- the order of tests: a cause before the one that comes before it ---
 for step, number, before in [("open", 20, 2), ("open", 20, 1), ("service", 3, 15), ("service", 5, 15), ("service", 20, 5),
                              ("service", 20, 3), ("service", 22, 20), ("service", 22, 5), ("service", 22, 3), ("exception", 20, 15),
-                             ("exception", 21, 20), ("exception", 21, 15), ("call", 21, 9), ("call", 21, 15)]:
+                             ("exception", 21, 20), ("exception", 21, 15), ("call", 21, 9)]:
     misread(f"{step}-{number}-before-{before}", refuse=reordered(step, number, before))

@@ -20,7 +20,7 @@ use Rattle.calls.specs.declared.Table.{Table}
 use Rattle.calls.specs.declared.Fitted.{Fitted}
 use Rattle.calls.specs.Windows.{outside, seenCall}
 use Rattle.calls.specs.Tables.{put}
-use Rattle.calls.specs.Calls.{fieldTests, timeTests, callTests, callTime, callFit, callOn, ended, goesOn}
+use Rattle.calls.specs.Calls.{known, fieldTests, timeTests, callTests, callTime, callFit, callOn, ended, goesOn}
 use Rattle.calls.specs.Reached.{reached}
 use Rattle.calls.specs.Shown.{tableCalls}
 use Rattle.calls.proofs.SoundLaws.{call-tests-fail}
@@ -380,19 +380,19 @@ added-same l r h q = go (leavesTable l r) q
     go true q = ap (withWeek l) (h q)
     go false q = again-same l r q
 
+-- 15 is no test of a call, whose load is not searched where it is done
+abbrev calledBy : Load → List ℕ → CallInput → Bool → List (Bool × Answer)
+calledBy l name i b = (not (known (l .«stop_count») i), Refused FieldRange) ∷ runningTests (running (l .week) name (i .day)) ++ timeTests i ++ laterTests b l name i
+
 pub add-answered : AddAnswered
 unfolding addSpec
 add-answered l name i = go (l .searched) refl
   where
-    go : (b : Bool) → l .searched ≡ b → Answered (cond b (addedTo l (callSpec (unsearchedOf l) name i)) (callSpec l name i)) l
-        (fieldTests false (l .«stop_count») i ++ runningTests (running (l .week) name (i .day)) ++ timeTests i ++ laterTests b l name i)
-    go true e = record {
-      first = call-answers l name i;
-      taken = first-taken _ _ refl (call-answers l name i);
-      unchanged = added-same l (callSpec (unsearchedOf l) name i) (refused-week l name i);
-    }
+    go : (b : Bool) → l .searched ≡ b → Answered (cond b (addedTo l (callSpec (unsearchedOf l) name i)) (callSpec l name i)) l (calledBy l name i b)
+    go true e =
+        let f = past-one (call-answers l name i) refl in
+        record { first = f; taken = first-taken _ _ refl f; unchanged = added-same l (callSpec (unsearchedOf l) name i) (refused-week l name i) }
     go false e =
         let w = step-answered l (call name i) in
-        let f : First (callSpec l name i .answer) (fieldTests false (l .«stop_count») i ++ runningTests (running (l .week) name (i .day)) ++ timeTests i ++ laterTests false l name i) =
-        subst (λ (b : Bool). First (callSpec l name i .answer) (fieldTests b (l .«stop_count») i ++ runningTests (running (l .week) name (i .day)) ++ timeTests i ++ laterTests false l name i)) e (w .first) in
+        let f : First (callSpec l name i .answer) (calledBy l name i false) = past-one (w .first) e in
         record { first = f; taken = first-taken _ _ refl f; unchanged = w .unchanged }

@@ -6,7 +6,7 @@ use mathlib.Core.Bool.{Bool, true, false, cond, not, _&&_}
 use mathlib.Core.List.{List, [], _∷_, _++_}
 use lib.Dec.{ltb}
 use Rattle.laws.specs.Lists.{anyb}
-use Rattle.refusal.specs.declared.Refusal.the-variants.{Neighbours, NoRoom, CallUnknown}
+use Rattle.refusal.specs.declared.Refusal.the-variants.{FieldRange, Neighbours, NoRoom, CallUnknown}
 use Rattle.refusal.specs.declared.Answer.{Answer}
 use Rattle.refusal.specs.declared.Answer.the-variants.{Taken, Outside, Refused}
 use Rattle.refusal.specs.First.{First, AllFail, isRefused}
@@ -15,7 +15,7 @@ use Rattle.calls.specs.declared.Offset.{Offset}
 use Rattle.calls.specs.declared.Table.{Table}
 use Rattle.calls.specs.Windows.{outside}
 use Rattle.calls.specs.Tables.{less}
-use Rattle.calls.specs.Calls.{fieldTests, timeTests, callTime}
+use Rattle.calls.specs.Calls.{known, timeTests, callTime}
 use Rattle.calls.specs.Reached.{isFull, reached, reachedTests}
 use Rattle.calls.specs.Shown.{tableCalls}
 use Rattle.offers.specs.Order.{clashes}
@@ -56,10 +56,11 @@ laterTests searched l name i =
     let r = reached (tableOf l) a d in
     cond searched (againTests (l .«table_horizon») a d r (callSpec (unsearchedOf l) name i .load)) (reachedTests r a d)
 
--- 9, 21, not running, absent time, 10, and then those (15 is no longer one: its test is false)
+-- 9, 21, not running, absent time, 10, and then those; 15 is no longer one
 abbrev pub addCauses : Load → List ℕ → CallInput → List (Bool × Answer)
 addCauses l name i =
-    fieldTests false (l .«stop_count») i ++ runningTests (running (l .week) name (i .day)) ++ timeTests i ++ laterTests (l .searched) l name i
+    (not (known (l .«stop_count») i), Refused FieldRange)
+    ∷ runningTests (running (l .week) name (i .day)) ++ timeTests i ++ laterTests (l .searched) l name i
 
 -- 9, 24; on a searched load then 14, which no load that steps make meets, and 11
 abbrev pub withdrawCauses : Load → CallKey → List (Bool × Answer)

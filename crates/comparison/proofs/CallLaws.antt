@@ -2,15 +2,16 @@
 use Prim.Native.Nat.{ℕ, _≤_, _<_}
 use mathlib.Core.Path.{_≡_, refl, sym, ap, subst, _∙_}
 use mathlib.Core.Logic.{_⊎_, inl, inr, _↔_}
-use mathlib.Core.Bool.{Bool, true, false, not, _&&_, true≢false, false≢true}
+use mathlib.Core.Bool.{Bool, true, false, not, cond, _&&_, true≢false, false≢true}
 use mathlib.Core.List.{List, [], _∷_, _++_}
 use native.Mathlib.Omega.{arith}
 use lib.Dec.{leb, ltb}
+use lib.ListN.{length}
 use borrow.Author.Tests.{ltb-true, ltb-false, lt-ltb}
 use Rattle.laws.proofs.Bools.{or-true-left, or-true-right}
 use Rattle.refusal.specs.declared.Answer.{Answer}
 use Rattle.refusal.specs.declared.Answer.the-variants.{Outside, Refused}
-use Rattle.refusal.specs.declared.Refusal.the-variants.{NoRoom}
+use Rattle.refusal.specs.declared.Refusal.the-variants.{FieldRange, NoRoom}
 use Rattle.refusal.specs.First.{firstAnswer}
 use Rattle.settings.specs.declared.Settings.{Settings}
 use Rattle.settings.specs.Settings.{canonicalOf}
@@ -21,7 +22,7 @@ use Rattle.calls.specs.declared.Table.{Table}
 use Rattle.calls.specs.declared.Seconds.{Seconds}
 use Rattle.calls.specs.declared.Seconds.the-variants.{Given, Absent}
 use Rattle.calls.specs.Windows as windows
-use Rattle.calls.specs.Calls.{absent, secondsOf, known, unTimed, reversed, fieldTests, timeTests, callTime, callFit}
+use Rattle.calls.specs.Calls.{absent, secondsOf, known, unTimed, reversed, timeTests, callTime, callFit}
 use Rattle.calls.specs.Tables.{less}
 use Rattle.calls.specs.Reached.{isFull, reached}
 use Rattle.calls.specs.Reached as tests
@@ -29,15 +30,18 @@ use Rattle.calls.proofs.ReachedLaws.{fitted-reached}
 use Rattle.load.specs.declared.Load.{Load}
 use Rattle.load.specs.Load.{tableOf}
 use Rattle.week.specs.Weeks.{running}
-use Rattle.load.specs.Steps.{runningTests}
-use Rattle.load.specs.Filling.{Filling, call, causes}
-use Rattle.comparison.specs.Taken.{callsIn}
+use Rattle.week.specs.declared.Week.{Week}
+use Rattle.load.specs.Steps.{isUnknown, isResting, runningTests, callSpec}
+use Rattle.load.specs.Filling.{Filling}
+use Rattle.again.specs.Again.{unsearchedOf}
+use Rattle.again.specs.Causes.{againTests, addCauses}
+use Rattle.comparison.specs.Taken.{stopsIn, callsIn, State}
 use Rattle.comparison.specs.Horizon.{Fits}
-use Rattle.comparison.specs.Causes.{Reversed, Fitting, callCauses}
-use Rattle.comparison.proofs.Deciding.{Decides, Matches, dec-not-ltb, dec-not-leb, dec-is, dec-or, dec-nand, dec-as}
+use Rattle.comparison.specs.Causes.{Cause, Reversed, Fitting, windowCauses, callFront, callCauses}
+use Rattle.comparison.proofs.Deciding.{Decides, Matches, dec-not-ltb, dec-not-leb, dec-or, dec-nand, dec-as}
 use Rattle.comparison.proofs.OneLaws.{one-fits}
 use Rattle.comparison.proofs.SettingLaws.{Opened}
-use Rattle.comparison.proofs.WeekLaws.{dec-unknown, dec-resting}
+use Rattle.comparison.proofs.WeekLaws.{WeekHeld, datesOf, dec-unknown, dec-resting}
 use Rattle.comparison.proofs.StartLaws.{Start, stateAt}
 use Rattle.comparison.proofs.HorizonLaws.{fits, showing}
 
@@ -100,10 +104,10 @@ module _ (i : CallInput) where
 
 -- ---- the window and the cuts
 
-abbrev two : Bool → Bool → Answer
+abbrev pub two : Bool → Bool → Answer
 two b c = firstAnswer ((b, Outside) ∷ (c, Refused NoRoom) ∷ [])
 
-two-out : (b c : Bool) → Decides b (two b c ≡ Outside)
+pub two-out : (b c : Bool) → Decides b (two b c ≡ Outside)
 unfolding firstAnswer
 two-out true c = (λ e. refl, λ e. refl)
 two-out false true = (λ e. absurd (false≢true e), λ e. absurd (let z : _≡_ {A = ℕ} 0 1 = cc in omega arith))
@@ -114,6 +118,37 @@ unfolding firstAnswer
 two-full true c q = absurd (true≢false q)
 two-full false true q = (λ e. refl, λ e. refl)
 two-full false false q = (λ e. absurd (false≢true e), λ e. absurd (let z : _≡_ {A = ℕ} 0 1 = cc in omega arith))
+
+-- what every call meets first, 9, 21, not running, an absent time and 10, fails
+pub record Passes (week : Week) (n : ℕ) (name : List ℕ) (i : CallInput) : Type 0 where
+  pub right : not (known n i) ≡ false
+  pub found : isUnknown (running week name (i .day)) ≡ false
+  pub awake : isResting (running week name (i .day)) ≡ false
+  pub present : unTimed i ≡ false
+  pub forward : reversed i ≡ false
+
+module _ (t : State) (week : Week) (n : ℕ) (v : WeekHeld week (t .taken)) (dates : t .dates ≡ datesOf week) (stops : n ≡ length (stopsIn (t .taken))) (name : List ℕ) (i : CallInput) where
+  pub front-match : (ts : List (Bool × Answer)) (cs : List Cause) → (Passes week n name i → Matches ts cs)
+      → Matches ((not (known n i), Refused FieldRange) ∷ runningTests (running week name (i .day)) ++ timeTests i ++ ts) (callFront t name i cs)
+  front-match ts cs rest = (
+    refl,
+    subst (λ (k : ℕ). Decides (not (known n i)) (k ≤ i .stop ⊎ 65535 ≤ i .trip ⊎ 2 < i .day ⊎ 3 < i .pickup ⊎ 3 < i .«drop_off»)) stops (dec-fields i n),
+    λ k. (
+      refl,
+      dec-unknown v t refl dates name (i .day),
+      λ m. (
+        refl,
+        dec-resting v t refl dates name (i .day) (day-known i n k) m,
+        λ q. (
+          refl,
+          dec-or (absent (i .arrival)) (absent (i .departure)) (dec-absent (i .arrival)) (dec-absent (i .departure)),
+          λ u. (refl, dec-reversed i u, λ r. rest (record { right = k; found = m; awake = q; present = u; forward = r })),
+        ),
+      ),
+    ),
+  )
+
+-- ---- by the window
 
 module _ (s : Settings) (l : Load) (fs : List Filling) (w : Start s l fs) (o : Opened s) (i : CallInput) where
   abbrev z : Settings
@@ -139,7 +174,7 @@ module _ (s : Settings) (l : Load) (fs : List Filling) (w : Start s l fs) (o : O
   fit-answer = ap (λ (f : Fitted). f .answer) (fitted-reached t a d i)
 
   module _ (present : unTimed i ≡ false) (day : i .day ≤ 2) where
-    fitting : Fits s (callsIn fs) i (t .horizon) (t .limits) (two out filled) (callFit z t i .table .horizon) (callFit z t i .table .limits)
+    pub fitting : Fits s (callsIn fs) i (t .horizon) (t .limits) (two out filled) (callFit z t i .table .horizon) (callFit z t i .table .limits)
     fitting =
         subst (λ (x : Answer). Fits s (callsIn fs) i (t .horizon) (t .limits) x (callFit z t i .table .horizon) (callFit z t i .table .limits)) fit-answer
         (fits s o (callsIn fs) (w .held .days) i present day t (showing s l fs w))
@@ -156,34 +191,17 @@ module _ (s : Settings) (l : Load) (fs : List Filling) (w : Start s l fs) (o : O
     dec-full : out ≡ false → Decides filled (Fitting s (stateAt l fs) i (Refused NoRoom))
     dec-full e = let f = dec-fitting (Refused NoRoom) in dec-as filled (f .0) (f .1) (two-full out filled e)
 
-  by-held : (name : List ℕ) → Matches (fieldTests (l .searched) (l .«stop_count») i ++ runningTests (running (l .week) name (i .day)) ++ timeTests i ++ tests.callWindow z t i) (callCauses s (stateAt l fs) name i)
-  by-held name = (
-    refl,
-    dec-is (l .searched),
-    λ p. (
-      refl,
-      subst (λ (k : ℕ). Decides (not (known (l .«stop_count») i)) (k ≤ i .stop ⊎ 65535 ≤ i .trip ⊎ 2 < i .day ⊎ 3 < i .pickup ⊎ 3 < i .«drop_off»)) (w .held .stops) (dec-fields i (l .«stop_count»)),
-      λ k. (
-        refl,
-        dec-unknown (w .held .week) (stateAt l fs) refl refl name (i .day),
-        λ m. (
-          refl,
-          dec-resting (w .held .week) (stateAt l fs) refl refl name (i .day) (day-known i (l .«stop_count») k) m,
-          λ n. (
-            refl,
-            dec-or (absent (i .arrival)) (absent (i .departure)) (dec-absent (i .arrival)) (dec-absent (i .departure)),
-            λ u. (
-              refl,
-              dec-reversed i u,
-              λ r. (refl, dec-out u (day-known i (l .«stop_count») k), λ e. (refl, dec-full u (day-known i (l .«stop_count») k) e, λ f. tt)),
-            ),
-          ),
-        ),
-      ),
-    ),
-  )
+  windowed-so : l .searched ≡ false → (name : List ℕ) → unTimed i ≡ false → i .day ≤ 2 → (b : Bool) → l .searched ≡ b
+      → Matches (cond b (againTests (l .«table_horizon») a d (reached t a d) (callSpec (unsearchedOf l) name i .load)) (tests.callWindow z t i)) (windowCauses b s (stateAt l fs) name i)
+  windowed-so f name u day true e = absurd (true≢false (sym e ∙ f))
+  windowed-so f name u day false e = (refl, dec-out u day, λ q. (refl, dec-full u day q, λ r. tt))
 
-  pub call-match : (name : List ℕ) → Matches (causes l (call name i)) (callCauses s (stateAt l fs) name i)
+  pub call-match : (name : List ℕ) → Matches (addCauses l name i) (callCauses s (stateAt l fs) name i)
   call-match name =
-      subst (λ (x : Settings). Matches (fieldTests (l .searched) (l .«stop_count») i ++ runningTests (running (l .week) name (i .day)) ++ timeTests i ++ tests.callWindow x (tableOf l) i) (callCauses s (stateAt l fs) name i))
-      (sym (w .settings)) (by-held name)
+      subst (λ (x : Settings). Matches ((not (known (l .«stop_count») i), Refused FieldRange) ∷ runningTests (running (l .week) name (i .day)) ++ timeTests i
+      ++ cond (l .searched) (againTests (l .«table_horizon») (callTime x i (i .arrival)) (callTime x i (i .departure)) (reached t (callTime x i (i .arrival)) (callTime x i (i .departure))) (callSpec (unsearchedOf l) name i .load)) (tests.callWindow x t i))
+      (callCauses s (stateAt l fs) name i))
+      (sym (w .settings))
+      (front-match (stateAt l fs) (l .week) (l .«stop_count») (w .held .week) refl (w .held .stops) name i
+      (cond (l .searched) (againTests (l .«table_horizon») a d (reached t a d) (callSpec (unsearchedOf l) name i .load)) (tests.callWindow z t i)) (windowCauses (l .searched) s (stateAt l fs) name i)
+      (λ p. windowed-so (w .fresh) name (p .present) (day-known i (l .«stop_count») (p .right)) (l .searched) refl))

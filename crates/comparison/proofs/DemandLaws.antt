@@ -3,26 +3,27 @@ use mathlib.Core.Path.{_≡_, refl, sym, ap, subst, _∙_}
 use mathlib.Core.Logic.{_⊎_, inl, inr, _↔_}
 use mathlib.Core.Bool.{Bool, true, false, cond}
 use mathlib.Core.Option.{Option, none, some, Option·none-ne-some}
-use mathlib.Core.List.{List, [], _∷_, List·Memᴰ, List·Permᴰ}
+use mathlib.Core.List.{List, [], _∷_, List·Memᴰ, Permᴰ·symm}
 use Prim.Native.Nat.{ℕ, _+_, _≤_, min}
 use native.Mathlib.Omega.{arith}
-use lib.Dec.{leb, ltb}
+use lib.Dec.{ltb}
 use lib.IntN.{ℤ, pos, negsuc}
 use lib.Signed.{ltZ}
 use lib.ListN.{take}
-use borrow.Author.Tests.{leb-true, leb-false, le-leb, lt-leb, ltb-true, ltb-false}
+use Rattle.laws.proofs.Sort.{perm-mem}
+use borrow.Author.Tests.{ltb-true, ltb-false}
 use Rattle.refusal.specs.declared.Answer.{Answer}
 use Rattle.settings.specs.declared.Settings.{Settings}
 use Rattle.calls.specs.declared.CallInput.{CallInput}
-use Rattle.calls.specs.declared.Call.{Call}
 use Rattle.week.specs.declared.Week.{Week}
 use Rattle.calls.specs.Shown.{tableCalls}
 use Rattle.profile.specs.declared.Journey.{Journey}
-use Rattle.profile.specs.Figures.{Figures}
 use Rattle.profile.specs.Best.{readBy}
 use Rattle.profile.specs.Journeys.{journeyFigures}
 use Rattle.offers.specs.Covered.{I64, CoveredBy}
 use Rattle.offers.specs.Order.{inOrder}
+use Rattle.offers.specs.Admitted as by
+use Rattle.offers.proofs.OfferLaws.{offers-admitted}
 use Rattle.offers.proofs.OrderLaws.{put-in-order}
 use Rattle.load.specs.declared.Load.{Load}
 use Rattle.load.specs.Load.{tableOf}
@@ -30,43 +31,51 @@ use Rattle.load.specs.Steps.{Opening, openTests, openAnswer, opened, openSpec}
 use Rattle.load.specs.Filling.{Filling, stop, call, rule, service, exception}
 use Rattle.load.specs.Sound.{Opens, Sound}
 use Rattle.best.specs.Best.{keptOf, afterOf, nextSpec}
-use Rattle.steps.specs.Steps.{Step, filling, search, numbers}
-use Rattle.steps.specs.Lists.{endOf, startOf, offersOf}
+use Rattle.search.specs.Timetable.{timetableOf}
+use Rattle.again.specs.Again.{unsearchedOf}
+use Rattle.again.proofs.SearchedLaws.{own-sorted}
+use Rattle.steps.specs.Steps.{Step, filling, withdraw, search, numbers}
+use Rattle.steps.specs.Lists.{endOf}
 use Rattle.steps.specs.Lists as by-load
 use Rattle.steps.specs.Answered.{openNumbers}
 use Rattle.steps.proofs.HeldLaws.{searched-holds, best-agrees}
 use Rattle.steps.proofs.AnsweredLaws.{step-answered, opening-answered}
 use Rattle.steps.proofs.StepLaws.{best-asks, best-none}
 use Rattle.steps.proofs.HandedLaws.{handed-sound}
+use Rattle.steps.proofs.ShownLaws.{rawEarlier}
 use Rattle.time.proofs.Times.{taken as text-taken, answered as text-answered}
-use Rattle.comparison.specs.Order.{Same}
 use Rattle.comparison.specs.Best.{BestAt}
-use Rattle.comparison.specs.Taken.{callsIn, State, fresh}
+use Rattle.comparison.specs.Taken.{callsIn, State, fresh, keeping}
 use Rattle.comparison.specs.Admitted.{Feed, Admits}
 use Rattle.comparison.specs.Services.{Running}
 use Rattle.comparison.specs.Feeds.{feedOf}
 use Rattle.comparison.specs.Neighbours.{InOrder, Ordered}
 use Rattle.comparison.specs.OfferOrder.{Offered}
-use Rattle.comparison.specs.Falls.{at, Falls}
-use Rattle.comparison.specs.Causes.{First, numbersOf, dateCauses, openingCauses, causesOf}
-use Rattle.comparison.specs.Runs.{After, sent-back, a-stop, a-rule, a-call, resting, outside, a-service, an-exception, a-search, Runs, end, step, Admitted}
-use Rattle.comparison.specs.Demands.{answersFrom, LaterOf, Queried, answer, calls, Fills, Lists, Demand1, Demand2, OnlyRunning, Second, NoneBy, Alike, MatchedBy, Earlier, Demand3}
+use Rattle.comparison.specs.Falls.{Falls}
+use Rattle.comparison.specs.Causes.{First, numbersOf, dateCauses, openingCauses, windowCauses, callFront, leftCauses, causesOf}
+use Rattle.comparison.specs.Runs.{After, sent-back, a-stop, a-rule, a-call, resting, outside, a-service, an-exception, a-withdrawal, a-search, Runs, end, step, Admitted}
+use Rattle.comparison.specs.Demands.{answersFrom, LaterOf, Queried, answer, calls, Fills, Lists, Demand1, Demand2, OnlyRunning, Second, Alike, MatchedBy, Demand3}
 use Rattle.comparison.proofs.OrderLaws.{covers-in, covers-out}
+use Rattle.comparison.proofs.AlikeLaws.{alike-reads, reads-alike, second-in, in-second, earlier-is}
 use Rattle.comparison.proofs.KeptLaws.{front-holds}
 use Rattle.comparison.proofs.BestLaws.{best-at}
 use Rattle.comparison.proofs.Deciding.{first-matches}
 use Rattle.comparison.proofs.OneLaws.{one-runs}
 use Rattle.comparison.proofs.SettingLaws.{opens}
 use Rattle.comparison.proofs.CauseLaws.{opening-match}
-use Rattle.comparison.proofs.WeekLaws.{datesOf, runs-by}
-use Rattle.comparison.proofs.RunningLaws.{call-in}
-use Rattle.comparison.proofs.StartLaws.{Start, stateAt, same-feed}
+use Rattle.comparison.proofs.WeekLaws.{WeekHeld, datesOf, runs-by}
+use Rattle.comparison.proofs.AfterLaws.{call-in}
+use Rattle.comparison.proofs.RunningLaws.{CallsRun}
+use Rattle.comparison.proofs.StartLaws.{Start, stateAt}
+use Rattle.comparison.proofs.BagLaws.{shown-perm}
+use Rattle.comparison.proofs.AsideLaws.{beside-back, like-back, apart, apart-like, week-beside, admits-like, offered-like}
 use Rattle.comparison.proofs.AdmittedLaws.{admits}
 use Rattle.comparison.proofs.FallLaws.{fall-falls, endOf as ends-at}
 use Rattle.comparison.proofs.HorizonLaws.{table-shown, showing}
 use Rattle.comparison.proofs.NeighbourLaws.{order-in}
 use Rattle.comparison.proofs.OfferedLaws.{offered-is}
-use Rattle.comparison.proofs.RunLaws.{Ended, Walked, walked, opened-state}
+use Rattle.comparison.proofs.OwnLaws.{ownOffers, OwnFound, own-found, own-admits}
+use Rattle.comparison.proofs.RunLaws.{Walked, walked, opened-state}
 
 -- ---- 1
 
@@ -97,16 +106,25 @@ opening-order o = go (o .dates)
     go none = refl
     go (some dates) = refl
 
-in-order : (s : Settings) (t : State) (x : Step) → numbersOf (causesOf s t x) ≡ numbers x
+pub in-order : (s : Settings) (t : State) (x : Step) → numbersOf (causesOf s t x) ≡ numbers (t .searched) x
 in-order s t (filling (stop id name parent i)) = refl
-in-order s t (filling (call name i)) = refl
+in-order s t (filling (call name i)) = go (t .searched)
+  where
+    go : (b : Bool) → numbersOf (callFront t name i (windowCauses b s t name i)) ≡ numbers b (filling (call name i))
+    go true = refl
+    go false = refl
 in-order s t (filling (rule i)) = refl
 in-order s t (filling (service name weekdays start to)) = refl
 in-order s t (filling (exception name date kind)) = refl
+in-order s t (withdraw k) = go (t .searched)
+  where
+    go : (b : Bool) → 9 ∷ 24 ∷ numbersOf (leftCauses b s t k) ≡ numbers b (withdraw k)
+    go true = refl
+    go false = refl
 in-order s t search = refl
 
 module _ (s : Opening) (o : Opens s) (xs : List Step) where
-  pub whole : Walked (s .settings) (opened s) (opened s) xs []
+  pub whole : Walked (s .settings) (opened s) xs []
   whole = walked s o xs
 
   abbrev pub ending : State
@@ -134,45 +152,73 @@ demand-1 = record {
 
 -- ---- what the load admits is what is admitted of what was handed in
 
-abbrev atHorizon : List Filling → ℕ → State
-atHorizon fs h = record { taken = fs; horizon = h; limits = 0; searched = true; dates = none; closed = true }
+-- the searched load's own search is of what was taken
+module _ (s : Opening) (o : Opens s) (xs : List Step) (d : endOf s xs .searched ≡ true) where
+  abbrev l : Load
+  l = endOf s xs
+
+  abbrev u : Load
+  u = unsearchedOf l
+
+  abbrev gs : List Filling
+  gs = whole s o xs .taken
+
+  start : Start (s .settings) (unsearchedOf (endOf s xs)) (apart (whole s o xs .taken))
+  start = whole s o xs .stands .done d
+
+  -- in the order in which the calls were taken
+  same-feeds : feedOf (s .settings) (keeping (stateAt u gs) gs) ≡ feedOf (s .settings) (ending s o xs)
+  unfolding unsearchedOf
+  same-feeds = refl
+
+  admits-so : (j : Journey) → by.Admitted (timetableOf u) j ↔ Admits (feedOf (s .settings) (ending s o xs)) j
+  admits-so j =
+      let f = admits (s .settings) u (apart gs) start (opens s o) j in (
+        λ a. subst (λ (G : Feed). Admits G j) same-feeds (admits-like (s .settings) (stateAt u gs) (apart gs) gs (apart-like gs) j (f .0 a)),
+        λ a. f .1 (admits-like (s .settings) (stateAt u gs) gs (apart gs) (like-back (apart-like gs)) j (subst (λ (G : Feed). Admits G j) (sym same-feeds) a)),
+      )
+
+  own-so : OwnFound (endOf s xs)
+  own-so = own-found (endOf s xs) (whole s o xs .stands .kept .own) d
+
+  offered-so : Offered (feedOf (s .settings) (ending s o xs)) (ownOffers (endOf s xs))
+  offered-so =
+      subst (λ (G : Feed). Offered G (ownOffers l)) same-feeds
+      (offered-like (s .settings) (stateAt u gs) (apart gs) gs (ownOffers l) (apart-like gs) (offered-is (s .settings) u (apart gs) start (opens s o) (own-so .clear)))
+
+  ordered-so : Ordered (s .settings) (endOf s xs .«table_horizon») (callsIn (whole s o xs .taken)) (calls s xs)
+  unfolding unsearchedOf
+  ordered-so =
+      let w = start in
+      let (ds, v, p) = shown-perm (s .settings) (l .«table_horizon») (apart-like gs .calls) (table-shown (s .settings) (opens s o) (callsIn (apart gs)) (w .held .days) (tableOf u) (showing (s .settings) u (apart gs) w)) in
+      let e = own-sorted l (whole s o xs .stands .kept .own d) in
+      record { seen = ds; shown = v; same = p; in-order = subst InOrder (sym e) (order-in (inOrder (tableCalls (tableOf l))) (put-in-order (tableCalls (tableOf l)) .1)) }
 
 pub same-admitted : (s : Opening) (xs : List Step) → Opens s → (j : Journey) → by-load.Admitted s xs j ↔ Admitted s xs j
 same-admitted s xs o j = (fore, back)
   where
-    gs : List Filling
-    gs = whole s o xs .taken
-
-    end-is : endOf s xs .searched ≡ true → Ended (s .settings) (startOf s xs) (endOf s xs) (whole s o xs .taken)
-    end-is d = whole s o xs .ended d
-
     fore : by-load.Admitted s xs j → Admitted s xs j
-    fore (d, a) =
-        let e = end-is d in
-        let f = subst (λ (G : Feed). Admits G j) (same-feed (s .settings) (startOf s xs) (whole s o xs .taken) (e .start)) (admits (s .settings) (startOf s xs) (whole s o xs .taken) (e .start) (opens s o) j .0 a) in
-        record {
-          answers = answersFrom (opened s) xs;
-          end = ending s o xs;
-          runs = run s o xs;
-          searched = d;
-          admits = subst (λ (h : ℕ). Admits (feedOf (s .settings) (atHorizon (whole s o xs .taken) h)) j) (e .height) f;
-        }
+    fore (d, a) = record {
+      answers = answersFrom (opened s) xs;
+      end = ending s o xs;
+      runs = run s o xs;
+      searched = d;
+      admits = admits-so s o xs d j .0 (own-admits s xs d j .0 a);
+    }
 
     back : Admitted s xs j → by-load.Admitted s xs j
     back x =
         let q = ends-so s o xs (x .answers) (x .end) (x .runs) in
         let d : endOf s xs .searched ≡ true = ap (λ (t : State). t .searched) q ∙ x .searched in
-        let e = end-is d in
         let f : Admits (feedOf (s .settings) (ending s o xs)) j = subst (λ (t : State). Admits (feedOf (s .settings) t) j) (sym q) (x .admits) in
-        let g : Admits (feedOf (s .settings) (stateAt (startOf s xs) (whole s o xs .taken))) j = subst (λ (h : ℕ). Admits (feedOf (s .settings) (atHorizon (whole s o xs .taken) h)) j) (sym (e .height)) f in
-        (d, admits (s .settings) (startOf s xs) (whole s o xs .taken) (e .start) (opens s o) j .1 (subst (λ (G : Feed). Admits G j) (sym (same-feed (s .settings) (startOf s xs) (whole s o xs .taken) (e .start))) g))
+        (d, own-admits s xs d j .1 (admits-so s o xs d j .1 f))
 
 -- ---- 2
 
 module _ (s : Opening) (o : Opens s) (xs : List Step) where
   fills : endOf s xs .searched ≡ false → Fills s xs (ending s o xs)
   fills d =
-      let w = whole s o xs .going d in
+      let w = whole s o xs .stands .new d in
       record {
         shown = table-shown (s .settings) (opens s o) (callsIn (whole s o xs .taken)) (w .held .days) (tableOf (endOf s xs)) (showing (s .settings) (endOf s xs) (whole s o xs .taken) w);
         kept = ap (λ (n : ℕ). take n (endOf s xs .journeys)) (w .sound .none-kept d);
@@ -184,25 +230,19 @@ module _ (s : Opening) (o : Opens s) (xs : List Step) where
   lists : endOf s xs .searched ≡ true → Lists s xs (ending s o xs)
   lists d =
       let w = searched-holds s xs o d in
-      let e = whole s o xs .ended d in
-      let p = startOf s xs in
-      let gs = whole s o xs .taken in
-      let cs = tableCalls (tableOf p) in
+      let e = own-so s o xs d in
+      let p = endOf s xs in
+      let os = ownOffers (endOf s xs) in
       record {
-        ordered = subst (λ (h : ℕ). Ordered (s .settings) h (callsIn gs) (calls s xs)) (e .height) (record {
-          seen = tableCalls (tableOf p);
-          shown = table-shown (s .settings) (opens s o) (callsIn gs) (e .start .held .days) (tableOf p) (showing (s .settings) p gs (e .start));
-          same = subst (λ (x : List Call). List·Permᴰ x (tableCalls (tableOf p))) (sym (e .calls)) (put-in-order (tableCalls (tableOf p)) .0);
-          in-order = subst InOrder (sym (e .calls)) (order-in (inOrder (tableCalls (tableOf p))) (put-in-order (tableCalls (tableOf p)) .1));
-        });
-        offers = offersOf s xs;
-        offered = subst (λ (h : ℕ). Offered (feedOf (s .settings) (atHorizon gs h)) (offersOf s xs)) (e .height) (offered-is (s .settings) p gs (e .start) (opens s o) (e .clear));
-        admitted = λ j. (λ m. same-admitted s xs o j .0 (w .admitted j .0 m), λ x. w .admitted j .1 (same-admitted s xs o j .1 x));
-        holds = front-holds (endOf s xs .horizon) (offersOf s xs) (keptOf (endOf s xs)) (w .unbeaten);
+        ordered = ordered-so s o xs d;
+        offers = ownOffers (endOf s xs);
+        offered = offered-so s o xs d;
+        admitted = λ j.
+            let f = offers-admitted (timetableOf (unsearchedOf (endOf s xs))) (e .clear) j in
+            (λ m. same-admitted s xs o j .0 (d, own-admits s xs d j .1 (f .0 m)), λ x. f .1 (own-admits s xs d j .0 (same-admitted s xs o j .1 x .1)));
+        holds = front-holds (endOf s xs .horizon) (ownOffers (endOf s xs)) (keptOf (endOf s xs)) (e .unbeaten);
         complete = λ j a l. let (k, b, e′) = w .complete j (same-admitted s xs o j .1 a) l in (k, b, covers-in k j e′);
-        falls = subst (λ (h : ℕ). Falls [] h (endOf s xs .«table_limits») (offersOf s xs) (at (endOf s xs .horizon) (endOf s xs .limits))) (e .height)
-            (subst (λ (m : ℕ). Falls [] (p .«table_horizon») m (offersOf s xs) (at (endOf s xs .horizon) (endOf s xs .limits))) (e .mark)
-            (subst (Falls [] (p .«table_horizon») (p .«table_limits») (offersOf s xs)) (ap ends-at (w .fell)) (fall-falls [] (offersOf s xs) (p .«table_horizon») (p .«table_limits») (omega arith))));
+        falls = subst (Falls [] (endOf s xs .«table_horizon») (endOf s xs .«table_limits») (ownOffers (endOf s xs))) (ap ends-at (e .fell)) (fall-falls [] (ownOffers (endOf s xs)) (endOf s xs .«table_horizon») (endOf s xs .«table_limits») (omega arith));
         best = λ z. subst (BestAt (keptOf (endOf s xs)) (endOf s xs .horizon) z) (sym (best-asks (endOf s xs) (handed-sound s xs o .1) d z)) (best-at (keptOf (endOf s xs)) (endOf s xs .horizon) z);
       }
 
@@ -223,6 +263,7 @@ dates-after s t _ _ _ (resting r) = refl
 dates-after s t _ _ _ (outside n f) = refl
 dates-after s t _ _ _ a-service = refl
 dates-after s t _ _ _ an-exception = refl
+dates-after s t _ _ _ (a-withdrawal w) = ap (λ (v : State). v .dates) (w .left)
 dates-after s t _ _ _ a-search = refl
 
 dates-kept : (s : Settings) (t v : State) (xs : List Step) (rs : List Answer) → Runs s t xs rs v → v .dates ≡ t .dates
@@ -237,11 +278,16 @@ dated-so w dates e = go (w .dated) refl e
     go false d q = absurd (Option·none-ne-some dates q)
 
 -- of a load that holds what was taken
-start-runs : (s : Settings) (q : Load) (v : State) → Start s q (v .taken) → v .dates ≡ datesOf (q .week) → (dates : List ℕ) → v .dates ≡ some dates
-    → (name : List ℕ) (i : CallInput) → List·Memᴰ (call name i) (v .taken) → Running v name (i .day)
-start-runs s q v w d dates e name i m =
+stands-runs : (q : Load) (v : State) → WeekHeld (q .week) (v .taken) → ((j : CallInput) → List·Memᴰ j (callsIn (v .taken)) → j .day ≤ 2) → CallsRun q (v .taken) → v .dates ≡ datesOf (q .week)
+    → (dates : List ℕ) → v .dates ≡ some dates → (name : List ℕ) (i : CallInput) → List·Memᴰ (call name i) (v .taken) → Running v name (i .day)
+stands-runs q v w days r d dates e name i m =
     let dt = dated-so (q .week) dates (sym d ∙ e) in
-    runs-by (w .held .week) v refl d name (i .day) dt (w .held .days i (call-in (v .taken) name i m)) (w .runs dt name i m .1)
+    runs-by w v refl d name (i .day) dt (days i (call-in (v .taken) name i m)) (r dt name i m .1)
+
+-- of a searched load, by its unsearched one
+apart-week : (s : Settings) (l : Load) (fs : List Filling) → Start s (unsearchedOf l) (apart fs) → WeekHeld (l .week) fs × ((j : CallInput) → List·Memᴰ j (callsIn fs) → j .day ≤ 2)
+unfolding unsearchedOf
+apart-week s l fs w = (week-beside (l .week) fs (apart fs) (beside-back (apart-like fs .beside)) (w .held .week), λ j m. w .held .days j (perm-mem rawEarlier (Permᴰ·symm (apart-like fs .calls)) m))
 
 pub only-running : OnlyRunning
 only-running s xs rs v o w dates e name i m =
@@ -251,70 +297,14 @@ only-running s xs rs v o w dates e name i m =
     (go (endOf s xs .searched) refl so (subst (λ (t : State). List·Memᴰ (call name i) (t .taken)) (sym q) m))
   where
     go : (b : Bool) → endOf s xs .searched ≡ b → ending s o xs .dates ≡ some dates → List·Memᴰ (call name i) (ending s o xs .taken) → Running (ending s o xs) name (i .day)
-    go true d so k = let z = whole s o xs .ended d in start-runs (s .settings) (startOf s xs) (ending s o xs) (z .start) (ap datesOf (sym (z .week))) dates so name i k
-    go false d so k = start-runs (s .settings) (endOf s xs) (ending s o xs) (whole s o xs .going d) refl dates so name i k
-
--- ---- answers
-
-figures-same : (j j′ : Journey) → Same j j′ → journeyFigures j ≡ journeyFigures j′
-figures-same j j′ w = λ i. record { leave = w .leave i; arrival = w .arrival i; rides = w .rides i; walk = w .walk i }
-
-same-figures : (j j′ : Journey) → journeyFigures j ≡ journeyFigures j′ → Same j j′
-same-figures j j′ e = record {
-  leave = ap (λ (f : Figures). f .leave) e;
-  arrival = ap (λ (f : Figures). f .arrival) e;
-  rides = ap (λ (f : Figures). f .rides) e;
-  walk = ap (λ (f : Figures). f .walk) e;
-}
-
-reads-none : (g : ℕ) (r : Option Journey) → NoneBy g r → readBy journeyFigures g r ≡ none
-reads-none g none w = refl
-reads-none g (some j) w = ap (λ (b : Bool). cond b (some (journeyFigures j)) none) (lt-leb (j .arrival) g w)
-
-reads-some : (g : ℕ) (j : Journey) → j .arrival ≤ g → readBy journeyFigures g (some j) ≡ some (journeyFigures j)
-reads-some g j l = ap (λ (b : Bool). cond b (some (journeyFigures j)) none) (le-leb (j .arrival) g l)
-
-pub alike-reads : (g : ℕ) (r r′ : Option Journey) → Alike g r r′ → readBy journeyFigures g r ≡ readBy journeyFigures g r′
-alike-reads g r r′ (inl (a, b)) = reads-none g r a ∙ sym (reads-none g r′ b)
-alike-reads g r r′ (inr w) =
-    ap (readBy journeyFigures g) (w .is) ∙ reads-some g (w .j) (w .due) ∙ ap {B = Option Figures} some (figures-same (w .j) (w .j′) (w .same))
-    ∙ sym (reads-some g (w .j′) (omega (arith, w .due, w .same .arrival))) ∙ ap (readBy journeyFigures g) (sym (w .is′))
-
-none-some : (f : Figures) → none ≡ some f → ⊥
-none-some f e = let z : _≡_ {A = ℕ} 0 1 = cc in omega arith
-
-some-same : (f f′ : Figures) → some f ≡ some f′ → f ≡ f′
-some-same f f′ e = cc
-
-pub reads-alike : (g : ℕ) (r r′ : Option Journey) → readBy journeyFigures g r ≡ readBy journeyFigures g r′ → Alike g r r′
-reads-alike g none none e = inl (tt, tt)
-reads-alike g none (some j) e = go (leb (j .arrival) g) refl e
-  where
-    go : (b : Bool) → leb (j .arrival) g ≡ b → none ≡ cond b (some (journeyFigures j)) none → Alike g none (some j)
-    go true p q = absurd (none-some (journeyFigures j) q)
-    go false p q = inl (tt, leb-false (j .arrival) g p)
-reads-alike g (some j) none e = go (leb (j .arrival) g) refl e
-  where
-    go : (b : Bool) → leb (j .arrival) g ≡ b → cond b (some (journeyFigures j)) none ≡ none → Alike g (some j) none
-    go true p q = absurd (none-some (journeyFigures j) (sym q))
-    go false p q = inl (leb-false (j .arrival) g p, tt)
-reads-alike g (some j) (some j′) e = go (leb (j .arrival) g) refl (leb (j′ .arrival) g) refl e
-  where
-    go : (b : Bool) → leb (j .arrival) g ≡ b → (b′ : Bool) → leb (j′ .arrival) g ≡ b′ → cond b (some (journeyFigures j)) none ≡ cond b′ (some (journeyFigures j′)) none → Alike g (some j) (some j′)
-    go true p true p′ q = inr (record { j = j; j′ = j′; is = refl; is′ = refl; due = leb-true (j .arrival) g p; same = same-figures j j′ (some-same (journeyFigures j) (journeyFigures j′) q) })
-    go true p false p′ q = absurd (none-some (journeyFigures j) (sym q))
-    go false p true p′ q = absurd (none-some (journeyFigures j′) q)
-    go false p false p′ q = inl (leb-false (j .arrival) g p, leb-false (j′ .arrival) g p′)
+    go true d so k =
+        let (h, ds) = apart-week (s .settings) (endOf s xs) (whole s o xs .taken) (whole s o xs .stands .done d) in
+        stands-runs (endOf s xs) (ending s o xs) h ds (whole s o xs .stands .runs) refl dates so name i k
+    go false d so k =
+        let z = whole s o xs .stands .new d in
+        stands-runs (endOf s xs) (ending s o xs) (z .held .week) (z .held .days) (whole s o xs .stands .runs) refl dates so name i k
 
 -- ---- 3
-
-pub second-in : (z : ℤ) → Second z → I64 z
-second-in (pos n) h = omega arith
-second-in (negsuc n) h = omega arith
-
-pub in-second : (z : ℤ) → I64 z → Second z
-in-second (pos n) h = omega arith
-in-second (negsuc n) h = omega arith
 
 pub matched : (g : ℕ) (s s′ : Opening) (xs xs′ : List Step) → Opens s → Opens s′
     → CoveredBy g (by-load.Admitted s xs) (by-load.Admitted s′ xs′) ↔ MatchedBy g s xs s′ xs′
@@ -322,10 +312,6 @@ matched g s s′ xs xs′ o o′ = (
   λ c j a l. let (k, b, e) = c j (same-admitted s xs o j .1 a) l in (k, same-admitted s′ xs′ o′ k .0 b, covers-in k j e),
   λ c j a l. let (k, b, e) = c j (same-admitted s xs o j .0 a) l in (k, same-admitted s′ xs′ o′ k .1 b, covers-out k j e),
 )
-
-pub earlier-is : (g h h′ : ℕ) → Earlier g h h′ → g ≡ min h h′
-earlier-is g h h′ (a, b, inl e) = omega arith
-earlier-is g h h′ (a, b, inr e) = omega arith
 
 at-earlier : (s s′ : Opening) (xs xs′ : List Step) (g : ℕ) → g ≡ min (endOf s xs .horizon) (endOf s′ xs′ .horizon) → s .settings .now ≡ s′ .settings .now → Opens s → Opens s′
     → ((z : ℤ) → Second z → Alike g (answer s xs z) (answer s′ xs′ z)) ↔ (MatchedBy g s xs s′ xs′ × MatchedBy g s′ xs′ s xs)

@@ -36,7 +36,8 @@ use Rattle.steps.proofs.HandedLaws.{handed-sound}
 use Rattle.comparison.specs.Demands.{Second, Alike, MatchedBy, Earlier}
 use Rattle.comparison.specs.Displays.{Displayed, windowIn, answerIn, DisplaysAgree, Displays}
 use Rattle.comparison.proofs.ShownLaws.{displayed}
-use Rattle.comparison.proofs.DemandLaws.{alike-reads, reads-alike, second-in, in-second, matched, earlier-is}
+use Rattle.comparison.proofs.AlikeLaws.{alike-reads, reads-alike, second-in, in-second, earlier-is}
+use Rattle.comparison.proofs.DemandLaws.{matched}
 
 module _ (gs : List Group) (n : ℕ) (s : Opening) (xs : List Step) (o : Opens s) (v : Displayed gs n s xs) where
   given : Given gs (groupOf n (endOf s xs))

@@ -15,8 +15,9 @@ use Rattle.comparison.specs.Taken.{callsIn, State, more, upTo, shut}
 use Rattle.comparison.specs.Horizon.{Fits, outside, room, full, cut}
 use Rattle.comparison.specs.Causes.{causesOf}
 use Rattle.comparison.specs.Runs as runs
-use Rattle.comparison.specs.Runs.{After, sent-back, a-stop, a-rule, a-call, resting, a-service, an-exception, a-search, Runs, end, step}
+use Rattle.comparison.specs.Runs.{After, sent-back, a-stop, a-rule, a-call, resting, a-service, an-exception, a-withdrawal, a-search, Runs, end, step}
 use Rattle.comparison.proofs.WindowLaws.{one-shown}
+use Rattle.comparison.proofs.GoneLaws.{one-withdrawn}
 use Rattle.comparison.proofs.Deciding.{one-first}
 
 -- one answer, one horizon and one mark
@@ -61,6 +62,7 @@ one-after s t _ _ _ _ (runs.outside {i = i} {h = h} {m = m} r f) (runs.outside {
     λ j. shut (upTo t (w .horizon j) (w .mark j))
 one-after s t _ _ _ _ a-service a-service = refl
 one-after s t _ _ _ _ an-exception an-exception = refl
+one-after s t _ _ u v (a-withdrawal {k = k} w) (a-withdrawal w′) = one-withdrawn s t k u v w w′
 one-after s t _ _ _ _ a-search a-search = refl
 
 -- a list of steps has one list of answers, and leaves one state

@@ -1,10 +1,10 @@
 -- Each step of a list is answered for the first of its causes, and the load holds what its answers say was taken.
 use mathlib.Core.Path.{_≡_, refl, sym, ap, subst, _∙_}
-use mathlib.Core.Bool.{Bool, true, false, not, cond, true≢false, false≢true}
+use mathlib.Core.Bool.{Bool, true, false, cond, true≢false}
 use mathlib.Core.Logic.{inl}
-use mathlib.Core.List.{List, [], _∷_, _++_, append-nil}
-use mathlib.Core.Option.{Option, none, some, Option·getD, Option·none-ne-some}
-use Prim.Native.Nat.{ℕ, _+_}
+use mathlib.Core.List.{List, [], _∷_, _++_, append-nil, List·Memᴰ, List·Memᴰ·not-nil, Permᴰ·symm}
+use mathlib.Core.Option.{Option, none, some}
+use Prim.Native.Nat.{ℕ, _+_, _≤_}
 use native.Mathlib.Omega.{arith}
 use lib.ListN.{set}
 use Rattle.refusal.specs.declared.Answer.{Answer}
@@ -17,54 +17,52 @@ use Rattle.stops.specs.declared.StopInput.{StopInput}
 use Rattle.stops.specs.Answer.{stopTests}
 use Rattle.stops.specs.Taken.{stopOf}
 use Rattle.calls.specs.declared.CallInput.{CallInput}
-use Rattle.calls.specs.Calls.{known, callOn}
-use Rattle.calls.specs.Shown.{tableCalls}
 use Rattle.rules.specs.declared.RuleInput.{RuleInput}
 use Rattle.rules.specs.Rules.{ruleTests, ruleOf}
-use Rattle.offers.specs.Order.{inOrder}
-use Rattle.offers.specs.Admitted.{Clear}
-use Rattle.offers.proofs.SearchLaws.{search-found}
+use Rattle.withdrawal.specs.declared.CallKey.{CallKey}
+use Rattle.withdrawal.specs.Removal.{withoutLast}
 use Rattle.load.specs.declared.Load.{Load}
 use Rattle.load.specs.declared.Stepped.{Stepped}
-use Rattle.load.specs.Load.{emptyOf, tableOf, withTable, withStops, withRules, withWeek}
-use Rattle.load.specs.Steps.{Opening, opened, stationIn, stopAnswer, stopSpec, callFitted, plainCall, isUnknown, isResting, closedLoad, ruleAnswer, ruleSpec, serviceSpec, exceptionSpec}
-use Rattle.load.specs.Filling.{Filling, stop, call, rule, service, exception}
+use Rattle.load.specs.Load.{emptyOf, withStops, withRules, withWeek}
+use Rattle.load.specs.Steps.{Opening, opened, stationIn, stopAnswer, stopSpec, closedLoad, callSpec, ruleAnswer, ruleSpec, serviceSpec, exceptionSpec}
+use Rattle.load.specs.Filling.{Filling, stop, call, rule, service, exception, filled}
 use Rattle.load.specs.Sound.{Opens}
-use Rattle.load.proofs.StepLaws as calls
 use Rattle.laws.proofs.Bools.{cond-not, or-true-left}
+use Rattle.laws.proofs.Sort.{perm-mem}
 use Rattle.services.specs.Exceptions.{daysOn, exceptedOf}
-use Rattle.week.specs.declared.Week.{Week}
-use Rattle.week.specs.declared.Running.the-variants.{Runs as Runs·, Rests as Rests·}
-use Rattle.week.specs.Weeks.{undatedWeek, datedWeek, closedWeek, serviceOf, withServices, serviceTests, serviceAnswer, serviceOn, exceptionTests, exceptionAnswer, placeIn, serviceIn, exceptionOn, running}
-use Rattle.week.proofs.SoundLaws.{undated-closed}
-use Rattle.search.specs.Timetable.{timetableOf}
-use Rattle.search.specs.Search as search-specs
+use Rattle.week.specs.Weeks.{undatedWeek, datedWeek, serviceOf, withServices, serviceTests, serviceAnswer, serviceOn, exceptionTests, exceptionAnswer, placeIn, serviceIn, exceptionOn}
 use Rattle.search.specs.Search.{searchSpec}
-use Rattle.steps.specs.Steps.{Step, filling, search, stepped, causes}
-use Rattle.steps.specs.Lists.{next, ran, handed, start}
 use Rattle.search.proofs.RunLaws.{untaken-stays}
-use Rattle.steps.proofs.StepLaws.{first-holds, searched-stays, filled-searched, taken-searches}
-use Rattle.steps.proofs.HeldLaws.{step-sound}
-use Rattle.steps.proofs.AcceptedLaws.{step-settings}
+use Rattle.again.specs.Again.{unsearchedOf, addSpec, takenOut, withdrawSpec}
+use Rattle.again.specs.Claims.{Kept}
+use Rattle.steps.specs.Steps.{Step, filling, withdraw, search, stepped, causes}
+use Rattle.steps.specs.Lists.{next, handed}
+use Rattle.steps.proofs.StepLaws.{first-holds, filled-stays, search-stays, filled-searched, taken-searches}
 use Rattle.steps.proofs.AnsweredLaws.{step-answered}
-use Rattle.steps.proofs.DatedLaws.{search-week}
-use Rattle.comparison.specs.Taken.{callsIn, State, fresh, done, shut}
-use Rattle.comparison.specs.Services.{Resting}
-use Rattle.comparison.specs.Horizon.{Fits}
+use Rattle.steps.proofs.ShownLaws.{rawEarlier}
+use Rattle.steps.proofs.WeekLaws.{search-week}
+use Rattle.steps.proofs.WithdrawnLaws.{step-kept, end-kept}
+use Rattle.comparison.specs.Taken.{callsIn, State, fresh, done}
 use Rattle.comparison.specs.Causes.{First, causesOf}
 use Rattle.comparison.specs.Runs.{After, sent-back, a-stop, a-rule, a-call, resting, outside, a-service, an-exception, a-search, Runs, end, step}
 use Rattle.comparison.specs.Demands.{answersFrom}
 use Rattle.comparison.proofs.Deciding.{Matches, first-matches}
-use Rattle.comparison.proofs.TakenLaws.{given, fill-held}
+use Rattle.comparison.proofs.TakenLaws.{given}
 use Rattle.comparison.proofs.SettingLaws.{Opened, opens}
-use Rattle.comparison.proofs.WeekLaws.{datesOf, dec-resting}
-use Rattle.comparison.proofs.RunningLaws.{fill-runs}
-use Rattle.comparison.proofs.StartLaws.{Start, begins, opened-start, stateAt}
-use Rattle.comparison.proofs.HorizonLaws.{call-fits, showing}
+use Rattle.comparison.proofs.WeekLaws.{datesOf}
+use Rattle.comparison.proofs.AfterLaws.{namedFilling, takenAfter}
+use Rattle.comparison.proofs.RunningLaws.{CallsRun, step-runs}
+use Rattle.comparison.proofs.StartLaws.{Start, opened-fresh, opened-start, stateAt}
+use Rattle.comparison.proofs.AsideLaws.{beside-same, apart, apart-like}
 use Rattle.comparison.proofs.CauseLaws.{stop-match, rule-match}
 use Rattle.comparison.proofs.ServiceLaws.{service-match, exception-match}
-use Rattle.comparison.proofs.CallLaws.{day-known, call-match}
-use Rattle.comparison.proofs.SearchingLaws.{search-match, search-height, search-mark, search-sorts}
+use Rattle.comparison.proofs.CallLaws.{call-match}
+use Rattle.comparison.proofs.ComesLaws.{awake-so, rests-so, Came, Comes, came, rested, back, comes, fill-start}
+use Rattle.comparison.proofs.AddedLaws.{added-match}
+use Rattle.comparison.proofs.SearchingLaws.{search-match, search-outside, search-height, search-mark}
+use Rattle.comparison.proofs.SearchedLaws.{searched-start, Leaves, stays-so, same-leaves}
+use Rattle.comparison.proofs.AddedStepLaws.{added-leaves}
+use Rattle.comparison.proofs.WithdrawLaws.{withdraw-match, withdrawn-so, withdrawn-match, withdrawn-leaves-so}
 
 -- ---- a step that is only taken or sent back
 
@@ -97,15 +95,26 @@ exception-outside : (l : Load) (name : List ℕ) (date kind : ℕ) → exception
 unfolding exceptionTests
 exception-outside l name date kind e = never-outside _ (refl, (refl, (refl, tt))) e
 
-search-outside : (l : Load) → searchSpec l .answer ≡ Outside → ⊥
-search-outside l e = never-outside (search-specs.searchCauses l) (refl, (refl, (refl, tt))) (sym (first-is-answer _ _ (step-answered l search .first)) ∙ e)
+-- ---- what holds of a load between two steps
 
--- ---- one step
+pub record Stands (s : Settings) (l : Load) (fs : List Filling) : Type 0 where
+  pub kept : Kept l
+  pub runs : CallsRun l fs
+  -- not searched, it holds what was taken; searched, its unsearched load does, with the calls in order
+  pub new : l .searched ≡ false → Start s l fs
+  pub done : l .searched ≡ true → Start s (unsearchedOf l) (apart fs)
 
--- what a step gives, if it is taken
-abbrev taking : Load → Step → List Filling
-taking l (filling x) = given l x
-taking l search = []
+-- what one more step gives: it is answered for the first of its causes, and leaves what is taken
+pub record Stepping (s : Settings) (l : Load) (fs : List Filling) (x : Step) : Type 0 where
+  pub first : First (stepped l x .answer) (causesOf s (stateAt l fs) x)
+  pub after : After s (stateAt l fs) x (stepped l x .answer) (stateAt (next l x) (takenAfter l x fs))
+  pub new : next l x .searched ≡ false → Start s (next l x) (takenAfter l x fs)
+  pub done : next l x .searched ≡ true → Start s (unsearchedOf (next l x)) (apart (takenAfter l x fs))
+
+by-matches : (s : Settings) (l : Load) (fs : List Filling) (x : Step) → Matches (causes l x) (causesOf s (stateAt l fs) x) → First (stepped l x .answer) (causesOf s (stateAt l fs) x)
+by-matches s l fs x m = subst (λ (a : Answer). First a (causesOf s (stateAt l fs) x)) (sym (first-is-answer _ _ (step-answered l x .first))) (first-matches (causes l x) (causesOf s (stateAt l fs) x) m)
+
+-- ---- a load that is not searched
 
 module _ (s : Settings) (o : Opened s) (l : Load) (fs : List Filling) (w : Start s l fs) where
   abbrev t : State
@@ -117,95 +126,62 @@ module _ (s : Settings) (o : Opened s) (l : Load) (fs : List Filling) (w : Start
   matches (filling (rule i)) = rule-match s l fs w i
   matches (filling (service name weekdays start to)) = service-match s l fs w name start to
   matches (filling (exception name date kind)) = exception-match s l fs w name date kind
+  matches (withdraw k) = withdraw-match s o l fs w k
   matches search = search-match s l fs w o
-
-  first : (x : Step) → First (stepped l x .answer) (causesOf s t x)
-  first x = subst (λ (a : Answer). First a (causesOf s t x)) (sym (first-is-answer _ _ (step-answered l x .first))) (first-matches (causes l x) (causesOf s t x) (matches x))
-
-  fits-so : (i : CallInput) → isRefused (callFitted l i .answer) ≡ false
-      → Fits s (callsIn fs) i (l .«table_horizon») (l .«table_limits») (callFitted l i .answer) (callFitted l i .table .horizon) (callFitted l i .table .limits)
-  fits-so i =
-      subst (λ (x : Settings). isRefused (callOn x (l .searched) (l .«stop_count») (tableOf l) i .answer) ≡ false
-      → Fits s (callsIn fs) i (l .«table_horizon») (l .«table_limits») (callOn x (l .searched) (l .«stop_count») (tableOf l) i .answer)
-      (callOn x (l .searched) (l .«stop_count») (tableOf l) i .table .horizon) (callOn x (l .searched) (l .«stop_count») (tableOf l) i .table .limits))
-      (sym (w .settings)) (call-fits s o (callsIn fs) (w .held .days) i (l .searched) (l .«stop_count») (tableOf l) (showing s l fs w))
-
-  fits-as : (i : CallInput) (a : Answer) → callFitted l i .answer ≡ a → isRefused a ≡ false
-      → Fits s (callsIn fs) i (l .«table_horizon») (l .«table_limits») a (callFitted l i .table .horizon) (callFitted l i .table .limits)
-  fits-as i a e r = subst (λ (x : Answer). Fits s (callsIn fs) i (l .«table_horizon») (l .«table_limits») x (callFitted l i .table .horizon) (callFitted l i .table .limits)) e (fits-so i (ap isRefused e ∙ r))
 
   -- nothing more is taken
   same : (x : Step) (a : Answer) (m : Load) → After s t x a (stateAt m fs) → After s t x a (stateAt m (fs ++ []))
   same x a m v = subst (λ (gs : List Filling). After s t x a (stateAt m gs)) (sym (append-nil fs)) v
 
-  after : (x : Step) → After s t x (stepped l x .answer) (stateAt (next l x) (fs ++ taking l x))
-  unfolding stopSpec plainCall ruleSpec serviceSpec serviceOn exceptionSpec exceptionOn
-  after (filling (stop id name parent i)) = go (stopAnswer l id name parent i) refl
+  call-after : (name : List ℕ) (i : CallInput) (r : Stepped) → Comes s l fs name i r → After s t (filling (call name i)) (r .answer) (stateAt (r .load) (fs ++ cond (isTaken (r .answer)) (call name i ∷ []) []))
+  call-after name i _ (came {a = a} {n = n} c) = go a c
+    where
+      -- an answered call closes the services
+      at : (a : Answer) (gs : List Filling) → Came s l fs name i a n → stateAt n gs ≡ record { taken = gs; horizon = n .«table_horizon»; limits = n .«table_limits»; searched = l .searched; dates = datesOf (l .week); closed = true }
+      at a gs v = λ k. record { taken = gs; horizon = n .«table_horizon»; limits = n .«table_limits»; searched = v .searched k; dates = v .dates k; closed = v .closed k }
+
+      go : (a : Answer) → Came s l fs name i a n → After s (stateAt l fs) (filling (call name i)) a (stateAt n (fs ++ cond (isTaken a) (call name i ∷ []) []))
+      go Taken v = subst (After s (stateAt l fs) (filling (call name i)) Taken) (sym (at Taken (fs ++ call name i ∷ []) v)) (a-call (v .fits))
+      go Outside v = same (filling (call name i)) Outside n (subst (After s (stateAt l fs) (filling (call name i)) Outside) (sym (at Outside fs v))
+          (outside (awake-so (l .week) fs (w .held .week) (stateAt l fs) refl refl name i (v .runs) (v .day)) (v .fits)))
+      go (Refused r) v = absurd (true≢false (v .answered))
+  call-after name i _ (rested v h) = same (filling (call name i)) Outside (closedLoad l) (resting (rests-so (l .week) fs (w .held .week) (stateAt l fs) refl refl name i v h))
+  call-after name i _ (back {r = r}) = same (filling (call name i)) (Refused r) l sent-back
+
+  fill-after : (x : Filling) → After s t (filling x) (filled l x .answer) (stateAt (filled l x .load) (fs ++ given l x))
+  unfolding stopSpec ruleSpec serviceSpec serviceOn exceptionSpec exceptionOn
+  fill-after (stop id name parent i) = go (stopAnswer l id name parent i) refl
     where
       go : (a : Answer) → stopAnswer l id name parent i ≡ a → After s (stateAt l fs) (filling (stop id name parent i)) a
           (stateAt (cond (isTaken a) (withStops l (set (l .stops) (l .«stop_count») (stopOf id name (stationIn l parent i) i)) (l .«stop_count» + 1)) l) (fs ++ cond (isTaken a) (stop id name parent i ∷ []) []))
       go Taken e = a-stop
       go Outside e = absurd (stop-outside l id name parent i e)
       go (Refused r) e = same (filling (stop id name parent i)) (Refused r) l sent-back
-  after (filling (rule i)) = go (ruleAnswer l i) refl
+  fill-after (rule i) = go (ruleAnswer l i) refl
     where
       go : (a : Answer) → ruleAnswer l i ≡ a → After s (stateAt l fs) (filling (rule i)) a
           (stateAt (cond (isTaken a) (withRules l (set (l .rules) (l .«rule_count») (ruleOf i)) (l .«rule_count» + 1)) l) (fs ++ cond (isTaken a) (rule i ∷ []) []))
       go Taken e = a-rule
       go Outside e = absurd (rule-outside l i e)
       go (Refused r) e = same (filling (rule i)) (Refused r) l sent-back
-  after (filling (call name i)) = by _ (calls.called l name i)
-    where
-      -- without dates services are closed from the opening, and none is asked for
-      shut-so : l .week .dated ≡ false → l .week .closed ≡ true
-      shut-so d = ap (λ (v : Week). v .closed) (w .sound .week .undated d) ∙ undated-closed
-
-      never-rests : l .week .dated ≡ false → Resting (stateAt l fs) name (i .day) → ⊥
-      never-rests d ((ds, e), f) = Option·none-ne-some ds (sym (cond-not _ _ d) ∙ e)
-
-      closed-as : (d : l .week .dated ≡ false) (gs : List Filling) (h m : ℕ) (a : Answer) → After s (stateAt l fs) (filling (call name i)) a (shut (record { taken = gs; horizon = h; limits = m; searched = l .searched; dates = datesOf (l .week); closed = l .week .closed }))
-          → After s (stateAt l fs) (filling (call name i)) a (record { taken = gs; horizon = h; limits = m; searched = l .searched; dates = datesOf (l .week); closed = l .week .closed })
-      closed-as d gs h m a = subst (λ (c : Bool). After s (stateAt l fs) (filling (call name i)) a (record { taken = gs; horizon = h; limits = m; searched = l .searched; dates = datesOf (l .week); closed = c })) (sym (shut-so d))
-
-      plain : l .week .dated ≡ false → (a : Answer) → callFitted l i .answer ≡ a → After s (stateAt l fs) (filling (call name i)) a
-          (stateAt (cond (isRefused a) l (withTable l (callFitted l i .table))) (fs ++ cond (isTaken a) (call name i ∷ []) []))
-      plain d Taken e = closed-as d _ _ _ Taken (a-call (fits-as i Taken e refl))
-      plain d Outside e = same (filling (call name i)) Outside (withTable l (callFitted l i .table)) (closed-as d _ _ _ Outside (outside (never-rests d) (fits-as i Outside e refl)))
-      plain d (Refused r) e = same (filling (call name i)) (Refused r) l sent-back
-
-      -- a service that runs doesn't rest
-      awake : (known (l .«stop_count») i ≡ true) × (running (l .week) name (i .day) ≡ Runs·) → Resting (stateAt l fs) name (i .day) → ⊥
-      awake (k, r) x = false≢true (sym (ap isResting r) ∙ dec-resting (w .held .week) (stateAt l fs) refl refl name (i .day) (day-known i (l .«stop_count») (ap not k)) (ap isUnknown r) .1 x)
-
-      passes : (known (l .«stop_count») i ≡ true) × (running (l .week) name (i .day) ≡ Runs·) → (a : Answer) → callFitted l i .answer ≡ a → After s (stateAt l fs) (filling (call name i)) a
-          (stateAt (cond (isRefused a) l (withWeek (cond (isRefused a) l (withTable l (callFitted l i .table))) (closedWeek (l .week)))) (fs ++ cond (isTaken a) (call name i ∷ []) []))
-      passes g Taken e = a-call (fits-as i Taken e refl)
-      passes g Outside e = same (filling (call name i)) Outside (withWeek (withTable l (callFitted l i .table)) (closedWeek (l .week))) (outside (awake g) (fits-as i Outside e refl))
-      passes g (Refused r) e = same (filling (call name i)) (Refused r) l sent-back
-
-      rests : (known (l .«stop_count») i ≡ true) × (running (l .week) name (i .day) ≡ Rests·) → Resting (stateAt l fs) name (i .day)
-      rests (k, r) = dec-resting (w .held .week) (stateAt l fs) refl refl name (i .day) (day-known i (l .«stop_count») (ap not k)) (ap isUnknown r) .0 (ap isResting r)
-
-      by : (r : Stepped) → calls.Called l name i r → After s (stateAt l fs) (filling (call name i)) (r .answer) (stateAt (r .load) (fs ++ cond (isTaken (r .answer)) (call name i ∷ []) []))
-      by _ (calls.without d) = plain d (callFitted l i .answer) refl
-      by _ (calls.goes-on d g) = passes (calls.gate-passed (l .searched) (l .«stop_count») i _ g .1) (callFitted l i .answer) refl
-      by _ (calls.stays-out d g) = same (filling (call name i)) Outside (closedLoad l) (resting (rests (calls.gate-rests (l .searched) (l .«stop_count») i _ g)))
-      by _ (calls.sent-back d r g) = same (filling (call name i)) (Refused r) l sent-back
-  after (filling (service name weekdays start to)) = go (serviceAnswer (l .week) (l .searched) name start to) refl
+  fill-after (call name i) = call-after name i (callSpec l name i) (comes s o l fs w name i)
+  fill-after (service name weekdays start to) = go (serviceAnswer (l .week) (l .searched) name start to) refl
     where
       go : (a : Answer) → serviceAnswer (l .week) (l .searched) name start to ≡ a → After s (stateAt l fs) (filling (service name weekdays start to)) a
           (stateAt (withWeek l (cond (isTaken a) (withServices (l .week) (set (l .week .services) (l .week .«service_count») (serviceOf name weekdays start to)) (l .week .«service_count» + 1)) (l .week))) (fs ++ cond (isTaken a) (service name weekdays start to ∷ []) []))
       go Taken e = a-service
       go Outside e = absurd (service-outside l name start to e)
       go (Refused r) e = same (filling (service name weekdays start to)) (Refused r) l sent-back
-  after (filling (exception name date kind)) = go (exceptionAnswer (l .week) (l .searched) name date kind) refl
+  fill-after (exception name date kind) = go (exceptionAnswer (l .week) (l .searched) name date kind) refl
     where
       go : (a : Answer) → exceptionAnswer (l .week) (l .searched) name date kind ≡ a → After s (stateAt l fs) (filling (exception name date kind)) a
           (stateAt (withWeek l (cond (isTaken a) (withServices (l .week) (set (l .week .services) (placeIn (l .week) name) (exceptedOf (serviceIn (l .week) name) (daysOn (l .week .dates) date) kind)) (l .week .«service_count»)) (l .week))) (fs ++ cond (isTaken a) (exception name date kind ∷ []) []))
       go Taken e = an-exception
       go Outside e = absurd (exception-outside l name date kind e)
       go (Refused r) e = same (filling (exception name date kind)) (Refused r) l sent-back
-  after search = same search (searchSpec l .answer) (searchSpec l .load) (go (searchSpec l .answer) refl)
+
+  search-after : After s t search (searchSpec l .answer) (stateAt (searchSpec l .load) fs)
+  search-after = go (searchSpec l .answer) refl
     where
       go : (a : Answer) → searchSpec l .answer ≡ a → After s (stateAt l fs) search a (stateAt (searchSpec l .load) fs)
       go Taken e =
@@ -214,109 +190,132 @@ module _ (s : Settings) (o : Opened s) (l : Load) (fs : List Filling) (w : Start
       go Outside e = absurd (search-outside l e)
       go (Refused r) e = subst (λ (m : Load). After s (stateAt l fs) search (Refused r) (stateAt m fs)) (sym (untaken-stays l (ap isTaken e))) sent-back
 
-  -- a load that is still not searched goes on holding what was taken
-  began : (x : Step) → next l x .searched ≡ false → Start s (next l x) (fs ++ taking l x)
-  began (filling x) e = record { sound = step-sound l (filling x) (w .sound); settings = step-settings l (filling x) ∙ w .settings; held = fill-held l x fs (w .sound) (w .held); fresh = e; runs = fill-runs l x fs (w .runs) }
-  began search e = go (isTaken (searchSpec l .answer)) refl
+  -- a call is what it is before a search
+  call-same : (name : List ℕ) (i : CallInput) → addSpec l name i ≡ callSpec l name i
+  unfolding addSpec
+  call-same name i = cond-not _ _ (w .fresh)
+
+  withdraw-same : (k : CallKey) → withdrawSpec l k ≡ takenOut l k
+  unfolding withdrawSpec
+  withdraw-same k = cond-not _ _ (w .fresh)
+
+  -- a step that fills leaves it unsearched
+  filled-steps : (x : Filling) → stepped l (filling x) ≡ filled l x → Stepping s l fs (filling x)
+  filled-steps x e = record {
+    first = by-matches s l fs (filling x) (matches (filling x));
+    after = subst (λ (r : Stepped). After s t (filling x) (r .answer) (stateAt (r .load) (fs ++ cond (isTaken (r .answer)) (x ∷ []) []))) (sym e) (fill-after x);
+    new = λ d. subst (λ (r : Stepped). Start s (r .load) (fs ++ cond (isTaken (r .answer)) (x ∷ []) [])) (sym e) (fill-start s l x fs w);
+    done = λ d. absurd (true≢false (sym d ∙ ap (λ (r : Stepped). r .load .searched) e ∙ filled-searched l x ∙ w .fresh));
+  }
+
+  abbrev OutBy : CallKey → Stepped → Type 0
+  OutBy k r =
+      After s t (withdraw k) (r .answer) (stateAt (r .load) (cond (isTaken (r .answer)) (withoutLast (namedFilling (l .settings) (l .«table_horizon») k) fs) fs))
+      × Start s (r .load) (cond (isTaken (r .answer)) (withoutLast (namedFilling (l .settings) (l .«table_horizon») k) fs) fs)
+
+  new-step : (x : Step) → Stepping s l fs x
+  new-step (filling (stop id name parent i)) = filled-steps (stop id name parent i) refl
+  new-step (filling (call name i)) = filled-steps (call name i) (call-same name i)
+  new-step (filling (rule i)) = filled-steps (rule i) refl
+  new-step (filling (service name weekdays start to)) = filled-steps (service name weekdays start to) refl
+  new-step (filling (exception name date kind)) = filled-steps (exception name date kind) refl
+  new-step (withdraw k) =
+      let v : OutBy k (withdrawSpec l k) = subst (OutBy k) (sym (withdraw-same k)) (withdrawn-so s o l fs w k) in
+      record {
+        first = by-matches s l fs (withdraw k) (matches (withdraw k));
+        after = v .0;
+        new = λ d. v .1;
+        done = λ d. absurd (true≢false (sym d ∙ v .1 .fresh));
+      }
+  new-step search = record {
+    first = by-matches s l fs search (matches search);
+    after = search-after;
+    new = λ d. go d (isTaken (searchSpec l .answer)) refl;
+    done = λ d. found d (isTaken (searchSpec l .answer)) refl;
+  }
     where
-      go : (b : Bool) → isTaken (searchSpec l .answer) ≡ b → Start s (searchSpec l .load) (fs ++ [])
-      go true q = absurd (true≢false (sym (taken-searches l q .searched) ∙ e))
-      go false q = subst (λ (m : Load). Start s m (fs ++ [])) (sym (untaken-stays l q)) (subst (Start s l) (sym (append-nil fs)) w)
+      go : searchSpec l .load .searched ≡ false → (b : Bool) → isTaken (searchSpec l .answer) ≡ b → Start s (searchSpec l .load) fs
+      go d true q = absurd (true≢false (sym (taken-searches l q .searched) ∙ d))
+      go d false q = subst (λ (m : Load). Start s m fs) (sym (untaken-stays l q)) w
 
--- ---- a load that is searched: every step is sent back with 15
+      found : searchSpec l .load .searched ≡ true → (b : Bool) → isTaken (searchSpec l .answer) ≡ b → Start s (unsearchedOf (searchSpec l .load)) (apart fs)
+      found d true q = searched-start s l fs fs w (beside-same fs) (w .held .days) refl q
+      found d false q = absurd (true≢false (sym d ∙ ap (λ (m : Load). m .searched) (untaken-stays l q) ∙ w .fresh))
 
-back : (l : Load) (x : Step) → l .searched ≡ true → (s : Settings) (fs : List Filling) → stepped l x .answer ≡ Refused AlreadySearched → After s (stateAt l fs) x (stepped l x .answer) (stateAt (next l x) fs)
-back l x e s fs q =
-    subst (λ (m : Load). After s (stateAt l fs) x (stepped l x .answer) (stateAt m fs)) (sym (searched-stays l x e))
-    (subst (λ (a : Answer). After s (stateAt l fs) x a (stateAt l fs)) (sym q) sent-back)
+-- ---- a load that is searched: a call and a withdrawal have it searched again, and every other step is sent back with 15
 
-answered-15 : (l : Load) (x : Step) → l .searched ≡ true → stepped l x .answer ≡ Refused AlreadySearched
+answered-15 : (l : Load) (x : Filling) → l .searched ≡ true → ((name : List ℕ) (i : CallInput) → x ≡ call name i → ⊥) → stepped l (filling x) .answer ≡ Refused AlreadySearched
 unfolding stopTests ruleTests serviceTests exceptionTests
-answered-15 l (filling (stop id name parent i)) e = first-holds (step-answered l (filling (stop id name parent i)) .first) e
-answered-15 l (filling (call name i)) e = first-holds (step-answered l (filling (call name i)) .first) e
-answered-15 l (filling (rule i)) e = first-holds (step-answered l (filling (rule i)) .first) e
-answered-15 l (filling (service name weekdays start to)) e = first-holds (step-answered l (filling (service name weekdays start to)) .first) (or-true-left (l .searched) (l .week .closed) e)
-answered-15 l (filling (exception name date kind)) e = first-holds (step-answered l (filling (exception name date kind)) .first) (or-true-left (l .searched) (l .week .closed) e)
-answered-15 l search e = first-holds (step-answered l search .first) e
+answered-15 l (stop id name parent i) e f = first-holds (step-answered l (filling (stop id name parent i)) .first) e
+answered-15 l (call name i) e f = absurd (f name i refl)
+answered-15 l (rule i) e f = first-holds (step-answered l (filling (rule i)) .first) e
+answered-15 l (service name weekdays start to) e f = first-holds (step-answered l (filling (service name weekdays start to)) .first) (or-true-left (l .searched) (l .week .closed) e)
+answered-15 l (exception name date kind) e f = first-holds (step-answered l (filling (exception name date kind)) .first) (or-true-left (l .searched) (l .week .closed) e)
 
-first-15 : (s : Settings) (l : Load) (fs : List Filling) (x : Step) → l .searched ≡ true → stepped l x .answer ≡ Refused AlreadySearched → First (stepped l x .answer) (causesOf s (stateAt l fs) x)
-first-15 s l fs (filling (stop id name parent i)) e q = inl (e, q)
-first-15 s l fs (filling (call name i)) e q = inl (e, q)
-first-15 s l fs (filling (rule i)) e q = inl (e, q)
-first-15 s l fs (filling (service name weekdays start to)) e q = inl (inl e, q)
-first-15 s l fs (filling (exception name date kind)) e q = inl (inl e, q)
-first-15 s l fs search e q = inl (e, q)
+module _ (s : Settings) (o : Opened s) (l : Load) (fs : List Filling) (v : Stands s l fs) (e : l .searched ≡ true) where
+  w : Start s (unsearchedOf l) (apart fs)
+  w = v .done e
 
-stays-on : (l : Load) (x : Step) → l .searched ≡ true → next l x .searched ≡ true
-stays-on l x e = ap (λ (m : Load). m .searched) (searched-stays l x e) ∙ e
+  days : (j : CallInput) → List·Memᴰ j (callsIn fs) → j .day ≤ 2
+  days j m = w .held .days j (perm-mem rawEarlier (Permᴰ·symm (apart-like fs .calls)) m)
 
-run-done : (s : Settings) (xs : List Step) (l : Load) (fs : List Filling) → l .searched ≡ true → Runs s (stateAt l fs) xs (answersFrom l xs) (stateAt (handed l xs) fs)
-run-done s [] l fs e = end
-run-done s (x ∷ xs) l fs e =
-    step (first-15 s l fs x e (answered-15 l x e)) (back l x e s fs (answered-15 l x e)) (run-done s xs (next l x) fs (stays-on l x e))
+  -- by what it leaves
+  left-step : (x : Step) → First (stepped l x .answer) (causesOf s (stateAt l fs) x) → Leaves s l fs x (stepped l x .answer) (next l x) (takenAfter l x fs) → Stepping s l fs x
+  left-step x f q = record { first = f; after = q .after; new = λ d. absurd (true≢false (sym (q .searched) ∙ d)); done = λ d. q .start }
 
-handed-done : (xs : List Step) (l : Load) → l .searched ≡ true → handed l xs ≡ l
-handed-done [] l e = refl
-handed-done (x ∷ xs) l e = handed-done xs (next l x) (stays-on l x e) ∙ searched-stays l x e
+  -- sent back with 15
+  back-step : (x : Filling) → First (Refused AlreadySearched) (causesOf s (stateAt l fs) (filling x)) → stepped l (filling x) ≡ filled l x → stepped l (filling x) .answer ≡ Refused AlreadySearched → Stepping s l fs (filling x)
+  back-step x f q a =
+      left-step (filling x) (subst (λ (y : Answer). First y (causesOf s (stateAt l fs) (filling x))) (sym a) f)
+      (subst (λ (m : Load). Leaves s l fs (filling x) (stepped l (filling x) .answer) m (fs ++ cond (isTaken (stepped l (filling x) .answer)) (x ∷ []) [])) (sym (ap (λ (r : Stepped). r .load) q ∙ filled-stays l x e))
+      (subst (λ (y : Answer). Leaves s l fs (filling x) y l (fs ++ cond (isTaken y) (x ∷ []) [])) (sym a)
+      (same-leaves s l fs (filling x) (Refused AlreadySearched) l (stays-so s l fs (filling x) AlreadySearched e w))))
+
+  done-step : (x : Step) → Stepping s l fs x
+  done-step (filling (stop id name parent i)) = back-step (stop id name parent i) (inl (e, refl)) refl (answered-15 l (stop id name parent i) e (λ n j q. let z : _≡_ {A = ℕ} 0 1 = cc in omega arith))
+  done-step (filling (call name i)) =
+      left-step (filling (call name i)) (by-matches s l fs (filling (call name i)) (added-match s o l fs e w name i)) (added-leaves s o l fs e (v .kept) w days name i)
+  done-step (filling (rule i)) = back-step (rule i) (inl (e, refl)) refl (answered-15 l (rule i) e (λ n j q. let z : _≡_ {A = ℕ} 0 1 = cc in omega arith))
+  done-step (filling (service name weekdays start to)) =
+      back-step (service name weekdays start to) (inl (inl e, refl)) refl (answered-15 l (service name weekdays start to) e (λ n j q. let z : _≡_ {A = ℕ} 0 1 = cc in omega arith))
+  done-step (filling (exception name date kind)) =
+      back-step (exception name date kind) (inl (inl e, refl)) refl (answered-15 l (exception name date kind) e (λ n j q. let z : _≡_ {A = ℕ} 0 1 = cc in omega arith))
+  done-step (withdraw k) = left-step (withdraw k) (by-matches s l fs (withdraw k) (withdrawn-match s o l fs e (v .kept) w days k)) (withdrawn-leaves-so s o l fs e (v .kept) w days k)
+  done-step search =
+      let a : searchSpec l .answer ≡ Refused AlreadySearched = first-holds (step-answered l search .first) e in
+      left-step search (inl (e, a))
+      (subst (λ (m : Load). Leaves s l fs search (searchSpec l .answer) m fs) (sym (search-stays l e))
+      (subst (λ (y : Answer). Leaves s l fs search y l fs) (sym a) (stays-so s l fs search AlreadySearched e w)))
 
 -- ---- the whole list
 
--- the load q that the accepted search started from, and the load m at the end
-pub record Ended (s : Settings) (q m : Load) (fs : List Filling) : Type 0 where
-  pub start : Start s q fs
-  pub height : q .«table_horizon» ≡ m .«table_horizon»
-  pub mark : q .«table_limits» ≡ m .«table_limits»
-  pub clear : Clear (timetableOf q)
-  pub calls : tableCalls (tableOf m) ≡ inOrder (tableCalls (tableOf q))
-  pub week : q .week ≡ m .week
+any-step : (s : Settings) → Opened s → (l : Load) (fs : List Filling) → Stands s l fs → (x : Step) → Stepping s l fs x
+any-step s o l fs v x = go (l .searched) refl
+  where
+    go : (b : Bool) → l .searched ≡ b → Stepping s l fs x
+    go false e = new-step s o l fs (v .new e) x
+    go true e = done-step s o l fs v e x
 
-pub record Walked (s : Settings) (p l : Load) (xs : List Step) (fs : List Filling) : Type 0 where
+pub record Walked (s : Settings) (l : Load) (xs : List Step) (fs : List Filling) : Type 0 where
   pub taken : List Filling
   pub runs : Runs s (stateAt l fs) xs (answersFrom l xs) (stateAt (handed l xs) taken)
-  pub ended : handed l xs .searched ≡ true → Ended s (start p l xs) (handed l xs) taken
-  pub going : handed l xs .searched ≡ false → Start s (handed l xs) taken
+  pub stands : Stands s (handed l xs) taken
 
--- the search that is taken
-taken-ends : (s : Settings) (xs : List Step) (p l : Load) (fs : List Filling) → Start s l fs → isTaken (searchSpec l .answer) ≡ true → Ended s (start p l (search ∷ xs)) (handed (searchSpec l .load) xs) (fs ++ [])
-taken-ends s xs p l fs w t =
-    let n = taken-searches l t in
-    let stay = handed-done xs (searchSpec l .load) (n .searched) in
-    subst (λ (q : Load). Ended s q (handed (searchSpec l .load) xs) (fs ++ [])) (sym (begins xs p l t))
-    (subst (λ (m : Load). Ended s l m (fs ++ [])) (sym stay) (record {
-      start = subst (Start s l) (sym (append-nil fs)) w;
-      height = sym (search-height l);
-      mark = sym (search-mark l);
-      clear = search-found (timetableOf l) _ _ _ _ _ (n .finds .is) .0;
-      calls = search-sorts l t;
-      week = sym (search-week l);
-    }))
-
-pub walk : (s : Settings) → Opened s → (xs : List Step) (p l : Load) (fs : List Filling) → Start s l fs → Walked s p l xs fs
-walk s o [] p l fs w = record { taken = fs; runs = end; ended = λ e. absurd (true≢false (sym e ∙ w .fresh)); going = λ e. w }
-walk s o (x ∷ xs) p l fs w = go (next l x .searched) refl (λ e. walk s o xs (Option·getD (ran l x) p) (next l x) (fs ++ taking l x) (began s o l fs w x e))
-  where
-    last : (x : Step) → next l x .searched ≡ true → Ended s (start p l (x ∷ xs)) (handed (next l x) xs) (fs ++ taking l x)
-    last (filling y) e = absurd (true≢false (sym e ∙ filled-searched l y ∙ w .fresh))
-    last search e = try (isTaken (searchSpec l .answer)) refl
-      where
-        try : (b : Bool) → isTaken (searchSpec l .answer) ≡ b → Ended s (start p l (search ∷ xs)) (handed (searchSpec l .load) xs) (fs ++ [])
-        try true t = taken-ends s xs p l fs w t
-        try false t = absurd (true≢false (sym e ∙ ap (λ (m : Load). m .searched) (untaken-stays l t) ∙ w .fresh))
-
-    go : (b : Bool) → next l x .searched ≡ b → (next l x .searched ≡ false → Walked s (Option·getD (ran l x) p) (next l x) xs (fs ++ taking l x)) → Walked s p l (x ∷ xs) fs
-    go false e ih =
-        let v = ih e in
-        record { taken = v .taken; runs = step (first s o l fs w x) (after s o l fs w x) (v .runs); ended = v .ended; going = v .going }
-    go true e ih = record {
-      taken = fs ++ taking l x;
-      runs = step (first s o l fs w x) (after s o l fs w x) (run-done s xs (next l x) (fs ++ taking l x) e);
-      ended = λ d. last x e;
-      going = λ d. absurd (true≢false (sym e ∙ sym (ap (λ (m : Load). m .searched) (handed-done xs (next l x) e)) ∙ d));
-    }
+pub walk : (s : Settings) → Opened s → (xs : List Step) (l : Load) (fs : List Filling) → Stands s l fs → Walked s l xs fs
+walk s o [] l fs w = record { taken = fs; runs = end; stands = w }
+walk s o (x ∷ xs) l fs w =
+    let q = any-step s o l fs w x in
+    let v = walk s o xs (next l x) (takenAfter l x fs) (record { kept = step-kept l x (w .kept); runs = step-runs l x fs (w .runs); new = q .new; done = q .done }) in
+    record { taken = v .taken; runs = step (q .first) (q .after) (v .runs); stands = v .stands }
 
 -- from the opening
-pub walked : (o : Opening) → Opens o → (xs : List Step) → Walked (o .settings) (opened o) (opened o) xs []
-walked o w xs = walk (o .settings) (opens o w) xs (opened o) (opened o) [] (opened-start o w)
+pub walked : (o : Opening) → Opens o → (xs : List Step) → Walked (o .settings) (opened o) xs []
+walked o w xs = walk (o .settings) (opens o w) xs (opened o) [] (record {
+  kept = end-kept o [];
+  runs = λ d name i m. absurd (List·Memᴰ·not-nil m);
+  new = λ e. opened-start o w;
+  done = λ e. absurd (true≢false (sym e ∙ opened-fresh o));
+})
 
 pub opened-state : (o : Opening) → stateAt (opened o) [] ≡ fresh (o .dates)
 unfolding emptyOf undatedWeek datedWeek

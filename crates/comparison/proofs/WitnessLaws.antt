@@ -45,12 +45,14 @@ use Rattle.offers.specs.Offers.{networkOf, offers}
 use Rattle.offers.specs.Search.{searchOf}
 use Rattle.search.specs.Timetable.{timetableOf}
 use Rattle.search.specs.Search.{outcomeOf, searchSpec}
+use Rattle.withdrawal.specs.Removal.{hasKey, keyKnown, withdrawn}
+use Rattle.again.specs.Again.{unsearchedOf, again, addedTo, addSpec, takenOut, withdrawSpec}
 use Rattle.steps.specs.Lists.{endOf, offersOf}
 use Rattle.steps.proofs.HeldLaws.{searched-holds}
 use Rattle.comparison.specs.Taken.{fresh}
 use Rattle.comparison.specs.Runs.{Runs, Admitted}
 use Rattle.comparison.specs.Demands.{answersFrom}
-use Rattle.comparison.specs.Witness.{settingsWith, someSettings, someOpening, someDates, oneTrip, twoTrips, datedTrip, keptBy, keptFigures, Met}
+use Rattle.comparison.specs.Witness.{settingsWith, someSettings, someOpening, someDates, oneTrip, addedTrip, withdrawnTrip, twoTrips, datedTrip, keptBy, keptFigures, Met}
 use Rattle.comparison.proofs.DemandLaws.{ending, run, same-admitted}
 
 -- what the program answers
@@ -67,7 +69,7 @@ pub record Kept : Type 0 where
   pub past-horizon : keptFigures (oneTrip 600 21481) ≡ []
 
 pub computed : Computed
-unfolding firstAnswer overCounts near allNear settingsTests walksOf canonicalOf stationOf idWrong isKnown typeWrong nameNeeded nameWrong stopTests stopAt stopOf heldText known callTests callFit callOn cut fitted timeAfter seenCall seen openAnswer emptyOf undatedWeek stopSpec plainCall callSpec lexb clash rides firstRides joinedRides directs changes journeys networkOf offers searchOf timetableOf outcomeOf searchSpec
+unfolding firstAnswer overCounts near allNear settingsTests walksOf canonicalOf stationOf idWrong isKnown typeWrong nameNeeded nameWrong stopTests stopAt stopOf heldText known callTests callFit callOn cut fitted timeAfter seenCall seen openAnswer emptyOf undatedWeek stopSpec plainCall callSpec addSpec lexb clash rides firstRides joinedRides directs changes journeys networkOf offers searchOf timetableOf outcomeOf searchSpec
 computed = record { opens = (refl, tt); answers = refl; searched = refl }
 
 record Changed : Type 0 where
@@ -77,7 +79,7 @@ record Changed : Type 0 where
   missed : keptBy (undated (settingsWith 1)) (twoTrips 1239) ≡ []
 
 changed : Changed
-unfolding firstAnswer overCounts near allNear settingsTests walksOf canonicalOf stationOf idWrong isKnown typeWrong nameNeeded nameWrong stopTests stopAt stopOf heldText known callTests callFit callOn cut fitted timeAfter seenCall seen openAnswer emptyOf undatedWeek stopSpec plainCall callSpec ruleTests ruleSpec table parentsOf endsOf transferOf lexb clash rides firstRides joinedRides directs changes journeys networkOf offers searchOf timetableOf outcomeOf searchSpec
+unfolding firstAnswer overCounts near allNear settingsTests walksOf canonicalOf stationOf idWrong isKnown typeWrong nameNeeded nameWrong stopTests stopAt stopOf heldText known callTests callFit callOn cut fitted timeAfter seenCall seen openAnswer emptyOf undatedWeek stopSpec plainCall callSpec addSpec ruleTests ruleSpec table parentsOf endsOf transferOf lexb clash rides firstRides joinedRides directs changes journeys networkOf offers searchOf timetableOf outcomeOf searchSpec
 changed = record { opens = (refl, tt); searched = refl; kept = refl; missed = refl }
 
 -- with dates
@@ -88,11 +90,22 @@ record Dated : Type 0 where
   removed : keptBy someDates (datedTrip 20230102) ≡ []
 
 in-dates : Dated
-unfolding firstAnswer overCounts near allNear settingsTests walksOf canonicalOf stationOf idWrong isKnown typeWrong nameNeeded nameWrong stopTests stopAt stopOf heldText known callTests callFit callOn cut fitted timeAfter seenCall seen openAnswer emptyOf datedWeek datesWrong yearOf monthOf dayOf isLeap months monthDays isDate yearDays monthsDays dayNumber weekdayOf spanWrong exceptionWrong serviceOf serviceTests serviceOn exceptionTests mark joinedOn exceptedOf exceptionOn byWeek runsBy runsOf running serviceSpec exceptionSpec stopSpec plainCall gateAnswer datedCall callSpec lexb clash rides firstRides joinedRides directs changes journeys networkOf offers searchOf timetableOf outcomeOf searchSpec
+unfolding firstAnswer overCounts near allNear settingsTests walksOf canonicalOf stationOf idWrong isKnown typeWrong nameNeeded nameWrong stopTests stopAt stopOf heldText known callTests callFit callOn cut fitted timeAfter seenCall seen openAnswer emptyOf datedWeek datesWrong yearOf monthOf dayOf isLeap months monthDays isDate yearDays monthsDays dayNumber weekdayOf spanWrong exceptionWrong serviceOf serviceTests serviceOn exceptionTests mark joinedOn exceptedOf exceptionOn byWeek runsBy runsOf running serviceSpec exceptionSpec stopSpec plainCall gateAnswer datedCall callSpec addSpec lexb clash rides firstRides joinedRides directs changes journeys networkOf offers searchOf timetableOf outcomeOf searchSpec
 in-dates = record { opens = (refl, refl); searched = refl; kept = refl; removed = refl }
 
+-- after the search
+record Later : Type 0 where
+  adding : endOf someOpening addedTrip .searched ≡ true
+  more : keptFigures addedTrip ≡ figuresOf 400 1220 1 5 ∷ []
+  taking : endOf someOpening withdrawnTrip .searched ≡ true
+  less : keptFigures withdrawnTrip ≡ figuresOf 300 1320 1 5 ∷ []
+
+later : Later
+unfolding firstAnswer overCounts near allNear settingsTests walksOf canonicalOf stationOf idWrong isKnown typeWrong nameNeeded nameWrong stopTests stopAt stopOf heldText known callTests callFit callOn cut fitted timeAfter seenCall seen openAnswer emptyOf undatedWeek stopSpec plainCall callSpec addSpec lexb clash rides firstRides joinedRides directs changes journeys networkOf offers searchOf timetableOf outcomeOf searchSpec addedTo again unsearchedOf hasKey keyKnown withdrawn takenOut withdrawSpec
+later = record { adding = refl; more = refl; taking = refl; less = refl }
+
 pub kept : Kept
-unfolding firstAnswer overCounts near allNear settingsTests walksOf canonicalOf stationOf idWrong isKnown typeWrong nameNeeded nameWrong stopTests stopAt stopOf heldText known callTests callFit callOn cut fitted timeAfter seenCall seen openAnswer emptyOf undatedWeek stopSpec plainCall callSpec lexb clash rides firstRides joinedRides directs changes journeys networkOf offers searchOf timetableOf outcomeOf searchSpec
+unfolding firstAnswer overCounts near allNear settingsTests walksOf canonicalOf stationOf idWrong isKnown typeWrong nameNeeded nameWrong stopTests stopAt stopOf heldText known callTests callFit callOn cut fitted timeAfter seenCall seen openAnswer emptyOf undatedWeek stopSpec plainCall callSpec addSpec lexb clash rides firstRides joinedRides directs changes journeys networkOf offers searchOf timetableOf outcomeOf searchSpec
 kept = record { one-trip = refl; at-zero = refl; not-boarded = refl; at-horizon = refl; past-horizon = refl }
 
 -- a list of one by its figures
@@ -113,6 +126,8 @@ met =
     let (j, m, e) = one-of (keptOf (endOf someOpening xs)) (figuresOf 300 1320 1 5) (kept .one-trip) in
     let (k, l, g) = one-of (keptOf (endOf someDates (datedTrip 20230109))) (figuresOf 300 1320 1 5) (in-dates .kept) in
     let (i, n, f) = one-of (keptOf (endOf (undated (settingsWith 1)) (twoTrips 1240))) (figuresOf 300 1620 2 5) (changed .kept) in
+    let (a, b, c) = one-of (keptOf (endOf someOpening addedTrip)) (figuresOf 400 1220 1 5) (later .more) in
+    let (p, q, r) = one-of (keptOf (endOf someOpening withdrawnTrip)) (figuresOf 300 1320 1 5) (later .less) in
     record {
       opens = o;
       taken = record {
@@ -130,4 +145,8 @@ met =
       admitted-dated = record { j = k; figures = g; admitted = one-kept someDates (datedTrip 20230109) (in-dates .opens) (in-dates .searched) k l };
       kept-dated = in-dates .kept;
       removed = in-dates .removed;
+      admitted-added = record { j = a; figures = c; admitted = one-kept someOpening addedTrip o (later .adding) a b };
+      kept-added = later .more;
+      admitted-withdrawn = record { j = p; figures = r; admitted = one-kept someOpening withdrawnTrip o (later .taking) p q };
+      kept-withdrawn = later .less;
     }

@@ -1,11 +1,12 @@
 -- "Why a call is sent back", as propositions over what was taken before and what is handed in, in 01's order: "Settings 1, 2. Stop 15, 3,
 -- 5, 6, 7, 8, 4. Call 15, 9, absent time, 10, outside, 11. Rule 15, 9, 12, 13, 11. Search 15, 14, 11." With request 03: settings with dates 1,
--- 2, 20; service 15, 3, 5, 20, 22; exception 15, 20, 21; of a call 21 and a day when the service doesn't run, after 9.
+-- 2, 20; service 15, 3, 5, 20, 22; exception 15, 20, 21; of a call 21 and a day when the service doesn't run, after 9. With request 11: "15 no
+-- longer meets a call"; withdrawal 9, 24; on a searched load then, of both, 14 and 11 of the search again.
 use mathlib.Core.Path.{_≡_}
 use mathlib.Core.Logic.{_⊎_}
-use mathlib.Core.Bool.{true, false, cond}
+use mathlib.Core.Bool.{Bool, true, false, cond}
 use mathlib.Core.Option.{Option, none, some}
-use mathlib.Core.List.{List, [], _∷_, List·Memᴰ}
+use mathlib.Core.List.{List, [], _∷_, _++_, List·Memᴰ}
 use Prim.Native.Nat.{ℕ, _≤_, _<_}
 use lib.IntN.{ℤ, pos, negsuc}
 use lib.ListN.{length, getD}
@@ -14,23 +15,27 @@ use Rattle.refusal.specs.declared.Answer.the-variants.{Taken, Outside, Refused}
 use Rattle.refusal.specs.declared.Refusal.the-variants.{SettingsRange, ClockRange}
 use Rattle.refusal.specs.declared.Refusal.the-variants.{IdLength, StopsFull, IdTaken, LocationType, ParentUnknown, NameUnusable}
 use Rattle.refusal.specs.declared.Refusal.the-variants.{FieldRange, TimesReversed, NoRoom, RuleType, PairTaken, Neighbours, AlreadySearched}
-use Rattle.refusal.specs.declared.Refusal.the-variants.{DateWrong, ServiceUnknown, ServicesFull}
+use Rattle.refusal.specs.declared.Refusal.the-variants.{DateWrong, ServiceUnknown, ServicesFull, CallUnknown}
 use Rattle.refusal.specs.First.{answerNumber}
 use Rattle.settings.specs.declared.Settings.{Settings}
 use Rattle.place.specs.Positions.{positionOf, isUsable}
 use Rattle.stops.specs.declared.StopInput.{StopInput}
 use Rattle.stops.specs.Answer.{unusable}
 use Rattle.calls.specs.declared.CallInput.{CallInput}
+use Rattle.calls.specs.declared.Call.{Call}
 use Rattle.calls.specs.declared.Seconds.the-variants as seconds
+use Rattle.withdrawal.specs.declared.CallKey.{CallKey}
 use Rattle.rules.specs.declared.RuleInput.{RuleInput}
 use Rattle.rules.specs.declared.MinTime.the-variants as min-time
 use Rattle.profile.specs.declared.Journey.{Journey}
 use Rattle.load.specs.Steps.{Opening}
 use Rattle.load.specs.Filling.{stop, call, rule, service, exception}
-use Rattle.steps.specs.Steps.{Step, filling, search}
-use Rattle.comparison.specs.Taken.{StopGiven, stopsIn, callsIn, rulesIn, servicesIn, State}
+use Rattle.steps.specs.Steps.{Step, filling, withdraw, search}
+use Rattle.comparison.specs.Taken.{StopGiven, stopsIn, callsIn, rulesIn, servicesIn, State, more, upTo}
 use Rattle.comparison.specs.Services.{NoDate, Named, Unknown, Resting}
 use Rattle.comparison.specs.Feeds.{feedOf}
+use Rattle.comparison.specs.Window.{Seen}
+use Rattle.comparison.specs.Withdrawal.{NoneSuch, Withdrawn}
 use Rattle.comparison.specs.Horizon.{Fits}
 use Rattle.comparison.specs.Neighbours.{Clashing}
 use Rattle.comparison.specs.OfferOrder.{Offered}
@@ -95,6 +100,28 @@ stopCauses t id name parent i =
     ∷ cause (128 ≤ length stops) (Refused StopsFull)
     ∷ []
 
+-- ---- search
+
+-- the horizon would fall below 3600, by what is offered
+pub record Sinks (s : Settings) (t : State) : Type 0 where
+  pub offers : List Journey
+  pub offered : Offered (feedOf s t) offers
+  pub falls : Falls [] (t .horizon) (t .limits) offers below
+
+abbrev pub searchCauses : Settings → State → List Cause
+searchCauses s t =
+    cause (t .searched ≡ true) (Refused AlreadySearched)
+    ∷ cause (Clashing s (t .horizon) (callsIn (t .taken))) (Refused Neighbours)
+    ∷ cause (Sinks s t) (Refused NoRoom)
+    ∷ []
+
+-- of the search again of what a step on a searched load brings: 14, 11. "A refusal of that search leaves the searched load"
+abbrev pub againCauses : Settings → (State → Type 0) → List Cause
+againCauses s Brought =
+    cause ((u : State) × Brought u × Clashing s (u .horizon) (callsIn (u .taken))) (Refused Neighbours)
+    ∷ cause ((u : State) × Brought u × Sinks s u) (Refused NoRoom)
+    ∷ []
+
 -- ---- call
 
 -- arrival after departure, both given
@@ -109,17 +136,53 @@ pub record Reversed (i : CallInput) : Type 0 where
 abbrev pub Fitting : Settings → State → CallInput → Answer → Type 0
 Fitting s t i a = (h : ℕ) × (m : ℕ) × Fits s (callsIn (t .taken)) i (t .horizon) (t .limits) a h m
 
-abbrev pub callCauses : Settings → State → List ℕ → CallInput → List Cause
-callCauses s t name i =
-    cause (t .searched ≡ true) (Refused AlreadySearched)
-    ∷ cause (length (stopsIn (t .taken)) ≤ i .stop ⊎ 65535 ≤ i .trip ⊎ 2 < i .day ⊎ 3 < i .pickup ⊎ 3 < i .«drop_off») (Refused FieldRange)
+-- outside with nothing cut
+abbrev pub Unseen : Settings → State → CallInput → Type 0
+Unseen s t i = (c : Call) → Seen s (t .horizon) i c → ⊥
+
+-- what a searched load is searched with again: the call is taken; or it is outside, and only the cut is left of it
+pub data Brings (s : Settings) (t : State) (name : List ℕ) (i : CallInput) : State → Type 0 where
+  taken : {h m : ℕ} → Fits s (callsIn (t .taken)) i (t .horizon) (t .limits) Taken h m → Brings s t name i (upTo (more t (call name i)) h m)
+  cut : {h m : ℕ} → Fits s (callsIn (t .taken)) i (t .horizon) (t .limits) Outside h m → Brings s t name i (upTo t h m)
+
+-- by whether a search was taken. After it an outside that only a cut brought comes behind the refusals of the search again
+abbrev pub windowCauses : Bool → Settings → State → List ℕ → CallInput → List Cause
+windowCauses false s t name i =
+    cause (Fitting s t i Outside) Outside
+    ∷ cause (Fitting s t i (Refused NoRoom)) (Refused NoRoom)
+    ∷ []
+windowCauses true s t name i =
+    cause (Unseen s t i) Outside
+    ∷ cause (Fitting s t i (Refused NoRoom)) (Refused NoRoom)
+    ∷ againCauses s (Brings s t name i)
+    ++ cause (Fitting s t i Outside) Outside
+    ∷ []
+
+-- what every call meets first
+abbrev pub callFront : State → List ℕ → CallInput → List Cause → List Cause
+callFront t name i rest =
+    cause (length (stopsIn (t .taken)) ≤ i .stop ⊎ 65535 ≤ i .trip ⊎ 2 < i .day ⊎ 3 < i .pickup ⊎ 3 < i .«drop_off») (Refused FieldRange)
     ∷ cause (Unknown t name) (Refused ServiceUnknown)
     ∷ cause (Resting t name (i .day)) Outside
     ∷ cause (i .arrival ≡ seconds.Absent ⊎ i .departure ≡ seconds.Absent) Outside
     ∷ cause (Reversed i) (Refused TimesReversed)
-    ∷ cause (Fitting s t i Outside) Outside
-    ∷ cause (Fitting s t i (Refused NoRoom)) (Refused NoRoom)
-    ∷ []
+    ∷ rest
+
+abbrev pub callCauses : Settings → State → List ℕ → CallInput → List Cause
+callCauses s t name i = callFront t name i (windowCauses (t .searched) s t name i)
+
+-- ---- withdrawal
+
+-- "24 no such call in the table, after 9"; 14 is listed and never met: what is left of calls in order is in order
+abbrev pub leftCauses : Bool → Settings → State → CallKey → List Cause
+leftCauses false s t k = []
+leftCauses true s t k = againCauses s (Withdrawn s t k)
+
+abbrev pub withdrawCauses : Settings → State → CallKey → List Cause
+withdrawCauses s t k =
+    cause (65535 ≤ k .trip ⊎ 2 < k .day) (Refused FieldRange)
+    ∷ cause (NoneSuch s (t .horizon) k (callsIn (t .taken))) (Refused CallUnknown)
+    ∷ leftCauses (t .searched) s t k
 
 -- ---- rule
 
@@ -155,21 +218,6 @@ exceptionCauses t name date kind =
     ∷ cause (Named (t .taken) name → ⊥) (Refused ServiceUnknown)
     ∷ []
 
--- ---- search
-
--- the horizon would fall below 3600, by what is offered
-pub record Sinks (s : Settings) (t : State) : Type 0 where
-  pub offers : List Journey
-  pub offered : Offered (feedOf s t) offers
-  pub falls : Falls [] (t .horizon) (t .limits) offers below
-
-abbrev pub searchCauses : Settings → State → List Cause
-searchCauses s t =
-    cause (t .searched ≡ true) (Refused AlreadySearched)
-    ∷ cause (Clashing s (t .horizon) (callsIn (t .taken))) (Refused Neighbours)
-    ∷ cause (Sinks s t) (Refused NoRoom)
-    ∷ []
-
 -- ---- every step
 
 abbrev pub causesOf : Settings → State → Step → List Cause
@@ -178,4 +226,5 @@ causesOf s t (filling (call name i)) = callCauses s t name i
 causesOf s t (filling (rule i)) = ruleCauses t i
 causesOf s t (filling (service name weekdays start end)) = serviceCauses t name start end
 causesOf s t (filling (exception name date kind)) = exceptionCauses t name date kind
+causesOf s t (withdraw k) = withdrawCauses s t k
 causesOf s t search = searchCauses s t

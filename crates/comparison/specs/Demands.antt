@@ -66,7 +66,7 @@ pub record Demand1 : Type 0 where
   pub only : (s : Settings) (t : State) (xs : List Step) (rs qs : List Answer) (u v : State) → Runs s t xs rs u → Runs s t xs qs v
       → (rs ≡ qs) × (u ≡ v)
   -- in the scope's order
-  pub order : (s : Settings) (t : State) (x : Step) → numbersOf (causesOf s t x) ≡ numbers x
+  pub order : (s : Settings) (t : State) (x : Step) → numbersOf (causesOf s t x) ≡ numbers (t .searched) x
   pub opening-order : (o : Opening) → numbersOf (openingCauses o) ≡ openNumbers (o .dates)
   -- of any load, one that no step made too: by what it holds; a refused load comes back unchanged
   pub steps : (l : Load) (x : Step) → Answered l x
@@ -83,7 +83,8 @@ answer s xs z = answerOf (bestSpec (endOf s xs) z)
 abbrev pub calls : Opening → List Step → List Call
 calls s xs = tableCalls (tableOf (endOf s xs))
 
--- before a search: the calls taken, as they are seen, in the order taken; no journey; "a horizon cut, limit mark" only by the 513th call
+-- before a search: the calls taken and not withdrawn, as they are seen, in the order taken; no journey; "a horizon cut, limit mark" only by the
+-- 513th call
 pub record Fills (s : Opening) (xs : List Step) (v : State) : Type 0 where
   pub shown : Shown (s .settings) (v .horizon) (callsIn (v .taken)) (calls s xs)
   pub kept : keptOf (endOf s xs) ≡ []
@@ -91,9 +92,9 @@ pub record Fills (s : Opening) (xs : List Step) (v : State) : Type 0 where
   pub limits : endOf s xs .limits ≡ v .limits
   pub best : (z : ℤ) → answer s xs z ≡ none
 
--- after it
+-- after it, "the search is the last accepted one" (request 11): the list is of what stands taken at the end
 pub record Lists (s : Opening) (xs : List Step) (v : State) : Type 0 where
-  -- the calls taken, as they are seen, put in order
+  -- the calls taken and not withdrawn, as they are seen up to the table's horizon, put in order
   pub ordered : Ordered (s .settings) (v .horizon) (callsIn (v .taken)) (calls s xs)
   -- what is offered, in the paper's order: it says which of equals is the older. "An admitted journey is one so offered"
   pub offers : List Journey

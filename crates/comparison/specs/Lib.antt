@@ -4,6 +4,7 @@ pub mod Best
 pub mod Window
 pub mod Taken
 pub mod Services
+pub mod Withdrawal
 pub mod Admitted
 pub mod Places
 pub mod Feeds
@@ -14,6 +15,7 @@ pub mod Falls
 pub mod Causes
 pub mod Runs
 pub mod Demands
+pub mod Again
 pub mod Witness
 pub mod Displays
 pub mod Marked

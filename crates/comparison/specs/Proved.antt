@@ -1,6 +1,7 @@
 -- What is proved, all of it. The contract of `demands()` cites this record, so that no part of it can go unseen.
 use Rattle.comparison.specs.Demands.{Demand1, Demand2, OnlyRunning, Demand3}
 use Rattle.steps.specs.Dated.{DatedSame, LateServices, NameUnread}
+use Rattle.comparison.specs.Again.{Withdrawals}
 use Rattle.comparison.specs.Displays.{Displays}
 use Rattle.comparison.specs.Witness.{Met}
 use Rattle.comparison.specs.Marked.{Starred}
@@ -14,6 +15,8 @@ pub record Proved : Type 0 where
   pub late : LateServices
   pub unread : NameUnread
   pub third : Demand3
+  -- request 11
+  pub withdrawals : Withdrawals
   -- the third with windows as horizons, for groups that have a display (request 08)
   pub displays : Displays
   -- the premises can be met

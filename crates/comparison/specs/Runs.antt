@@ -10,24 +10,27 @@ use Rattle.refusal.specs.declared.Refusal.{Refusal}
 use Rattle.settings.specs.declared.Settings.{Settings}
 use Rattle.stops.specs.declared.StopInput.{StopInput}
 use Rattle.calls.specs.declared.CallInput.{CallInput}
+use Rattle.withdrawal.specs.declared.CallKey.{CallKey}
 use Rattle.rules.specs.declared.RuleInput.{RuleInput}
 use Rattle.profile.specs.declared.Journey.{Journey}
 use Rattle.load.specs.Steps.{Opening}
 use Rattle.load.specs.Filling.{stop, call, rule, service, exception}
-use Rattle.steps.specs.Steps.{Step, filling, search}
+use Rattle.steps.specs.Steps.{Step, filling, withdraw, search}
 use Rattle.comparison.specs.Taken.{callsIn, State, fresh, more, upTo, done, shut}
 use Rattle.comparison.specs.Services.{Resting}
 use Rattle.comparison.specs.Admitted.{Admits}
 use Rattle.comparison.specs.Feeds.{feedOf}
+use Rattle.comparison.specs.Withdrawal.{Withdrawn}
 use Rattle.comparison.specs.Horizon.{Fits}
 use Rattle.comparison.specs.Causes.{First, causesOf}
 
--- where t was taken, a step that is answered so leaves this taken
+-- where t was taken, a step that is answered so leaves this taken. A call and a withdrawal leave the same before a search and after it: the
+-- search again of a searched load takes nothing more
 pub data After (s : Settings) (t : State) : Step → Answer → State → Type 0 where
   sent-back : {x : Step} {r : Refusal} → After s t x (Refused r) t
   a-stop : {id name parent : List ℕ} {i : StopInput} → After s t (filling (stop id name parent i)) Taken (more t (stop id name parent i))
   a-rule : {i : RuleInput} → After s t (filling (rule i)) Taken (more t (rule i))
-  -- an answered call closes the services
+  -- an answered call closes the services; a cut that it made stays, also where it is outside after it
   a-call : {name : List ℕ} {i : CallInput} {h m : ℕ} → Fits s (callsIn (t .taken)) i (t .horizon) (t .limits) Taken h m
       → After s t (filling (call name i)) Taken (shut (upTo (more t (call name i)) h m))
   -- of one whose service doesn't run the times are unread
@@ -36,6 +39,7 @@ pub data After (s : Settings) (t : State) : Step → Answer → State → Type 0
       → After s t (filling (call name i)) Outside (shut (upTo t h m))
   a-service : {name : List ℕ} {weekdays start end : ℕ} → After s t (filling (service name weekdays start end)) Taken (more t (service name weekdays start end))
   an-exception : {name : List ℕ} {date kind : ℕ} → After s t (filling (exception name date kind)) Taken (more t (exception name date kind))
+  a-withdrawal : {k : CallKey} {u : State} → Withdrawn s t k u → After s t (withdraw k) Taken u
   a-search : After s t search Taken (done t)
 
 -- the steps, handed in where t was taken, are answered so and leave v taken
@@ -45,7 +49,9 @@ pub data Runs (s : Settings) : State → List Step → List Answer → State →
       → First a (causesOf s t x) → After s t x a u → Runs s u xs rs v → Runs s t (x ∷ xs) (a ∷ rs) v
 
 -- "Which journeys are admitted is defined from the settings and the list alone: by the stops and rules taken and the calls answered taken
--- under this paper's rules, as `window` and the table's cuts leave them when the accepted search starts." After it nothing more is taken
+-- under this paper's rules, as `window` and the table's cuts leave them when the accepted search starts." And request 11: "a withdrawn call
+-- doesn't count as answered taken, and the search is the last accepted one": that is of what stands taken at the end, since after a search
+-- a call that is taken or withdrawn has the load searched again, and nothing else is taken
 pub record Admitted (o : Opening) (xs : List Step) (j : Journey) : Type 0 where
   pub answers : List Answer
   pub end : State

@@ -55,8 +55,9 @@ servicesIn (rule i ∷ xs) = servicesIn xs
 servicesIn (service name weekdays start end ∷ xs) = record { name = name; weekdays = weekdays; start = start; end = end } ∷ servicesIn xs
 servicesIn (exception name date kind ∷ xs) = servicesIn xs
 
--- what was taken, in order, of calls those answered taken; the horizon of the window and the mark, as the cuts leave them; whether a search
--- was taken; the dates of the three days, where the load was opened with dates; whether services are closed
+-- what was taken and not withdrawn, in order, of calls those answered taken; the horizon of the window and the mark, as the cuts leave them
+-- (the table's, also once a search was taken: the list's own are not held here); whether a search was taken; the dates of the three days,
+-- where the load was opened with dates; whether services are closed
 pub record State : Type 0 where
   pub taken : List Filling
   pub horizon : ℕ
@@ -77,6 +78,10 @@ fresh dates = record { taken = []; horizon = 21600; limits = 0; searched = false
 -- with one more taken
 abbrev pub more : State → Filling → State
 more t x = record { taken = t .taken ++ x ∷ []; horizon = t .horizon; limits = t .limits; searched = t .searched; dates = t .dates; closed = t .closed }
+
+-- with these taken instead
+abbrev pub keeping : State → List Filling → State
+keeping t fs = record { taken = fs; horizon = t .horizon; limits = t .limits; searched = t .searched; dates = t .dates; closed = t .closed }
 
 -- with another horizon and mark
 abbrev pub upTo : State → ℕ → ℕ → State

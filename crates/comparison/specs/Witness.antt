@@ -1,8 +1,9 @@
--- The premises of the demands can be met, by lists that keep a journey: of one ride, and of two that a rule joins. Each by computation.
+-- The premises of the demands can be met, by lists that keep a journey: of one ride, of two that a rule joins, of one that is added after the
+-- search and withdrawn again. Each by computation.
 use mathlib.Core.Path.{_≡_}
 use mathlib.Core.Bool.{true, false}
 use mathlib.Core.Option.{none}
-use mathlib.Core.List.{List, [], _∷_, map}
+use mathlib.Core.List.{List, [], _∷_, _++_, map}
 use Prim.Native.Nat.{ℕ}
 use lib.IntN.{pos}
 use lib.Ieee.{binary64, ofBits}
@@ -20,7 +21,7 @@ use Rattle.rules.specs.declared.MinTime.the-variants as min-time
 use Rattle.load.specs.Steps.{Opening, undated, dated}
 use Rattle.load.specs.Filling.{stop, call, rule, service, exception}
 use Rattle.best.specs.Best.{keptOf}
-use Rattle.steps.specs.Steps.{Step, filling, search}
+use Rattle.steps.specs.Steps.{Step, filling, withdraw, search}
 use Rattle.steps.specs.Lists.{endOf}
 use Rattle.comparison.specs.Taken.{State, fresh}
 use Rattle.comparison.specs.Runs.{Runs, Admitted}
@@ -77,6 +78,14 @@ oneTrip departs arrives =
     ∷ filling (call [] (callOf 1 2 1 arrives))
     ∷ search
     ∷ []
+
+-- request 11: the search, and then trip 2, which departs later and arrives earlier, is added call by call
+abbrev pub addedTrip : List Step
+addedTrip = oneTrip 600 1200 ++ filling (call [] (callOf 2 1 0 700)) ∷ filling (call [] (callOf 2 2 1 1100)) ∷ []
+
+-- and the call where it departs is withdrawn
+abbrev pub withdrawnTrip : List Step
+withdrawnTrip = addedTrip ++ withdraw (record { trip = 2; day = 0; sequence = 1 }) ∷ []
 
 -- trip 1 from the origin to a stop, which it reaches at 1000; a rule of type 2 to another stop, 240 seconds; trip 2 from there to the target,
 -- which departs so and arrives at 1500
@@ -147,3 +156,8 @@ pub record Met : Type 0 where
   pub admitted-dated : OneAdmitted someDates (datedTrip 20230109) (figuresOf 300 1320 1 5)
   pub kept-dated : keptBy someDates (datedTrip 20230109) ≡ figuresOf 300 1320 1 5 ∷ []
   pub removed : keptBy someDates (datedTrip 20230102) ≡ []
+  -- request 11: trip 2, added after the search, beats trip 1; withdrawn, it doesn't
+  pub admitted-added : OneAdmitted someOpening addedTrip (figuresOf 400 1220 1 5)
+  pub kept-added : keptFigures addedTrip ≡ figuresOf 400 1220 1 5 ∷ []
+  pub admitted-withdrawn : OneAdmitted someOpening withdrawnTrip (figuresOf 300 1320 1 5)
+  pub kept-withdrawn : keptFigures withdrawnTrip ≡ figuresOf 300 1320 1 5 ∷ []

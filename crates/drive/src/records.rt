@@ -1,5 +1,6 @@
 // The records of a step file, one by one: each is handed to the load, or asks it, and a line says what came of it.
 ghost use Prim.Native.Nat.{_≤_};
+use crate::call_records;
 use crate::numbers::i64_at;
 use crate::numbers::u16_at;
 use crate::settings_record;
@@ -104,7 +105,7 @@ fn is_malformed(a: Answer) -> bool {
     }
 }
 
-// A stop, call, rule or search, as a load file has it.
+// A stop, rule or search, as a load file has it.
 fn filling(out: &mut [u8; 65536], at: usize, reader: Reader, b: &[u8]) -> Turned
     ensures { λ r. ⌜ r .to ≤ 65536 ⌝ }
 {
@@ -122,22 +123,17 @@ fn filling(out: &mut [u8; 65536], at: usize, reader: Reader, b: &[u8]) -> Turned
     }
 }
 
-// A service, an exception or a call that names a service.
-fn of_week(out: &mut [u8; 65536], at: usize, reader: Reader, b: &[u8]) -> Turned
+// A step on the open load: a service, an exception, a call or a withdrawal.
+fn stepped(out: &mut [u8; 65536], at: usize, s: Stepped) -> Turned
     ensures { λ r. ⌜ r .to ≤ 65536 ⌝ }
 {
-    let load = reader.load;
-    let s = week_records::step(load, b);
     let answer = s.answer;
     let to = told(out, at, answer, b"taken");
-    let after = s.load;
+    let load = s.load;
     Turned {
         going: true,
         to,
-        reader: Reader {
-            opened: true,
-            load: after,
-        },
+        reader: Reader { opened: true, load },
     }
 }
 
@@ -202,6 +198,7 @@ enum Way {
     Dated,
     Filling,
     OfWeek,
+    Calling,
     Query,
     Malformed,
 }
@@ -229,6 +226,9 @@ fn way_of(opened: bool, b: &[u8]) -> Way {
         if week_records::is_kind(kind) {
             return way_if(week_records::filled(b), Way::OfWeek);
         }
+        if call_records::is_kind(kind) {
+            return way_if(call_records::filled(b), Way::Calling);
+        }
         return way_if(kind <= 5, Way::Filling);
     }
     Way::Malformed
@@ -242,7 +242,8 @@ pub fn step(out: &mut [u8; 65536], at: usize, reader: Reader, b: &[u8]) -> Turne
         Way::Opening => opening(out, at, reader, Load::open(settings_record::given(b))),
         Way::Dated => opening(out, at, reader, week_records::dated_opening(b)),
         Way::Filling => filling(out, at, reader, b),
-        Way::OfWeek => of_week(out, at, reader, b),
+        Way::OfWeek => stepped(out, at, week_records::step(reader, b)),
+        Way::Calling => stepped(out, at, call_records::step(reader, b)),
         Way::Query => asked(out, at, reader, b),
         Way::Malformed => stopped(out, at, reader),
     }

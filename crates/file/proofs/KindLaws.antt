@@ -1,10 +1,11 @@
 -- What a record's kind decides: which fields fill it, and what it hands in.
-use mathlib.Core.Path.{_≡_, refl, _∙_}
+use mathlib.Core.Path.{_≡_, refl, sym, ap, _∙_}
 use mathlib.Core.Bool.{Bool, true, false, cond}
 use mathlib.Core.List.{List, []}
 use Prim.Native.Nat.{ℕ}
 use borrow.Author.Tests.{ne-eqb}
 use lib.Dec.{eqb}
+use Rattle.refusal.specs.First.{isRefused}
 use Rattle.settings.specs.declared.Settings.{Settings}
 use Rattle.calls.specs.declared.CallInput.{CallInput}
 use Rattle.rules.specs.declared.RuleInput.{RuleInput}
@@ -14,6 +15,8 @@ use Rattle.fields.specs.Layout.{textAt, optionTextAt, nameAt, parentAt, setting
 use Rattle.fields.specs.Records.{settingsIn, stopIn, callIn, ruleIn}
 use Rattle.load.specs.Steps.{undated, openSpec, stopSpec, callSpec, ruleSpec}
 use Rattle.search.specs.Search.{searchSpec}
+use Rattle.again.specs.Again.{addSpec}
+use Rattle.steps.proofs.StepLaws.{call-before}
 use Rattle.file.specs.declared.Reader.{Reader}
 use Rattle.file.specs.Record.{filled, stepIn, steppedBy}
 
@@ -40,9 +43,13 @@ module _ (r : Reader) (b : List ℕ) where
   unfolding steppedBy stepIn
   stepped-stop o k e = e ∙ rw (o, k) refl
 
-  pub stepped-call : {s : Stepped} {i : CallInput} → r .opened ≡ true → byteAt b 0 ≡ 3 → i ≡ callIn b → s ≡ callSpec (r .load) [] i → s ≡ steppedBy r b
+  pub stepped-call : {s : Stepped} {i : CallInput} → r .opened ≡ true → byteAt b 0 ≡ 3 → i ≡ callIn b → s ≡ addSpec (r .load) [] i → s ≡ steppedBy r b
   unfolding steppedBy stepIn
   stepped-call o k q e = e ∙ rw (o, k, q) refl
+
+  -- one that the load answers itself came before its search
+  pub stepped-before : {s : Stepped} → r .opened ≡ true → byteAt b 0 ≡ 3 → s ≡ callSpec (r .load) [] (callIn b) → isRefused (s .answer) ≡ false → s ≡ steppedBy r b
+  stepped-before o k e f = stepped-call o k refl (e ∙ sym (call-before (r .load) [] (callIn b) (ap (λ (t : Stepped). isRefused (t .answer)) (sym e) ∙ f)))
 
   pub stepped-rule : {s : Stepped} {i : RuleInput} → r .opened ≡ true → byteAt b 0 ≡ 4 → i ≡ ruleIn b → s ≡ ruleSpec (r .load) i → s ≡ steppedBy r b
   unfolding steppedBy stepIn

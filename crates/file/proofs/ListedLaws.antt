@@ -26,7 +26,7 @@ use Rattle.load.specs.Steps.{undated, openAnswer, opened, openSpec}
 use Rattle.load.specs.Filling.{stop, call, rule}
 use Rattle.steps.specs.Steps.{filling, search, stepped, numbers}
 use Rattle.steps.proofs.AnsweredLaws.{opening-answered, step-answered, undated-listed}
-use Rattle.steps.proofs.DatedLaws.{step-dated}
+use Rattle.steps.proofs.WeekLaws.{step-dated}
 use Rattle.file.specs.declared.Reader.{Reader}
 use Rattle.file.specs.declared.Took.{Took}
 use Rattle.file.specs.Record.{freshReader, recordTests, stepIn, steppedBy, settled, recordSpec, causesBy, numbersBy}
@@ -49,16 +49,17 @@ one-inside n (m ∷ ms) ns i e = go (one-inside n ms ns (and-true-right (oneOf m
     go ih (inr q) = ih q
 
 -- the numbers of the opening and of each step that a record hands in; 21 is a dated load's
-step-inside : (o : Bool) (b : List ℕ) → inside (0 ∷ 18 ∷ 19 ∷ cond o (numbers (stepIn b)) (1 ∷ 2 ∷ [])) (21 ∷ fileNumbers) ≡ true
+step-inside : (o searched : Bool) (b : List ℕ) → inside (0 ∷ 18 ∷ 19 ∷ cond o (numbers searched (stepIn b)) (1 ∷ 2 ∷ [])) (21 ∷ fileNumbers) ≡ true
 unfolding stepIn
-step-inside false b = refl
-step-inside true b = go (eqb (byteAt b 0) 2) (eqb (byteAt b 0) 3) (eqb (byteAt b 0) 4)
+step-inside false searched b = refl
+step-inside true searched b = go searched (eqb (byteAt b 0) 2) (eqb (byteAt b 0) 3) (eqb (byteAt b 0) 4)
   where
-    go : (x y z : Bool) → inside (0 ∷ 18 ∷ 19 ∷ numbers (cond x (filling (stop (textAt b 1) (optionTextAt b (nameAt b)) (optionTextAt b (parentAt b)) (stopIn b))) (cond y (filling (call [] (callIn b))) (cond z (filling (rule (ruleIn b))) search)))) (21 ∷ fileNumbers) ≡ true
-    go true y z = refl
-    go false true z = refl
-    go false false true = refl
-    go false false false = refl
+    go : (d x y z : Bool) → inside (0 ∷ 18 ∷ 19 ∷ numbers d (cond x (filling (stop (textAt b 1) (optionTextAt b (nameAt b)) (optionTextAt b (parentAt b)) (stopIn b))) (cond y (filling (call [] (callIn b))) (cond z (filling (rule (ruleIn b))) search)))) (21 ∷ fileNumbers) ≡ true
+    go d true y z = refl
+    go true false true z = refl
+    go false false true z = refl
+    go d false false true = refl
+    go d false false false = refl
 
 -- ---- a load that is not dated has no 21
 
@@ -66,7 +67,12 @@ others : (n : ℕ) (ms : List ℕ) → oneOf n ms ≡ true → oneOf 21 ms ≡ f
 others n ms e f q = true≢false (sym (ap (λ (k : ℕ). oneOf k ms) (sym q) ∙ e) ∙ f)
 
 call-not-21 : (l : Load) (i : CallInput) → l .week .dated ≡ false → answerNumber (stepped l (filling (call [] i)) .answer) ≡ 21 → ⊥
-call-not-21 l i d = others _ (0 ∷ 15 ∷ 9 ∷ 0 ∷ 10 ∷ 0 ∷ 11 ∷ []) (undated-listed l [] i d) refl
+call-not-21 l i d = go (l .searched) (undated-listed l [] i d)
+  where
+    go : (b : Bool) → oneOf (answerNumber (stepped l (filling (call [] i)) .answer)) (0 ∷ 9 ∷ 0 ∷ 0 ∷ 10 ∷ 0 ∷ 11 ∷ cond b (14 ∷ 11 ∷ 0 ∷ []) []) ≡ true
+        → answerNumber (stepped l (filling (call [] i)) .answer) ≡ 21 → ⊥
+    go true e = others _ (0 ∷ 9 ∷ 0 ∷ 0 ∷ 10 ∷ 0 ∷ 11 ∷ 14 ∷ 11 ∷ 0 ∷ []) e refl
+    go false e = others _ (0 ∷ 9 ∷ 0 ∷ 0 ∷ 10 ∷ 0 ∷ 11 ∷ []) e refl
 
 step-not-21 : (l : Load) (b : List ℕ) → l .week .dated ≡ false → answerNumber (stepped l (stepIn b) .answer) ≡ 21 → ⊥
 unfolding stepIn
@@ -124,7 +130,7 @@ record-inside r b a d f =
     let e : recordSpec r b .answer ≡ a = first-is-answer (recordSpec r b .answer) ts (record-answered r b .first) ∙ sym (first-is-answer a ts f) in
     let n = answerNumber (recordSpec r b .answer) in
     ap (λ (c : Answer). oneOf (answerNumber c) fileNumbers) (sym e)
-    ∙ go (or-true-cases (eqb n 21) (oneOf n fileNumbers) (one-inside n (0 ∷ 18 ∷ 19 ∷ numbersBy r b) (21 ∷ fileNumbers) (step-inside (r .opened) b) (record-answered r b .listed)))
+    ∙ go (or-true-cases (eqb n 21) (oneOf n fileNumbers) (one-inside n (0 ∷ 18 ∷ 19 ∷ numbersBy r b) (21 ∷ fileNumbers) (step-inside (r .opened) (r .load .searched) b) (record-answered r b .listed)))
   where
     go : (eqb (answerNumber (recordSpec r b .answer)) 21 ≡ true) ⊎ (oneOf (answerNumber (recordSpec r b .answer)) fileNumbers ≡ true) → oneOf (answerNumber (recordSpec r b .answer)) fileNumbers ≡ true
     go (inl q) = absurd (record-not-21 r b d (eqb-true _ 21 q))

@@ -69,7 +69,7 @@ abbrev pub causesBy : Reader → List ℕ → List (Bool × Answer)
 causesBy r b = cond (r .opened) (causes (r .load) (stepIn b)) (openTests (undated (settingsIn b)))
 
 abbrev pub numbersBy : Reader → List ℕ → List ℕ
-numbersBy r b = cond (r .opened) (numbers (stepIn b)) (1 ∷ 2 ∷ [])
+numbersBy r b = cond (r .opened) (numbers (r .load .searched) (stepIn b)) (1 ∷ 2 ∷ [])
 
 -- the answer is that of the first cause that holds: the record's, then the opening's or the step's own; a taken record has none, and a refused one changes nothing
 pub record Answered (r : Reader) (b : List ℕ) : Type 0 where

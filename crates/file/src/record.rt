@@ -1,15 +1,19 @@
 // One record, tested and taken.
 ghost use mathlib.Core.Path.{_≡_};
+ghost use mathlib.Core.List.{[]};
 ghost use Rattle.refusal.specs.First.{firstAnswer};
 ghost use Rattle.fields.specs.Layout.{textAt, optionTextAt, nameAt, parentAt};
 ghost use Rattle.fields.specs.Records.{stopIn};
 ghost use Rattle.load.specs.Steps.{stopSpec};
+ghost use Rattle.again.specs.Again.{addSpec};
 ghost use Rattle.file.specs.Record.{kindRight, filled, recordTests, steppedBy, recordSpec};
 use crate::Reader;
 use crate::Took;
 use crate::texts::id_text;
 use crate::texts::name_text;
 use crate::texts::parent_text;
+use again::add;
+use calls::CallInput;
 use fields::layout::call_filled;
 use fields::layout::kind_of;
 use fields::layout::rule_filled;
@@ -80,6 +84,14 @@ fn stop_record(load: Load, b: &[u8]) -> Stepped
     load.stop(id_text(b), name_text(b), parent_text(b), stop_in(b))
 }
 
+// A call of a file names no service; after the search record it has the load searched again.
+fn call_record(load: Load, input: CallInput) -> Stepped
+    ensures { λ r. ⌜ r ≡ addSpec load [] input ⌝ }
+{
+    let none: [u8; 0] = [];
+    add(load, &none, input)
+}
+
 // A record is handed to the load, or opens it.
 fn stepped_by(reader: Reader, b: &[u8]) -> Stepped
     ensures { λ r. ⌜ r ≡ steppedBy reader (now (b .entry)) ⌝ }
@@ -91,7 +103,7 @@ fn stepped_by(reader: Reader, b: &[u8]) -> Stepped
             return stop_record(load, b);
         }
         if kind == 3 {
-            return load.call(call_in(b));
+            return call_record(load, call_in(b));
         }
         if kind == 4 {
             return load.rule(rule_in(b));

@@ -1,4 +1,6 @@
 // A whole load file over lent bytes, for programs in C and Rust to call.
+pub mod altered;
+
 ghost use mathlib.Core.Path.{_≡_};
 ghost use lib.IntN.{pos};
 ghost use lib.ListN.{take};
@@ -6,7 +8,7 @@ ghost use Rattle.file.specs.File.{readSpec};
 ghost use Rattle.lines.specs.Lines.{linesOf};
 ghost use Rattle.best.specs.Best.{bestSpec};
 ghost use Rattle.load_c.specs.Best.{timesOf};
-ghost use Rattle.load_c.specs.Searches.{horizonAfter, searchesOf};
+ghost use Rattle.load_c.specs.Searches.{sumOf, horizonAfter};
 use best::Found;
 use best::best;
 use lines::lines;
@@ -69,7 +71,7 @@ fn wide(x: u16) -> u64
 
 // The load searched so many times, its mark the parity of the turn: the sum of the horizons.
 fn searches(load: Load, times: u16) -> u64
-    ensures { λ r. ⌜ r ≡ searchesOf times load ⌝ }
+    ensures { λ r. ⌜ r ≡ sumOf horizonAfter times load ⌝ }
 {
     let mut next = load;
     let mut sum: u64 = 0;
@@ -85,7 +87,7 @@ fn searches(load: Load, times: u16) -> u64
 // The file read, then searched so many times.
 #[no_mangle]
 pub extern "C" fn load_searches(bytes: &[u8], times: u16) -> u64
-    ensures { λ r. ⌜ r ≡ searchesOf times (readSpec (now (bytes .entry)) .reader .load) ⌝ }
+    ensures { λ r. ⌜ r ≡ sumOf horizonAfter times (readSpec (now (bytes .entry)) .reader .load) ⌝ }
 {
     let t = read(bytes);
     let reader = t.reader;

@@ -3,14 +3,12 @@ use crate::loads;
 use crate::show;
 use crate::show::CALL;
 use crate::show::CALL_OF;
+use again::add;
 use load::Load;
 
 fn call(label: &[u8], load: Load, name: &[u8]) {
     show::words(CALL_OF, label);
-    loads::then(
-        CALL_OF,
-        load.call_of(name, loads::call(900, 0, 1, 600, 600)),
-    );
+    loads::then(CALL_OF, add(load, name, loads::call(900, 0, 1, 600, 600)));
 }
 
 pub fn names() {
@@ -19,7 +17,10 @@ pub fn names() {
     call(b"with the id of a stop", loads::week(2), b"C");
     call(b"on a load without dates", loads::small(), b"unknown");
     show::words(CALL, b"on a load with dates");
-    loads::then(CALL, loads::week(2).call(loads::call(900, 0, 1, 600, 600)));
+    loads::then(
+        CALL,
+        add(loads::week(2), b"", loads::call(900, 0, 1, 600, 600)),
+    );
 }
 
 // The load after an exception to "S" on a date, if its type is not 0.

@@ -1,17 +1,22 @@
 // Each fault of a step alone, and each two of them together.
 use crate::loads;
 use crate::loads::text;
+use crate::searched;
 use crate::show;
 use crate::show::ABSENT;
+use crate::show::ADDED;
 use crate::show::CALL;
 use crate::show::CALL_OF;
 use crate::show::EXCEPTION;
+use crate::show::FALLS;
 use crate::show::NOTHING;
 use crate::show::OUTSIDE;
 use crate::show::RESTS;
 use crate::show::SEARCH;
 use crate::show::SERVICE;
 use crate::show::STOP;
+use crate::show::WITHDRAWN;
+use again::add;
 use calls::CallInput;
 use load::Load;
 use load::Stepped;
@@ -20,7 +25,7 @@ use rules::RuleInput;
 use stops::StopInput;
 
 // Whether n is one of the two.
-fn has(a: u8, b: u8, n: u8) -> bool {
+pub fn has(a: u8, b: u8, n: u8) -> bool {
     if a == n {
         return true;
     }
@@ -28,14 +33,17 @@ fn has(a: u8, b: u8, n: u8) -> bool {
 }
 
 // The first number where n is one of the two faults, else the second.
-fn pick(a: u8, b: u8, n: u8, yes: u16, no: u16) -> u16 {
+pub fn pick(a: u8, b: u8, n: u8, yes: u16, no: u16) -> u16 {
     if has(a, b, n) { yes } else { no }
 }
 
 // Two that never hold together. An id or a name that is taken is 1 to 32 bytes long; 10 needs both times; the stops of a rule taken are
-// known; a load is searched only where neither 14 nor 11 holds, and takes no call after it; of an unknown service nobody says that it
-// doesn't run.
+// known; a load is searched only where neither 14 nor 11 holds; of an unknown service nobody says that it doesn't run; where no call is
+// withdrawn, none shows again.
 fn apart(step: u8, a: u8, b: u8) -> bool {
+    if step == WITHDRAWN {
+        return b == FALLS && a != NOTHING;
+    }
     match a {
         3 => b == 5,
         ABSENT => b == 10,
@@ -109,7 +117,7 @@ fn call_of(load: Load, a: u8, b: u8) -> Stepped {
         b"unknown",
         text(has(a, b, RESTS), b"B", b"A"),
     );
-    load.call_of(name, call(a, b))
+    add(load, name, call(a, b))
 }
 
 // The load with dates that a step is tried on, before it is searched.
@@ -141,6 +149,9 @@ fn unsearched(step: u8, a: u8, b: u8) -> Load {
 }
 
 fn load_of(step: u8, a: u8, b: u8) -> Load {
+    if step >= ADDED {
+        return searched::load_of(step, a, b);
+    }
     let load = unsearched(step, a, b);
     if has(a, b, 15) {
         let s = search::search(load);
@@ -150,6 +161,9 @@ fn load_of(step: u8, a: u8, b: u8) -> Load {
 }
 
 fn stepped(step: u8, load: Load, a: u8, b: u8) -> Stepped {
+    if step >= ADDED {
+        return searched::stepped(step, load, a, b);
+    }
     if step == SERVICE {
         return service(load, a, b);
     }
@@ -163,7 +177,7 @@ fn stepped(step: u8, load: Load, a: u8, b: u8) -> Stepped {
         return stop(load, a, b);
     }
     if step == CALL {
-        return load.call(call(a, b));
+        return add(load, b"", call(a, b));
     }
     if step == SEARCH {
         return search::search(load);

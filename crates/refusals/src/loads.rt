@@ -2,6 +2,8 @@
 ghost use mathlib.Core.Path.{_≡_};
 ghost use Rattle.refusals.specs.Inputs.{timeIn, callOf, minTimeIn, ruleOf};
 use crate::show;
+use crate::show::ADDED;
+use crate::show::ADDED_OF;
 use crate::show::CALL;
 use crate::show::CALL_OF;
 use crate::show::EXCEPTION;
@@ -9,6 +11,9 @@ use crate::show::RULE;
 use crate::show::SEARCH;
 use crate::show::SERVICE;
 use crate::show::STOP;
+use crate::show::WITHDRAWAL;
+use crate::show::WITHDRAWN;
+use again::add;
 use calls::CallInput;
 use calls::Seconds;
 use load::Load;
@@ -82,17 +87,17 @@ pub fn call(trip: u16, sequence: u32, stop: u16, arrival: u32, departure: u32) -
     }
 }
 
-// Calls for a search. Below 500 halves of rides from stop 1 to stop 2, each of which leaves and arrives a second later than the
-// one before it; from there a call of trip 900 of sequence i / 1000, which arrives at i % 1000.
+// Calls for a search. Below 500 halves of rides from stop 1 to stop 2, of trips 2000 on, each of which leaves and arrives a second later
+// than the one before it; from there a call of trip 900 of sequence i / 1000, which arrives at i % 1000.
 fn leg(i: u16) -> CallInput {
     if i >= 500 {
         return call(900, (i / 1000) as u32, 1, (i % 1000) as u32, 700);
     }
-    let trip = i / 2;
+    let k = i / 2;
     if i % 2 == 0 {
-        return call(trip, 0, 1, 10 + trip as u32, 10 + trip as u32);
+        return call(2000 + k, 0, 1, 10 + k as u32, 10 + k as u32);
     }
-    call(trip, 1, 2, 1000 + trip as u32, 1000 + trip as u32)
+    call(2000 + k, 1, 2, 1000 + k as u32, 1000 + k as u32)
 }
 
 fn min_time(timed: bool) -> MinTime
@@ -125,7 +130,7 @@ fn good_of_week(step: u8, load: Load, i: u16) -> Stepped {
     if step == EXCEPTION {
         return load.exception(b"A", 20261116, 1);
     }
-    load.call_of(b"A", call(i, 0, 1, 600, 600))
+    add(load, b"A", call(i, 0, 1, 600, 600))
 }
 
 // A good step: stop i, with the id 65 + i; a call of trip i, which stays at every horizon; a rule to stop 2; half a ride.
@@ -138,12 +143,12 @@ fn good(step: u8, load: Load, i: u16) -> Stepped {
         return load.stop(&id, b"", b"", stop(i));
     }
     if step == CALL {
-        return load.call(call(i, 0, 1, 600, 600));
+        return add(load, b"", call(i, 0, 1, 600, 600));
     }
     if step == RULE {
         return load.rule(rule((1 + i % 128) % 128, 2, 0, false));
     }
-    load.call(leg(i))
+    add(load, b"", leg(i))
 }
 
 // The load after a good step.
@@ -153,7 +158,7 @@ fn next(step: u8, load: Load, i: u16) -> Load {
 }
 
 // So many good steps; those that are refused leave the load as it was.
-fn with(step: u8, n: u16, first: Load) -> Load {
+pub fn with(step: u8, n: u16, first: Load) -> Load {
     let mut load = first;
     for i in 0u16..n {
         let one = next(step, load, i);
@@ -208,14 +213,18 @@ pub fn rides(n: u16, second: u16) -> Load {
     next(SEARCH, next(CALL, load, 900), second)
 }
 
-// The step that follows: a call after a rule, a service after an exception and after a call that names one, an exception after a
-// service, else a rule.
+// The step that follows: a call after a rule, a withdrawal and a call after the search, a service after an exception and after a call
+// that names one, an exception after a service, else a rule.
 fn following(step: u8) -> u8 {
     match step {
         RULE => CALL,
         SERVICE => EXCEPTION,
         EXCEPTION => SERVICE,
         CALL_OF => SERVICE,
+        ADDED => CALL,
+        ADDED_OF => CALL_OF,
+        WITHDRAWAL => CALL,
+        WITHDRAWN => CALL,
         _ => RULE,
     }
 }

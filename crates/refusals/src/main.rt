@@ -1,16 +1,20 @@
-// Meets each refusal of opening, stop, call, rule, search, service and exception alone and in pairs, and writes what is answered, and
-// what a good step after it is answered. The file `stdout` says what the scope's order, and request 03's, give.
+// Meets each refusal of opening, stop, call, rule, search, service, exception and withdrawal alone and in pairs, and writes what is
+// answered, and what a good step after it is answered. The file `stdout` says what the scope's order, and those of requests 03 and 11, give.
 mod calls_of;
 mod faults;
 mod loads;
+mod searched;
 mod show;
 mod weeks;
 mod words;
 
 use show::ABSENT;
+use show::ADDED;
+use show::ADDED_OF;
 use show::CALL;
 use show::CALL_OF;
 use show::EXCEPTION;
+use show::FALLS;
 use show::NOTHING;
 use show::OUTSIDE;
 use show::RESTS;
@@ -18,6 +22,8 @@ use show::RULE;
 use show::SEARCH;
 use show::SERVICE;
 use show::STOP;
+use show::WITHDRAWAL;
+use show::WITHDRAWN;
 
 // The faults of each step stand in the scope's order.
 fn main() {
@@ -28,7 +34,17 @@ fn main() {
     show::held(STOP, loads::full_of(STOP).stop_count);
     faults::each(
         CALL,
-        [NOTHING, 15, 9, ABSENT, 10, OUTSIDE, 11, NOTHING, NOTHING],
+        [
+            NOTHING,
+            9,
+            ABSENT,
+            10,
+            OUTSIDE,
+            11,
+            NOTHING,
+            NOTHING,
+            NOTHING,
+        ],
     );
     words::calls();
     show::held(CALL, loads::full_of(CALL).call_count);
@@ -54,6 +70,7 @@ fn main() {
     );
     words::searches();
     dated();
+    altered();
 }
 
 // With dates.
@@ -82,8 +99,49 @@ fn dated() {
     weeks::exceptions();
     faults::each(
         CALL_OF,
-        [NOTHING, 15, 9, 21, RESTS, ABSENT, 10, OUTSIDE, 11],
+        [NOTHING, 9, 21, RESTS, ABSENT, 10, OUTSIDE, 11, NOTHING],
     );
     calls_of::names();
     calls_of::runs();
+}
+
+// Calls added to searched loads, and calls withdrawn.
+fn altered() {
+    faults::each(
+        ADDED,
+        [NOTHING, 9, ABSENT, 10, OUTSIDE, 11, 14, FALLS, NOTHING],
+    );
+    faults::each(
+        ADDED_OF,
+        [NOTHING, 9, 21, RESTS, ABSENT, 10, OUTSIDE, 11, 14],
+    );
+    faults::each(
+        WITHDRAWAL,
+        [
+            NOTHING,
+            9,
+            24,
+            NOTHING,
+            NOTHING,
+            NOTHING,
+            NOTHING,
+            NOTHING,
+            NOTHING,
+        ],
+    );
+    faults::each(
+        WITHDRAWN,
+        [
+            NOTHING,
+            9,
+            24,
+            FALLS,
+            NOTHING,
+            NOTHING,
+            NOTHING,
+            NOTHING,
+            NOTHING,
+        ],
+    );
+    searched::keys();
 }

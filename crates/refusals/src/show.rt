@@ -19,8 +19,17 @@ pub const EXCEPTION: u8 = 6;
 
 pub const CALL_OF: u8 = 7;
 
-// What is wrong with a step, beside the scope's numbers: nothing, a time absent, a call outside the window, or one whose service
-// doesn't run.
+// A call on a searched load, of a service or of none; a withdrawal from an unsearched load and from a searched one.
+pub const ADDED: u8 = 8;
+
+pub const ADDED_OF: u8 = 9;
+
+pub const WITHDRAWAL: u8 = 10;
+
+pub const WITHDRAWN: u8 = 11;
+
+// What is wrong with a step, beside the scope's numbers: nothing, a time absent, a call outside the window, one whose service
+// doesn't run, or 11 of the search that follows.
 pub const NOTHING: u8 = 0;
 
 pub const ABSENT: u8 = 100;
@@ -28,6 +37,8 @@ pub const ABSENT: u8 = 100;
 pub const OUTSIDE: u8 = 101;
 
 pub const RESTS: u8 = 102;
+
+pub const FALLS: u8 = 103;
 
 fn text(s: &[u8]) {
     io::write_all(STDOUT_FILENO, s);
@@ -42,6 +53,10 @@ fn step(n: u8) {
         SERVICE => text(b"service"),
         EXCEPTION => text(b"exception"),
         CALL_OF => text(b"call of a service"),
+        ADDED => text(b"call after the search"),
+        ADDED_OF => text(b"call of a service after the search"),
+        WITHDRAWAL => text(b"withdrawal"),
+        WITHDRAWN => text(b"withdrawal after the search"),
         _ => text(b"search"),
     }
 }
@@ -51,6 +66,7 @@ fn cause(n: u8) {
         ABSENT => text(b"absent"),
         OUTSIDE => text(b"outside"),
         RESTS => text(b"rests"),
+        FALLS => text(b"list falls"),
         _ => {
             io::print_decimal(STDOUT_FILENO, n as u64);
         }

@@ -8,6 +8,7 @@ use crate::show::OPEN;
 use crate::show::RULE;
 use crate::show::SEARCH;
 use crate::show::STOP;
+use again::add;
 use load::Load;
 use place::Degrees;
 use settings::Settings;
@@ -155,7 +156,7 @@ fn call(
     input.pickup = pickup;
     input.drop_off = drop_off;
     show::words(CALL, label);
-    loads::then(CALL, loads::small().call(input));
+    loads::then(CALL, add(loads::small(), b"", input));
 }
 
 pub fn calls() {

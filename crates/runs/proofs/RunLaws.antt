@@ -34,7 +34,7 @@ use Rattle.runs.specs.declared.RuleTold.{RuleTold}
 use Rattle.file.specs.Record.{kindRight, recordTests, steppedBy, recordSpec}
 use Rattle.file.specs.File.{startsWhole, sizeOf, bodyOf}
 use Rattle.runs.specs.Runs.{openReader, ruleFits, stationAt, stopFits, stopAt, ruleTold, stopTold, callTold, Left}
-use Rattle.file.proofs.KindLaws.{filledAs, filled-as, stepped-stop, stepped-call, stepped-rule}
+use Rattle.file.proofs.KindLaws.{filledAs, filled-as, stepped-stop, stepped-before, stepped-rule}
 use Rattle.file.proofs.RecordLaws.{taken}
 use Rattle.runs.proofs.LeftLaws.{left-one, left-trans}
 use Rattle.runs.proofs.FitLaws.{Fits, where-tells}
@@ -141,7 +141,7 @@ callToldIn l xs = callTold (l .settings) (l .searched) (l .«stop_count») (l .�
 call-recorded : (l : Load) (b : List ℕ) {s : Stepped} → byteAt b 0 ≡ 3 → callFilled b ≡ true → callSpec l [] (callIn b) ≡ s → isRefused (s .answer) ≡ false
     → recordSpec (openReader l) b ≡ record { answer = s .answer; reader = openReader (s .load) }
 unfolding kindRight
-call-recorded l b k f s-is e = recorded b 3 k (omega arith) refl f l (stepped-call (openReader l) b refl k refl (sym s-is)) e
+call-recorded l b k f s-is e = recorded b 3 k (omega arith) refl f l (stepped-before (openReader l) b refl k (sym s-is) e) e
 
 in-not-other : {x : Call} {u : Uncut} → u ≡ In x → u ≡ Other → ⊥
 in-not-other e f = let z : _≡_ {A = ℕ} 0 1 = cc in omega arith

@@ -1,36 +1,39 @@
 -- Each step, and each opening, is answered for the first of its causes.
 use Prim.Native.Nat.{ℕ}
-use mathlib.Core.Path.{_≡_, refl, ap, subst}
+use mathlib.Core.Path.{_≡_, refl, sym, ap, subst, _∙_}
 use mathlib.Core.Logic.{_⊎_, inl, inr}
-use mathlib.Core.Bool.{Bool, true, false, cond}
+use mathlib.Core.Bool.{Bool, true, false, not, cond, true≢false}
 use mathlib.Core.Option.{Option, none, some}
 use mathlib.Core.List.{List, [], _∷_, _++_, map}
 use lib.Dec.{eqb}
 use borrow.Author.Tests.{eq-eqb}
 use Rattle.laws.proofs.Bools.{or-true-left, or-true-right}
+use Rattle.refusal.specs.declared.Refusal.the-variants.{FieldRange}
 use Rattle.refusal.specs.declared.Answer.{Answer}
-use Rattle.refusal.specs.First.{First, none as no-test, hit, miss, answerNumber, isRefused}
+use Rattle.refusal.specs.declared.Answer.the-variants.{Taken, Outside, Refused}
+use Rattle.refusal.specs.First.{First, none as no-test, hit, miss, AllFail, answerNumber, isRefused}
 use Rattle.refusal.proofs.FirstLaws.{answer-is-first, first-taken}
-use Rattle.time.proofs.Times.{taken}
 use Rattle.settings.specs.Settings.{settingsTests}
 use Rattle.calls.specs.declared.CallInput.{CallInput}
-use Rattle.calls.specs.Calls.{callTests}
+use Rattle.calls.specs.Calls.{known, timeTests}
 use Rattle.calls.specs.Sound.{oneOf}
-use Rattle.calls.proofs.ReachedLaws.{call-answered}
 use Rattle.rules.specs.Rules.{ruleTests}
 use Rattle.stops.specs.Answer.{stopTests}
-use Rattle.week.specs.Weeks.{serviceTests, exceptionTests}
+use Rattle.week.specs.Weeks.{serviceTests, exceptionTests, running}
+use Rattle.week.proofs.StepLaws.{runs-undated}
 use Rattle.load.specs.declared.Load.{Load}
-use Rattle.load.specs.Steps.{Opening, dateTests, openTests, openAnswer, openSpec, opened, plainCall}
+use Rattle.load.specs.Load.{emptyLoad, blankSettings}
+use Rattle.load.specs.Steps.{Opening, dateTests, openTests, openAnswer, openSpec, opened, isUnknown, isResting, runningTests}
 use Rattle.load.specs.Filling.{stop, call, rule, service, exception}
 use Rattle.load.proofs.ClockLaws.{opening-tests}
 use Rattle.load.proofs.AnswerLaws.{step-answered as fill-answered}
 use Rattle.search.proofs.AnswerLaws.{search-answered}
-use Rattle.steps.specs.Steps.{Step, filling, search, stepped, causes, numbers}
+use Rattle.withdrawal.specs.declared.CallKey.{CallKey}
+use Rattle.again.specs.Again.{unsearchedOf, addSpec, withdrawTests, takenOut}
+use Rattle.again.specs.Causes.{searchTests, laterTests, addCauses, withdrawCauses}
+use Rattle.again.proofs.AnswerLaws.{add-answered, withdraw-answered}
+use Rattle.steps.specs.Steps.{Step, filling, withdraw, search, stepped, causes, numbers}
 use Rattle.steps.specs.Answered.{Answered, openNumbers, OpeningAnswered, number}
-use Rattle.load.specs.declared.Stepped.{Stepped}
-use Rattle.load.specs.Load.{emptyLoad, blankSettings, tableOf}
-use Rattle.load.proofs.StepLaws.{call-undated}
 
 -- the numbers of the answers of a list of tests
 abbrev numbered : List (Bool × Answer) → List ℕ
@@ -56,22 +59,35 @@ listed-by a ts f = go (first-numbered a ts f)
     go (inl q) = or-true-right (eqb (answerNumber a) 0) _ q
     go (inr q) = or-true-left _ _ (eq-eqb (answerNumber a) 0 q)
 
-step-listed : (l : Load) (x : Step) → First (stepped l x .answer) (causes l x) → oneOf (answerNumber (stepped l x .answer)) (0 ∷ numbers x) ≡ true
-unfolding stopTests ruleTests serviceTests exceptionTests
-step-listed l (filling (stop id name parent i)) f = listed-by _ _ f
-step-listed l (filling (call name i)) f = listed-by _ _ f
-step-listed l (filling (rule i)) f = listed-by _ _ f
-step-listed l (filling (service name weekdays start end)) f = listed-by _ _ f
-step-listed l (filling (exception name date kind)) f = listed-by _ _ f
-step-listed l search f = listed-by _ _ f
+numbered-is : (ts : List (Bool × Answer)) → numbered ts ≡ map number ts
+numbered-is [] = refl
+numbered-is (t ∷ ts) = ap (λ (ns : List ℕ). number t ∷ ns) (numbered-is ts)
 
-step-order : (l : Load) (x : Step) → map number (causes l x) ≡ numbers x
+-- on a searched load a call and a withdrawal have the tests of the search again too
+call-order : (l : Load) (name : List ℕ) (i : CallInput) → map number (addCauses l name i) ≡ numbers (l .searched) (filling (call name i))
+call-order l name i = go (l .searched)
+  where
+    go : (b : Bool)
+        → map number ((not (known (l .«stop_count») i), Refused FieldRange) ∷ runningTests (running (l .week) name (i .day)) ++ timeTests i ++ laterTests b l name i)
+        ≡ numbers b (filling (call name i))
+    go true = refl
+    go false = refl
+
+withdraw-order : (l : Load) (k : CallKey) → map number (withdrawCauses l k) ≡ numbers (l .searched) (withdraw k)
+withdraw-order l k = go (l .searched)
+  where
+    go : (b : Bool) → map number (cond b (withdrawTests (unsearchedOf l) k ++ searchTests (takenOut (unsearchedOf l) k .load)) (withdrawTests l k)) ≡ numbers b (withdraw k)
+    go true = refl
+    go false = refl
+
+step-order : (l : Load) (x : Step) → map number (causes l x) ≡ numbers (l .searched) x
 unfolding stopTests ruleTests serviceTests exceptionTests
 step-order l (filling (stop id name parent i)) = refl
-step-order l (filling (call name i)) = refl
+step-order l (filling (call name i)) = call-order l name i
 step-order l (filling (rule i)) = refl
 step-order l (filling (service name weekdays start end)) = refl
 step-order l (filling (exception name date kind)) = refl
+step-order l (withdraw k) = withdraw-order l k
 step-order l search = refl
 
 -- the numbers of an opening's tests
@@ -101,14 +117,45 @@ opening-answered o = record {
   opens = λ w. ap (λ (a : Answer). cond (isRefused a) (emptyLoad blankSettings) (opened o)) (w .0);
 }
 
-pub step-answered : (l : Load) (x : Step) → Answered l x
-step-answered l (filling x) = let w = fill-answered l x in record { first = w .first; taken = w .taken; listed = step-listed l (filling x) (w .first); order = step-order l (filling x); unchanged = w .unchanged }
-step-answered l search = let w = search-answered l in record { first = w .first; taken = w .taken; listed = step-listed l search (w .first); order = step-order l search; unchanged = w .unchanged }
+-- so much of each step is enough
+record Meets (l : Load) (x : Step) : Type 0 where
+  first : First (stepped l x .answer) (causes l x)
+  taken : stepped l x .answer ≡ Taken → AllFail (causes l x)
+  unchanged : isRefused (stepped l x .answer) ≡ true → stepped l x .load ≡ l
 
-plain-listed : (l : Load) (i : CallInput) → oneOf (answerNumber (plainCall l i .answer)) (0 ∷ 15 ∷ 9 ∷ 0 ∷ 10 ∷ 0 ∷ 11 ∷ []) ≡ true
-unfolding plainCall callTests
-plain-listed l i = listed-by _ _ (call-answered (l .settings) (l .searched) (l .«stop_count») (tableOf l) i)
+step-met : (l : Load) (x : Step) → Meets l x
+step-met l (filling (stop id name parent i)) = let w = fill-answered l (stop id name parent i) in record { first = w .first; taken = w .taken; unchanged = w .unchanged }
+step-met l (filling (call name i)) = let w = add-answered l name i in record { first = w .first; taken = w .taken; unchanged = w .unchanged }
+step-met l (filling (rule i)) = let w = fill-answered l (rule i) in record { first = w .first; taken = w .taken; unchanged = w .unchanged }
+step-met l (filling (service name weekdays start end)) = let w = fill-answered l (service name weekdays start end) in record { first = w .first; taken = w .taken; unchanged = w .unchanged }
+step-met l (filling (exception name date kind)) = let w = fill-answered l (exception name date kind) in record { first = w .first; taken = w .taken; unchanged = w .unchanged }
+step-met l (withdraw k) = let w = withdraw-answered l k in record { first = w .first; taken = w .taken; unchanged = w .unchanged }
+step-met l search = let w = search-answered l in record { first = w .first; taken = w .taken; unchanged = w .unchanged }
+
+pub step-answered : (l : Load) (x : Step) → Answered l x
+step-answered l x =
+    let w = step-met l x in
+    record {
+      first = w .first;
+      taken = w .taken;
+      listed = subst (λ (ns : List ℕ). oneOf (answerNumber (stepped l x .answer)) (0 ∷ ns) ≡ true) (numbered-is (causes l x) ∙ step-order l x) (listed-by _ _ (w .first));
+      order = step-order l x;
+      unchanged = w .unchanged;
+    }
+
+-- the second of the tests fails
+without-second : {a b c : Answer} {x y : Bool} {ts : List (Bool × Answer)} → First a ((x, b) ∷ (y, c) ∷ ts) → y ≡ false → First a ((x, b) ∷ ts)
+without-second (hit e) q = hit e
+without-second (miss e (hit f)) q = absurd (true≢false (sym f ∙ q))
+without-second (miss e (miss f g)) q = miss e g
 
 -- a call on a load without dates has no 21
-pub undated-listed : (l : Load) (name : List ℕ) (i : CallInput) → l .week .dated ≡ false → oneOf (answerNumber (stepped l (filling (call name i)) .answer)) (0 ∷ 15 ∷ 9 ∷ 0 ∷ 10 ∷ 0 ∷ 11 ∷ []) ≡ true
-undated-listed l name i d = subst (λ (r : Stepped). oneOf (answerNumber (r .answer)) (0 ∷ 15 ∷ 9 ∷ 0 ∷ 10 ∷ 0 ∷ 11 ∷ []) ≡ true) (call-undated l name i d) (plain-listed l i)
+pub undated-listed : (l : Load) (name : List ℕ) (i : CallInput) → l .week .dated ≡ false
+    → oneOf (answerNumber (stepped l (filling (call name i)) .answer)) (0 ∷ 9 ∷ 0 ∷ 0 ∷ 10 ∷ 0 ∷ 11 ∷ cond (l .searched) (14 ∷ 11 ∷ 0 ∷ []) []) ≡ true
+undated-listed l name i d = go (l .searched) (without-second (add-answered l name i .first) (ap isUnknown (sym (runs-undated (l .week) name (i .day) d))))
+  where
+    go : (b : Bool)
+        → First (addSpec l name i .answer) ((not (known (l .«stop_count») i), Refused FieldRange) ∷ (isResting (running (l .week) name (i .day)), Outside) ∷ timeTests i ++ laterTests b l name i)
+        → oneOf (answerNumber (addSpec l name i .answer)) (0 ∷ 9 ∷ 0 ∷ 0 ∷ 10 ∷ 0 ∷ 11 ∷ cond b (14 ∷ 11 ∷ 0 ∷ []) []) ≡ true
+    go true f = listed-by _ _ f
+    go false f = listed-by _ _ f

@@ -1,6 +1,10 @@
 pub mod StepLaws
 pub mod AnsweredLaws
 pub mod HeldLaws
-pub mod AcceptedLaws
 pub mod HandedLaws
+pub mod ShownLaws
+pub mod TableLaws
+pub mod WithdrawnLaws
+pub mod BareLaws
+pub mod WeekLaws
 pub mod DatedLaws

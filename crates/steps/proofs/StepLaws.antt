@@ -1,4 +1,4 @@
--- What the machine's steps do to a load: a searched load stays, only a search searches, and best reads what is kept.
+-- What the machine's steps do to a load: what fills a load leaves a searched one, and does not search; best reads what is kept.
 use Prim.Native.Nat.{ℕ, _+_, _-_, _≤_}
 use mathlib.Core.Path.{_≡_, refl, sym, ap, subst, _∙_}
 use mathlib.Core.Logic.{_⊎_, inl, inr}
@@ -12,32 +12,28 @@ use lib.IntN.{ℤ}
 use lib.ListN.{length, take, set, replicate}
 use lib.Seq.{take-append-seam}
 use Rattle.laws.specs.Lists.{padded}
-use Rattle.laws.proofs.Bools.{cond-by, cond-not, or-true-cases, or-true-left}
-use Rattle.refusal.specs.declared.Refusal.the-variants.{AlreadySearched}
+use Rattle.laws.proofs.Bools.{cond-not, or-true-cases, or-true-left}
 use Rattle.refusal.specs.declared.Answer.{Answer}
-use Rattle.refusal.specs.declared.Answer.the-variants.{Refused}
 use Rattle.refusal.specs.First.{First, hit, miss, isRefused, isTaken}
 use Rattle.profile.specs.declared.Journey.{Journey}
 use Rattle.profile.specs.Journeys.{noJourney, journeyFigures}
 use Rattle.profile.specs.Best.{bestℤ}
 use Rattle.calls.specs.declared.CallInput.{CallInput}
-use Rattle.calls.specs.Sound.{All, oneOf, horizons, CallSound}
-use Rattle.calls.proofs.SoundLaws.{all-mem}
+use Rattle.calls.specs.Sound.{All, oneOf, horizons}
 use Rattle.rules.specs.Rules.{ruleTests}
 use Rattle.stops.specs.Answer.{stopTests}
 use Rattle.transfer.specs.declared.Change.{Change}
 use Rattle.transfer.specs.declared.Change.the-variants.{Takes, Never}
 use Rattle.transfer.specs.Changes.{joinsBy, joinOf}
-use Rattle.offers.specs.Order.{Timed}
 use Rattle.offers.specs.Admitted.{InTime}
-use Rattle.offers.specs.Search.{Outcome, clashing, falling, found, answerOf, searchOf}
+use Rattle.offers.specs.Search.{found, answerOf, searchOf}
 use Rattle.week.specs.Weeks.{serviceTests, exceptionTests}
 use Rattle.load.specs.declared.Load.{Load}
 use Rattle.load.specs.declared.Stepped.{Stepped}
 use Rattle.stops.specs.Taken.{stopOf}
 use Rattle.rules.specs.Rules.{ruleOf}
 use Rattle.load.specs.Load.{withStops, withRules, withTable}
-use Rattle.load.specs.Steps.{stationIn, stopAnswer, stopSpec, callFitted, plainCall, ruleAnswer, ruleSpec, serviceSpec, exceptionSpec}
+use Rattle.load.specs.Steps.{stationIn, stopAnswer, stopSpec, callFitted, plainCall, callSpec, ruleAnswer, ruleSpec, serviceSpec, exceptionSpec}
 use Rattle.load.specs.Filling.{Filling, stop, call, rule, service, exception, filled}
 use Rattle.load.specs.Sound.{Sound}
 use Rattle.load.proofs.AnswerLaws.{step-answered}
@@ -45,9 +41,9 @@ use Rattle.load.proofs.TableLaws.{call-keeps}
 use Rattle.search.specs.Timetable.{changeIn, oneRun, timetableOf}
 use Rattle.search.specs.Search.{outcomeOf, withJourneys, searchSpec}
 use Rattle.search.proofs.RunLaws.{search-again, taken-found}
+use Rattle.again.specs.Again.{addSpec}
 use Rattle.best.specs.Best as best
 use Rattle.best.proofs.QueryLaws.{best-of-all}
-use Rattle.steps.specs.Steps.{Step, filling, search, stepped}
 
 -- ---- a searched load stays
 
@@ -55,7 +51,8 @@ pub first-holds : {a c : Answer} {b : Bool} {ts : List (Bool × Answer)} → Fir
 first-holds (hit e) q = refl
 first-holds (miss e f) q = absurd (true≢false (sym q ∙ e))
 
-filled-stays : (l : Load) (x : Filling) → l .searched ≡ true → filled l x .load ≡ l
+-- by a call as the load takes it before its search; one that comes after it goes another way
+pub filled-stays : (l : Load) (x : Filling) → l .searched ≡ true → filled l x .load ≡ l
 unfolding stopTests ruleTests serviceTests exceptionTests
 filled-stays l (stop id name parent i) e = let w = step-answered l (stop id name parent i) in w .unchanged (ap isRefused (first-holds (w .first) e))
 filled-stays l (call name i) e = let w = step-answered l (call name i) in w .unchanged (ap isRefused (first-holds (w .first) e))
@@ -63,9 +60,17 @@ filled-stays l (rule i) e = let w = step-answered l (rule i) in w .unchanged (ap
 filled-stays l (service name weekdays start end) e = let w = step-answered l (service name weekdays start end) in w .unchanged (ap isRefused (first-holds (w .first) (or-true-left (l .searched) (l .week .closed) e)))
 filled-stays l (exception name date kind) e = let w = step-answered l (exception name date kind) in w .unchanged (ap isRefused (first-holds (w .first) (or-true-left (l .searched) (l .week .closed) e)))
 
-pub searched-stays : (l : Load) (x : Step) → l .searched ≡ true → stepped l x .load ≡ l
-searched-stays l (filling x) e = filled-stays l x e
-searched-stays l search e = ap (λ (r : Stepped). r .load) (search-again l e)
+-- a call that the load itself answers came before its search
+pub call-before : (l : Load) (name : List ℕ) (i : CallInput) → isRefused (callSpec l name i .answer) ≡ false → addSpec l name i ≡ callSpec l name i
+unfolding addSpec
+call-before l name i e = cond-not _ _ (go (l .searched) refl)
+  where
+    go : (b : Bool) → l .searched ≡ b → l .searched ≡ false
+    go true q = absurd (true≢false (sym (ap isRefused (first-holds (step-answered l (call name i) .first) q)) ∙ e))
+    go false q = q
+
+pub search-stays : (l : Load) → l .searched ≡ true → searchSpec l .load ≡ l
+search-stays l e = ap (λ (r : Stepped). r .load) (search-again l e)
 
 -- ---- the demands on a sound load
 

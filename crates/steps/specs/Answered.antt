@@ -24,8 +24,8 @@ pub record Answered (l : Load) (x : Step) : Type 0 where
   -- a step that is taken has no cause against it
   pub taken : stepped l x .answer ≡ Taken → AllFail (causes l x)
   -- its number is one of those that the scope lists for the step, or 0; the causes stand in the scope's order
-  pub listed : oneOf (answerNumber (stepped l x .answer)) (0 ∷ numbers x) ≡ true
-  pub order : map number (causes l x) ≡ numbers x
+  pub listed : oneOf (answerNumber (stepped l x .answer)) (0 ∷ numbers (l .searched) x) ≡ true
+  pub order : map number (causes l x) ≡ numbers (l .searched) x
   pub unchanged : isRefused (stepped l x .answer) ≡ true → stepped l x .load ≡ l
 
 -- 20 only with dates

@@ -17,7 +17,7 @@ use Rattle.load.specs.Load.{withWeek}
 use Rattle.load.specs.Steps.{undated, dated, opened}
 use Rattle.load.specs.Filling.{stop, call, rule, service, exception}
 use Rattle.best.specs.Best.{keptOf}
-use Rattle.steps.specs.Steps.{Step, filling, search, stepped}
+use Rattle.steps.specs.Steps.{Step, filling, withdraw, search, stepped}
 use Rattle.steps.specs.Lists.{next, handed, endOf}
 
 abbrev pub ifRuns : Running → Step → List Step
@@ -25,13 +25,15 @@ ifRuns Unknown x = []
 ifRuns Rests x = []
 ifRuns Runs x = x ∷ []
 
--- what the load without dates is handed of a step: no service or exception; of the calls, those of a service that runs on the call's day
+-- what the load without dates is handed of a step: no service or exception; of the calls, those of a service that runs on the call's day;
+-- each withdrawal
 abbrev pub passed : Load → Step → List Step
 passed l (filling (stop id name parent i)) = filling (stop id name parent i) ∷ []
 passed l (filling (call name i)) = ifRuns (running (l .week) name (i .day)) (filling (call [] i))
 passed l (filling (rule i)) = filling (rule i) ∷ []
 passed l (filling (service name weekdays start end)) = []
 passed l (filling (exception name date kind)) = []
+passed l (withdraw k) = withdraw k ∷ []
 passed l search = search ∷ []
 
 -- of a list

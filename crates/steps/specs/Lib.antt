@@ -5,5 +5,6 @@ pub mod Sound
 pub mod Held
 pub mod Within
 pub mod Machine
-pub mod Accepted
+pub mod Table
+pub mod Withdrawn
 pub mod Dated

@@ -17,7 +17,7 @@ use Rattle.withdrawal.specs.Removal.{withoutLast, hasKey, withdrawn, sho
 use Rattle.withdrawal.proofs.LeftLaws.{none-gone, withdrawn-leaves}
 
 module _ (s : Settings) (h : ℕ) (k : CallKey) where
-  any-shown : (is : List CallInput) → anyb (hasKey k) (windowed s h is) ≡ anyb (namedIn s h k) is
+  pub any-shown : (is : List CallInput) → anyb (hasKey k) (windowed s h is) ≡ anyb (namedIn s h k) is
   any-shown [] = refl
   any-shown (x ∷ xs) = go (window s h x) (any-shown xs)
     where

@@ -1,32 +1,36 @@
--- The search and any list of steps keep what a written load needs.
+-- The search, calls and withdrawals on any load, and so any list of steps, keep what a written load needs.
 use Prim.Native.Nat.{ℕ}
-use mathlib.Core.Path.{_≡_, refl, sym, ap, subst, _∙_}
-use mathlib.Core.Bool.{Bool, true, false}
+use mathlib.Core.Path.{_≡_, refl, sym, ap, subst}
+use mathlib.Core.Bool.{Bool, true, false, cond}
 use mathlib.Core.List.{List, [], _∷_}
 use lib.ListN.{take}
-use Rattle.laws.specs.Lists.{All}
+use Rattle.laws.specs.Lists.{All, anyb}
 use Rattle.laws.proofs.Every.{all-mem, mem-all}
 use Rattle.laws.proofs.Sort.{sort-mem}
-use Rattle.refusal.specs.First.{isTaken}
+use Rattle.refusal.specs.First.{isRefused, isTaken}
+use Rattle.calls.specs.declared.Call.{Call}
 use Rattle.profile.specs.declared.Journey.{Journey}
 use Rattle.offers.specs.Order.{earlier, inOrder}
 use Rattle.offers.proofs.OrderLaws.{sorted-front}
 use Rattle.load.specs.declared.Load.{Load}
 use Rattle.load.specs.declared.Stepped.{Stepped}
-use Rattle.load.specs.Load.{emptyOf}
-use Rattle.load.specs.Steps.{Opening, opened}
-use Rattle.load.specs.Filling.{Filling, filled}
-use Rattle.load.proofs.SoundLaws.{open-sound, fill-keeps-sound}
+use Rattle.load.specs.Load.{tableOf, withWeek}
+use Rattle.load.specs.Steps.{opened, callSpec}
+use Rattle.load.specs.Filling.{Filling, stop, call, rule, service, exception}
+use Rattle.load.specs.Sound.{Sound}
+use Rattle.withdrawal.specs.declared.CallKey.{CallKey}
+use Rattle.withdrawal.specs.Removal.{withoutLast, hasKey, withdrawn}
+use Rattle.withdrawal.proofs.LeftLaws.{withdrawn-leaves}
 use Rattle.search.specs.Search.{withJourneys, searchSpec}
 use Rattle.search.proofs.RunLaws.{taken-found, untaken-stays}
-use Rattle.again.specs.Claims as again
-use Rattle.again.proofs.KeptLaws.{search-kept, new-kept}
-use Rattle.steps.specs.Steps.{Step, filling, search}
-use Rattle.steps.specs.Lists.{handed}
-use Rattle.steps.proofs.StepLaws.{searched-stays, filled-searched}
+use Rattle.again.specs.Again.{unsearchedOf, again, leavesTable, addedTo, addSpec, takenOut, withdrawSpec}
+use Rattle.again.proofs.SoundLaws.{unsearched-sound, out-cases}
+use Rattle.steps.specs.Steps.{Step, filling, withdraw, search}
+use Rattle.steps.specs.Lists.{next, handed}
+use Rattle.steps.proofs.WithdrawnLaws.{step-kept, end-kept}
 use Rattle.written.specs.Kept.{CallKept, Kept, Whole}
-use Rattle.written.specs.Keeps.{AllGive, SearchKeeps, EndWhole}
-use Rattle.written.proofs.FillLaws.{open-kept, fill-keeps}
+use Rattle.written.specs.Keeps.{GivesHeld, AllGive, SearchKeeps, AddKeeps, WithdrawKeeps, EndWhole}
+use Rattle.written.proofs.FillLaws.{open-kept, week-kept, fill-keeps}
 
 -- ---- the search
 
@@ -48,25 +52,79 @@ search-keeps l w = go (isTaken (searchSpec l .answer)) refl
     go true t = let f = taken-found l t in subst Kept (sym (ap (λ (r : Stepped). r .load) (f .is))) (sorted-kept l (f .kept) (f .to) (f .mark) w)
     go false t = subst Kept (sym (untaken-stays l t)) w
 
+-- ---- a call on any load, and a withdrawal
+
+again-keeps : (l : Load) (r : Stepped) → Kept l → Kept (r .load) → Kept (again l r .load)
+unfolding again
+again-keeps l r w n = go (isRefused (r .answer)) (isTaken (searchSpec (r .load) .answer))
+  where
+    go : (b c : Bool) → Kept (cond {A = Stepped} b (record { answer = r .answer; load = l })
+        (cond {A = Stepped} c (record { answer = r .answer; load = searchSpec (r .load) .load }) (record { answer = searchSpec (r .load) .answer; load = l })) .load)
+    go true c = w
+    go false true = search-keeps (r .load) n
+    go false false = w
+
+back-keeps : (l : Load) → Kept l → Kept (unsearchedOf l)
+unfolding unsearchedOf
+back-keeps l w = record { settings = w .settings; stops = w .stops; rules = w .rules; calls = w .calls }
+
+pub add-keeps : AddKeeps
+unfolding addSpec addedTo
+add-keeps l name i s w = go (l .searched) (leavesTable l (callSpec (unsearchedOf l) name i))
+  where
+    made : Kept (callSpec (unsearchedOf l) name i .load)
+    made = fill-keeps (unsearchedOf l) (call name i) (unsearched-sound l s) (back-keeps l w) tt
+
+    go : (b c : Bool)
+        → Kept (cond b (cond {A = Stepped} c (record { answer = callSpec (unsearchedOf l) name i .answer; load = withWeek l (callSpec (unsearchedOf l) name i .load .week) }) (again l (callSpec (unsearchedOf l) name i))) (callSpec l name i) .load)
+    go true true = week-kept l (callSpec (unsearchedOf l) name i .load .week) w
+    go true false = again-keeps l (callSpec (unsearchedOf l) name i) w made
+    go false c = fill-keeps l (call name i) s w tt
+
+-- the others stay
+without-all : (p : Call → Bool) (xs : List Call) → All CallKept xs → All CallKept (withoutLast p xs)
+without-all p [] a = tt
+without-all p (x ∷ xs) (a, rest) = go (anyb p xs) (p x) (without-all p xs rest)
+  where
+    go : (b c : Bool) → All CallKept (withoutLast p xs) → All CallKept (cond b (x ∷ withoutLast p xs) (cond c xs (x ∷ xs)))
+    go true c ih = (a, ih)
+    go false true ih = rest
+    go false false ih = (a, rest)
+
+out-keeps : (l : Load) (k : CallKey) → Sound l → Kept l → Kept (takenOut l k .load)
+unfolding withdrawn
+out-keeps l k s w = out-cases l k (λ r. Kept (r .load)) (λ e. w) (λ e f. w)
+    (λ g. record {
+      settings = w .settings;
+      stops = w .stops;
+      rules = w .rules;
+      calls = subst (All CallKept) (sym (withdrawn-leaves (tableOf l) k (s .table) (g .there) .calls)) (without-all (hasKey k) (take (l .«call_count») (l .calls)) (w .calls));
+    })
+
+pub withdraw-keeps : WithdrawKeeps
+unfolding withdrawSpec
+withdraw-keeps l k s w = go (l .searched)
+  where
+    go : (b : Bool) → Kept (cond b (again l (takenOut (unsearchedOf l) k)) (takenOut l k) .load)
+    go true = again-keeps l (takenOut (unsearchedOf l) k) w (out-keeps (unsearchedOf l) k (unsearched-sound l s) (back-keeps l w))
+    go false = out-keeps l k s w
+
 -- ---- every list of steps
 
--- a step that fills a load does not search it
-fill-own : (l : Load) (x : Filling) → again.Kept l → again.Kept (filled l x .load)
-fill-own l x k = go (l .searched) refl
-  where
-    go : (b : Bool) → l .searched ≡ b → again.Kept (filled l x .load)
-    go true e = subst again.Kept (sym (searched-stays l (filling x) e)) k
-    go false e = new-kept (filled l x .load) (fill-keeps-sound l x (k .sound)) (filled-searched l x ∙ e)
+filling-keeps : (l : Load) (x : Filling) → Sound l → Kept l → GivesHeld x → Kept (next l (filling x))
+filling-keeps l (stop id name parent i) s w g = fill-keeps l (stop id name parent i) s w g
+filling-keeps l (call name i) s w g = add-keeps l name i s w
+filling-keeps l (rule i) s w g = fill-keeps l (rule i) s w g
+filling-keeps l (service name weekdays start end) s w g = fill-keeps l (service name weekdays start end) s w g
+filling-keeps l (exception name date kind) s w g = fill-keeps l (exception name date kind) s w g
 
 reached : (l : Load) (xs : List Step) → Whole l → AllGive xs → Whole (handed l xs)
 reached l [] r g = r
 reached l (filling x ∷ xs) r g =
-    reached (filled l x .load) xs (record { own = fill-own l x (r .own); kept = fill-keeps l x (r .own .sound) (r .kept) (g .0) }) (g .1)
-reached l (search ∷ xs) r g = reached (searchSpec l .load) xs (record { own = search-kept l (r .own); kept = search-keeps l (r .kept) }) g
-
-opened-new : (o : Opening) → opened o .searched ≡ false
-unfolding emptyOf
-opened-new o = refl
+    reached (next l (filling x)) xs (record { own = step-kept l (filling x) (r .own); kept = filling-keeps l x (r .own .sound) (r .kept) (g .0) }) (g .1)
+reached l (withdraw k ∷ xs) r g =
+    reached (next l (withdraw k)) xs (record { own = step-kept l (withdraw k) (r .own); kept = withdraw-keeps l k (r .own .sound) (r .kept) }) g
+reached l (search ∷ xs) r g = reached (next l search) xs (record { own = step-kept l search (r .own); kept = search-keeps l (r .kept) }) g
 
 pub end-whole : EndWhole
-end-whole o xs w g = reached (opened o) xs (record { own = new-kept (opened o) (open-sound o) (opened-new o); kept = open-kept o w }) g
+end-whole o xs w g = reached (opened o) xs (record { own = end-kept o []; kept = open-kept o w }) g

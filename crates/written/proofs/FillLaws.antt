@@ -76,7 +76,7 @@ open-kept o w = record {
 -- ---- the steps
 
 -- none of it reads the week
-week-kept : (l : Load) (w : Week) → Kept l → Kept (withWeek l w)
+pub week-kept : (l : Load) (w : Week) → Kept l → Kept (withWeek l w)
 week-kept l w k = record { settings = k .settings; stops = k .stops; rules = k .rules; calls = k .calls }
 
 stop-kept : (l : Load) (id name parent : List ℕ) (i : StopInput) → Sound l → Kept l → DegreesHeld (i .located) (i .degrees) → Kept (stopSpec l id name parent i .load)

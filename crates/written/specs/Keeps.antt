@@ -1,11 +1,15 @@
 -- Opening and every step keep what a written load needs, if the degrees handed in can be written.
+use Prim.Native.Nat.{ℕ}
 use mathlib.Core.List.{List, [], _∷_}
+use Rattle.calls.specs.declared.CallInput.{CallInput}
+use Rattle.withdrawal.specs.declared.CallKey.{CallKey}
 use Rattle.load.specs.declared.Load.{Load}
 use Rattle.load.specs.Steps.{Opening, opened}
 use Rattle.load.specs.Filling.{Filling, stop, call, rule, service, exception, filled}
 use Rattle.load.specs.Sound.{Sound, Opens}
 use Rattle.search.specs.Search.{searchSpec}
-use Rattle.steps.specs.Steps.{Step, filling, search}
+use Rattle.again.specs.Again.{addSpec, withdrawSpec}
+use Rattle.steps.specs.Steps.{Step, filling, withdraw, search}
 use Rattle.steps.specs.Lists.{endOf}
 use Rattle.codec.specs.Kinds.{DegreesHeld}
 use Rattle.written.specs.Kept.{Kept, Whole}
@@ -21,6 +25,7 @@ GivesHeld (exception name date kind) = Unit {0}
 abbrev pub AllGive : List Step → Type 0
 AllGive [] = Unit {0}
 AllGive (filling x ∷ xs) = GivesHeld x × AllGive xs
+AllGive (withdraw k ∷ xs) = AllGive xs
 AllGive (search ∷ xs) = AllGive xs
 
 abbrev pub OpenKept : Type 0
@@ -31,6 +36,12 @@ FillKeeps = (l : Load) (x : Filling) → Sound l → Kept l → GivesHeld x → 
 
 abbrev pub SearchKeeps : Type 0
 SearchKeeps = (l : Load) → Kept l → Kept (searchSpec l .load)
+
+abbrev pub AddKeeps : Type 0
+AddKeeps = (l : Load) (name : List ℕ) (i : CallInput) → Sound l → Kept l → Kept (addSpec l name i .load)
+
+abbrev pub WithdrawKeeps : Type 0
+WithdrawKeeps = (l : Load) (k : CallKey) → Sound l → Kept l → Kept (withdrawSpec l k .load)
 
 -- the load at the end of any list of steps
 abbrev pub EndWhole : Type 0

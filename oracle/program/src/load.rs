@@ -51,7 +51,7 @@ impl Load {
         Ok(Self { run, answers: String::new(), searched: false, stops: Vec::new(), rules: Vec::new() })
     }
     fn step(&mut self, record: Record) -> Result<(), End> {
-        test(self.searched, Beyond(15))?;
+        test(self.searched && !matches!(record, Record::Call { .. }), Beyond(15))?;
         match record {
             Record::Settings { .. } => Err(Beyond(19)),
             Record::Stop { id, name, parent, location_type, position, members } => {
@@ -104,9 +104,13 @@ impl Load {
         let known = usize::from(row.stop) < self.stops.len();
         let fault = !known || row.trip == u16::MAX || row.day > 2 || row.pickup_type > 3 || row.drop_off_type > 3;
         test(fault, Beyond(9))?;
+        if self.searched {
+            self.run.unsearch();
+        }
         let taken = self.run.call(&row).map_err(|e| Refused(if e == harness::LATE { 10 } else { 11 }))?;
         self.answers.push(if taken { 't' } else { 'o' });
-        Ok(())
+        // Request 11: a call after the search has the load searched again.
+        if self.searched { self.search() } else { Ok(()) }
     }
     fn rule(&mut self, from: u16, to: u16, transfer_type: u8, seconds: Option<u16>) -> Result<(), End> {
         test([from, to].iter().any(|&s| usize::from(s) >= self.stops.len()), Beyond(9))?;

@@ -3,13 +3,13 @@ use borrow.Author.Needs.{needs}
 use mathlib.Core.Path.{_≡_, _∙_}
 use Prim.Native.Nat.{_+_, _*_, _-_, _≤_}
 use native.Mathlib.Omega.{arith}
-use Rattle.load_c.specs.Searches.{searchesOf}
+use Rattle.load_c.specs.Searches.{horizonAfter, sumOf}
 use Rattle.load_c.proofs.SearchesLaws.{next-turn, last-turn}
 use Rattle.load_c.proofs.searches.Statement.{statement}
 use Rattle.load_c.proofs.searches.Tie as tie
 
 abbrev Inv-loop : tie.InvT-loop
-Inv-loop times next₀ sum₀ left₀ next sum left = (left ≤ times) × (sum ≤ 65535 * (times - left)) × (sum + searchesOf left next ≡ searchesOf times next₀)
+Inv-loop times next₀ sum₀ left₀ next sum left = (left ≤ times) × (sum ≤ 65535 * (times - left)) × (sum + sumOf horizonAfter left next ≡ sumOf horizonAfter times next₀)
 
 abbrev μ-loop : tie.MeasureT-loop
 μ-loop times next₀ sum₀ left₀ next sum left = left
@@ -40,11 +40,11 @@ loop-again c =
     let L = c .before .before .before .loop in (
       omega arith,
       omega arith,
-      next-turn (L .left) (L .next) (L .sum) (c .wide .result) _ (omega arith) (c .wide .ensures ∙ c .before .horizon-after .ensures) (L .inv .2),
+      next-turn horizonAfter (L .left) (L .next) (L .sum) (c .wide .result) _ (omega arith) (c .wide .ensures ∙ c .before .horizon-after .ensures) (L .inv .2),
     )
 
 returns : tie.Need-returns Inv-loop μ-loop
-returns c = last-turn (c .before .loop .left) (c .before .loop .next) (c .before .loop .sum) _ (omega arith) (c .before .loop .inv .2)
+returns c = last-turn horizonAfter (c .before .loop .left) (c .before .loop .next) (c .before .loop .sum) _ (omega arith) (c .before .loop .inv .2)
 
 pub searches-spec : {M : Type 1} → statement M
 searches-spec =

@@ -1,4 +1,4 @@
-//! Every pair of causes that one step can have at once: the first in 01's order is the answer.
+//! Every pair of causes that one step can have at once: the first in the order of its tests is the answer.
 use super::writer::{Call, Rule, Settings, Step, Stop, file};
 
 fn settings() -> Settings {
@@ -72,6 +72,42 @@ fn stop_time(causes: &[u8]) -> Vec<u8> {
     }
     ended(causes, 3, Step::Call(call))
 }
+/// The list of the search that follows a call would fall below 3600.
+const FALLS: u8 = 111;
+/// Request 11: a call added to a searched load, with 14 and 11 of the search that follows behind its own causes. Trip 700 leaves after
+/// 64 other journeys; its second call is the one that is added, and for 14 the load has one of that key, where nobody alights.
+fn added(causes: &[u8]) -> Vec<u8> {
+    let has = |n| causes.contains(&n);
+    let mut steps = base();
+    if has(FALLS) {
+        for trip in 0..64 {
+            let at = 10 * u32::from(trip);
+            steps.extend([Step::Call(call(trip, 0, at)), Step::Call(call(trip, 1, 2000 + at))]);
+        }
+    }
+    steps.push(Step::Call(call(700, 0, 640)));
+    if has(14) {
+        steps.push(Step::Call(Call { drop_off: 1, ..call(700, 1, 2640) }));
+    }
+    if has(11) {
+        let room = 512 - steps.iter().filter(|step| matches!(step, Step::Call(_))).count() as u16;
+        steps.extend((0..room).map(|i| Step::Call(Call { stop: 0, ..call(100 + i, 0, 10) })));
+    }
+    steps.push(Step::Search);
+    let at = if has(1) { 30000 } else { 2640 };
+    let mut call = call(700, 1, at);
+    if has(10) {
+        call.departure = Some(at - 1);
+    }
+    if has(0) {
+        call.arrival = None;
+    }
+    if has(9) {
+        call.day = 3;
+    }
+    steps.push(Step::Call(call));
+    file(&settings(), &steps)
+}
 /// Each cause of `order` alone, and each two of them but those that can't hold at once.
 fn pairs(order: &[u8], apart: &[(u8, u8)], step: fn(&[u8]) -> Vec<u8>, files: &mut Vec<Vec<u8>>) {
     for (i, &first) in order.iter().enumerate() {
@@ -109,7 +145,8 @@ pub fn files() -> Vec<Vec<u8>> {
     let mut files = Vec::new();
     pairs(&[15, 3, 5, 6, 7, 8, 4], &[(3, 5)], stop, &mut files);
     pairs(&[15, 9, 12, 13, 11], &[(9, 13)], rule, &mut files);
-    pairs(&[15, 9, 0, 10, 1, 11], &[(0, 10)], stop_time, &mut files);
+    pairs(&[9, 0, 10, 1, 11], &[(0, 10)], stop_time, &mut files);
+    pairs(&[9, 0, 10, 1, 11, 14, FALLS], &[(0, 10)], added, &mut files);
     files.push(clash_and_fall());
     for (origins, max_transfers, now) in [(5, 1, 0), (4, 2, 0), (4, 1, (1 << 40) + 1), (5, 1, i64::MIN), (4, 1, 1 << 40)] {
         files.push(opened(origins, max_transfers, now));

@@ -2,6 +2,7 @@
 use super::rng::Rng;
 use super::world::{self, Draw};
 use super::writer::{Call, Rule, Settings, Step, Stop, file, record};
+use super::{changes, limits};
 
 pub fn settings(rng: &mut Rng) -> Vec<u8> {
     let limit = 1i64 << 40;
@@ -183,6 +184,35 @@ fn wound(rng: &mut Rng, bytes: &mut Vec<u8>) {
     if at < bytes.len() {
         bytes[at] = rng.pick(&[0, 1, 2, 3, 4, 5, 6, 255]);
     }
+}
+
+/// Request 11: a file of another profile whose search stands before some of its last calls, now and then with one of them twice.
+pub fn added(rng: &mut Rng) -> Vec<u8> {
+    let others = [
+        world::small,
+        world::window,
+        world::neighbours,
+        world::days,
+        changes::changes,
+        changes::ties,
+        limits::list,
+        limits::brim,
+    ];
+    let bytes = if rng.once_in(40) { limits::cut(rng) } else { rng.pick(&others)(rng) };
+    let mut records: Vec<&[u8]> = Vec::new();
+    let starts = starts(&bytes);
+    for (i, &from) in starts.iter().enumerate() {
+        records.push(&bytes[from..starts.get(i + 1).copied().unwrap_or(bytes.len())]);
+    }
+    records.retain(|record| record[2] != 5);
+    let last = records.iter().rev().take_while(|record| record[2] == 3).count();
+    let moved = (rng.pick(&[1, 1, 2, 3, 5, 9]) as usize).min(last);
+    let search = record(5, &[]);
+    if moved > 0 && rng.once_in(3) {
+        records.push(records[records.len() - 1 - rng.below(moved as u64) as usize]);
+    }
+    records.insert(records.len() - moved, &search);
+    [&bytes[..1], &records.concat()].concat()
 }
 
 /// Steps after the search, a second search, and loads that are never searched.

@@ -1,4 +1,4 @@
-//! Single files: 01's marked instances, and one for each place where 01 could be read two ways.
+//! Single files: 01's marked instances, one for each place where 01 could be read two ways, and calls after the search (request 11).
 use super::accents;
 use super::writer::{Call, Rule, Settings, Step, Stop, file};
 
@@ -153,11 +153,42 @@ fn seldom(files: &mut Vec<Vec<u8>>) {
     files.push(searched(&plain, vec![ends(), trip(1, &[(0, 21600), (1, 21600)])]));
 }
 
+/// Request 11: calls after the search.
+fn added(files: &mut Vec<Vec<u8>>) {
+    let plain = settings(&[0], &[0], 0);
+    let at = |trip: u16, second| call(trip, 0, 0, second, second);
+    let mut file_of = |before: Vec<Vec<Step>>, after: Vec<Step>| {
+        files.push([searched(&plain, before), after.iter().flat_map(Step::record).collect()].concat());
+    };
+    // The list fell to 5999, and by more: a call at 6500 is taken, one past 21600 is outside; both have the list searched from the table's.
+    let spread = |n: u16| (0..n).flat_map(|i| trip(i + 1, &[(0, i.into()), (1, 6001 - u32::from(n - i))])).collect::<Vec<_>>();
+    for second in [5999, 6000, 6500, 21600, 21601] {
+        file_of(vec![ends(), spread(65)], vec![at(80, second)]);
+    }
+    file_of(vec![ends(), spread(65)], trip(80, &[(0, 65), (1, 6500)]));
+    // One that beats them all and is offered first: the mark is gone again.
+    file_of(vec![ends(), spread(65)], trip(0, &[(0, 200), (1, 5000)]));
+    // A full table: the call that cuts it is taken, or then outside; a cut before the search stays.
+    let late = || (0..510).map(|i| at(100 + i, if i < 255 { 15000 } else { 16201 })).collect::<Vec<_>>();
+    let ride = || trip(1, &[(0, 600), (1, 16100)]);
+    for second in [16200, 16201] {
+        file_of(vec![ends(), ride(), late()], vec![at(9, second)]);
+    }
+    file_of(vec![ends(), ride(), late(), vec![at(9, 16201)]], vec![at(10, 16201), at(11, 16200)]);
+    // As many as a list holds: one more is refused, and so is one more call of a full table that no cut empties.
+    let full = || (0..64u16).flat_map(|i| trip(i, &[(0, i.into()), (1, 3536 + u32::from(i))])).collect::<Vec<_>>();
+    for last in [3600, 3601] {
+        file_of(vec![ends(), full()], trip(90, &[(0, 64), (1, last)]));
+    }
+    file_of(vec![ends(), (0..512).map(|i| at(i, 10)).collect()], vec![at(600, 10)]);
+}
+
 pub fn instances() -> Vec<Vec<u8>> {
     let mut files = Vec::new();
     seldom(&mut files);
     of_01(&mut files);
     two_readings(&mut files);
     accents::instances(&mut files);
+    added(&mut files);
     files
 }

@@ -1,5 +1,6 @@
 //! Not a published file. Drives the private functions of journey.rs for one load. It fills `Search` as the published driver does, but for
-//! the seconds of rules (request 02) and their order (request 06), calls the published functions and hands out what they left.
+//! the seconds of rules (request 02) and their order (request 06), calls the published functions and hands out what they left. A call
+//! after the search goes back to the load before it, which is then searched again (request 11).
 use super::*;
 use crate::config::JourneyStop;
 
@@ -119,6 +120,8 @@ pub struct Run {
     config: Journey,
     rows: List<StopRow>,
     cache: Cache,
+    /// The calls, horizon and mark before the last search.
+    before: (Box<Vec<Call, 512>>, u16, u8),
 }
 impl Run {
     pub fn open(settings: &Settings<'_>) -> Self {
@@ -138,7 +141,8 @@ impl Run {
             transfer_minutes: settings.transfer_minutes,
             max_transfers: settings.max_transfers,
         };
-        Self { search, calls: Box::new(Vec::new()), config, rows: List::new(), cache: Cache::default() }
+        let before = (Box::new(Vec::new()), search.horizon, search.limits);
+        Self { search, calls: Box::new(Vec::new()), config, rows: List::new(), cache: Cache::default(), before }
     }
     /// The place key as `group_places` will see it, which refuses a needed name.
     pub fn place_key(&self, row: &StopRow) -> Result<(), Error> {
@@ -181,7 +185,14 @@ impl Run {
     fn places(&mut self) -> Result<(), Error> {
         block_on(self.search.group_places(&mut Feed(&self.rows), &mut zip::Workspace))
     }
+    /// Request 11: back to the load before the last search, which has no journeys.
+    pub fn unsearch(&mut self) {
+        self.calls.clone_from(&self.before.0);
+        (self.search.horizon, self.search.limits) = (self.before.1, self.before.2);
+        self.search.candidates.clear();
+    }
     pub fn search(&mut self) -> Result<(), Error> {
+        self.before = (self.calls.clone(), self.search.horizon, self.search.limits);
         let rows = &self.rows;
         self.search.order_rules(|stop| rows[stop].location_type == 1);
         block_on(self.search.stations(&mut Feed(&self.rows), &mut zip::Workspace, false))?;

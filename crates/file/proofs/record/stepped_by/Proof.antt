@@ -17,11 +17,11 @@ returns c = stepped-stop _ _ (c .before .before .before .if1 .taken) (sym (c .be
 call-in-requires : tie.Need-call-in-requires
 call-in-requires c κs = search needs
 
-call-requires : tie.Need-call-requires
-call-requires c κs = search needs
+call-record-requires : tie.Need-call-record-requires
+call-record-requires c κs = search needs
 
 returns-2 : tie.Need-returns-2
-returns-2 c = stepped-call _ _ (c .before .before .before .before .before .if1 .taken) (sym (c .before .before .before .before .kind-of .ensures) ∙ c .before .before .if3 .taken) (c .before .call-in .ensures) (c .call .ensures)
+returns-2 c = stepped-call _ _ (c .before .before .before .before .before .if1 .taken) (sym (c .before .before .before .before .kind-of .ensures) ∙ c .before .before .if3 .taken) (c .before .call-in .ensures) (c .call-record .ensures)
 
 rule-in-requires : tie.Need-rule-in-requires
 rule-in-requires c κs = search needs
@@ -56,7 +56,7 @@ stepped-by-spec =
     stop-record-requires
     returns
     call-in-requires
-    call-requires
+    call-record-requires
     returns-2
     rule-in-requires
     rule-requires

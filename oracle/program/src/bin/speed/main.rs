@@ -77,12 +77,30 @@ fn worst() {
         println!("{name}, 512 calls: {} ms", ms(one - none));
     }
 }
-/// A load of 128 stops, 128 rules and 512 calls, as a file and step by step, in a thread with 1 MB of stack.
+/// The last call of a file withdrawn, and added to the file without it: unsearched and searched. Beside them its search.
+fn altered(name: &str, bytes: &[u8]) {
+    let (call, without) = tables::last_call(bytes);
+    let us = |times: Times| format!("{:.2}", times.median() * 1e6);
+    let both =
+        |bytes: &[u8], adds| [tables::unsearched(bytes), bytes.to_vec()].map(|bytes| us(rounds::altered(&bytes, adds, &call)));
+    let [[unsearched, searched], [before, after]] = [both(bytes, false), both(&without, true)];
+    println!(
+        "{name}: a call withdrawn {unsearched} us, after the search {searched}; added {before}, after the search {after}; the search {:.2}",
+        rounds::searches(bytes)[0].median() * 1e6
+    );
+}
+/// Runs in a thread with so much stack.
+fn with_stack(bytes: usize, work: impl FnOnce() + Send + 'static) {
+    let thread = std::thread::Builder::new().stack_size(bytes).spawn(work);
+    thread.and_then(|thread| thread.join().map_err(|_| std::io::Error::other("it needs more"))).expect("enough stack");
+}
+/// A load of 128 stops, 128 rules and 512 calls, as a file and step by step, in a thread with 1 MB of stack; then calls withdrawn and
+/// added, with a quarter more.
 fn steps() {
     let full = tables::full();
     check("full", &full);
-    let small = std::thread::Builder::new().stack_size(1 << 20);
-    let thread = small.spawn(move || {
+    let bytes = full.clone();
+    with_stack(1 << 20, move || {
         let [port, published] = rounds::loads(&tables::unsearched(&full));
         head("128 stops, 128 rules, 512 calls");
         let times = [port, published];
@@ -103,7 +121,12 @@ fn steps() {
             all.median() * 1e3
         );
     });
-    thread.and_then(|thread| thread.join().map_err(|_| std::io::Error::other("it needs more"))).expect("1 MB of stack");
+    with_stack(5 << 18, move || {
+        altered("this file", &bytes);
+        for name in ["paper-0", "64x8-one", "256x2-one"] {
+            altered(name, &read(&format!("tables/{name}.load")).1);
+        }
+    });
 }
 
 fn main() {

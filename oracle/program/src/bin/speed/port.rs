@@ -1,4 +1,5 @@
 //! The port's side: the static libraries of crates load_c and steps_c.
+use program::generate::writer::Call;
 use std::hint::black_box;
 
 // A slice of the port's is a pointer and a length.
@@ -7,6 +8,16 @@ unsafe extern "C" {
     fn load_lines(bytes: *const u8, len: usize, out: &mut [u8; 4096]) -> usize;
     fn load_best(bytes: *const u8, len: usize) -> u64;
     fn load_searches(bytes: *const u8, len: usize, times: u16) -> u64;
+    fn load_alterations(
+        bytes: *const u8,
+        len: usize,
+        adds: bool,
+        trip: u16,
+        sequence: u32,
+        stop: u16,
+        second: u32,
+        times: u16,
+    ) -> u64;
 }
 #[link(name = "steps_c", kind = "static")]
 unsafe extern "C" {
@@ -30,6 +41,12 @@ pub fn best(bytes: &[u8]) -> Option<(u16, u16)> {
 pub fn searches(bytes: &[u8], times: u16) {
     // SAFETY: as above.
     black_box(unsafe { load_searches(bytes.as_ptr(), bytes.len(), times) });
+}
+/// A file read, then so many times a call of day 0 added to its load, or the call of that key withdrawn: the sum of the horizons.
+pub fn alterations(bytes: &[u8], adds: bool, call: &Call, times: u16) -> u64 {
+    let second = call.arrival.expect("a time");
+    // SAFETY: as above.
+    unsafe { load_alterations(bytes.as_ptr(), bytes.len(), adds, call.trip, call.sequence, call.stop, second, times) }
 }
 /// A load opened, and so many stops, rules and calls handed to it one by one: how many calls it then holds.
 pub fn steps(stops: u8, rules: u8, calls: u16) -> usize {

@@ -58,9 +58,12 @@ pub fn best(bytes: &[u8]) -> Option<(u16, u16)> {
     load(bytes).kept().best(0).map(|p| (p.leave, p.arrival))
 }
 
+/// The kept journeys in request 09's order: arrival, rides and walk, least first, then latest leave.
 fn lines_of(run: &Run) -> String {
     let mut out = String::new();
-    for p in run.paths() {
+    let mut paths: Vec<_> = run.paths().iter().collect();
+    paths.sort_by_key(|p| (p.arrival, p.len, p.walk, std::cmp::Reverse(p.leave)));
+    for p in paths {
         let _ = writeln!(out, "journey {} {} {} {} {} {}", p.leave, p.arrival, p.len, p.walk, p.origin, p.target);
     }
     let _ = writeln!(out, "horizon {} limits {}", run.horizon(), run.limits());

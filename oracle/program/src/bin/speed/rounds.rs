@@ -1,5 +1,6 @@
 //! Both sides timed in turns.
 use crate::{port, published, tables};
+use program::generate::writer::Call;
 use std::hint::black_box;
 
 /// What the rounds of one side took, sorted.
@@ -88,6 +89,14 @@ pub fn searches(searched: &[u8]) -> [Times; 2] {
         (turns(times, true) - put_back) / times as f64
     };
     in_turns([&mut port, &mut published])
+}
+/// A call withdrawn from the load of a file, or added to it: the difference between what does it many times and the same without it.
+pub fn altered(bytes: &[u8], adds: bool, call: &Call) -> Times {
+    let times = 64;
+    let horizon = port::alterations(bytes, adds, call, 1);
+    assert!(port::alterations(bytes, adds, call, times) == u64::from(times) * horizon, "each turn the same");
+    let turns = |times| timed(|| _ = black_box(port::alterations(bytes, adds, call, black_box(times))));
+    Times::of((0..301).map(|_| (turns(times) - turns(0)) / f64::from(times)).collect())
 }
 /// Stops, rules and calls handed to the port's load one by one: a step of each kind, and all of them with the opening.
 pub fn one_by_one() -> [Times; 4] {

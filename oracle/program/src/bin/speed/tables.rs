@@ -2,7 +2,7 @@
 use program::generate::writer::{Call, Rule, Settings, Step, Stop, file};
 
 /// The file's records that are wanted; each is handed over from its kind byte on.
-fn only(bytes: &[u8], wanted: impl Fn(&[u8]) -> bool) -> Vec<u8> {
+fn only(bytes: &[u8], mut wanted: impl FnMut(&[u8]) -> bool) -> Vec<u8> {
     let mut out = bytes[..1].to_vec();
     let mut rest = &bytes[1..];
     while let [high, low, ..] = rest {
@@ -18,6 +18,22 @@ const CALL: u8 = 3;
 const SEARCH: u8 = 5;
 pub fn unsearched(bytes: &[u8]) -> Vec<u8> {
     only(bytes, |record| record[0] != SEARCH)
+}
+/// The file's last call, as one of day 0 in the second of its arrival, and the file without it.
+pub fn last_call(bytes: &[u8]) -> (Call, Vec<u8>) {
+    let mut found = Vec::new();
+    only(bytes, |record| {
+        if record[0] == CALL {
+            found = record.to_vec()
+        }
+        false
+    });
+    let number = |at: usize, n: usize| found[at..at + n].iter().fold(0, |x, &byte| x << 8 | u32::from(byte));
+    assert!(found[3] == 0 && found[10] == 1, "a call of day 0 with an arrival");
+    let at = Some(number(11, 4));
+    let (trip, stop) = (number(1, 2) as u16, number(8, 2) as u16);
+    let call = Call { trip, sequence: number(4, 4), stop, arrival: at, departure: at, ..Call::default() };
+    (call, only(bytes, |record| record != found))
 }
 /// Only the calls of the first trips.
 pub fn first_trips(bytes: &[u8], trips: u16) -> Vec<u8> {

@@ -1,3 +1,0 @@
-pub mod ShownLaws
-pub mod StepLaws
-pub mod HeldLaws

@@ -1,4 +1,0 @@
-pub mod Steps
-pub mod Machine
-pub mod Claims
-pub mod Held
