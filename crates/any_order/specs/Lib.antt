@@ -1,0 +1,4 @@
+pub mod Calls
+pub mod Alike
+pub mod AnyOrder
+pub mod Proviso
