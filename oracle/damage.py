@@ -117,6 +117,20 @@ def huge(rng, record):
     return fitted(record[2:3], (record[3:] + bytes(65534))[:65534])
 
 
+# --- version 2 ---
+def second(rng, data):
+    """A file of version 1 as one of version 2, its change time in seconds, often no whole minutes; another file as it is."""
+    parts = records(data)
+    body = parts[0][3:] if parts and parts[0][2:3] == b"\1" else b""
+    at = 2 + sum(body[:2])
+    if data[:1] != b"\1" or at >= len(body):
+        return data
+    odd = [0, 1, 59, 61, 90, 15299, 15300, 15301, 65535, rng.randrange(65536)]
+    seconds = body[at] * 60 if rng.random() < 0.5 else rng.choice(odd)
+    parts[0] = fitted(b"\1", body[:at] + seconds.to_bytes(2, "big") + body[at + 1:])
+    return b"\2" + b"".join(parts)
+
+
 BYTES = [changed, flipped, cut, inserted, removed, doubled, version, tail]
 LISTS = [swapped, dropped, repeated]
 SINGLE = [length, kind, field, field, mark, mark, extreme, extreme, stretched, stretched]
@@ -137,10 +151,13 @@ def damage_once(rng, data, other):
 
 
 def damaged(rng, data, other):
-    """The file with one to four of these damages, and not as it was; seldom mere noise after the version. `other` lends a record."""
+    """The file with one to four of these damages, and not as it was; seldom mere noise after the version. `other` lends a record.
+    Half of the files are of version 2 first, and some of those are left as they then are."""
     if rng.random() < 0.01:
-        return b"\1" + rng.randbytes(rng.randrange(40))
-    found = data
+        return rng.choice([b"\1", b"\2"]) + rng.randbytes(rng.randrange(40))
+    found = second(rng, data) if rng.random() < 0.5 else data
+    if found != data and rng.random() < 0.2:
+        return found
     for _ in range(rng.choice([1, 1, 1, 2, 2, 3, 4])):
         found = damage_once(rng, found, other)
     return found if found != data else damaged(rng, data, other)

@@ -1,4 +1,4 @@
-"""The records of document 01, and how request 01 writes the fields of each."""
+"""The records of document 01, and how requests 01 and 13 write the fields of each."""
 import struct
 from collections import namedtuple
 
@@ -21,8 +21,8 @@ def first_cause(causes):
 
 class Fields:
     """The fields of one record; too few bytes, or an optional byte above 1, is 18."""
-    def __init__(self, data):
-        self.data, self.at = data, 0
+    def __init__(self, data, second=False):
+        self.data, self.at, self.second = data, 0, second
 
     def take(self, n):
         first_cause([(self.at + n > len(self.data), 18)])
@@ -55,8 +55,8 @@ class Fields:
         return Settings(*walks, self.change(), *self.numbers("Bq"), self.numbers("qqq"))
 
     def change(self):
-        """Request 05: a file of version 1 keeps minutes."""
-        return self.number("B") * 60
+        """Request 05: a file of version 1 keeps minutes. Request 13: one of version 2 has seconds."""
+        return self.number("H") if self.second else self.number("B") * 60
 
     def stop(self):
         return Stop(self.text(), self.optional(self.text), self.optional(self.text), self.number("B"),

@@ -66,6 +66,10 @@ def withdrawal(trip=1, day=0, sequence=1):
     return record(8, struct.pack(">HBI", trip, day, sequence))
 
 
+def write(room=70000):
+    return record(14, number("I")(room))
+
+
 def aside(group=0):
     return record(15, bytes([group]))
 

@@ -1,5 +1,5 @@
 #!/usr/bin/env python3
-"""A slow reader of documents 01 and 02 (request 01), written from their words, to compare the oracle with.
+"""A slow reader of documents 01 and 02 (requests 01 and 13), written from their words, to compare the oracle with.
 
 usage: reader.py [--batch] [--wrong NAME]      load files on standard input, the answers on standard output
        reader.py --list                        the wrong readings, one a line
@@ -13,8 +13,8 @@ from reading import Reading
 
 def records(reading, data):
     """Each record is tested and handed on before the next is looked at."""
-    reading.refuse("version", [(data[:1] != b"\x01", 17)])
-    at, load = 1, None
+    reading.refuse("version", [(data[:1] not in (b"\x01", b"\x02"), 17)])
+    at, load, second = 1, None, data[:1] == b"\x02"
     while at < len(data):
         reading.refuse("length", [(at + 2 > len(data), 18)])
         length = struct.unpack(">H", data[at:at + 2])[0]
@@ -22,7 +22,7 @@ def records(reading, data):
         reading.refuse("length", [(length == 0 or len(body) < length, 18)])
         kind = body[0]
         reading.refuse("kind", [(not 1 <= kind <= 5, 19), (load is None and kind != 1, 19), (load is not None and kind == 1, 19)])
-        load = step(reading, load, kind, reading.Fields(body[1:]))
+        load = step(reading, load, kind, reading.Fields(body[1:], second))
         at += 2 + length
     reading.refuse("end", [(load is None, 19)])
     return load

@@ -1,5 +1,5 @@
 """Document 01 and requests 02, 05, 06, 07 and 09, read slowly: a method for each sentence, so that wrong.py can misread one at a time.
-Request 03 is in weeks.py, 11 in withdrawals.py.
+Request 03 is in weeks.py, 11 in withdrawals.py, 13 in writing.py.
 
 Written from the words of 01, its constants for the place test from `same_place_keys`, which 01 names as the definition.
 """
@@ -8,6 +8,7 @@ from fields import Fields, first_cause
 from places import Places
 from weeks import Weeks
 from withdrawals import Withdrawals
+from writing import Writing
 
 Call = namedtuple("Call", "trip day sequence stop arrival departure board alight board_request alight_request")
 Ride = namedtuple("Ride", "trip day src dst departure arrival board_request alight_request")
@@ -23,7 +24,7 @@ class Load:
         self.before = None   # request 11: of a searched load, the load that was searched
 
 
-class Reading(Places, Weeks, Withdrawals):
+class Reading(Places, Weeks, Withdrawals, Writing):
     ENDS, TRANSFERS, TIME, ID, NAME, STOPS, RULES, CALLS, LIST, LEAST = 4, 1, 2**40, 32, 64, 128, 128, 512, 64, 3600
     CHANGE = 15300   # seconds, request 05
 

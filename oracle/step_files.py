@@ -20,9 +20,10 @@ class Maker(WeekMaker, CallMaker):
     # kinds of the steps between an opening and its search, and of those after it
     WEIGHTS = {"stop": 5, "call": 12, "rule": 3, "search": 0.1, "best": 1, "next_after": 1, "service": 0.1, "exception": 0.1, "call_of": 1,
                "set_aside": 0.05, "display": 0.05, "best_of_group": 0.05, "next_of_group": 0.05, "withdrawal": 1, "repeated": 0.05,
-               "again": 0.3}
+               "again": 0.3, "write": 0.5}
     AFTER = {"stop": 1, "call": 3, "rule": 1, "search": 1, "best": 8, "next_after": 6, "service": 0.4, "exception": 0.4, "call_of": 2,
-             "set_aside": 0.6, "display": 1, "best_of_group": 2, "next_of_group": 1, "withdrawal": 4, "repeated": 0.5, "again": 1}
+             "set_aside": 0.6, "display": 1, "best_of_group": 2, "next_of_group": 1, "withdrawal": 4, "repeated": 0.5, "again": 1,
+             "write": 2}
     DATED = {**WEIGHTS, "call": 0.5, "call_of": 12, "service": 0.4, "exception": 0.4}   # as WEIGHTS, in a load with dates
 
     def __init__(self, rng):
@@ -130,6 +131,9 @@ class Maker(WeekMaker, CallMaker):
     def next_after(self):
         leave = self.rng.choice([0, 65535, 65534, 21600, self.rng.randrange(6000), *[max(0, min(65535, self.leave()))] * 4])
         return record(13, struct.pack(">qH", self.second(), leave))
+
+    def write(self):
+        return record(14, number("I")(self.usual([70000, 40000, 2**32 - 1], [0, 1, 43, 44, 100, 300, 1000, 33588, 65536, 69999], 0.3)))
 
     # --- displays ---
     def group(self):

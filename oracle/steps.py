@@ -22,7 +22,7 @@ class Malformed(Exception):
 
 
 class StepFields(Fields):
-    """The fields of load files of version 2, as far as there are such: the transfer setting is two bytes of seconds."""
+    """The fields of load files of version 2: the transfer setting is two bytes of seconds."""
     def change(self):
         return self.number("H")
 
@@ -40,6 +40,9 @@ class StepFields(Fields):
 
     def key(self):
         return Key(*self.numbers("HBI"))
+
+    def room(self):
+        return self.number("I")
 
     def nothing(self):
         return []
@@ -66,10 +69,10 @@ class Steps:
     KINDS = {1: ("settings", "settings", False), 2: ("stop", "stop", True), 3: ("call", "call", True), 4: ("rule", "rule", True),
              5: ("nothing", "search", True), 6: ("service", "service", True), 7: ("exception", "exception", True),
              8: ("key", "withdrawal", True), 10: ("call_of", "call_of", True), 11: ("dated", "dated", False),
-             12: ("best", "best", True), 13: ("next_after", "next_after", True),
+             12: ("best", "best", True), 13: ("next_after", "next_after", True), 14: ("room", "write", True),
              15: ("group", "set_aside", True), 16: ("nothing", "display", False), 17: ("best_of_group", "best_of_group", False),
              18: ("next_of_group", "next_of_group", False)}
-    ASIDE = 4
+    ASIDE, ROOM = 4, 70000
 
     def __init__(self, reading=None, dealing=None):
         self.reading, self.load = reading or Reading(), None
@@ -133,6 +136,10 @@ class Steps:
     def next_after(self, asked):
         second, leave = asked
         return self.told(self.reading.next_after(self.load, second, Journey(leave, 0, 0, 0, 0, 0, [])))
+
+    def write(self, room):
+        data = self.reading.write(self.load, min(room, self.ROOM))
+        return f"written {len(data)} {self.reading.fold(data):016x}"
 
     # --- displays ---
     def set_aside(self, number):

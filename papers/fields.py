@@ -1,7 +1,8 @@
-"""The fields of a load file (request 01): each kind of field in bytes and in text.
+"""The fields of a load file (requests 01 and 13): each kind of field in bytes and in text.
 
 Every kind has get (from a Record), put (to bytes), parse (from a word of text) and show (to a word). FIELDS lists the fields
-of each record in the order of the file, with the word that stands for a field that a text leaves out, None if it can't.
+of each record in the order of the file, by the file's version, with the word that stands for a field that a text leaves out, None if it
+can't.
 """
 import math, re, struct
 
@@ -57,6 +58,12 @@ class WholeMinutes(Number):
         if seconds % 60 or seconds > 60 * self.most:
             raise ValueError(f"{word}; a file of version 1 keeps minutes, so it is to be a multiple of 60, up to {60 * self.most}")
         return seconds // 60
+
+
+class InSeconds(Number):
+    """Minutes in a text, seconds in the file: one of version 2 has seconds (request 13)."""
+    def parse(self, word, ids):
+        return self.within(60 * super().parse(word, ids), word)
 
 
 class Time(Number):
@@ -214,7 +221,7 @@ class Members(Ends):
 
 BYTE, U16, U32, I64, TEXT = Number("B"), Number("H"), Number("I"), Number("q"), Text()
 
-FIELDS = {
+FIRST = {
     "settings": [("walks", Walks(), None), ("transfer-minutes", BYTE, None), ("max-transfers", BYTE, None),
                  ("now", I64, "0"), ("epochs", Several(I64, 3), "0,0,0")],
     "stop": [("id", TEXT, None), ("name", Optional(TEXT), "none"), ("parent", Optional(TEXT), "none"), ("type", BYTE, "0"),
@@ -226,6 +233,10 @@ FIELDS = {
              ("seconds", Optional(U16), "none")],
     "search": [],
 }
+SECONDS = "transfer-seconds", U16, None
+SECOND = FIRST | {"settings": [SECONDS if field[0] == "transfer-minutes" else field for field in FIRST["settings"]]}
+FIELDS = {1: FIRST, 2: SECOND}
 # other words for a field: what it is there, and how it is read
-OTHER = {"transfer-seconds": ("transfer-minutes", WholeMinutes("B"))}
-KINDS = dict(enumerate(FIELDS, 1))
+OTHER = {1: {"transfer-seconds": ("transfer-minutes", WholeMinutes("B"))},
+         2: {"transfer-minutes": ("transfer-seconds", InSeconds("H"))}}
+KINDS = dict(enumerate(FIRST, 1))

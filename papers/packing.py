@@ -21,11 +21,11 @@ def words(line):
         at = word.end()
 
 
-def given(kind, pairs):
+def given(kind, pairs, version):
     """The fields that the line names, each once."""
-    found, known = {}, [key for key, _, _ in FIELDS[kind]]
+    found, known, other = {}, [key for key, _, _ in FIELDS[version][kind]], OTHER[version]
     for word, value in pairs:
-        key = OTHER[word][0] if word in OTHER else word
+        key = other[word][0] if word in other else word
         if key not in known:
             raise ValueError(f"a {kind} has no field {word or value}")
         if key in found:
@@ -34,18 +34,29 @@ def given(kind, pairs):
     return found
 
 
-def values(kind, found, ids):
-    for key, field, default in FIELDS[kind]:
+def values(kind, found, ids, version):
+    other = OTHER[version]
+    for key, field, default in FIELDS[version][kind]:
         word, value = found.get(key, (key, default))
         if value is None:
             raise ValueError(f"{key} is missing")
         try:
-            yield key, (OTHER[word][1] if word in OTHER else field).parse(value, ids)
+            yield key, (other[word][1] if word in other else field).parse(value, ids)
         except ValueError as error:
             raise ValueError(f"{word}: {error}")
 
 
-def record(line, ids):
+def version_of(line):
+    """The version that a line names, as in `version 2`; None of another line."""
+    found = list(words(line))
+    if not found or found[0] != (None, "version"):
+        return None
+    if found[1:] not in ([(None, "1")], [(None, "2")]):
+        raise ValueError("a version is 1 or 2")
+    return int(found[1][1])
+
+
+def record(line, ids, version):
     """The bytes of a line; none for an empty one. The ids of the stops so far grow by a stop's."""
     head, *pairs = list(words(line)) or [(None, "")]
     if head == (None, ""):
@@ -53,22 +64,26 @@ def record(line, ids):
     kind = head[1] if head[0] is None else f"{head[0]}={head[1]}"
     if kind == "!":
         raise ValueError("the file that this text was made of is damaged here")
-    if kind not in FIELDS:
-        raise ValueError(f"{kind} is none of {', '.join(FIELDS)}")
-    fields = dict(values(kind, given(kind, pairs), ids))
+    if kind not in FIELDS[version]:
+        raise ValueError(f"{kind} is none of {', '.join(FIELDS[version])}")
+    fields = dict(values(kind, given(kind, pairs, version), ids, version))
     if kind == "stop":
         ids.append(fields["id"])
-    body = b"".join(field.put(fields[key]) for key, field, _ in FIELDS[kind])
+    body = b"".join(field.put(fields[key]) for key, field, _ in FIELDS[version][kind])
     number = next(n for n, name in KINDS.items() if name == kind)
     return (len(body) + 1).to_bytes(2, "big") + bytes([number]) + body
 
 
 def packed(text):
-    """The load file of a text, both as bytes."""
-    ids, parts = [], [b"\1"]
+    """The load file of a text, both as bytes: of version 1, unless a line before the records names another."""
+    ids, parts, version = [], [], 1
     for number, line in enumerate(text.removeprefix(b"\xef\xbb\xbf").decode("latin-1").split("\n"), 1):
         try:
-            parts.append(record(line, ids))
+            named = version_of(line)
+            if named and any(parts):
+                raise ValueError("the version stands before the records")
+            version = named or version
+            parts.append(b"" if named else record(line, ids, version))
         except ValueError as error:
             raise Wrong(f"line {number}: {error}")
-    return b"".join(parts)
+    return bytes([version]) + b"".join(parts)

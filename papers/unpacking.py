@@ -13,8 +13,8 @@ def clock(seconds):
 
 class Notes:
     """The comment after each record: stops by id, times by the clock, types in words."""
-    def __init__(self):
-        self.ids, self.now, self.epochs = [], 0, [0, 0, 0]
+    def __init__(self, version):
+        self.version, self.ids, self.now, self.epochs = version, [], 0, [0, 0, 0]
 
     def stop_name(self, number):
         return TEXT.show(self.ids[number]) if number < len(self.ids) else f"no stop {number}"
@@ -24,7 +24,7 @@ class Notes:
         origins, targets = fields["walks"]
         return [f"origin {i}: {walk} minutes" for i, walk in enumerate(origins)] \
             + [f"target {i}: {walk} minutes" for i, walk in enumerate(targets)] \
-            + [f"a change: {60 * fields['transfer-minutes']} seconds"] \
+            + [f"a change: {60 * fields['transfer-minutes']} seconds" if "transfer-minutes" in fields else ""] \
             + ["starts at " + ", ".join(f"{clock(self.now - epoch)} of day {day}" for day, epoch in enumerate(self.epochs))]
 
     def stop(self, fields):
@@ -54,11 +54,11 @@ class Notes:
 
     def line(self, kind, fields):
         notes = "; ".join(note for note in getattr(self, kind)(fields) if note)
-        return shown(kind, fields) + (f"  # {notes}" if notes else "")
+        return shown(self.version, kind, fields) + (f"  # {notes}" if notes else "")
 
 
-def shown(kind, fields):
-    return " ".join([kind] + [f"{key}={field.show(fields[key])}" for key, field, _ in FIELDS[kind] if key in fields])
+def shown(version, kind, fields):
+    return " ".join([kind] + [f"{key}={field.show(fields[key])}" for key, field, _ in FIELDS[version][kind] if key in fields])
 
 
 def head(data, at, first):
@@ -80,9 +80,9 @@ def head(data, at, first):
     return kind, end
 
 
-def read(record, kind, fields):
+def read(record, version, kind, fields):
     """Puts the fields of a record into a dict, one by one; what is there when it breaks off could be read."""
-    for key, field, _ in FIELDS[kind]:
+    for key, field, _ in FIELDS[version][kind]:
         try:
             fields[key] = field.get(record)
         except Damaged as damage:
@@ -93,16 +93,19 @@ def read(record, kind, fields):
 
 def records(data):
     """Each record's line; then Damaged where the file can't be read on, with the part of a record that could be."""
-    if data[:1] != b"\1":
-        raise Damaged(0, f"version {data[0]}; it should be 1 (a text is to be packed first)" if data else "no byte at all", 17)
-    at, notes = 1, Notes()
+    version = data[0] if data else 0
+    if version not in FIELDS:
+        raise Damaged(0, f"version {version}; it should be 1 or 2 (a text is to be packed first)" if data else "no byte at all", 17)
+    at, notes = 1, Notes(version)
+    if version != 1:
+        yield f"version {version}"
     while at < len(data):
         kind, end = head(data, at, at == 1)
         fields = {}
         try:
-            read(Record(data, at + 3, end), kind, fields)
+            read(Record(data, at + 3, end), version, kind, fields)
         except Damaged as damage:
-            damage.part = shown(kind, fields)
+            damage.part = shown(version, kind, fields)
             raise
         yield notes.line(kind, fields)
         at = end

@@ -24,7 +24,7 @@ use Rattle.calls.specs.declared.Seconds.{Seconds}
 use Rattle.rules.specs.declared.RuleInput.{RuleInput}
 use Rattle.rules.specs.declared.MinTime.{MinTime}
 use Rattle.fields.specs.Numbers.{signedOf}
-use Rattle.codec.specs.Second.{secondSettingsIn, secondSettingsFilled}
+use Rattle.fields.specs.Second.{secondSettingsIn, secondSettingsFilled}
 use Rattle.codec.specs.Shapes.{two, four, eight, number, bytes, text, option, both, Value, Fits}
 use Rattle.codec.specs.Kinds.{unsignedOf, secondsValue, secondsFrom, callShape, callValue, callFrom, callBody, minTimeValue, minTimeFrom, ruleShape, ruleValue, ruleFrom, ruleBody, given, isGiven, textFrom, degreesValue, degreesFrom, stopShape, stopValue, stopFrom, stopBody, DegreesHeld, settingsShape, settingsValue, settingsFrom, settingsBody, searchBody, SettingsHeld, StopBack, Back}
 use Rattle.codec.proofs.ShapeLaws.{record-trip}
@@ -41,7 +41,7 @@ signed-back (negsuc n) h =
     cond-not _ _ (le-ltb (18446744073709551615 - n) 9223372036854775808 (omega (arith, k))) ∙ ap negsuc e
 
 degrees-back : (located : Bool) (d : Degrees) → DegreesHeld located d → degreesFrom (given located (degreesValue d)) ≡ d
-degrees-back true d h = λ t. record { latitude = ofBits-toBits binary64 (d .latitude) (h .latitude) t; longitude = ofBits-toBits binary64 (d .longitude) (h .longitude) t }
+degrees-back true d h = λ t. record { latitude = ofBits-toBits binary64 (d .latitude) (h .fit .latitude) t; longitude = ofBits-toBits binary64 (d .longitude) (h .fit .longitude) t }
 degrees-back false d h = sym (h .absent refl)
 
 -- ---- optional fields

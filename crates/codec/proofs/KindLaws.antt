@@ -15,7 +15,7 @@ use Rattle.rules.specs.declared.MinTime.{MinTime}
 use Rattle.fields.specs.Numbers.{byteAt, u16At, u32At, i64At, f64At}
 use Rattle.fields.specs.Layout.{hasAt, markAt, textAt, optionTextAt, optionEnd, optionTextEnd, nameAt, parentAt, typeAt, positionAt, minutesAt, targetWalksAt, settingsFilled, stopFilled, callFilled, ruleFilled, searchFilled}
 use Rattle.fields.specs.Records.{walksAt, settingsIn, degreesAt, stopIn, secondsAt, callIn, minTimeAt, ruleIn}
-use Rattle.codec.specs.Second.{secondsPlace, secondSettingsIn, secondSettingsFilled}
+use Rattle.fields.specs.Second.{secondsPlace, secondSettingsIn, secondSettingsFilled}
 use Rattle.codec.specs.Shapes.{two, four, eight, number, bytes, text, option, both, end, read, fills}
 use Rattle.codec.specs.Kinds.{secondsFrom, callShape, callFrom, minTimeFrom, ruleShape, ruleFrom, isGiven, textFrom, degreesFrom, stopShape, stopFrom, settingsShapeOf, settingsFrom, ByShape}
 

@@ -22,7 +22,7 @@ use Rattle.rules.specs.declared.MinTime.{MinTime}
 use Rattle.fields.specs.Numbers.{byteAt, signedOf}
 use Rattle.fields.specs.Layout.{optionTextAt, textAt, nameAt, parentAt, settingsFilled, stopFilled, callFilled, ruleFilled, searchFilled}
 use Rattle.fields.specs.Records.{settingsIn, stopIn, callIn, ruleIn}
-use Rattle.codec.specs.Second.{secondSettingsIn, secondSettingsFilled}
+use Rattle.fields.specs.Second.{secondSettingsIn, secondSettingsFilled}
 use Rattle.codec.specs.Shapes.{Size, one, two, four, eight, Field, number, bytes, text, option, both, Value, read, body, fills}
 
 -- ---- numbers that are not written as they are
@@ -136,10 +136,14 @@ stopFrom v = record {
 unfoldable pub stopBody : List ℕ → List ℕ → List ℕ → StopInput → List ℕ
 stopBody id name parent i = body 2 stopShape (stopValue id name parent i)
 
--- both degrees are f64s, and they are 0 where no position is given: only then they come back
-pub record DegreesHeld (located : Bool) (d : Degrees) : Type 0 where
+-- both degrees are f64s, as every float of the program is
+pub record DegreesFit (d : Degrees) : Type 0 where
   pub latitude : T (fits binary64 (d .latitude))
   pub longitude : T (fits binary64 (d .longitude))
+
+-- and they are 0 where no position is given: only then they come back
+pub record DegreesHeld (located : Bool) (d : Degrees) : Type 0 where
+  pub fit : DegreesFit d
   pub absent : located ≡ false → d ≡ record { latitude = floatOf 0; longitude = floatOf 0 }
 
 -- ---- settings: origins, targets, their walks (origins first), transfer time, max_transfers, now, three epochs

@@ -1,3 +1,3 @@
 pub mod Shapes
-pub mod Second
 pub mod Kinds
+pub mod Parts

@@ -111,6 +111,10 @@ marked (both f g) b at = marked f b at && marked g b (end f b at)
 abbrev pub body : ℕ → (f : Field) → Value f → List ℕ
 body kind f v = kind ∷ write f v
 
+-- in a file it stands after its length of two bytes
+unfoldable pub framed : List ℕ → List ℕ
+framed b = two-bytes (length b) ++ b
+
 -- the fields fill the record, and each optional byte is 0 or 1
 abbrev pub fills : Field → List ℕ → Bool
 fills f b = eqb (end f b 1) (length b) && marked f b 1

@@ -51,8 +51,7 @@ key-one g _ _ (by-id e n) (by-id f m) = refl
 pub record KeyHeld (st : Stop) (g : StopGiven) : Type 0 where
   pub named : st .named ≡ g .input .named
   pub name : take (st .«name_len») (st .name) ≡ shown (g .input .named) (g .name)
-  pub located : st .located ≡ g .input .located
-  pub degrees : st .degrees ≡ g .input .degrees
+  pub position : positionOf (st .located) (st .degrees) ≡ positionOf (g .input .located) (g .input .degrees)
   pub needed : nameNeeded (g .input) ≡ true → usable (points (cond (g .input .named) (g .name) (g .id))) ≡ true
 
 -- the key of the texts handed in
@@ -104,7 +103,7 @@ pub held-key : (st : Stop) (parent : List ℕ) (g : StopGiven) → KeyHeld st g 
 unfolding stopKey
 held-key st parent g v id kind zero has named =
     cond-by _ _ (eq-eqb (st .«location_type») 0 (kind ∙ zero))
-    ∙ (λ k. placeKey (has k) parent (positionOf (v .located k) (v .degrees k)) (v .named k) (v .name k) (id k))
+    ∙ (λ k. placeKey (has k) parent (v .position k) (v .named k) (v .name k) (id k))
     ∙ go (g .input .«has_parent») refl
   where
     go : (b : Bool) → g .input .«has_parent» ≡ b → placeKey b parent (positionOf (g .input .located) (g .input .degrees)) (g .input .named) (shown (g .input .named) (g .name)) (g .id)

@@ -46,7 +46,7 @@ use Rattle.stops.specs.Taken.{stopOf, blankStop}
 use Rattle.stops.specs.Sound.{stopAt}
 use Rattle.stops.proofs.SoundLaws.{found, id-kept, name-kept, needed-usable}
 use Rattle.stops.proofs.Laws as stops
-use Rattle.stops.proofs.Laws.{id-short}
+use Rattle.stops.proofs.Laws.{id-short, position-held}
 use Rattle.load.specs.declared.Load.{Load}
 use Rattle.load.specs.declared.Stepped.{Stepped}
 use Rattle.load.specs.Load.{emptyOf, tableOf, withTable, withStops, withRules, withWeek}
@@ -272,7 +272,7 @@ module _ (l : Load) (fs : List Filling) (sound : Sound l) (w : Held l fs) where
       id = id-kept (l .searched) (l .stops) n id name parent i e;
       kind = refl;
       members = refl;
-      key = record { named = refl; name = name-kept (l .searched) (l .stops) n id name parent i e; located = refl; degrees = refl; needed = needed-usable (l .searched) (l .stops) n id name parent i e };
+      key = record { named = refl; name = name-kept (l .searched) (l .stops) n id name parent i e; position = position-held (i .located) (i .degrees); needed = needed-usable (l .searched) (l .stops) n id name parent i e };
       parent = more (station-held (l .stops) n (stopsIn fs) (omega (arith, room)) (w .each) (i .«has_parent») parent (stationIn l parent i) refl (parent-found (l .searched) (l .stops) n (stationIn l parent i) id name i e));
     }
       where

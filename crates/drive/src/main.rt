@@ -8,6 +8,7 @@ mod records;
 mod run;
 mod settings_record;
 mod week_records;
+mod write_record;
 
 use stdio::input;
 use stdio::out;

@@ -5,6 +5,7 @@ use crate::numbers::i64_at;
 use crate::numbers::u16_at;
 use crate::settings_record;
 use crate::week_records;
+use crate::write_record::write_record;
 use best::Found;
 use fields::layout::kind_of;
 use file::Reader;
@@ -84,7 +85,11 @@ fn opening(out: &mut [u8; 65536], at: usize, reader: Reader, s: Stepped) -> Turn
     Turned {
         going: true,
         to,
-        reader: Reader { opened: true, load },
+        reader: Reader {
+            opened: true,
+            second: false,
+            load,
+        },
     }
 }
 
@@ -133,7 +138,11 @@ fn stepped(out: &mut [u8; 65536], at: usize, s: Stepped) -> Turned
     Turned {
         going: true,
         to,
-        reader: Reader { opened: true, load },
+        reader: Reader {
+            opened: true,
+            second: false,
+            load,
+        },
     }
 }
 
@@ -170,12 +179,16 @@ fn next_record(out: &mut [u8; 65536], at: usize, load: Load, b: &[u8]) -> usize
     found(out, at, best::next_after(load, i64_at(b, 1), missed))
 }
 
-// A query, which leaves the load as it is.
+// A query, or the load written: both leave it as it is.
 fn query(out: &mut [u8; 65536], at: usize, load: Load, b: &[u8]) -> usize
     ensures { λ r. ⌜ r ≤ 65536 ⌝ }
 {
-    if kind_of(b) == 12 {
+    let kind = kind_of(b);
+    if kind == 12 {
         return best_record(out, at, load, b);
+    }
+    if kind == 14 {
+        return write_record(out, at, load, b);
     }
     next_record(out, at, load, b)
 }
@@ -222,6 +235,9 @@ fn way_of(opened: bool, b: &[u8]) -> Way {
         }
         if kind == 13 {
             return way_if(b.len() == 11, Way::Query);
+        }
+        if kind == 14 {
+            return way_if(b.len() == 5, Way::Query);
         }
         if week_records::is_kind(kind) {
             return way_if(week_records::filled(b), Way::OfWeek);

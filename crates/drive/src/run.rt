@@ -93,7 +93,7 @@ fn whole(out: &mut [u8; 65536], at: usize, reader: Reader, board: Board, b: &[u8
 // The records after the first byte, up to one that is malformed; then the load.
 fn records(out: &mut [u8; 65536], bytes: &[u8]) -> usize {
     let mut to: usize = 0;
-    let mut reader = fresh();
+    let mut reader = fresh(true);
     let mut board = empty_board();
     let mut at: usize = 0;
     while at < bytes.len() {

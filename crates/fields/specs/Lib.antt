@@ -1,3 +1,4 @@
 pub mod Numbers
 pub mod Layout
 pub mod Records
+pub mod Second

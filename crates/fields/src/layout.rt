@@ -22,6 +22,7 @@ ghost use Rattle.fields.specs.Layout.{
   ruleFilled,
   searchFilled,
 };
+ghost use Rattle.fields.specs.Second.{secondSettingsFilled, settingsFilledBy};
 use crate::numbers::byte_at;
 use crate::numbers::u16_at;
 
@@ -101,6 +102,23 @@ pub fn settings_filled(b: &[u8]) -> bool
     ensures { λ r. ⌜ r ≡ settingsFilled (now (b .entry)) ⌝ }
 {
     minutes_at(b) + 34 == b.len()
+}
+
+// In a file of version 2 there is a byte more.
+fn second_settings_filled(b: &[u8]) -> bool
+    ensures { λ r. ⌜ r ≡ secondSettingsFilled (now (b .entry)) ⌝ }
+{
+    minutes_at(b) + 35 == b.len()
+}
+
+// By whether the file is of version 2.
+pub fn settings_filled_by(second: bool, b: &[u8]) -> bool
+    ensures { λ r. ⌜ r ≡ settingsFilledBy second (now (b .entry)) ⌝ }
+{
+    if second {
+        return second_settings_filled(b);
+    }
+    settings_filled(b)
 }
 
 // ---- stop

@@ -2,6 +2,7 @@
 ghost use mathlib.Core.Path.{_≡_};
 ghost use Prim.Native.Nat.{_≤_};
 ghost use Rattle.fields.specs.Records.{walksAt, settingsIn, degreesAt, stopIn, secondsAt, callIn, minTimeAt, ruleIn};
+ghost use Rattle.fields.specs.Second.{secondSettingsIn, settingsBy};
 use crate::layout::departure_at;
 use crate::layout::has_at;
 use crate::layout::members_at;
@@ -56,6 +57,36 @@ pub fn settings_in(b: &[u8]) -> Settings
         now: i64_at(b, at + 2),
         epochs,
     }
+}
+
+// In a file of version 2 the change time has two bytes, of seconds.
+fn second_settings_in(b: &[u8]) -> Settings
+    ensures { λ r. ⌜ r ≡ secondSettingsIn (now (b .entry)) ⌝ }
+{
+    let at = minutes_at(b);
+    let origin_walks = walks_at(b, 3);
+    let target_walks = walks_at(b, target_walks_at(b));
+    let epochs = [i64_at(b, at + 11), i64_at(b, at + 19), i64_at(b, at + 27)];
+    Settings {
+        origins: byte_at(b, 1),
+        targets: byte_at(b, 2),
+        origin_walks,
+        target_walks,
+        transfer_seconds: u16_at(b, at),
+        max_transfers: byte_at(b, at + 2),
+        now: i64_at(b, at + 3),
+        epochs,
+    }
+}
+
+// By whether the file is of version 2.
+pub fn settings_by(second: bool, b: &[u8]) -> Settings
+    ensures { λ r. ⌜ r ≡ settingsBy second (now (b .entry)) ⌝ }
+{
+    if second {
+        return second_settings_in(b);
+    }
+    settings_in(b)
 }
 
 // A position's two floats, 0 where none is given.

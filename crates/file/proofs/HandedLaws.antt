@@ -11,7 +11,7 @@ use Rattle.refusal.specs.declared.Answer.the-variants.{Taken, Refused}
 use Rattle.refusal.specs.First.{firstAnswer, isRefused}
 use Rattle.settings.specs.declared.Settings.{Settings}
 use Rattle.settings.specs.Settings.{overCounts, allNear, settingsTests}
-use Rattle.fields.specs.Records.{settingsIn}
+use Rattle.fields.specs.Second.{settingsBy}
 use Rattle.load.specs.Steps.{undated, openAnswer, opened, openSpec}
 use Rattle.load.specs.Sound.{Opens}
 use Rattle.steps.specs.Steps.{stepped}
@@ -19,15 +19,15 @@ use Rattle.steps.specs.Lists.{handed, endOf}
 use Rattle.file.specs.declared.Reader.{Reader}
 use Rattle.file.specs.declared.Took.{Took}
 use Rattle.file.specs.declared.Fed.{Fed}
-use Rattle.file.specs.Record.{freshReader, stepIn, steppedBy, recordSpec}
-use Rattle.file.specs.File.{startsWhole, sizeOf, bodyOf, versionAnswer, fedSpec, endAnswer, endedBy, readSpec}
+use Rattle.file.specs.Record.{freshReader, openReader, stepIn, steppedBy, recordSpec}
+use Rattle.file.specs.File.{startsWhole, sizeOf, bodyOf, versionAnswer, isSecond, fedSpec, endAnswer, endedBy, readSpec}
 use Rattle.file.specs.Handed.{bodiesBy, ReadHands}
 use Rattle.file.proofs.FedLaws.{none-whole, whole-room, fed-stops, fed-refuses, fed-goes-on}
 use Rattle.file.proofs.RecordLaws.{taken-settled}
 
 -- ---- what a taken record does
 
-steps : (r : Reader) (b : List ℕ) → r .opened ≡ true → isRefused (recordSpec r b .answer) ≡ false → recordSpec r b .reader ≡ record { opened = true; load = stepped (r .load) (stepIn b) .load }
+steps : (r : Reader) (b : List ℕ) → r .opened ≡ true → isRefused (recordSpec r b .answer) ≡ false → recordSpec r b .reader ≡ openReader (stepped (r .load) (stepIn b) .load)
 unfolding steppedBy
 steps r b o k = taken-settled r b k .1 ∙ rw o refl
 
@@ -42,12 +42,12 @@ not-sent-back s e = go (overCounts (s .origins) (s .targets) (s .«max_transfers
     go false false e = refl
 
 opens : (r : Reader) (b : List ℕ) → r .opened ≡ false → isRefused (recordSpec r b .answer) ≡ false
-    → Opens (undated (settingsIn b)) × (recordSpec r b .reader ≡ record { opened = true; load = opened (undated (settingsIn b)) })
+    → Opens (undated (settingsBy (r .second) b)) × (recordSpec r b .reader ≡ openReader (opened (undated (settingsBy (r .second) b))))
 unfolding steppedBy openSpec
 opens r b o k =
     let t = taken-settled r b k in
-    let f : isRefused (openAnswer (undated (settingsIn b))) ≡ false = subst (λ (c : Bool). isRefused ((cond c (stepped (r .load) (stepIn b)) (openSpec (undated (settingsIn b)))) .answer) ≡ false) o (t .0) in
-    ((not-sent-back (settingsIn b) f, tt), t .1 ∙ rw (o, f) refl)
+    let f : isRefused (openAnswer (undated (settingsBy (r .second) b))) ≡ false = subst (λ (c : Bool). isRefused ((cond c (stepped (r .load) (stepIn b)) (openSpec (undated (settingsBy (r .second) b)))) .answer) ≡ false) o (t .0) in
+    ((not-sent-back (settingsBy (r .second) b) f, tt), t .1 ∙ rw (o, f) refl)
 
 -- ---- the bodies
 
@@ -112,31 +112,31 @@ ended xs f e = go (isRefused (f .answer)) refl e
     go false q k = (q, end-opened (f .reader .opened) (length (drop (f .used) xs)) k)
 
 -- past the version
-read-on : (xs : List ℕ) → readSpec xs .answer ≡ Taken → readSpec xs ≡ endedBy (drop 1 xs) (fedSpec freshReader (drop 1 xs))
+read-on : (xs : List ℕ) → readSpec xs .answer ≡ Taken → readSpec xs ≡ endedBy (drop 1 xs) (fedSpec (freshReader (isSecond xs)) (drop 1 xs))
 unfolding readSpec
 read-on xs e = go (isRefused (versionAnswer xs)) refl e
   where
     go : (c : Bool) → isRefused (versionAnswer xs) ≡ c
-        → cond c (record { answer = versionAnswer xs; reader = freshReader }) (endedBy (drop 1 xs) (fedSpec freshReader (drop 1 xs))) .answer ≡ Taken
-        → cond c (record { answer = versionAnswer xs; reader = freshReader }) (endedBy (drop 1 xs) (fedSpec freshReader (drop 1 xs))) ≡ endedBy (drop 1 xs) (fedSpec freshReader (drop 1 xs))
+        → cond c (record { answer = versionAnswer xs; reader = (freshReader (isSecond xs)) }) (endedBy (drop 1 xs) (fedSpec (freshReader (isSecond xs)) (drop 1 xs))) .answer ≡ Taken
+        → cond c (record { answer = versionAnswer xs; reader = (freshReader (isSecond xs)) }) (endedBy (drop 1 xs) (fedSpec (freshReader (isSecond xs)) (drop 1 xs))) ≡ endedBy (drop 1 xs) (fedSpec (freshReader (isSecond xs)) (drop 1 xs))
     go true q k = absurd (true≢false (sym q ∙ ap isRefused k))
     go false q k = refl
 
 -- the records that open a load and fill it
-pub record Fills (zs : List ℕ) (f : Fed) : Type 0 where
+pub record Fills (second : Bool) (zs : List ℕ) (f : Fed) : Type 0 where
   pub head : List ℕ
   pub rest : List (List ℕ)
   pub bodies : bodiesBy (length zs) zs ≡ head ∷ rest
-  pub opens : Opens (undated (settingsIn head))
-  pub ends : f .reader .load ≡ endOf (undated (settingsIn head)) (map stepIn rest)
+  pub opens : Opens (undated (settingsBy second head))
+  pub ends : f .reader .load ≡ endOf (undated (settingsBy second head)) (map stepIn rest)
 
-fills-on : (z : ℕ) (zs : List ℕ) → startsWhole (z ∷ zs) ≡ true → isRefused (recordSpec freshReader (bodyOf (z ∷ zs)) .answer) ≡ false
-    → isRefused (fedSpec freshReader (z ∷ zs) .answer) ≡ false → Fills (z ∷ zs) (fedSpec freshReader (z ∷ zs))
+fills-on : (second : Bool) (z : ℕ) (zs : List ℕ) → startsWhole (z ∷ zs) ≡ true → isRefused (recordSpec (freshReader second) (bodyOf (z ∷ zs)) .answer) ≡ false
+    → isRefused (fedSpec (freshReader second) (z ∷ zs) .answer) ≡ false → Fills second (z ∷ zs) (fedSpec (freshReader second) (z ∷ zs))
 unfolding freshReader
-fills-on z zs e f k =
+fills-on second z zs e f k =
     let room = whole-room (z ∷ zs) e in
-    let o = opens freshReader (bodyOf (z ∷ zs)) refl f in
-    let s = fed-goes-on freshReader (z ∷ zs) e f in
+    let o = opens (freshReader second) (bodyOf (z ∷ zs)) refl f in
+    let s = fed-goes-on (freshReader second) (z ∷ zs) e f in
     record {
       head = bodyOf (z ∷ zs);
       rest = bodiesBy (length zs) (drop (sizeOf (z ∷ zs)) (z ∷ zs));
@@ -144,28 +144,28 @@ fills-on z zs e f k =
       opens = o .0;
       ends =
           ap (λ (g : Fed). g .reader .load) s
-          ∙ hands (length zs) (recordSpec freshReader (bodyOf (z ∷ zs)) .reader) (drop (sizeOf (z ∷ zs)) (z ∷ zs)) (rw (length-drop (sizeOf (z ∷ zs)) (z ∷ zs)) (omega (arith, room))) (ap (λ (q : Reader). q .opened) (o .1)) (sym (ap (λ (g : Fed). isRefused (g .answer)) s) ∙ k)
+          ∙ hands (length zs) (recordSpec (freshReader second) (bodyOf (z ∷ zs)) .reader) (drop (sizeOf (z ∷ zs)) (z ∷ zs)) (rw (length-drop (sizeOf (z ∷ zs)) (z ∷ zs)) (omega (arith, room))) (ap (λ (q : Reader). q .opened) (o .1)) (sym (ap (λ (g : Fed). isRefused (g .answer)) s) ∙ k)
           ∙ ap (λ (q : Reader). handed (q .load) (map stepIn (bodiesBy (length zs) (drop (sizeOf (z ∷ zs)) (z ∷ zs))))) (o .1);
     }
 
-fills-none : (zs : List ℕ) → startsWhole zs ≡ false → fedSpec freshReader zs .reader .opened ≡ true → ⊥
+fills-none : (second : Bool) (zs : List ℕ) → startsWhole zs ≡ false → fedSpec (freshReader second) zs .reader .opened ≡ true → ⊥
 unfolding freshReader
-fills-none zs e k = false≢true (sym (ap (λ (g : Fed). g .reader .opened) (fed-stops freshReader zs e)) ∙ k)
+fills-none second zs e k = false≢true (sym (ap (λ (g : Fed). g .reader .opened) (fed-stops (freshReader second) zs e)) ∙ k)
 
-fills : (zs : List ℕ) → isRefused (fedSpec freshReader zs .answer) ≡ false → fedSpec freshReader zs .reader .opened ≡ true → Fills zs (fedSpec freshReader zs)
-fills [] k o = absurd (fills-none [] none-whole o)
-fills (z ∷ zs) k o = go (startsWhole (z ∷ zs)) refl (isRefused (recordSpec freshReader (bodyOf (z ∷ zs)) .answer)) refl
+fills : (second : Bool) (zs : List ℕ) → isRefused (fedSpec (freshReader second) zs .answer) ≡ false → fedSpec (freshReader second) zs .reader .opened ≡ true → Fills second zs (fedSpec (freshReader second) zs)
+fills second [] k o = absurd (fills-none second [] none-whole o)
+fills second (z ∷ zs) k o = go (startsWhole (z ∷ zs)) refl (isRefused (recordSpec (freshReader second) (bodyOf (z ∷ zs)) .answer)) refl
   where
-    go : (b : Bool) → startsWhole (z ∷ zs) ≡ b → (c : Bool) → isRefused (recordSpec freshReader (bodyOf (z ∷ zs)) .answer) ≡ c → Fills (z ∷ zs) (fedSpec freshReader (z ∷ zs))
-    go false e c f = absurd (fills-none (z ∷ zs) e o)
-    go true e true f = absurd (true≢false (sym f ∙ sym (ap (λ (g : Fed). isRefused (g .answer)) (fed-refuses freshReader (z ∷ zs) e f)) ∙ k))
-    go true e false f = fills-on z zs e f k
+    go : (b : Bool) → startsWhole (z ∷ zs) ≡ b → (c : Bool) → isRefused (recordSpec (freshReader second) (bodyOf (z ∷ zs)) .answer) ≡ c → Fills second (z ∷ zs) (fedSpec (freshReader second) (z ∷ zs))
+    go false e c f = absurd (fills-none second (z ∷ zs) e o)
+    go true e true f = absurd (true≢false (sym f ∙ sym (ap (λ (g : Fed). isRefused (g .answer)) (fed-refuses (freshReader second) (z ∷ zs) e f)) ∙ k))
+    go true e false f = fills-on second z zs e f k
 
 pub read-hands : ReadHands
 read-hands xs e =
     let q = read-on xs e in
-    let n = ended (drop 1 xs) (fedSpec freshReader (drop 1 xs)) (sym (ap (λ (t : Took). t .answer) q) ∙ e) in
-    let f = fills (drop 1 xs) (n .0) (n .1) in
+    let n = ended (drop 1 xs) (fedSpec (freshReader (isSecond xs)) (drop 1 xs)) (sym (ap (λ (t : Took). t .answer) q) ∙ e) in
+    let f = fills (isSecond xs) (drop 1 xs) (n .0) (n .1) in
     record {
       head = f .head;
       rest = f .rest;

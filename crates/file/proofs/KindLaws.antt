@@ -11,8 +11,9 @@ use Rattle.calls.specs.declared.CallInput.{CallInput}
 use Rattle.rules.specs.declared.RuleInput.{RuleInput}
 use Rattle.load.specs.declared.Stepped.{Stepped}
 use Rattle.fields.specs.Numbers.{byteAt}
-use Rattle.fields.specs.Layout.{textAt, optionTextAt, nameAt, parentAt, settingsFilled, stopFilled, callFilled, ruleFilled, searchFilled}
-use Rattle.fields.specs.Records.{settingsIn, stopIn, callIn, ruleIn}
+use Rattle.fields.specs.Layout.{textAt, optionTextAt, nameAt, parentAt, stopFilled, callFilled, ruleFilled, searchFilled}
+use Rattle.fields.specs.Records.{stopIn, callIn, ruleIn}
+use Rattle.fields.specs.Second.{settingsBy, settingsFilledBy}
 use Rattle.load.specs.Steps.{undated, openSpec, stopSpec, callSpec, ruleSpec}
 use Rattle.search.specs.Search.{searchSpec}
 use Rattle.again.specs.Again.{addSpec}
@@ -21,20 +22,20 @@ use Rattle.file.specs.declared.Reader.{Reader}
 use Rattle.file.specs.Record.{filled, stepIn, steppedBy}
 
 -- the fields that fill a record of kind k
-abbrev pub filledAs : ℕ → List ℕ → Bool
-filledAs k b = cond (eqb k 1) (settingsFilled b) (cond (eqb k 2) (stopFilled b) (cond (eqb k 3) (callFilled b) (cond (eqb k 4) (ruleFilled b) (searchFilled b))))
+abbrev pub filledAs : Bool → ℕ → List ℕ → Bool
+filledAs second k b = cond (eqb k 1) (settingsFilledBy second b) (cond (eqb k 2) (stopFilled b) (cond (eqb k 3) (callFilled b) (cond (eqb k 4) (ruleFilled b) (searchFilled b))))
 
-pub filled-as : (b : List ℕ) (k : ℕ) → byteAt b 0 ≡ k → filled b ≡ filledAs k b
+pub filled-as : (second : Bool) (b : List ℕ) (k : ℕ) → byteAt b 0 ≡ k → filled second b ≡ filledAs second k b
 unfolding filled
-filled-as b k e = rw e refl
+filled-as second b k e = rw e refl
 
-pub filled-search : (b : List ℕ) → (byteAt b 0 ≡ 1 → ⊥) → (byteAt b 0 ≡ 2 → ⊥) → (byteAt b 0 ≡ 3 → ⊥) → (byteAt b 0 ≡ 4 → ⊥) → filled b ≡ searchFilled b
+pub filled-search : (second : Bool) (b : List ℕ) → (byteAt b 0 ≡ 1 → ⊥) → (byteAt b 0 ≡ 2 → ⊥) → (byteAt b 0 ≡ 3 → ⊥) → (byteAt b 0 ≡ 4 → ⊥) → filled second b ≡ searchFilled b
 unfolding filled
-filled-search b n1 n2 n3 n4 = rw (ne-eqb _ _ n1, ne-eqb _ _ n2, ne-eqb _ _ n3, ne-eqb _ _ n4) refl
+filled-search second b n1 n2 n3 n4 = rw (ne-eqb _ _ n1, ne-eqb _ _ n2, ne-eqb _ _ n3, ne-eqb _ _ n4) refl
 
 -- a step of the load, by the kind of the record that hands it in
 module _ (r : Reader) (b : List ℕ) where
-  pub stepped-settings : {s : Stepped} {i : Settings} → r .opened ≡ false → i ≡ settingsIn b → s ≡ openSpec (undated i) → s ≡ steppedBy r b
+  pub stepped-settings : {s : Stepped} {i : Settings} → r .opened ≡ false → i ≡ settingsBy (r .second) b → s ≡ openSpec (undated i) → s ≡ steppedBy r b
   unfolding steppedBy
   stepped-settings o q e = e ∙ rw (o, q) refl
 

@@ -18,7 +18,8 @@ use Rattle.settings.specs.declared.Settings.{Settings}
 use Rattle.calls.specs.declared.CallInput.{CallInput}
 use Rattle.fields.specs.Numbers.{byteAt}
 use Rattle.fields.specs.Layout.{textAt, optionTextAt, nameAt, parentAt}
-use Rattle.fields.specs.Records.{settingsIn, stopIn, callIn, ruleIn}
+use Rattle.fields.specs.Records.{stopIn, callIn, ruleIn}
+use Rattle.fields.specs.Second.{settingsBy}
 use Rattle.week.specs.Weeks.{undatedWeek}
 use Rattle.load.specs.declared.Load.{Load}
 use Rattle.load.specs.Load.{emptyOf, emptyLoad, blankSettings}
@@ -86,21 +87,21 @@ step-not-21 l b d = go (eqb (byteAt b 0) 2) (eqb (byteAt b 0) 3) (eqb (byteAt b 
 
 record-not-21 : (r : Reader) (b : List ℕ) → r .load .week .dated ≡ false → answerNumber (recordSpec r b .answer) ≡ 21 → ⊥
 unfolding recordSpec steppedBy settled
-record-not-21 r b d = go (isRefused (firstAnswer (recordTests (r .opened) b))) refl
+record-not-21 r b d = go (isRefused (firstAnswer (recordTests (r .opened) (r .second) b))) refl
   where
-    by : (o : Bool) → answerNumber (cond o (stepped (r .load) (stepIn b)) (openSpec (undated (settingsIn b))) .answer) ≡ 21 → ⊥
+    by : (o : Bool) → answerNumber (cond o (stepped (r .load) (stepIn b)) (openSpec (undated (settingsBy (r .second) b))) .answer) ≡ 21 → ⊥
     by true = step-not-21 (r .load) b d
-    by false = others _ (0 ∷ 1 ∷ 2 ∷ []) (opening-answered (undated (settingsIn b)) .listed) refl
+    by false = others _ (0 ∷ 1 ∷ 2 ∷ []) (opening-answered (undated (settingsBy (r .second) b)) .listed) refl
 
-    go : (c : Bool) → isRefused (firstAnswer (recordTests (r .opened) b)) ≡ c
-        → answerNumber (cond c (record { answer = firstAnswer (recordTests (r .opened) b); reader = r }) (settled r (cond (r .opened) (stepped (r .load) (stepIn b)) (openSpec (undated (settingsIn b))))) .answer) ≡ 21 → ⊥
-    go true e = others _ (0 ∷ 18 ∷ 19 ∷ []) (tests-listed (r .opened) b [] e) refl
+    go : (c : Bool) → isRefused (firstAnswer (recordTests (r .opened) (r .second) b)) ≡ c
+        → answerNumber (cond c (record { answer = firstAnswer (recordTests (r .opened) (r .second) b); reader = r }) (settled r (cond (r .opened) (stepped (r .load) (stepIn b)) (openSpec (undated (settingsBy (r .second) b))))) .answer) ≡ 21 → ⊥
+    go true e = others _ (0 ∷ 18 ∷ 19 ∷ []) (tests-listed (r .opened) (r .second) b [] e) refl
     go false e = by (r .opened)
 
 -- the reader of a file is never dated
-fresh-undated : freshReader .load .week .dated ≡ false
+fresh-undated : (second : Bool) → freshReader second .load .week .dated ≡ false
 unfolding freshReader emptyOf undatedWeek
-fresh-undated = refl
+fresh-undated second = refl
 
 opens-undated : (s : Settings) → openSpec (undated s) .load .week .dated ≡ false
 unfolding openSpec emptyOf undatedWeek
@@ -114,19 +115,19 @@ stepped-undated : (r : Reader) (b : List ℕ) → r .load .week .dated ≡ false
 unfolding steppedBy
 stepped-undated r b d = go (r .opened)
   where
-    go : (o : Bool) → cond o (stepped (r .load) (stepIn b)) (openSpec (undated (settingsIn b))) .load .week .dated ≡ false
+    go : (o : Bool) → cond o (stepped (r .load) (stepIn b)) (openSpec (undated (settingsBy (r .second) b))) .load .week .dated ≡ false
     go true = step-dated (r .load) (stepIn b) ∙ d
-    go false = opens-undated (settingsIn b)
+    go false = opens-undated (settingsBy (r .second) b)
 
-reached-undated : (bytes : List ℕ) {r : Reader} {at : ℕ} → Reached bytes r at → r .load .week .dated ≡ false
-reached-undated bytes start = fresh-undated
-reached-undated bytes (past {r} {at} reach whole e) =
+reached-undated : (second : Bool) (bytes : List ℕ) {r : Reader} {at : ℕ} → Reached second bytes r at → r .load .week .dated ≡ false
+reached-undated second bytes start = fresh-undated second
+reached-undated second bytes (past {r} {at} reach whole e) =
     let b = bodyOf (drop at bytes) in
-    ap (λ (q : Reader). q .load .week .dated) (taken-settled r b e .1) ∙ stepped-undated r b (reached-undated bytes reach)
+    ap (λ (q : Reader). q .load .week .dated) (taken-settled r b e .1) ∙ stepped-undated r b (reached-undated second bytes reach)
 
-record-inside : (r : Reader) (b : List ℕ) (a : Answer) → r .load .week .dated ≡ false → First a (recordTests (r .opened) b ++ causesBy r b) → oneOf (answerNumber a) fileNumbers ≡ true
+record-inside : (r : Reader) (b : List ℕ) (a : Answer) → r .load .week .dated ≡ false → First a (recordTests (r .opened) (r .second) b ++ causesBy r b) → oneOf (answerNumber a) fileNumbers ≡ true
 record-inside r b a d f =
-    let ts = recordTests (r .opened) b ++ causesBy r b in
+    let ts = recordTests (r .opened) (r .second) b ++ causesBy r b in
     let e : recordSpec r b .answer ≡ a = first-is-answer (recordSpec r b .answer) ts (record-answered r b .first) ∙ sym (first-is-answer a ts f) in
     let n = answerNumber (recordSpec r b .answer) in
     ap (λ (c : Answer). oneOf (answerNumber c) fileNumbers) (sym e)
@@ -146,9 +147,9 @@ end-inside opened left a f = ap (λ (c : Answer). oneOf (answerNumber c) fileNum
     go false false = refl
 
 listed-by : (xs : List ℕ) (t : Took) → FileAnswered xs t → oneOf (answerNumber (t .answer)) fileNumbers ≡ true
-listed-by xs t (version n) = refl
-listed-by xs t (refused {r} {at} {a} v reach whole f g) = record-inside r (bodyOf (drop at (drop 1 xs))) a (reached-undated (drop 1 xs) reach) f
-listed-by xs t (ended {r} {at} {a} v reach whole f) = end-inside (r .opened) (length (drop at (drop 1 xs))) a f
+listed-by xs t (version n m) = refl
+listed-by xs t (refused {second} {r} {at} {a} v reach whole f g) = record-inside r (bodyOf (drop at (drop 1 xs))) a (reached-undated second (drop 1 xs) reach) f
+listed-by xs t (ended {second} {r} {at} {a} v reach whole f) = end-inside (r .opened) (length (drop at (drop 1 xs))) a f
 
 pub read-listed : ReadListed
 read-listed xs = listed-by xs (readSpec xs) (read-answered xs)

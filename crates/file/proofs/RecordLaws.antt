@@ -14,14 +14,14 @@ use Rattle.refusal.specs.First.{First, AllFail, firstAnswer, isRefused, answerN
 use Rattle.refusal.proofs.FirstLaws.{answer-is-first, first-append, first-past}
 use Rattle.laws.specs.Lists.{oneOf}
 use Rattle.fields.specs.Numbers.{byteAt}
-use Rattle.fields.specs.Records.{settingsIn}
+use Rattle.fields.specs.Second.{settingsBy}
 use Rattle.load.specs.declared.Stepped.{Stepped}
 use Rattle.load.specs.Steps.{undated, opened, openSpec}
 use Rattle.steps.specs.Steps.{stepped}
 use Rattle.steps.proofs.AnsweredLaws.{step-answered, opening-answered}
 use Rattle.file.specs.declared.Reader.{Reader}
 use Rattle.file.specs.declared.Took.{Took}
-use Rattle.file.specs.Record.{kindRight, filled, recordTests, stepIn, steppedBy, settled, recordSpec, causesBy, numbersBy, RecordAnswered}
+use Rattle.file.specs.Record.{openReader, kindRight, filled, recordTests, stepIn, steppedBy, settled, recordSpec, causesBy, numbersBy, RecordAnswered}
 
 refused-not-taken : (a : Answer) → isRefused a ≡ true → a ≡ Taken → ⊥
 refused-not-taken Taken e q = false≢true e
@@ -29,9 +29,9 @@ refused-not-taken Outside e q = false≢true e
 refused-not-taken (Refused r) e q = false≢true (sym (ap isRefused q) ∙ e)
 
 -- every test sends the record back, so one that is not sent back fails each
-all-fail : (opened : Bool) (b : List ℕ) → isRefused (firstAnswer (recordTests opened b)) ≡ false → AllFail (recordTests opened b)
+all-fail : (opened second : Bool) (b : List ℕ) → isRefused (firstAnswer (recordTests opened second b)) ≡ false → AllFail (recordTests opened second b)
 unfolding recordTests firstAnswer
-all-fail opened b e = go (eqb (length b) 0) (not (kindRight opened (byteAt b 0))) (not (filled b)) e
+all-fail opened second b e = go (eqb (length b) 0) (not (kindRight opened (byteAt b 0))) (not (filled second b)) e
   where
     go : (x y z : Bool) → isRefused (cond x (Refused RecordLength) (cond y (Refused RecordKind) (cond z (Refused RecordLength) Taken))) ≡ false → (x ≡ false) × ((y ≡ false) × ((z ≡ false) × Unit {0}))
     go true y z e = absurd (true≢false e)
@@ -49,14 +49,14 @@ stepping : (r : Reader) (b : List ℕ) → Stepping r b (steppedBy r b .answer)
 unfolding steppedBy
 stepping r b = go (r .opened)
   where
-    go : (o : Bool) → Stepping (record { opened = o; load = r .load }) b ((cond o (stepped (r .load) (stepIn b)) (openSpec (undated (settingsIn b)))) .answer)
+    go : (o : Bool) → Stepping (record { opened = o; second = r .second; load = r .load }) b ((cond o (stepped (r .load) (stepIn b)) (openSpec (undated (settingsBy (r .second) b)))) .answer)
     go true = let w = step-answered (r .load) (stepIn b) in record { first = w .first; taken = w .taken; listed = w .listed }
-    go false = let w = opening-answered (undated (settingsIn b)) in record { first = w .first; taken = w .taken; listed = w .listed }
+    go false = let w = opening-answered (undated (settingsBy (r .second) b)) in record { first = w .first; taken = w .taken; listed = w .listed }
 
 -- a record that is sent back has 18 or 19
-pub tests-listed : (opened : Bool) (b : List ℕ) (ns : List ℕ) → isRefused (firstAnswer (recordTests opened b)) ≡ true → oneOf (answerNumber (firstAnswer (recordTests opened b))) (0 ∷ 18 ∷ 19 ∷ ns) ≡ true
+pub tests-listed : (opened second : Bool) (b : List ℕ) (ns : List ℕ) → isRefused (firstAnswer (recordTests opened second b)) ≡ true → oneOf (answerNumber (firstAnswer (recordTests opened second b))) (0 ∷ 18 ∷ 19 ∷ ns) ≡ true
 unfolding recordTests firstAnswer
-tests-listed opened b ns e = go (eqb (length b) 0) (not (kindRight opened (byteAt b 0))) (not (filled b)) e
+tests-listed opened second b ns e = go (eqb (length b) 0) (not (kindRight opened (byteAt b 0))) (not (filled second b)) e
   where
     go : (x y z : Bool) → isRefused (cond x (Refused RecordLength) (cond y (Refused RecordKind) (cond z (Refused RecordLength) Taken))) ≡ true
         → oneOf (answerNumber (cond x (Refused RecordLength) (cond y (Refused RecordKind) (cond z (Refused RecordLength) Taken)))) (0 ∷ 18 ∷ 19 ∷ ns) ≡ true
@@ -77,11 +77,11 @@ both-fail [] us n m = m
 both-fail (t ∷ ts) us (e, n) m = (e, both-fail ts us n m)
 
 -- past the tests, what is answered is the step's
-tested : (r : Reader) (b : List ℕ) (c : Bool) → isRefused (firstAnswer (recordTests (r .opened) b)) ≡ c → recordSpec r b ≡ cond c (record { answer = firstAnswer (recordTests (r .opened) b); reader = r }) (settled r (steppedBy r b))
+tested : (r : Reader) (b : List ℕ) (c : Bool) → isRefused (firstAnswer (recordTests (r .opened) (r .second) b)) ≡ c → recordSpec r b ≡ cond c (record { answer = firstAnswer (recordTests (r .opened) (r .second) b); reader = r }) (settled r (steppedBy r b))
 unfolding recordSpec
 tested r b c e = rw e refl
 
-settled-is : (r : Reader) (s : Stepped) → settled r s ≡ record { answer = s .answer; reader = cond (isRefused (s .answer)) r (record { opened = true; load = s .load }) }
+settled-is : (r : Reader) (s : Stepped) → settled r s ≡ record { answer = s .answer; reader = cond (isRefused (s .answer)) r (openReader (s .load)) }
 unfolding settled
 settled-is r s = refl
 
@@ -89,35 +89,35 @@ settled-answer : (r : Reader) (s : Stepped) → settled r s .answer ≡ s .answe
 unfolding settled
 settled-answer r s = refl
 
-pub settled-taken : (r : Reader) (s : Stepped) → isRefused (s .answer) ≡ false → settled r s .reader ≡ record { opened = true; load = s .load }
+pub settled-taken : (r : Reader) (s : Stepped) → isRefused (s .answer) ≡ false → settled r s .reader ≡ openReader (s .load)
 unfolding settled
 settled-taken r s e = rw e refl
 
 record Answers (r : Reader) (b : List ℕ) (t : Took) : Type 0 where
-  first : First (t .answer) (recordTests (r .opened) b ++ causesBy r b)
-  taken : t .answer ≡ Taken → AllFail (recordTests (r .opened) b ++ causesBy r b)
+  first : First (t .answer) (recordTests (r .opened) (r .second) b ++ causesBy r b)
+  taken : t .answer ≡ Taken → AllFail (recordTests (r .opened) (r .second) b ++ causesBy r b)
   listed : oneOf (answerNumber (t .answer)) (0 ∷ 18 ∷ 19 ∷ numbersBy r b) ≡ true
   unchanged : isRefused (t .answer) ≡ true → t .reader ≡ r
 
 answers : (r : Reader) (b : List ℕ) → Answers r b (recordSpec r b)
-answers r b = go (isRefused (firstAnswer (recordTests (r .opened) b))) refl
+answers r b = go (isRefused (firstAnswer (recordTests (r .opened) (r .second) b))) refl
   where
-    past : (s : Stepped) → AllFail (recordTests (r .opened) b) → Stepping r b (s .answer) → Answers r b (settled r s)
+    past : (s : Stepped) → AllFail (recordTests (r .opened) (r .second) b) → Stepping r b (s .answer) → Answers r b (settled r s)
     past s n w = subst (λ (t : Took). Answers r b t) (sym (settled-is r s)) (record {
-      first = first-past (s .answer) (recordTests (r .opened) b) (causesBy r b) n (w .first);
-      taken = λ k. both-fail (recordTests (r .opened) b) (causesBy r b) n (w .taken k);
+      first = first-past (s .answer) (recordTests (r .opened) (r .second) b) (causesBy r b) n (w .first);
+      taken = λ k. both-fail (recordTests (r .opened) (r .second) b) (causesBy r b) n (w .taken k);
       listed = listed-past (answerNumber (s .answer)) (numbersBy r b) (w .listed);
       unchanged = λ k. cond-by _ _ k;
     })
 
-    go : (c : Bool) → isRefused (firstAnswer (recordTests (r .opened) b)) ≡ c → Answers r b (recordSpec r b)
+    go : (c : Bool) → isRefused (firstAnswer (recordTests (r .opened) (r .second) b)) ≡ c → Answers r b (recordSpec r b)
     go true e = subst (Answers r b) (sym (tested r b true e)) (record {
-      first = first-append _ (recordTests (r .opened) b) (causesBy r b) (answer-is-first (recordTests (r .opened) b)) (refused-not-taken _ e);
+      first = first-append _ (recordTests (r .opened) (r .second) b) (causesBy r b) (answer-is-first (recordTests (r .opened) (r .second) b)) (refused-not-taken _ e);
       taken = λ k. absurd (refused-not-taken _ e k);
-      listed = tests-listed (r .opened) b (numbersBy r b) e;
+      listed = tests-listed (r .opened) (r .second) b (numbersBy r b) e;
       unchanged = λ k. refl;
     })
-    go false e = subst (Answers r b) (sym (tested r b false e)) (past (steppedBy r b) (all-fail (r .opened) b e) (stepping r b))
+    go false e = subst (Answers r b) (sym (tested r b false e)) (past (steppedBy r b) (all-fail (r .opened) (r .second) b e) (stepping r b))
 
 pub record-answered : RecordAnswered
 record-answered r b = let w = answers r b in record { first = w .first; taken = w .taken; listed = w .listed; unchanged = w .unchanged }
@@ -126,11 +126,11 @@ record-answered r b = let w = answers r b in record { first = w .first; taken = 
 
 -- passed the tests, and was not sent back by the load
 pub taken-settled : (r : Reader) (b : List ℕ) → isRefused (recordSpec r b .answer) ≡ false
-    → (isRefused (steppedBy r b .answer) ≡ false) × (recordSpec r b .reader ≡ record { opened = true; load = steppedBy r b .load })
-taken-settled r b k = go (isRefused (firstAnswer (recordTests (r .opened) b))) refl
+    → (isRefused (steppedBy r b .answer) ≡ false) × (recordSpec r b .reader ≡ openReader (steppedBy r b .load))
+taken-settled r b k = go (isRefused (firstAnswer (recordTests (r .opened) (r .second) b))) refl
   where
-    go : (c : Bool) → isRefused (firstAnswer (recordTests (r .opened) b)) ≡ c
-        → (isRefused (steppedBy r b .answer) ≡ false) × (recordSpec r b .reader ≡ record { opened = true; load = steppedBy r b .load })
+    go : (c : Bool) → isRefused (firstAnswer (recordTests (r .opened) (r .second) b)) ≡ c
+        → (isRefused (steppedBy r b .answer) ≡ false) × (recordSpec r b .reader ≡ openReader (steppedBy r b .load))
     go true e = absurd (true≢false (sym e ∙ sym (ap (λ (t : Took). isRefused (t .answer)) (tested r b true e)) ∙ k))
     go false e =
         let f : isRefused (steppedBy r b .answer) ≡ false = sym (ap isRefused (settled-answer r (steppedBy r b))) ∙ sym (ap (λ (t : Took). isRefused (t .answer)) (tested r b false e)) ∙ k in
@@ -138,8 +138,8 @@ taken-settled r b k = go (isRefused (firstAnswer (recordTests (r .opened) b))) r
 
 -- ---- one test after another
 
-module _ (r : Reader) (b : List ℕ) {a : Answer} {t : Bool} (a-is : a ≡ firstAnswer (recordTests (r .opened) b)) (t-is : t ≡ isRefused a) where
-  refused-by : {c : Bool} → t ≡ c → isRefused (firstAnswer (recordTests (r .opened) b)) ≡ c
+module _ (r : Reader) (b : List ℕ) {a : Answer} {t : Bool} (a-is : a ≡ firstAnswer (recordTests (r .opened) (r .second) b)) (t-is : t ≡ isRefused a) where
+  refused-by : {c : Bool} → t ≡ c → isRefused (firstAnswer (recordTests (r .opened) (r .second) b)) ≡ c
   refused-by e = ap isRefused (sym a-is) ∙ sym t-is ∙ e
 
   pub turned-away : t ≡ true → record { answer = a; reader = r } ≡ recordSpec r b
@@ -150,6 +150,6 @@ module _ (r : Reader) (b : List ℕ) {a : Answer} {t : Bool} (a-is : a ≡ first
     unfolding settled
     sent-back f = sym (tested r b false (refused-by e) ∙ rw (sym s-is, sym u-is ∙ f) refl)
 
-    pub taken : u ≡ false → record { answer = s .answer; reader = record { opened = true; load = s .load } } ≡ recordSpec r b
+    pub taken : u ≡ false → record { answer = s .answer; reader = openReader (s .load) } ≡ recordSpec r b
     unfolding settled
     taken f = sym (tested r b false (refused-by e) ∙ rw (sym s-is, sym u-is ∙ f) refl)

@@ -1,7 +1,7 @@
--- A load file: byte 0 is version 1; then come records, each after its length of two bytes, tested and taken one by one.
+-- A load file: byte 0 is version 1 or 2; then come records, each after its length of two bytes, tested and taken one by one.
 use Prim.Native.Nat.{ℕ, zero, suc, _+_}
 use mathlib.Core.Path.{_≡_}
-use mathlib.Core.Bool.{Bool, not, cond}
+use mathlib.Core.Bool.{Bool, not, cond, _||_}
 use mathlib.Core.List.{List, [], _∷_, _++_}
 use lib.Dec.{eqb, leb}
 use lib.ListN.{length, take, drop}
@@ -18,7 +18,11 @@ use Rattle.file.specs.Record.{freshReader, recordSpec}
 -- ---- 17, before all else: another or no version
 
 unfoldable pub versionAnswer : List ℕ → Answer
-versionAnswer xs = cond (eqb (byteAt xs 0) 1) Taken (Refused FileVersion)
+versionAnswer xs = cond (eqb (byteAt xs 0) 1 || eqb (byteAt xs 0) 2) Taken (Refused FileVersion)
+
+-- version 2, whose settings have two bytes of seconds
+abbrev pub isSecond : List ℕ → Bool
+isSecond xs = eqb (byteAt xs 0) 2
 
 -- ---- the records
 
@@ -75,8 +79,8 @@ endedBy xs f = record {
 
 unfoldable pub readSpec : List ℕ → Took
 readSpec xs =
-    cond (isRefused (versionAnswer xs)) (record { answer = versionAnswer xs; reader = freshReader })
-    (endedBy (drop 1 xs) (fedSpec freshReader (drop 1 xs)))
+    cond (isRefused (versionAnswer xs)) (record { answer = versionAnswer xs; reader = freshReader (isSecond xs) })
+    (endedBy (drop 1 xs) (fedSpec (freshReader (isSecond xs)) (drop 1 xs)))
 
 -- a file may be read in parts: what is left of a part is put before the next, unless a record of the part was refused
 abbrev pub continued : Fed → List ℕ → List ℕ → Fed

@@ -5,12 +5,12 @@ use mathlib.Core.List.{List, [], _∷_, map}
 use Prim.Native.Nat.{ℕ, zero, suc}
 use lib.ListN.{length, drop}
 use Rattle.refusal.specs.declared.Answer.the-variants.{Taken}
-use Rattle.fields.specs.Records.{settingsIn}
+use Rattle.fields.specs.Second.{settingsBy}
 use Rattle.load.specs.Steps.{undated}
 use Rattle.load.specs.Sound.{Opens}
 use Rattle.steps.specs.Lists.{endOf}
 use Rattle.file.specs.Record.{stepIn}
-use Rattle.file.specs.File.{startsWhole, sizeOf, bodyOf, readSpec}
+use Rattle.file.specs.File.{startsWhole, sizeOf, bodyOf, isSecond, readSpec}
 
 -- the bodies of the records, in order; at most n of them
 unfoldable pub bodiesBy : ℕ → List ℕ → List (List ℕ)
@@ -25,8 +25,8 @@ pub record Handed (xs : List ℕ) : Type 0 where
   pub head : List ℕ
   pub rest : List (List ℕ)
   pub bodies : bodiesOf xs ≡ head ∷ rest
-  pub opens : Opens (undated (settingsIn head))
-  pub ends : readSpec xs .reader .load ≡ endOf (undated (settingsIn head)) (map stepIn rest)
+  pub opens : Opens (undated (settingsBy (isSecond xs) head))
+  pub ends : readSpec xs .reader .load ≡ endOf (undated (settingsBy (isSecond xs) head)) (map stepIn rest)
 
 -- of every file that is read to its end
 abbrev pub ReadHands : Type 0

@@ -31,7 +31,7 @@ pub record InSeconds (xs : List ℕ) (b : List ℕ) (bs : List (List ℕ)) (m : 
   pub load : readSpec xs .reader .load ≡ endOf (undated (withSeconds (settingsIn b) (60 * m))) (map stepIn bs)
   pub held : readSpec xs .reader .load .settings .«transfer_seconds» ≡ 60 * m
 
--- of every file that is read to its end, by the byte of minutes m in its first record
+-- of every file of version 1 that is read to its end, by the byte of minutes m in its first record
 abbrev pub MinutesRead : Type 0
-MinutesRead = (xs : List ℕ) → readSpec xs .answer ≡ Taken → (b : List ℕ) (bs : List (List ℕ)) → bodiesOf xs ≡ b ∷ bs
+MinutesRead = (xs : List ℕ) → byteAt xs 0 ≡ 1 → readSpec xs .answer ≡ Taken → (b : List ℕ) (bs : List (List ℕ)) → bodiesOf xs ≡ b ∷ bs
     → (m : ℕ) → byteAt b (minutesAt b) ≡ m → InSeconds xs b bs m

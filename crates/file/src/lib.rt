@@ -1,13 +1,14 @@
-// A load file (request 01, version 1): the definitions of what is read of one, and its records, tested and taken one by one.
+// A load file (requests 01 and 13, versions 1 and 2): the definitions of what is read of one, and its records, tested and taken one by one.
 pub mod record;
 pub mod texts;
 
 use load::Load;
 use refusal::Answer;
 
-// The load so far; before the settings are taken, the empty load of blank settings.
+// The load so far; before the settings are taken, the empty load of blank settings, and whether the file is of version 2.
 pub struct Reader {
     pub opened: bool,
+    pub second: bool,
     pub load: Load,
 }
 

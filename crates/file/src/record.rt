@@ -18,11 +18,11 @@ use fields::layout::call_filled;
 use fields::layout::kind_of;
 use fields::layout::rule_filled;
 use fields::layout::search_filled;
-use fields::layout::settings_filled;
+use fields::layout::settings_filled_by;
 use fields::layout::stop_filled;
 use fields::records::call_in;
 use fields::records::rule_in;
-use fields::records::settings_in;
+use fields::records::settings_by;
 use fields::records::stop_in;
 use load::Load;
 use load::Stepped;
@@ -43,12 +43,12 @@ fn kind_right(opened: bool, kind: u8) -> bool
     kind == 1
 }
 
-fn is_filled(b: &[u8]) -> bool
-    ensures { λ r. ⌜ r ≡ filled (now (b .entry)) ⌝ }
+fn is_filled(second: bool, b: &[u8]) -> bool
+    ensures { λ r. ⌜ r ≡ filled second (now (b .entry)) ⌝ }
 {
     let kind = kind_of(b);
     if kind == 1 {
-        return settings_filled(b);
+        return settings_filled_by(second, b);
     }
     if kind == 2 {
         return stop_filled(b);
@@ -63,14 +63,14 @@ fn is_filled(b: &[u8]) -> bool
 }
 
 // Why a record is turned away before it is handed to the load: 18, 19, 18.
-fn record_answer(opened: bool, b: &[u8]) -> Answer
-    ensures { λ r. ⌜ r ≡ firstAnswer (recordTests opened (now (b .entry))) ⌝ }
+fn record_answer(opened: bool, second: bool, b: &[u8]) -> Answer
+    ensures { λ r. ⌜ r ≡ firstAnswer (recordTests opened second (now (b .entry))) ⌝ }
 {
     if b.len() == 0 {
         return Answer::Refused(Refusal::RecordLength);
     }
     if kind_right(opened, kind_of(b)) {
-        if is_filled(b) {
+        if is_filled(second, b) {
             return Answer::Taken;
         }
         return Answer::Refused(Refusal::RecordLength);
@@ -110,14 +110,14 @@ fn stepped_by(reader: Reader, b: &[u8]) -> Stepped
         }
         return search(load);
     }
-    Load::open(settings_in(b))
+    Load::open(settings_by(reader.second, b))
 }
 
 // The body of a record: what follows its length.
 pub fn record(reader: Reader, b: &[u8]) -> Took
     ensures { λ r. ⌜ r ≡ recordSpec reader (now (b .entry)) ⌝ }
 {
-    let answer = record_answer(reader.opened, b);
+    let answer = record_answer(reader.opened, reader.second, b);
     if is_refused(answer) {
         return Took { answer, reader };
     }
@@ -132,6 +132,10 @@ pub fn record(reader: Reader, b: &[u8]) -> Took
     let load = s.load;
     Took {
         answer: told,
-        reader: Reader { opened: true, load },
+        reader: Reader {
+            opened: true,
+            second: false,
+            load,
+        },
     }
 }

@@ -16,7 +16,7 @@ use Rattle.file.specs.declared.Reader.{Reader}
 use Rattle.file.specs.declared.Took.{Took}
 use Rattle.file.specs.declared.Fed.{Fed}
 use Rattle.file.specs.Record.{freshReader, recordSpec}
-use Rattle.file.specs.File.{versionAnswer, startsWhole, sizeOf, bodyOf, nextSpec, fedSpec, endAnswer, endedBy, readSpec}
+use Rattle.file.specs.File.{versionAnswer, isSecond, startsWhole, sizeOf, bodyOf, nextSpec, fedSpec, endAnswer, endedBy, readSpec}
 use Rattle.runs.specs.Runs.{openReader, Left, Turned}
 use Rattle.file.proofs.FedLaws.{fed-stops, fed-refuses, fed-room}
 use Rattle.runs.proofs.LeftLaws.{left-first, left-one, left-trans, left-ends}
@@ -78,12 +78,12 @@ pub next-turned : (r : Reader) (xs : List ℕ) {f : Fed} → f ≡ nextSpec r xs
 next-turned r xs f-is = rw f-is (record { refused = next-refused r xs; stops = λ e. next-stops r xs; goes-on = next-on r xs })
 
 -- and so is a run of an opened reader that used bytes
-pub run-turned : (r : Reader) {xs : List ℕ} {l : Load} {n : ℕ} → r .opened ≡ true → Left (openReader (r .load)) xs (openReader l) n → 0 < n
+pub run-turned : (r : Reader) {xs : List ℕ} {l : Load} {n : ℕ} → (r .opened ≡ true) × (r .second ≡ false) → Left (openReader (r .load)) xs (openReader l) n → 0 < n
     → Turned r xs (record { answer = Taken; used = n; reader = openReader l })
-run-turned r {xs} {l} {n} o left some = record {
+run-turned r {xs} {l} {n} (o, s) left some = record {
   refused = λ e. absurd (false≢true e);
   stops = λ e z. absurd (omega (arith, some, z));
-  goes-on = λ e. subst (λ (q : Reader). Left q xs (openReader l) n) (λ k. record { opened = sym o k; load = r .load }) left;
+  goes-on = λ e. subst (λ (q : Reader). Left q xs (openReader l) n) (λ k. record { opened = sym o k; second = sym s k; load = r .load }) left;
 }
 
 -- ---- the turns
@@ -103,23 +103,23 @@ module _ {r₀ r : Reader} {bytes : List ℕ} {at : ℕ} {f : Fed} {t : Bool} (l
 
 -- ---- the whole file
 
--- a file that has version 1 has a byte
+-- a file that has a version has a byte
 pub version-room : (xs : List ℕ) {a : Answer} {t : Bool} → a ≡ versionAnswer xs → t ≡ isRefused a → t ≡ false → 1 ≤ length xs
 unfolding versionAnswer
 version-room [] a-is t-is e = absurd (true≢false (sym (t-is ∙ ap isRefused a-is) ∙ e))
 version-room (x ∷ xs) a-is t-is e = omega arith
 
-pub read-refused : (xs : List ℕ) {r : Reader} {a : Answer} {t : Bool} → a ≡ versionAnswer xs → t ≡ isRefused a → t ≡ true → r ≡ freshReader → record { answer = a; reader = r } ≡ readSpec xs
+pub read-refused : (xs : List ℕ) {r : Reader} {a : Answer} {t : Bool} → a ≡ versionAnswer xs → t ≡ isRefused a → t ≡ true → r ≡ (freshReader (isSecond xs)) → record { answer = a; reader = r } ≡ readSpec xs
 unfolding readSpec
 read-refused xs a-is t-is e r-is = (λ k. record { answer = a-is k; reader = r-is k }) ∙ sym (rw (sym (ap isRefused a-is) ∙ sym t-is ∙ e) refl)
 
-module _ (xs : List ℕ) {r : Reader} {a : Answer} {t : Bool} {f : Fed} (a-is : a ≡ versionAnswer xs) (t-is : t ≡ isRefused a) (e : t ≡ false) (r-is : r ≡ freshReader)
+module _ (xs : List ℕ) {r : Reader} {a : Answer} {t : Bool} {f : Fed} (a-is : a ≡ versionAnswer xs) (t-is : t ≡ isRefused a) (e : t ≡ false) (r-is : r ≡ (freshReader (isSecond xs)))
     (f-is : f ≡ fedSpec r (take (length xs - 1) (drop 1 xs))) where
-  fed-is : f ≡ fedSpec freshReader (drop 1 xs)
+  fed-is : f ≡ fedSpec (freshReader (isSecond xs)) (drop 1 xs)
   fed-is = f-is ∙ (λ k. fedSpec (r-is k) (part-to-end xs 1 k))
 
   pub used-room : f .used ≤ length xs - 1
-  used-room = subst (λ (f : Fed). f .used ≤ length xs - 1) (sym fed-is) (let h = fed-room freshReader (drop 1 xs) in omega (arith, h, length-drop 1 xs))
+  used-room = subst (λ (f : Fed). f .used ≤ length xs - 1) (sym fed-is) (let h = fed-room (freshReader (isSecond xs)) (drop 1 xs) in omega (arith, h, length-drop 1 xs))
 
   read-on : endedBy (drop 1 xs) f ≡ readSpec xs
   unfolding readSpec

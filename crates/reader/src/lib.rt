@@ -1,8 +1,8 @@
-// The reader of a load file (request 01, version 1), whole or in parts: version, records, end.
+// The reader of a load file (requests 01 and 13, versions 1 and 2), whole or in parts: version, records, end.
 ghost use mathlib.Core.Path.{_≡_};
-ghost use mathlib.Core.Bool.{true};
+ghost use mathlib.Core.Bool.{true, false};
 ghost use Rattle.file.specs.Record.{freshReader};
-ghost use Rattle.file.specs.File.{versionAnswer, nextSpec, fedSpec, endAnswer, readSpec};
+ghost use Rattle.file.specs.File.{versionAnswer, isSecond, nextSpec, fedSpec, endAnswer, readSpec};
 ghost use Rattle.runs.specs.Runs.{Turned};
 use fields::layout::kind_of;
 use fields::layout::length_of;
@@ -15,13 +15,14 @@ use refusal::Refusal;
 use refusal::is_refused;
 use runs::in_place::run;
 
-// Before the first record.
-pub fn fresh() -> Reader
-    ensures { λ r. ⌜ r ≡ freshReader ⌝ }
+// Before the first record of a file, by whether that is of version 2.
+pub fn fresh(second: bool) -> Reader
+    ensures { λ r. ⌜ r ≡ freshReader second ⌝ }
 {
     let load = load::blank();
     Reader {
         opened: false,
+        second,
         load,
     }
 }
@@ -30,10 +31,21 @@ pub fn fresh() -> Reader
 pub fn version(bytes: &[u8]) -> Answer
     ensures { λ r. ⌜ r ≡ versionAnswer (now (bytes .entry)) ⌝ }
 {
-    if kind_of(bytes) == 1 {
+    let byte = kind_of(bytes);
+    if byte == 1 {
+        return Answer::Taken;
+    }
+    if byte == 2 {
         return Answer::Taken;
     }
     Answer::Refused(Refusal::FileVersion)
+}
+
+// Whether the file is of version 2.
+pub fn is_second(bytes: &[u8]) -> bool
+    ensures { λ r. ⌜ r ≡ isSecond (now (bytes .entry)) ⌝ }
+{
+    kind_of(bytes) == 2
 }
 
 // The record at the start of the bytes, if it is there whole.
@@ -61,6 +73,7 @@ pub fn next(reader: Reader, bytes: &[u8]) -> Fed
 // One turn of a reader whose load is opened: a run of records, or else the next record alone.
 fn run_or_next(reader: Reader, bytes: &[u8]) -> Fed
     requires { ⌜ reader .opened ≡ true ⌝ }
+    requires { ⌜ reader .second ≡ false ⌝ }
     ensures { λ r. ⌜ Turned reader (now (bytes .entry)) r ⌝ }
 {
     let load = reader.load;
@@ -73,6 +86,7 @@ fn run_or_next(reader: Reader, bytes: &[u8]) -> Fed
             used,
             reader: Reader {
                 opened: true,
+                second: false,
                 load: after,
             },
         };
@@ -84,6 +98,9 @@ fn turn(reader: Reader, bytes: &[u8]) -> Fed
     ensures { λ r. ⌜ Turned reader (now (bytes .entry)) r ⌝ }
 {
     if reader.opened {
+        if reader.second {
+            return next(reader, bytes);
+        }
         return run_or_next(reader, bytes);
     }
     next(reader, bytes)
@@ -141,14 +158,15 @@ pub fn ended(opened: bool, left: usize) -> Answer
 pub fn read(bytes: &[u8]) -> Took
     ensures { λ r. ⌜ r ≡ readSpec (now (bytes .entry)) ⌝ }
 {
+    let second = is_second(bytes);
     let answer = version(bytes);
     if is_refused(answer) {
         return Took {
             answer,
-            reader: fresh(),
+            reader: fresh(second),
         };
     }
-    let f = fed(fresh(), &bytes[1..]);
+    let f = fed(fresh(second), &bytes[1..]);
     let after = f.reader;
     let told = f.answer;
     if is_refused(told) {

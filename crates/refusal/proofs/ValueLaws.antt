@@ -6,7 +6,7 @@ use mathlib.Core.List.{List, [], _∷_}
 use Prim.Native.Nat.{ℕ}
 use lib.ListN.{getD}
 use Rattle.refusal.specs.declared.Refusal.{Refusal}
-use Rattle.refusal.specs.declared.Refusal.the-variants.{SettingsRange, ClockRange, IdLength, StopsFull, IdTaken, LocationType, ParentUnknown, NameUnusable, FieldRange, TimesReversed, NoRoom, RuleType, PairTaken, Neighbours, AlreadySearched, TimeText, FileVersion, RecordLength, RecordKind, DateWrong, ServiceUnknown, ServicesFull, DisplayGroups, CallUnknown}
+use Rattle.refusal.specs.declared.Refusal.the-variants.{SettingsRange, ClockRange, IdLength, StopsFull, IdTaken, LocationType, ParentUnknown, NameUnusable, FieldRange, TimesReversed, NoRoom, RuleType, PairTaken, Neighbours, AlreadySearched, TimeText, FileVersion, RecordLength, RecordKind, DateWrong, ServiceUnknown, ServicesFull, DisplayGroups, CallUnknown, LoadUnwritable, BufferShort}
 use Rattle.refusal.specs.declared.Answer.{Answer}
 use Rattle.refusal.specs.declared.Answer.the-variants.{Taken, Outside, Refused}
 use Rattle.refusal.specs.Causes.{numberOf}
@@ -40,6 +40,8 @@ byNumber =
     ∷ ServicesFull
     ∷ DisplayGroups
     ∷ CallUnknown
+    ∷ LoadUnwritable
+    ∷ BufferShort
     ∷ []
 
 abbrev answerBack : Bool ⊎ ℕ → Answer
@@ -72,6 +74,8 @@ cause-back ServiceUnknown = refl
 cause-back ServicesFull = refl
 cause-back DisplayGroups = refl
 cause-back CallUnknown = refl
+cause-back LoadUnwritable = refl
+cause-back BufferShort = refl
 
 answer-back : (a : Answer) → answerBack (answerValue a) ≡ a
 answer-back Taken = refl

@@ -52,6 +52,10 @@ pub enum Refusal {
     DisplayGroups,
     // 24: a withdrawal that names no call of the table
     CallUnknown,
+    // 25: a load with dates, or one whose table's horizon is below 21600, can't be written
+    LoadUnwritable,
+    // 26: a lent buffer that is shorter than the file
+    BufferShort,
 }
 
 // What a step answers. Only a call can lie outside the window.
@@ -61,7 +65,7 @@ pub enum Answer {
     Refused(Refusal),
 }
 
-// The number of a cause: the scope's, and those of requests 01, 03, 08 and 11.
+// The number of a cause: the scope's, and those of requests 01, 03, 08, 11 and 13.
 pub fn number(r: Refusal) -> u8
     ensures { λ n. ⌜ n ≡ numberOf r ⌝ }
 {
@@ -90,6 +94,8 @@ pub fn number(r: Refusal) -> u8
         Refusal::ServicesFull => 22,
         Refusal::DisplayGroups => 23,
         Refusal::CallUnknown => 24,
+        Refusal::LoadUnwritable => 25,
+        Refusal::BufferShort => 26,
     }
 }
 

@@ -1,6 +1,7 @@
 // One load file: read whole, and its records handed in one by one, each call's answer noted.
 use crate::load_lines;
 use reader::fresh;
+use reader::is_second;
 use reader::next;
 use reader::read;
 use reader::version;
@@ -58,9 +59,9 @@ fn noted(out: &mut [u8; 65536], at: usize, call: bool, a: Answer) -> usize {
 }
 
 // Notes the answers to the records after the version, up to one that is refused.
-fn records(out: &mut [u8; 65536], bytes: &[u8]) -> usize {
+fn records(out: &mut [u8; 65536], second: bool, bytes: &[u8]) -> usize {
     let mut to = out::text(out, 0, b"answers");
-    let mut reader = fresh();
+    let mut reader = fresh(second);
     let mut at: usize = 0;
     while at < bytes.len() {
         let f = next(reader, &bytes[at..]);
@@ -82,11 +83,12 @@ fn records(out: &mut [u8; 65536], bytes: &[u8]) -> usize {
 
 // The answers are those of the records handed in one by one; all else is of the file read whole, which goes by runs.
 pub fn file(out: &mut [u8; 65536], bytes: &[u8]) -> usize {
+    let second = is_second(bytes);
     let first = version(bytes);
     if is_refused(first) {
         return refused(out, first);
     }
-    let noted = records(out, &bytes[1..]);
+    let noted = records(out, second, &bytes[1..]);
     let t = read(bytes);
     let answer = t.answer;
     if is_refused(answer) {

@@ -45,10 +45,10 @@ not-empty : (b : List ℕ) → (byteAt b 0 ≡ 0 → ⊥) → eqb (length b) 0 �
 not-empty [] n = absurd (n refl)
 not-empty (x ∷ b) n = ne-eqb (length (x ∷ b)) 0 (λ (e : length (x ∷ b) ≡ 0). omega arith)
 
-module _ (b : List ℕ) (k : ℕ) (k-is : byteAt b 0 ≡ k) (low : 2 ≤ k) (right : kindRight true k ≡ true) (full : filledAs k b ≡ true) where
-  passes : isRefused (firstAnswer (recordTests true b)) ≡ false
+module _ (b : List ℕ) (k : ℕ) (k-is : byteAt b 0 ≡ k) (low : 2 ≤ k) (right : kindRight true k ≡ true) (full : filledAs false k b ≡ true) where
+  passes : isRefused (firstAnswer (recordTests true false b)) ≡ false
   unfolding recordTests firstAnswer
-  passes = rw (not-empty b (λ e. omega (arith, k-is, e, low)), ap (kindRight true) k-is ∙ right, filled-as b k k-is ∙ full) refl
+  passes = rw (not-empty b (λ e. omega (arith, k-is, e, low)), ap (kindRight true) k-is ∙ right, filled-as false b k k-is ∙ full) refl
 
   recorded : (l : Load) {s : Stepped} → s ≡ steppedBy (openReader l) b → isRefused (s .answer) ≡ false → recordSpec (openReader l) b ≡ record { answer = s .answer; reader = openReader (s .load) }
   recorded l s-is e = sym (taken (openReader l) b refl refl s-is refl passes e)

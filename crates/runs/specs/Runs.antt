@@ -19,16 +19,12 @@ use Rattle.rules.specs.Rules.{blankRule, ruleTests, ruleOf}
 use Rattle.fields.specs.Numbers.{byteAt}
 use Rattle.fields.specs.Layout.{hasAt, textAt, optionTextAt, nameAt, parentAt, stopFilled, callFilled, ruleFilled}
 use Rattle.fields.specs.Records.{stopIn, callIn, ruleIn}
-use Rattle.load.specs.declared.Load.{Load}
 use Rattle.file.specs.declared.Reader.{Reader}
 use Rattle.file.specs.declared.Fed.{Fed}
 use Rattle.runs.specs.declared.StopTold.{StopTold}
 use Rattle.runs.specs.declared.RuleTold.{RuleTold}
+pub use Rattle.file.specs.Record.{openReader}
 use Rattle.file.specs.File.{startsWhole, bodyOf, later, fedSpec}
-
--- the reader whose load is opened
-abbrev pub openReader : Load → Reader
-openReader l = record { opened = true; load = l }
 
 -- bytes that start with a whole record of kind k
 unfoldable pub wholeAs : ℕ → List ℕ → Bool

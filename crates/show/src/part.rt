@@ -3,10 +3,12 @@ ghost use mathlib.Core.Path.{_≡_};
 ghost use Prim.Native.Nat.{_≤_};
 ghost use lib.ListN.{length};
 use file::Reader;
+use file::Took;
 use libc::STDIN_FILENO;
 use reader::ended;
 use reader::fed;
 use reader::fresh;
+use reader::is_second;
 use reader::version;
 use refusal::Answer;
 use refusal::is_refused;
@@ -49,14 +51,22 @@ fn move_down(buf: &mut [u8], from: usize, end: usize) -> usize
     k
 }
 
+// What the version is answered, and the reader for it.
+fn begun(bytes: &[u8]) -> Took {
+    let answer = version(bytes);
+    let reader = fresh(is_second(bytes));
+    Took { answer, reader }
+}
+
 // The version; the records begin after it.
 pub fn first(buf: &mut [u8]) -> Reading
     ensures { λ r. ⌜ (r .at ≡ 1) × (r .held ≤ length (now (buf .exit))) ⌝ }
 {
     let held = fill(buf, 0);
-    let answer = version(&buf[..held]);
+    let t = begun(&buf[..held]);
+    let answer = t.answer;
     let over = is_refused(answer);
-    let reader = fresh();
+    let reader = t.reader;
     Reading {
         over,
         at: 1,

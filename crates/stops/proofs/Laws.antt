@@ -13,13 +13,15 @@ use Rattle.key.specs.Name.{usable}
 use Rattle.refusal.specs.declared.Answer.the-variants.{Taken}
 use Rattle.refusal.specs.First.{firstAnswer}
 use Rattle.refusal.proofs.FirstLaws.{taken-all-fail}
+use Rattle.place.specs.declared.Degrees.{Degrees}
+use Rattle.place.specs.Positions.{positionOf}
 use Rattle.stops.specs.declared.Stop.{Stop}
 use Rattle.stops.specs.declared.StopInput.{StopInput}
 use Rattle.stops.specs.declared.Found.{Found}
 use Rattle.stops.specs.Texts.{heldText, shown}
 use Rattle.stops.specs.Stops.{numberOf}
 use Rattle.stops.specs.Answer.{isKnown, idWrong, typeWrong, nameWrong, nameNeeded, unusable, stopTests}
-use Rattle.stops.specs.Taken.{stopOf}
+use Rattle.stops.specs.Taken.{heldDegrees, stopOf}
 
 pub shown-named : (named : Bool) (name : List ℕ) → named ≡ true → shown named name ≡ name
 shown-named named name e = ap (λ (b : Bool). shown b name) e
@@ -28,12 +30,23 @@ pub shown-none : (named : Bool) (name : List ℕ) → named ≡ false → shown 
 shown-none named name e = ap (λ (b : Bool). shown b name) e
 
 -- the record, by the equations of its parts
-pub made : (id name : List ℕ) (f : Found) (i : StopInput) (a b : List ℕ) (m n p : ℕ) → a ≡ heldText 32 id → m ≡ length (take 32 id) → b ≡ heldText 64 (shown (i .named) name)
-    → n ≡ length (take 64 (shown (i .named) name)) → p ≡ numberOf f
-    → _≡_ {A = Stop} (record { id = a; «id_len» = m; name = b; «name_len» = n; named = i .named; parent = p; «location_type» = i .«location_type»; located = i .located; degrees = i .degrees; members = i .members }) (stopOf id name f i)
+pub made : (id name : List ℕ) (f : Found) (i : StopInput) (a b : List ℕ) (m n p : ℕ) (d : Degrees) → a ≡ heldText 32 id → m ≡ length (take 32 id) → b ≡ heldText 64 (shown (i .named) name)
+    → n ≡ length (take 64 (shown (i .named) name)) → p ≡ numberOf f → d ≡ heldDegrees (i .located) (i .degrees)
+    → _≡_ {A = Stop} (record { id = a; «id_len» = m; name = b; «name_len» = n; named = i .named; parent = p; «location_type» = i .«location_type»; located = i .located; degrees = d; members = i .members }) (stopOf id name f i)
 unfolding stopOf
-made id name f i a b m n p ea em eb en ep =
-    λ t. record { id = ea t; «id_len» = em t; name = eb t; «name_len» = en t; named = i .named; parent = ep t; «location_type» = i .«location_type»; located = i .located; degrees = i .degrees; members = i .members }
+made id name f i a b m n p d ea em eb en ep ed =
+    λ t. record { id = ea t; «id_len» = em t; name = eb t; «name_len» = en t; named = i .named; parent = ep t; «location_type» = i .«location_type»; located = i .located; degrees = ed t; members = i .members }
+
+-- what is held of degrees is held again, and the position is that of the degrees handed in
+pub degrees-twice : (located : Bool) (d : Degrees) → heldDegrees located (heldDegrees located d) ≡ heldDegrees located d
+unfolding heldDegrees
+degrees-twice true d = refl
+degrees-twice false d = refl
+
+pub position-held : (located : Bool) (d : Degrees) → positionOf located (heldDegrees located d) ≡ positionOf located d
+unfolding heldDegrees
+position-held true d = refl
+position-held false d = refl
 
 pub id-short : (id : List ℕ) → idWrong id ≡ false → length id ≤ 32
 unfolding idWrong

@@ -2,7 +2,7 @@
 ghost use mathlib.Core.Path.{_≡_};
 ghost use lib.ListN.{length, take};
 ghost use Rattle.stops.specs.Texts.{overlaid, heldText, shown};
-ghost use Rattle.stops.specs.Taken.{blankStop, stopOf};
+ghost use Rattle.stops.specs.Taken.{heldDegrees, blankStop, stopOf};
 use crate::Found;
 use crate::Stop;
 use crate::StopInput;
@@ -68,6 +68,18 @@ fn name_length(named: bool, name: &[u8]) -> u8
     0
 }
 
+fn held_degrees(located: bool, degrees: Degrees) -> Degrees
+    ensures { λ r. ⌜ r ≡ heldDegrees located degrees ⌝ }
+{
+    if located {
+        return degrees;
+    }
+    Degrees {
+        latitude: 0.0,
+        longitude: 0.0,
+    }
+}
+
 // Texts that fit are held whole: no other is taken.
 pub fn stop_of(id: &[u8], name: &[u8], station: Found, input: StopInput) -> Stop
     ensures { λ r. ⌜ r ≡ stopOf (now (id .entry)) (now (name .entry)) station input ⌝ }
@@ -78,7 +90,9 @@ pub fn stop_of(id: &[u8], name: &[u8], station: Found, input: StopInput) -> Stop
     let text = name_text(named, name);
     let name_len = name_length(named, name);
     let parent = number(station);
-    let degrees = input.degrees;
+    let located = input.located;
+    let handed = input.degrees;
+    let degrees = held_degrees(located, handed);
     Stop {
         id: id_text,
         id_len,
@@ -87,7 +101,7 @@ pub fn stop_of(id: &[u8], name: &[u8], station: Found, input: StopInput) -> Stop
         named,
         parent,
         location_type: input.location_type,
-        located: input.located,
+        located,
         degrees,
         members: input.members,
     }

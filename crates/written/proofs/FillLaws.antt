@@ -25,7 +25,7 @@ use Rattle.load.specs.Filling.{stop, call, rule, service, exception}
 use Rattle.load.specs.Sound.{Sound}
 use Rattle.load.proofs.ClockLaws.{open-fails}
 use Rattle.load.proofs.StepLaws.{Called, without, goes-on, stays-out, sent-back, called}
-use Rattle.codec.specs.Kinds.{DegreesHeld}
+use Rattle.codec.specs.Kinds.{DegreesFit}
 use Rattle.written.specs.Kept.{Kept}
 use Rattle.written.specs.Keeps.{OpenKept, FillKeeps}
 use Rattle.written.proofs.StopLaws.{stop-keeps}
@@ -79,7 +79,7 @@ open-kept o w = record {
 pub week-kept : (l : Load) (w : Week) → Kept l → Kept (withWeek l w)
 week-kept l w k = record { settings = k .settings; stops = k .stops; rules = k .rules; calls = k .calls }
 
-stop-kept : (l : Load) (id name parent : List ℕ) (i : StopInput) → Sound l → Kept l → DegreesHeld (i .located) (i .degrees) → Kept (stopSpec l id name parent i .load)
+stop-kept : (l : Load) (id name parent : List ℕ) (i : StopInput) → Sound l → Kept l → DegreesFit (i .degrees) → Kept (stopSpec l id name parent i .load)
 unfolding stopSpec
 stop-kept l id name parent i s w d = go (isTaken (stopAnswer l id name parent i)) refl
   where

@@ -16,7 +16,7 @@ use Rattle.rules.specs.declared.RuleInput.{RuleInput}
 use Rattle.rules.specs.declared.MinTime.{MinTime}
 use Rattle.rules.specs.Rules.{blankRule, typeRight, secondsOf, isGiven, ruleTests, ruleOf}
 use Rattle.rules.specs.Sound.{ruleAt}
-use Rattle.written.specs.Parts.{minTimeOf, ruleInputOf}
+use Rattle.codec.specs.Parts.{minTimeOf, ruleInputOf}
 use Rattle.written.specs.Kept.{RuleKept}
 
 rule-type : (k : ℕ) (m : MinTime) → typeRight k (minTimeOf (isGiven m) (secondsOf m)) ≡ typeRight k m

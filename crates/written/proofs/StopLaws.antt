@@ -1,10 +1,11 @@
 -- A stop that is taken can be handed in again, and so can those before it.
-use Prim.Native.Nat.{ℕ, suc, _+_, _-_, _≤_, _<_}
+use Prim.Native.Nat.{ℕ, _+_, _-_, _≤_, _<_}
 use mathlib.Core.Path.{_≡_, refl, sym, ap, subst, _∙_}
-use mathlib.Core.List.{List, [], _∷_}
+use mathlib.Core.List.{List}
 use mathlib.Core.Bool.{Bool, true, false, not, cond, _&&_, true≢false, false≢true}
 use native.Mathlib.Omega.{arith}
 use lib.Dec.{eqb}
+use lib.Ieee.{fits, ofBits}
 use lib.ListN.{length, getD, take, set, length-take}
 use lib.Seq.{getD-set-same, getD-set-other, getD-take}
 use borrow.Author.Tests.{eqb-true, ne-eqb}
@@ -13,20 +14,23 @@ use Rattle.laws.proofs.Slots.{below-cases}
 use Rattle.refusal.specs.declared.Answer.the-variants.{Taken}
 use Rattle.refusal.specs.First.{AllFail, firstAnswer}
 use Rattle.refusal.proofs.FirstLaws.{first-taken, answer-is-first}
+use Rattle.place.specs.declared.Degrees.{Degrees}
+use Rattle.place.specs.declared.Position.{Position}
+use Rattle.place.specs.Positions.{isUsable}
 use Rattle.stops.specs.declared.Stop.{Stop}
 use Rattle.stops.specs.declared.StopInput.{StopInput}
 use Rattle.stops.specs.declared.Found.{Found}
 use Rattle.stops.specs.declared.Found.the-variants.{At, Nothing}
-use Rattle.stops.specs.Texts.{sameBytes, shown}
-use Rattle.stops.specs.Stops.{idOf, isIt, findStop, isAt, numberOf}
+use Rattle.stops.specs.Texts.{sameBytes, heldText, shown}
+use Rattle.stops.specs.Stops.{idOf, isIt, isAt, numberOf}
 use Rattle.stops.specs.Answer.{stationOf, idWrong, typeWrong, nameNeeded, nameWrong, stopTests}
-use Rattle.stops.specs.Taken.{stopOf, blankStop}
+use Rattle.stops.specs.Taken.{zeroDegrees, heldDegrees, stopOf, blankStop}
 use Rattle.stops.specs.Sound.{stopAt, StopsSound}
 use Rattle.stops.proofs.Texts.{held-read}
-use Rattle.stops.proofs.Laws.{passed}
+use Rattle.stops.proofs.Laws.{passed, degrees-twice, position-held}
 use Rattle.stops.proofs.SoundLaws.{found, id-kept}
-use Rattle.codec.specs.Kinds.{DegreesHeld}
-use Rattle.written.specs.Parts.{nameOf, hasParent, stationOfStop, stopInputOf}
+use Rattle.codec.specs.Kinds.{DegreesFit, DegreesHeld}
+use Rattle.codec.specs.Parts.{nameOf, hasParent, stationOfStop, stopInputOf}
 use Rattle.written.specs.Kept.{StopKept}
 
 -- ---- the station that was found
@@ -92,12 +96,12 @@ module _ (ss : List Stop) (n : ℕ) (s : Stop) (h : n < length ss) where
 
 -- ---- a name that is not shown
 
-shown-wrong : (named needed : Bool) (id name : List ℕ) → nameWrong named needed id (shown named name) ≡ nameWrong named needed id name
+pub shown-wrong : (named needed : Bool) (id name : List ℕ) → nameWrong named needed id (shown named name) ≡ nameWrong named needed id name
 unfolding nameWrong
 shown-wrong true needed id name = refl
 shown-wrong false needed id name = refl
 
-shown-of : (id name : List ℕ) (f : Found) (i : StopInput) → stopOf id (shown (i .named) name) f i ≡ stopOf id name f i
+pub shown-of : (id name : List ℕ) (f : Found) (i : StopInput) → stopOf id (shown (i .named) name) f i ≡ stopOf id name f i
 unfolding stopOf
 shown-of id name f i = go (i .named) refl
   where
@@ -105,10 +109,51 @@ shown-of id name f i = go (i .named) refl
     go true e = refl
     go false e = rw e refl
 
+-- ---- degrees that are not held
+
+-- what was handed in, with degrees 0 where it has no position
+unfoldable heldInput : StopInput → StopInput
+heldInput i = record {
+  named = i .named;
+  «has_parent» = i .«has_parent»;
+  «location_type» = i .«location_type»;
+  located = i .located;
+  degrees = heldDegrees (i .located) (i .degrees);
+  members = i .members;
+}
+
+held-of : (id name : List ℕ) (f : Found) (i : StopInput) → stopOf id name f (heldInput i) ≡ stopOf id name f i
+unfolding stopOf heldInput
+held-of id name f i = λ t. record {
+  id = heldText 32 id;
+  «id_len» = length (take 32 id);
+  name = heldText 64 (shown (i .named) name);
+  «name_len» = length (take 64 (shown (i .named) name));
+  named = i .named;
+  parent = numberOf f;
+  «location_type» = i .«location_type»;
+  located = i .located;
+  degrees = degrees-twice (i .located) (i .degrees) t;
+  members = i .members;
+}
+
+held-needed : (i : StopInput) → nameNeeded (heldInput i) ≡ nameNeeded i
+unfolding nameNeeded heldInput
+held-needed i = ap (λ (p : Position). eqb (i .«location_type») 0 && not (i .«has_parent») && isUsable p) (position-held (i .located) (i .degrees))
+
+zero-fit : DegreesFit zeroDegrees
+unfolding fits ofBits
+zero-fit = record { latitude = tt; longitude = tt }
+
+degrees-kept : (located : Bool) (d : Degrees) → DegreesFit d → DegreesHeld located (heldDegrees located d)
+unfolding heldDegrees
+degrees-kept true d w = record { fit = w; absent = λ e. absurd (true≢false e) }
+degrees-kept false d w = record { fit = zero-fit; absent = λ e. refl }
+
 -- ---- the stop that is taken
 
 module _ (searched : Bool) (ss : List Stop) (n : ℕ) (id name parent : List ℕ) (i : StopInput) (sound : StopsSound ss n)
-    (taken : firstAnswer (stopTests searched ss n (stationOf ss n (i .«has_parent») parent) id name i) ≡ Taken) (deg : DegreesHeld (i .located) (i .degrees)) where
+    (taken : firstAnswer (stopTests searched ss n (stationOf ss n (i .«has_parent») parent) id name i) ≡ Taken) (deg : DegreesFit (i .degrees)) where
   abbrev f : Found
   f = stationOf ss n (i .«has_parent») parent
 
@@ -127,14 +172,14 @@ module _ (searched : Bool) (ss : List Stop) (n : ℕ) (id name parent : List ℕ
   unfolding stopOf
   given-is = has-is ss n (sound .few) (i .«has_parent») f parent-is
 
-  input-is : stopInputOf st ≡ i
-  unfolding stopInputOf stopOf
+  input-is : stopInputOf st ≡ heldInput i
+  unfolding stopInputOf stopOf heldInput
   input-is = λ t. record {
     named = i .named;
     «has_parent» = given-is t;
     «location_type» = i .«location_type»;
     located = i .located;
-    degrees = i .degrees;
+    degrees = heldDegrees (i .located) (i .degrees);
     members = i .members;
   }
 
@@ -150,7 +195,7 @@ module _ (searched : Bool) (ss : List Stop) (n : ℕ) (id name parent : List ℕ
   station-is = station-back ss n (sound .few) (i .«has_parent») f parent-is
 
   whole-is : stopOf (idOf st) (nameOf st) (stationOfStop st) (stopInputOf st) ≡ st
-  whole-is = (λ t. stopOf (id-is t) (name-is t) (station-is t) (input-is t)) ∙ shown-of id name f i
+  whole-is = (λ t. stopOf (id-is t) (name-is t) (station-is t) (input-is t)) ∙ held-of id (shown (i .named) name) f i ∙ shown-of id name f i
 
   type-is : typeWrong (st .«location_type») (hasParent st) ≡ false
   unfolding stopOf stopTests
@@ -162,11 +207,11 @@ module _ (searched : Bool) (ss : List Stop) (n : ℕ) (id name parent : List ℕ
 
   name-right-is : nameWrong (st .named) (nameNeeded (stopInputOf st)) (idOf st) (nameOf st) ≡ false
   unfolding stopOf stopTests
-  name-right-is = (λ t. nameWrong (i .named) (ap nameNeeded input-is t) (id-is t) (name-is t)) ∙ shown-wrong (i .named) (nameNeeded i) id name ∙ tests .1 .1 .1 .1 .1 .0
+  name-right-is = (λ t. nameWrong (i .named) ((ap nameNeeded input-is ∙ held-needed i) t) (id-is t) (name-is t)) ∙ shown-wrong (i .named) (nameNeeded i) id name ∙ tests .1 .1 .1 .1 .1 .0
 
   deg-is : DegreesHeld (st .located) (st .degrees)
   unfolding stopOf
-  deg-is = deg
+  deg-is = degrees-kept (i .located) (i .degrees) deg
 
   new-kept : StopKept ss n st
   unfolding stopTests

@@ -1,4 +1,4 @@
--- Opening and every step keep what a written load needs, if the degrees handed in can be written.
+-- Opening and every step keep what a written load needs; the degrees handed in are f64s.
 use Prim.Native.Nat.{ℕ}
 use mathlib.Core.List.{List, [], _∷_}
 use Rattle.calls.specs.declared.CallInput.{CallInput}
@@ -11,12 +11,12 @@ use Rattle.search.specs.Search.{searchSpec}
 use Rattle.again.specs.Again.{addSpec, withdrawSpec}
 use Rattle.steps.specs.Steps.{Step, filling, withdraw, search}
 use Rattle.steps.specs.Lists.{endOf}
-use Rattle.codec.specs.Kinds.{DegreesHeld}
+use Rattle.codec.specs.Kinds.{DegreesFit}
 use Rattle.written.specs.Kept.{Kept, Whole}
 
--- the degrees of a stop are f64s, as every float of the program is, and 0 where it has no position: a stop holds them as handed in
+-- the degrees handed in with a stop are f64s, as every float of the program is
 abbrev pub GivesHeld : Filling → Type 0
-GivesHeld (stop id name parent i) = DegreesHeld (i .located) (i .degrees)
+GivesHeld (stop id name parent i) = DegreesFit (i .degrees)
 GivesHeld (call name i) = Unit {0}
 GivesHeld (rule i) = Unit {0}
 GivesHeld (service name weekdays start end) = Unit {0}

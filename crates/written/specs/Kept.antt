@@ -21,7 +21,7 @@ use Rattle.rules.specs.Sound.{ruleAt}
 use Rattle.load.specs.declared.Load.{Load}
 use Rattle.again.specs.Claims as again
 use Rattle.codec.specs.Kinds.{DegreesHeld}
-use Rattle.written.specs.Parts.{nameOf, hasParent, stationOfStop, stopInputOf, minTimeOf, ruleInputOf}
+use Rattle.codec.specs.Parts.{nameOf, hasParent, stationOfStop, stopInputOf, minTimeOf, ruleInputOf}
 
 -- the settings are not sent back (1, 2), and are as opening leaves them
 pub record SettingsKept (s : Settings) : Type 0 where

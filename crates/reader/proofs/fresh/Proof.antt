@@ -1,6 +1,6 @@
 -- The empty load of blank settings, not open.
 use mathlib.Core.Path.{ap}
-use mathlib.Core.Bool.{false}
+use mathlib.Core.Bool.{Bool, false}
 use borrow.Author.Needs.{needs}
 use Rattle.load.specs.declared.Load.{Load}
 use Rattle.file.specs.declared.Reader.{Reader}
@@ -11,12 +11,12 @@ use Rattle.reader.proofs.fresh.Tie as tie
 blank-requires : tie.Need-blank-requires
 blank-requires c κs = search needs
 
-closed : Load → Reader
-closed l = record { opened = false; load = l }
+closed : Bool → Load → Reader
+closed second l = record { opened = false; second = second; load = l }
 
 returns : tie.Need-returns
 unfolding freshReader closed
-returns c = ap closed (c .blank .ensures)
+returns c = ap (closed _) (c .blank .ensures)
 
 pub fresh-spec : {M : Type 1} → statement M
 fresh-spec = tie.close (tie.spec blank-requires returns)

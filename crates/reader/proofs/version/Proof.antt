@@ -15,7 +15,15 @@ returns c = rw (eq-eqb _ _ (sym (c .before .kind-of .ensures) ∙ c .if1 .taken)
 
 returns-2 : tie.Need-returns-2
 unfolding versionAnswer
-returns-2 c = rw (ne-eqb _ _ (λ e. c .if1 .left (c .before .kind-of .ensures ∙ e))) refl
+returns-2 c =
+    let kind = c .before .before .kind-of .ensures in
+    rw (ne-eqb _ _ (λ e. c .before .if1 .left (kind ∙ e)), eq-eqb _ _ (sym kind ∙ c .if2 .taken)) refl
+
+returns-3 : tie.Need-returns-3
+unfolding versionAnswer
+returns-3 c =
+    let kind = c .before .before .kind-of .ensures in
+    rw (ne-eqb _ _ (λ e. c .before .if1 .left (kind ∙ e)), ne-eqb _ _ (λ e. c .if2 .left (kind ∙ e))) refl
 
 pub version-spec : {M : Type 1} → statement M
-version-spec = tie.close (tie.spec kind-of-requires returns returns-2)
+version-spec = tie.close (tie.spec kind-of-requires returns returns-2 returns-3)

@@ -76,6 +76,12 @@ enum-told-23 c = search needs
 enum-told-24 : tie.Need-enum-told-24
 enum-told-24 c = search needs
 
+enum-told-25 : tie.Need-enum-told-25
+enum-told-25 c = search needs
+
+enum-told-26 : tie.Need-enum-told-26
+enum-told-26 c = search needs
+
 returns : tie.Need-returns
 returns c = rw (c .enum-told .given .1) refl
 
@@ -148,6 +154,12 @@ returns-23 c = rw (c .enum-told23 .given .1) refl
 returns-24 : tie.Need-returns-24
 returns-24 c = rw (c .enum-told24 .given .1) refl
 
+returns-25 : tie.Need-returns-25
+returns-25 c = rw (c .enum-told25 .given .1) refl
+
+returns-26 : tie.Need-returns-26
+returns-26 c = rw (c .enum-told26 .given .1) refl
+
 pub number-spec : {M : Type 1} → statement M
 number-spec =
     tie.close
@@ -176,6 +188,8 @@ number-spec =
     enum-told-22
     enum-told-23
     enum-told-24
+    enum-told-25
+    enum-told-26
     returns
     returns-2
     returns-3
@@ -199,4 +213,6 @@ number-spec =
     returns-21
     returns-22
     returns-23
-    returns-24)
+    returns-24
+    returns-25
+    returns-26)

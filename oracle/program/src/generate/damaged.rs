@@ -38,9 +38,9 @@ pub fn files() -> Vec<Vec<u8>> {
     let search = record(5, &[]);
     let stop = Stop { id: b"a".to_vec(), ..Stop::default() }.record();
     let late = Stop { id: vec![], ..Stop::default() }.record();
-    let mut files = vec![vec![], vec![0], vec![2], vec![255, 0, 0]];
+    let mut files = vec![vec![], vec![0], vec![3], vec![255, 0, 0]];
     // Another version before anything else.
-    files.extend([0, 2].map(|version| [vec![version], open.clone(), search.clone()].concat()));
+    files.extend([0, 3].map(|version| [vec![version], open.clone(), search.clone()].concat()));
     // No record; a length that is 0, is cut, or runs past the end; the first record of another kind.
     files.extend([vec![], vec![0], vec![0, 0], vec![0, 1], vec![0, 2, 1], vec![255, 255, 1]].map(|rest| file(&[rest])));
     files.extend([0, 2, 3, 4, 5, 6, 255].map(|kind| file(&[record(kind, &[])])));

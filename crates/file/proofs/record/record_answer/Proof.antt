@@ -13,7 +13,7 @@ use Rattle.file.proofs.record.record_answer.Statement.{statement}
 use Rattle.file.proofs.record.record_answer.Tie as tie
 
 abbrev T1 : tie.Else1 → List (Bool × Answer)
-T1 c = recordTests (c .before .before .args .opened) (c .before .before .args .b .now)
+T1 c = recordTests (c .before .before .args .opened) (c .before .before .args .second) (c .before .before .args .b .now)
 
 abbrev T2 : tie.Then2 → List (Bool × Answer)
 T2 c = T1 (c .before .before .before)

@@ -39,14 +39,14 @@ returns-4 : tie.Need-returns-4
 returns-4 c = let kind = c .before .before .before .before .kind-of .ensures in
     stepped-search _ _ (c .before .before .before .before .before .if1 .taken) (λ e. c .before .before .before .if2 .left (kind ∙ e)) (λ e. c .before .before .if3 .left (kind ∙ e)) (λ e. c .before .if4 .left (kind ∙ e)) (c .search .ensures)
 
-settings-in-requires : tie.Need-settings-in-requires
-settings-in-requires c κs = search needs
+settings-by-requires : tie.Need-settings-by-requires
+settings-by-requires c κs = search needs
 
 open-requires : tie.Need-open-requires
 open-requires c κs = search needs
 
 returns-5 : tie.Need-returns-5
-returns-5 c = stepped-settings _ _ (c .before .before .if1 .left) (c .before .settings-in .ensures) (c .«open» .ensures)
+returns-5 c = stepped-settings _ _ (c .before .before .if1 .left) (c .before .settings-by .ensures) (c .«open» .ensures)
 
 pub stepped-by-spec : {M : Type 1} → statement M
 stepped-by-spec =
@@ -63,6 +63,6 @@ stepped-by-spec =
     returns-3
     search-requires
     returns-4
-    settings-in-requires
+    settings-by-requires
     open-requires
     returns-5)

@@ -1,8 +1,11 @@
--- A file that has version 1 has a byte.
+-- A file that has a version has a byte.
 use Rattle.reader.proofs.ReadLaws.{version-room}
 use borrow.Author.Needs.{needs}
 use Rattle.replay.proofs.answers.file.Statement.{statement}
 use Rattle.replay.proofs.answers.file.Tie as tie
+
+is-second-requires : tie.Need-is-second-requires
+is-second-requires c κs = search needs
 
 version-requires : tie.Need-version-requires
 version-requires c κs = search needs
@@ -53,6 +56,7 @@ pub file-spec : {M : Type 1} → statement M
 file-spec =
     tie.close
     (tie.spec
+    is-second-requires
     version-requires
     is-refused-requires
     refused-requires

@@ -10,10 +10,10 @@ use Rattle.replay.proofs.answers.records.Statement.{statement}
 use Rattle.replay.proofs.answers.records.Tie as tie
 
 abbrev Inv-loop : tie.InvT-loop
-Inv-loop out₀ bytes to₀ reader₀ at₀ out to reader at = Left reader₀ bytes reader at
+Inv-loop out₀ second bytes to₀ reader₀ at₀ out to reader at = Left reader₀ bytes reader at
 
 abbrev μ-loop : tie.MeasureT-loop
-μ-loop out₀ bytes to₀ reader₀ at₀ out to reader at = length bytes - at
+μ-loop out₀ second bytes to₀ reader₀ at₀ out to reader at = length bytes - at
 
 slice-aggregate-text : tie.Need-slice-aggregate-text Inv-loop μ-loop
 slice-aggregate-text c = search needs

@@ -8,20 +8,17 @@ use Rattle.show.proofs.part.first.Tie as tie
 fill-requires : tie.Need-fill-requires
 fill-requires c κs = search needs
 
-slice-reshare-prefix-version : tie.Need-slice-reshare-prefix-version
-slice-reshare-prefix-version c = search needs
+slice-reshare-prefix-begun : tie.Need-slice-reshare-prefix-begun
+slice-reshare-prefix-begun c = search needs
 
-slice-aggregate-version : tie.Need-slice-aggregate-version
-slice-aggregate-version c = sym (length-take-le _ _ (c .before .before .before .fill .ensures .0))
+slice-aggregate-begun : tie.Need-slice-aggregate-begun
+slice-aggregate-begun c = sym (length-take-le _ _ (c .before .before .before .fill .ensures .0))
 
-version-requires : tie.Need-version-requires
-version-requires c κs = search needs
+begun-requires : tie.Need-begun-requires
+begun-requires c κs = search needs
 
 is-refused-requires : tie.Need-is-refused-requires
 is-refused-requires c κs = search needs
-
-fresh-requires : tie.Need-fresh-requires
-fresh-requires c κs = search needs
 
 same-length : tie.Need-same-length
 same-length c = search needs
@@ -34,10 +31,9 @@ first-spec =
     tie.close
     (tie.spec
     fill-requires
-    slice-reshare-prefix-version
-    slice-aggregate-version
-    version-requires
+    slice-reshare-prefix-begun
+    slice-aggregate-begun
+    begun-requires
     is-refused-requires
-    fresh-requires
     same-length
     returns)

@@ -19,8 +19,12 @@ name-length-requires c κs = search needs
 number-requires : tie.Need-number-requires
 number-requires c κs = search needs
 
+held-degrees-requires : tie.Need-held-degrees-requires
+held-degrees-requires c κs = search needs
+
 returns : tie.Need-returns
-returns c = made _ _ _ _ _ _ _ _ _ (c .before .before .before .before .before .text32 .ensures) (c .before .before .before .before .length-to .ensures) (c .before .before .before .name-text .ensures) (c .before .before .name-length .ensures) (c .before .number .ensures)
+returns c = let d = c .before in
+    made _ _ _ _ _ _ _ _ _ _ (d .before .before .before .before .before .text32 .ensures) (d .before .before .before .before .length-to .ensures) (d .before .before .before .name-text .ensures) (d .before .before .name-length .ensures) (d .before .number .ensures) (c .held-degrees .ensures)
 
 pub stop-of-spec : {M : Type 1} → statement M
 stop-of-spec =
@@ -31,4 +35,5 @@ stop-of-spec =
     name-text-requires
     name-length-requires
     number-requires
+    held-degrees-requires
     returns)

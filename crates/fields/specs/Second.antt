@@ -1,13 +1,13 @@
--- Settings of a version 2 file (request 13): two bytes of transfer seconds where version 1 has one of minutes. No reader reads them yet.
+-- Settings of a version 2 file (request 13): two bytes of transfer seconds where version 1 has one of minutes.
 use Prim.Native.Nat.{ℕ, _+_}
-use mathlib.Core.Bool.{Bool}
+use mathlib.Core.Bool.{Bool, cond}
 use mathlib.Core.List.{List, [], _∷_}
 use lib.Dec.{eqb}
 use lib.ListN.{length}
 use Rattle.settings.specs.declared.Settings.{Settings}
 use Rattle.fields.specs.Numbers.{byteAt, u16At, i64At}
-use Rattle.fields.specs.Layout.{targetWalksAt, minutesAt}
-use Rattle.fields.specs.Records.{walksAt}
+use Rattle.fields.specs.Layout.{targetWalksAt, minutesAt, settingsFilled}
+use Rattle.fields.specs.Records.{walksAt, settingsIn}
 
 -- the seconds stand where version 1 has its minutes
 abbrev pub secondsPlace : List ℕ → ℕ
@@ -27,3 +27,11 @@ secondSettingsIn b = record {
 
 unfoldable pub secondSettingsFilled : List ℕ → Bool
 secondSettingsFilled b = eqb (secondsPlace b + 35) (length b)
+
+-- ---- the settings of a file, by whether it is of version 2
+
+abbrev pub settingsBy : Bool → List ℕ → Settings
+settingsBy second b = cond second (secondSettingsIn b) (settingsIn b)
+
+abbrev pub settingsFilledBy : Bool → List ℕ → Bool
+settingsFilledBy second b = cond second (secondSettingsFilled b) (settingsFilled b)

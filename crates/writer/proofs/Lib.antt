@@ -1,0 +1,3 @@
+pub mod NumberLaws
+pub mod PutLaws
+pub mod ClaimLaws

@@ -1,0 +1,4 @@
+pub mod File
+pub mod Wrote
+pub mod Parts
+pub mod Claims
