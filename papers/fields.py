@@ -39,12 +39,12 @@ class Number:
 
     def within(self, value, word):
         if not self.least <= value <= self.most:
-            raise ValueError(f"{word} is not within {self.least} to {self.most}")
+            raise ValueError(f"{word}, where {self.least} to {self.most} was expected")
         return value
 
     def parse(self, word, ids):
         if not re.fullmatch(r"-?[0-9]{1,20}", word):
-            raise ValueError(f"{word} is no number")
+            raise ValueError(f"{word}, where a number from {self.least} to {self.most} was expected")
         return self.within(int(word), word)
 
     def show(self, value):
@@ -67,15 +67,15 @@ class InSeconds(Number):
 
 
 class Time(Number):
-    """Seconds after the day's epoch; in a text also h:mm:ss."""
+    """Seconds, after the day's epoch or of the paper's one clock; in a text also h:mm or h:mm:ss, and with a sign where it may be."""
     def parse(self, word, ids):
-        parts = re.fullmatch(r"([0-9]{1,9}):([0-5][0-9]):([0-5][0-9])", word)
-        if not parts and ":" in word:
-            raise ValueError(f"{word} is neither seconds nor h:mm:ss")
+        parts = re.fullmatch(r"(-?)([0-9]{1,9}):([0-5][0-9])(?::([0-5][0-9]))?", word)
+        if not parts and not re.fullmatch(r"-?[0-9]{1,20}", word):
+            raise ValueError(f"{word}, where seconds, h:mm or h:mm:ss were expected")
         if not parts:
             return super().parse(word, ids)
-        hours, minutes, seconds = map(int, parts.groups())
-        return self.within(hours * 3600 + minutes * 60 + seconds, word)
+        hours, minutes, seconds = (int(part or 0) for part in parts.groups()[1:])
+        return self.within((hours * 3600 + minutes * 60 + seconds) * (-1 if parts[1] else 1), word)
 
 
 class StopNumber(Number):
@@ -84,7 +84,7 @@ class StopNumber(Number):
         if not word.startswith('"'):
             return super().parse(word, ids)
         if TEXT.parse(word, ids) not in ids:
-            raise ValueError(f"no stop {word} above")
+            raise ValueError(f"{word}, where the id of a stop above was expected")
         return self.within(ids.index(TEXT.parse(word, ids)), word)
 
 
@@ -102,7 +102,7 @@ class Text:
         inside = word[1:-1]
         parts = list(self.PART.finditer(inside))
         if len(word) < 2 or word[0] + word[-1] != '""' or "".join(p[0] for p in parts) != inside:
-            raise ValueError(f"{word} is no quoted text with escapes \\\", \\\\ and \\xNN")
+            raise ValueError(f"{word}, where a text in quotes was expected, with the escapes \\\", \\\\ and \\xNN")
         value = bytes(int(p[1], 16) if p[1] else ord(p[2] or p[3]) for p in parts)
         if len(value) > 255:
             raise ValueError(f"a text of {len(value)} bytes; it has at most 255")
@@ -148,7 +148,7 @@ class Degrees:
         if re.fullmatch(r"0x[0-9a-fA-F]{16}", word):
             return bytes.fromhex(word[2:])
         if not re.fullmatch(r"[+-]?([0-9]+\.?[0-9]*|\.[0-9]+)([eE][+-]?[0-9]+)?", word) or math.isinf(float(word)):
-            raise ValueError(f"{word} is neither a decimal number nor 0x and 16 digits")
+            raise ValueError(f"{word}, where a decimal number, or 0x and 16 digits, was expected")
         return struct.pack(">d", float(word))
 
     def show(self, value):
@@ -170,7 +170,7 @@ class Several:
     def parse(self, word, ids):
         parts = word.split(self.mark)
         if len(parts) != self.count:
-            raise ValueError(f"{word} should be {self.count} with '{self.mark}' between them")
+            raise ValueError(f"{word}, where {self.count} with '{self.mark}' between them were expected")
         return [self.field.parse(part, ids) for part in parts]
 
     def show(self, values):
@@ -181,7 +181,7 @@ class Ends:
     """Two lists of numbers with a slash between: what belongs to origins, then to targets."""
     def parse(self, word, ids):
         if word.count("/") != 1:
-            raise ValueError(f"{word} should have one '/', between origins and targets")
+            raise ValueError(f"{word}, where one '/' was expected, between origins and targets")
         return [[self.NUMBER.parse(n, ids) for n in side.split(",") if side] for side in word.split("/")]
 
     def show(self, sides):
@@ -219,11 +219,11 @@ class Members(Ends):
         return BYTE.put(origins | targets << 4)
 
 
-BYTE, U16, U32, I64, TEXT = Number("B"), Number("H"), Number("I"), Number("q"), Text()
+BYTE, U16, U32, TEXT = Number("B"), Number("H"), Number("I"), Text()
 
 FIRST = {
     "settings": [("walks", Walks(), None), ("transfer-minutes", BYTE, None), ("max-transfers", BYTE, None),
-                 ("now", I64, "0"), ("epochs", Several(I64, 3), "0,0,0")],
+                 ("now", Time("q"), "0"), ("epochs", Several(Time("q"), 3), "0,0,0")],
     "stop": [("id", TEXT, None), ("name", Optional(TEXT), "none"), ("parent", Optional(TEXT), "none"), ("type", BYTE, "0"),
              ("position", Optional(Several(Degrees(), 2)), "none"), ("members", Members(), "/")],
     "call": [("trip", U16, None), ("day", BYTE, "0"), ("sequence", U32, None), ("stop", StopNumber("H"), None),

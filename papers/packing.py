@@ -27,7 +27,7 @@ def given(kind, pairs, version):
     for word, value in pairs:
         key = other[word][0] if word in other else word
         if key not in known:
-            raise ValueError(f"a {kind} has no field {word or value}")
+            raise ValueError(f"{kind} has no field {word or value}, only {', '.join(known) or 'none'}")
         if key in found:
             raise ValueError(f"{word} stands twice" if found[key][0] == word else f"{word} beside {found[key][0]}")
         found[key] = word, value
@@ -39,7 +39,7 @@ def values(kind, found, ids, version):
     for key, field, default in FIELDS[version][kind]:
         word, value = found.get(key, (key, default))
         if value is None:
-            raise ValueError(f"{key} is missing")
+            raise ValueError(f"{key}: missing, and {kind} must have it")
         try:
             yield key, (other[word][1] if word in other else field).parse(value, ids)
         except ValueError as error:
