@@ -1,4 +1,5 @@
--- The tests of a call and of a withdrawal, each with its answer, in order; no test reads the answer.
+-- The tests of a call and of a withdrawal, each with its answer, in order. 14 and 11 of the search again are asked of the load that is
+-- searched again.
 use Prim.Native.Nat.{ℕ}
 use mathlib.Core.Path.{_≡_}
 use mathlib.Core.Logic.{_↔_}
@@ -39,8 +40,8 @@ searchTests m = (clashes (sorted (timetableOf m)), Refused Neighbours) ∷ (woul
 abbrev pub noRoom : Table → Bool
 noRoom r = isFull r && ltb (less (r .horizon)) 3600
 
--- of a call with arrival a and departure d on a searched load: h is its table's horizon, r the table that the cuts reach, m the
--- unsearched load with the call. A call that is outside only after a cut has the load searched again, so 14 and 11 of that search
+-- of a call with arrival a and departure d on a searched load: h is its table's horizon, r the table that the cuts reach, m what the
+-- call leaves of the unsearched load. A call that is outside only after a cut has the load searched again, so 14 and 11 of that search
 -- come before its outside
 abbrev pub againTests : ℕ → Offset → Offset → Table → Load → List (Bool × Answer)
 againTests h a d r m =

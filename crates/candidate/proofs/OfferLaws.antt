@@ -17,6 +17,7 @@ use Rattle.profile.specs.Figures.{covᶠ, dueᶠ}
 use Rattle.profile.specs.Kept.{going, refused, latest, tooLate}
 use Rattle.profile.specs.Walk.{passes}
 use Rattle.profile.specs.Journeys.{rowFigures, cov, due, noRow}
+use Rattle.state.specs.Layout.{slots, width, countPlace, horizonPlace, limitsPlace, refusedPlace, size}
 use Rattle.state.specs.View.{rowAt, rows, countOf, horizonOf, limitsOf, keptOf, openOf, view}
 use Rattle.candidate.specs.Offer.{offerTo, readsTo, OffersSearch, OffersLate}
 use Rattle.candidate.specs.Pieces.{putRow, Tail, Ends, nearAt, passing, stays, Packed, Open, latestDue, settled}
@@ -44,7 +45,7 @@ settled-falls l o h lo e =
     let g : latest due (rows l) - 1 ≡ h = omega arith in
     rw (lt-leb (length (rows l)) 64 (omega (arith, rows-length l)), g, le-ltb h 3600 lo) refl
 
-falls-short : (l : List ℕ) (o : Row) (h : ℕ) → latestDue (rows l) ≡ h + 1 → length (filterb (stays false o h) (rows l)) < 65
+falls-short : (l : List ℕ) (o : Row) (h : ℕ) → latestDue (rows l) ≡ h + 1 → length (filterb (stays false o h) (rows l)) < slots
 unfolding latestDue stays
 falls-short l o h e =
     let w = latest-mem due (rows l) (omega (arith, rows-length l)) in
@@ -53,50 +54,50 @@ falls-short l o h e =
 
 settled-same : (l m : List ℕ) (ks : List Row) → Tail l m → settled m ks ≡ settled l ks
 unfolding settled horizonOf limitsOf
-settled-same l m ks t = rw (t 651 (omega arith), t 652 (omega arith)) refl
+settled-same l m ks t = rw (t horizonPlace (omega arith), t limitsPlace (omega arith)) refl
 
--- ---- 65 are to be kept
+-- ---- slots are to be kept
 
-pub refused-all : (l l′ : List ℕ) (late : ℕ) → length l ≡ 654 → late ≡ latestDue (rows l) → late < 3601 → l′ ≡ set l 653 1 → view l′ ≡ settled l (rows l)
+pub refused-all : (l l′ : List ℕ) (late : ℕ) → length l ≡ size → late ≡ latestDue (rows l) → late < 3601 → l′ ≡ set l refusedPlace 1 → view l′ ≡ settled l (rows l)
 refused-all l l′ late long e h el =
-    let mark : getD l′ 653 0 ≡ 1 = ap (λ (ys : List ℕ). getD ys 653 0) el ∙ getD-set-same l 653 1 0 (omega arith) in
+    let mark : getD l′ refusedPlace 0 ≡ 1 = ap (λ (ys : List ℕ). getD ys refusedPlace 0) el ∙ getD-set-same l refusedPlace 1 0 (omega arith) in
     view-refused l′ (λ z. omega arith) ∙ sym (settled-refused l (omega arith))
 
-module _ (l m l′ : List ℕ) (o : Row) (n h : ℕ) (mark : getD l 653 0 ≡ 0) (lo : 3600 ≤ h) (late : latestDue (rows l) ≡ h + 1)
-    (t : Packed (stays false o h) l m 65 n) (el : l′ ≡ set (set (set m 650 n) 651 h) 652 1) where
+module _ (l m l′ : List ℕ) (o : Row) (n h : ℕ) (mark : getD l refusedPlace 0 ≡ 0) (lo : 3600 ≤ h) (late : latestDue (rows l) ≡ h + 1)
+    (t : Packed (stays false o h) l m slots n) (el : l′ ≡ set (set (set m countPlace n) horizonPlace h) limitsPlace 1) where
   fallen-list : take n (rows m) ≡ filterb (stays false o h) (rows l)
-  fallen-list = t .list ∙ ap (filterb (stays false o h)) (take-all 65 (rows l) (omega (arith, rows-length l)))
+  fallen-list = t .list ∙ ap (filterb (stays false o h)) (take-all slots (rows l) (omega (arith, rows-length l)))
 
   fallen-few : n ≤ 64
   fallen-few = omega (arith, falls-short l o h late, ap length fallen-list, length-take n (rows m), rows-length m, t .small)
 
   fallen-rows : rows l′ ≡ rows m
   fallen-rows =
-      ap rows el ∙ rows-set (set (set m 650 n) 651 h) 652 1 (omega arith) ∙ rows-set (set m 650 n) 651 h (omega arith) ∙ rows-set m 650 n (omega arith)
+      ap rows el ∙ rows-set (set (set m countPlace n) horizonPlace h) limitsPlace 1 (omega arith) ∙ rows-set (set m countPlace n) horizonPlace h (omega arith) ∙ rows-set m countPlace n (omega arith)
 
-  fallen₀ : getD l′ 650 0 ≡ n
+  fallen₀ : getD l′ countPlace 0 ≡ n
   fallen₀ =
-      let a : _≢_ {A = ℕ} 650 652 = λ e. omega arith in
-      let b : _≢_ {A = ℕ} 650 651 = λ e. omega arith in
-      ap (λ (ys : List ℕ). getD ys 650 0) el ∙ getD-set-other (set (set m 650 n) 651 h) 652 650 1 0 a ∙ getD-set-other (set m 650 n) 651 650 h 0 b
-      ∙ getD-set-same m 650 n 0 (omega (arith, t .long))
+      let a : _≢_ {A = ℕ} countPlace limitsPlace = λ e. omega arith in
+      let b : _≢_ {A = ℕ} countPlace horizonPlace = λ e. omega arith in
+      ap (λ (ys : List ℕ). getD ys countPlace 0) el ∙ getD-set-other (set (set m countPlace n) horizonPlace h) limitsPlace countPlace 1 0 a ∙ getD-set-other (set m countPlace n) horizonPlace countPlace h 0 b
+      ∙ getD-set-same m countPlace n 0 (omega (arith, t .long))
 
-  fallen₁ : getD l′ 651 0 ≡ h
+  fallen₁ : getD l′ horizonPlace 0 ≡ h
   fallen₁ =
-      let a : _≢_ {A = ℕ} 651 652 = λ e. omega arith in
-      ap (λ (ys : List ℕ). getD ys 651 0) el ∙ getD-set-other (set (set m 650 n) 651 h) 652 651 1 0 a ∙ getD-set-same (set m 650 n) 651 h 0 (omega (arith, t .long, length-set m 650 n))
+      let a : _≢_ {A = ℕ} horizonPlace limitsPlace = λ e. omega arith in
+      ap (λ (ys : List ℕ). getD ys horizonPlace 0) el ∙ getD-set-other (set (set m countPlace n) horizonPlace h) limitsPlace horizonPlace 1 0 a ∙ getD-set-same (set m countPlace n) horizonPlace h 0 (omega (arith, t .long, length-set m countPlace n))
 
-  fallen₂ : getD l′ 652 0 ≡ 1
+  fallen₂ : getD l′ limitsPlace 0 ≡ 1
   fallen₂ =
-      ap (λ (ys : List ℕ). getD ys 652 0) el ∙ getD-set-same (set (set m 650 n) 651 h) 652 1 0 (omega (arith, t .long, length-set m 650 n, length-set (set m 650 n) 651 h))
+      ap (λ (ys : List ℕ). getD ys limitsPlace 0) el ∙ getD-set-same (set (set m countPlace n) horizonPlace h) limitsPlace 1 0 (omega (arith, t .long, length-set m countPlace n, length-set (set m countPlace n) horizonPlace h))
 
-  fallen₃ : getD l′ 653 0 ≡ 0
+  fallen₃ : getD l′ refusedPlace 0 ≡ 0
   fallen₃ =
-      let a : _≢_ {A = ℕ} 653 652 = λ e. omega arith in
-      let b : _≢_ {A = ℕ} 653 651 = λ e. omega arith in
-      let d : _≢_ {A = ℕ} 653 650 = λ e. omega arith in
-      ap (λ (ys : List ℕ). getD ys 653 0) el ∙ getD-set-other (set (set m 650 n) 651 h) 652 653 1 0 a ∙ getD-set-other (set m 650 n) 651 653 h 0 b
-      ∙ getD-set-other m 650 653 n 0 d ∙ t .tail 653 (omega arith) ∙ mark
+      let a : _≢_ {A = ℕ} refusedPlace limitsPlace = λ e. omega arith in
+      let b : _≢_ {A = ℕ} refusedPlace horizonPlace = λ e. omega arith in
+      let d : _≢_ {A = ℕ} refusedPlace countPlace = λ e. omega arith in
+      ap (λ (ys : List ℕ). getD ys refusedPlace 0) el ∙ getD-set-other (set (set m countPlace n) horizonPlace h) limitsPlace refusedPlace 1 0 a ∙ getD-set-other (set m countPlace n) horizonPlace refusedPlace h 0 b
+      ∙ getD-set-other m countPlace refusedPlace n 0 d ∙ t .tail refusedPlace (omega arith) ∙ mark
 
   pub fallen-all : view l′ ≡ settled l (rows l)
   fallen-all =
@@ -106,33 +107,33 @@ module _ (l m l′ : List ℕ) (o : Row) (n h : ℕ) (mark : getD l 653 0 ≡ 0)
 
 -- ---- one added
 
-module _ (l m : List ℕ) (n : ℕ) (o : Row) (long : length l ≡ 654) (mark : getD l 653 0 ≡ 0) (em : m ≡ putRow l n o) where
-  pub added-long : length m ≡ 654
+module _ (l m : List ℕ) (n : ℕ) (o : Row) (long : length l ≡ size) (mark : getD l refusedPlace 0 ≡ 0) (em : m ≡ putRow l n o) where
+  pub added-long : length m ≡ size
   added-long = ap length em ∙ put-long l n o ∙ long
 
-  added-tail : n < 65 → Tail l m
+  added-tail : n < slots → Tail l m
   added-tail h x b = ap (λ (ys : List ℕ). getD ys x 0) em ∙ put-tail l n o long h x b
 
-  added-take : n < 65 → take (suc n) (rows m) ≡ take n (rows l) ++ o ∷ []
+  added-take : n < slots → take (suc n) (rows m) ≡ take n (rows l) ++ o ∷ []
   added-take h = ap (λ (ys : List ℕ). take (suc n) (rows ys)) em ∙ ap (take (suc n)) (rows-put l n o long h) ∙ take-suc-set (rows l) n o (omega (arith, rows-length l))
 
-  module _ (l′ : List ℕ) (room : n < 64) (el : l′ ≡ set m 650 (n + 1)) where
-    room′ : n < 65
+  module _ (l′ : List ℕ) (room : n < 64) (el : l′ ≡ set m countPlace (n + 1)) where
+    room′ : n < slots
     room′ = omega arith
 
-    added₀ : getD l′ 650 0 ≡ n + 1
-    added₀ = ap (λ (ys : List ℕ). getD ys 650 0) el ∙ getD-set-same m 650 (n + 1) 0 (omega (arith, added-long))
+    added₀ : getD l′ countPlace 0 ≡ n + 1
+    added₀ = ap (λ (ys : List ℕ). getD ys countPlace 0) el ∙ getD-set-same m countPlace (n + 1) 0 (omega (arith, added-long))
 
-    added-past : (x : ℕ) → 650 < x → getD l′ x 0 ≡ getD l x 0
+    added-past : (x : ℕ) → countPlace < x → getD l′ x 0 ≡ getD l x 0
     added-past x h =
-        let a : x ≢ 650 = λ e. omega arith in
-        ap (λ (ys : List ℕ). getD ys x 0) el ∙ getD-set-other m 650 x (n + 1) 0 a ∙ added-tail room′ x (omega arith)
+        let a : x ≢ countPlace = λ e. omega arith in
+        ap (λ (ys : List ℕ). getD ys x 0) el ∙ getD-set-other m countPlace x (n + 1) 0 a ∙ added-tail room′ x (omega arith)
 
     added-kept : keptOf l′ ≡ take n (rows l) ++ o ∷ []
     unfolding keptOf
     added-kept =
         ap (λ (j : ℕ). take j (rows l′)) (count-is l′ (n + 1) added₀ (omega arith) ∙ add-one n)
-        ∙ ap (take (suc n)) (ap rows el ∙ rows-set m 650 (n + 1) (omega arith)) ∙ added-take room′
+        ∙ ap (take (suc n)) (ap rows el ∙ rows-set m countPlace (n + 1) (omega arith)) ∙ added-take room′
 
     added-few : length (take n (rows l) ++ o ∷ []) ≤ 64
     added-few = omega (arith, length-append (take n (rows l)) (o ∷ []), length-take n (rows l))
@@ -140,16 +141,16 @@ module _ (l m : List ℕ) (n : ℕ) (o : Row) (long : length l ≡ 654) (mark : 
     pub added-fits : view l′ ≡ settled l (take n (rows l) ++ o ∷ [])
     unfolding horizonOf limitsOf
     added-fits =
-        view-open l′ (added-past 653 (omega arith) ∙ mark)
-        ∙ rw (added-kept, added-past 651 (omega arith), added-past 652 (omega arith)) (sym (settled-fits l (take n (rows l) ++ o ∷ []) added-few))
+        view-open l′ (added-past refusedPlace (omega arith) ∙ mark)
+        ∙ rw (added-kept, added-past horizonPlace (omega arith), added-past limitsPlace (omega arith)) (sym (settled-fits l (take n (rows l) ++ o ∷ []) added-few))
 
   pub added-open : n ≤ 64 → Open m
   unfolding Open
-  added-open h = added-tail (omega arith) 653 (omega arith) ∙ mark
+  added-open h = added-tail (omega arith) refusedPlace (omega arith) ∙ mark
 
   pub added-too-many : (l′ : List ℕ) → n ≤ 64 → 64 ≤ n → view l′ ≡ settled m (rows m) → view l′ ≡ settled l (take n (rows l) ++ o ∷ [])
   added-too-many l′ le ge f =
-      let h : n < 65 = omega arith in
+      let h : n < slots = omega arith in
       let all : rows m ≡ take n (rows l) ++ o ∷ [] = sym (take-all (suc n) (rows m) (omega (arith, rows-length m))) ∙ added-take h in
       f ∙ settled-same l m (rows m) (added-tail h) ∙ ap (settled l) all
 
@@ -196,18 +197,18 @@ module _ (l : List ℕ) (o : Row) (open′ : Open l) (early : due o ≤ horizonO
 
 pub packed-open : (p : Row → Bool) (l m : List ℕ) (c n : ℕ) → Open l → Packed p l m c n → Open m
 unfolding Open
-packed-open p l m c n e w = w .tail 653 (omega arith) ∙ e
+packed-open p l m c n e w = w .tail refusedPlace (omega arith) ∙ e
 
 -- ---- the end of the kept rows marked
 
-module _ (l l′ : List ℕ) (c v : ℕ) (long : length l ≡ 654) (ec : c ≡ countOf l) (el : l′ ≡ set l (c * 10) v) where
-  marked-past : (x : ℕ) → 650 ≤ x → getD l′ x 0 ≡ getD l x 0
+module _ (l l′ : List ℕ) (c v : ℕ) (long : length l ≡ size) (ec : c ≡ countOf l) (el : l′ ≡ set l (c * width) v) where
+  marked-past : (x : ℕ) → countPlace ≤ x → getD l′ x 0 ≡ getD l x 0
   marked-past x h =
-      let n : x ≢ c * 10 = λ e. omega (arith, few l c ec) in
-      ap (λ (ys : List ℕ). getD ys x 0) el ∙ getD-set-other l (c * 10) x v 0 n
+      let n : x ≢ c * width = λ e. omega (arith, few l c ec) in
+      ap (λ (ys : List ℕ). getD ys x 0) el ∙ getD-set-other l (c * width) x v 0 n
 
   marked-row : (k : ℕ) → k < c → rowAt l′ k ≡ rowAt l k
-  marked-row k h = ap (λ (ys : List ℕ). rowAt ys k) el ∙ seen l (set l (c * 10) v) k (λ y a b. let n : y ≢ c * 10 = λ e. omega arith in getD-set-other l (c * 10) y v 0 n)
+  marked-row k h = ap (λ (ys : List ℕ). rowAt ys k) el ∙ seen l (set l (c * width) v) k (λ y a b. let n : y ≢ c * width = λ e. omega arith in getD-set-other l (c * width) y v 0 n)
 
   marked-rows : take c (rows l′) ≡ take c (rows l)
   marked-rows =
@@ -215,7 +216,7 @@ module _ (l l′ : List ℕ) (c v : ℕ) (long : length l ≡ 654) (ec : c ≡ c
       let m : length (take c (rows l)) ≡ c = omega (arith, length-take c (rows l), rows-length l, few l c ec) in
       ext-getD noRow (take c (rows l′)) (take c (rows l)) (n ∙ sym m) (λ k h.
       let b : k < c = omega (arith, n) in
-      let b′ : k < 65 = omega (arith, few l c ec) in
+      let b′ : k < slots = omega (arith, few l c ec) in
       getD-take c (rows l′) k noRow b ∙ rows-get l′ k b′ ∙ marked-row k b ∙ sym (getD-take c (rows l) k noRow b ∙ rows-get l k b′))
 
   pub marked-passing : (o : Row) (r : Bool) → r ≡ passing o (take c (rows l′)) → r ≡ passing o (take c (rows l))
@@ -223,22 +224,22 @@ module _ (l l′ : List ℕ) (c v : ℕ) (long : length l ≡ 654) (ec : c ≡ c
 
   pub marked-count : c ≡ countOf l′
   unfolding countOf
-  marked-count = ec ∙ sym (ap (λ (x : ℕ). min x 64) (marked-past 650 (omega arith)))
+  marked-count = ec ∙ sym (ap (λ (x : ℕ). min x 64) (marked-past countPlace (omega arith)))
 
-  pub marked-long : length l′ ≡ 654
-  marked-long = ap length el ∙ length-set l (c * 10) v ∙ long
+  pub marked-long : length l′ ≡ size
+  marked-long = ap length el ∙ length-set l (c * width) v ∙ long
 
   pub marked-open : Open l → Open l′
   unfolding Open
-  marked-open o = marked-past 653 (omega arith) ∙ o
+  marked-open o = marked-past refusedPlace (omega arith) ∙ o
 
   pub marked-horizon : horizonOf l′ ≡ horizonOf l
   unfolding horizonOf
-  marked-horizon = marked-past 651 (omega arith)
+  marked-horizon = marked-past horizonPlace (omega arith)
 
   pub marked-ends : (o : Row) → v ≡ o .leave → Ends l′ c o
   unfolding Ends
-  marked-ends o e = ap (λ (ys : List ℕ). getD ys (c * 10) 0) el ∙ getD-set-same l (c * 10) v 0 (omega (arith, few l c ec)) ∙ e
+  marked-ends o e = ap (λ (ys : List ℕ). getD ys (c * width) 0) el ∙ getD-set-same l (c * width) v 0 (omega (arith, few l c ec)) ∙ e
 
   marked-kept : keptOf l′ ≡ keptOf l
   unfolding keptOf
@@ -246,4 +247,4 @@ module _ (l l′ : List ℕ) (c v : ℕ) (long : length l ≡ 654) (ec : c ≡ c
 
   pub marked-view : view l′ ≡ view l
   unfolding view openOf horizonOf limitsOf
-  marked-view = rw (marked-kept, marked-past 651 (omega arith), marked-past 652 (omega arith), marked-past 653 (omega arith)) refl
+  marked-view = rw (marked-kept, marked-past horizonPlace (omega arith), marked-past limitsPlace (omega arith), marked-past refusedPlace (omega arith)) refl

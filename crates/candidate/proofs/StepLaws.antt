@@ -16,6 +16,7 @@ use Rattle.profile.specs.Kept.{latest}
 use Rattle.profile.specs.Walk.{place, near}
 use Rattle.profile.proofs.WalkLaws.{place-le, place-before, passes-found, passes-none}
 use Rattle.profile.specs.declared.Row.{Row}
+use Rattle.state.specs.Layout.{slots, size}
 use Rattle.state.specs.View.{rowAt, rows, countOf}
 use Rattle.candidate.specs.Pieces.{putRow, nearTo, nearAt, Skipped, passing, stays, Packed, Moved, latestDue}
 use Rattle.candidate.proofs.PutLaws.{put-long, put-tail, rows-put}
@@ -27,7 +28,7 @@ use Rattle.state.proofs.ViewLaws.{few}
 pub skip-none : (o : Row) (ks : List Row) (i : ℕ) → Skipped o ks i i
 skip-none o ks i = record { same = refl; up = omega arith }
 
-module _ (l : List ℕ) (n i : ℕ) (o : Row) (few : n ≤ 65) (lt : i < n) where
+module _ (l : List ℕ) (n i : ℕ) (o : Row) (few : n ≤ slots) (lt : i < n) where
   next : drop i (take n (rows l)) ≡ getD (rows l) i noRow ∷ drop (suc i) (take n (rows l))
   next =
       let b : i < length (take n (rows l)) = omega (arith, length-take n (rows l), rows-length l) in
@@ -61,7 +62,7 @@ near-none l n i o h s =
 
 -- ---- what it decides
 
-module _ (l : List ℕ) (n j : ℕ) (o : Row) (few : n ≤ 65) (ej : j ≡ nearAt o (take n (rows l))) where
+module _ (l : List ℕ) (n j : ℕ) (o : Row) (few : n ≤ slots) (ej : j ≡ nearAt o (take n (rows l))) where
   all : length (take n (rows l)) ≡ n
   all = omega (arith, length-take n (rows l), rows-length l)
 
@@ -80,7 +81,7 @@ module _ (l : List ℕ) (n j : ℕ) (o : Row) (few : n ≤ 65) (ej : j ≡ nearA
   passed-none h = sym (passes-none cov o (take n (rows l)) (omega (arith, all)))
 
   -- all in front of it stay
-  front-packed : length l ≡ 654 → Packed (stays true o 0) l l j j
+  front-packed : length l ≡ size → Packed (stays true o 0) l l j j
   unfolding nearAt stays
   front-packed long =
       let f = place-before (λ k. near cov k o) (λ k. not (cov o k)) (λ k e. ap not (or-false-right (cov k o) (cov o k) e)) (take n (rows l)) in
@@ -88,24 +89,24 @@ module _ (l : List ℕ) (n j : ℕ) (o : Row) (few : n ≤ 65) (ej : j ≡ nearA
       record { long = long; list = sym g ∙ sym f ∙ ap (filterb (λ k. not (cov o k))) g; small = omega arith; tail = λ x h. refl; upper = λ k h. refl }
 
 -- what is packed from where the walk stops
-pub packs-from : (l : List ℕ) (c j : ℕ) (o : Row) → c ≡ countOf l → j ≡ nearAt o (take c (rows l)) → length l ≡ 654
-    → Packed (stays true o 0) l l j j × (j ≤ c) × (c ≤ 65)
+pub packs-from : (l : List ℕ) (c j : ℕ) (o : Row) → c ≡ countOf l → j ≡ nearAt o (take c (rows l)) → length l ≡ size
+    → Packed (stays true o 0) l l j j × (j ≤ c) × (c ≤ slots)
 packs-from l c j o ec ej long =
-    let m : c ≤ 65 = omega (arith, few l c ec) in
+    let m : c ≤ slots = omega (arith, few l c ec) in
     (front-packed l c j o m ej long, near-le l c j o m ej, m)
 
 -- the walk ends at a row that is near, or behind the last
-pub found-at : (l : List ℕ) (n i : ℕ) (o : Row) → n ≤ 65 → i < n → (k : Row) (b : Bool) → k ≡ getD (rows l) i noRow → b ≡ cov k o → nearTo o k ≡ true
+pub found-at : (l : List ℕ) (n i : ℕ) (o : Row) → n ≤ slots → i < n → (k : Row) (b : Bool) → k ≡ getD (rows l) i noRow → b ≡ cov k o → nearTo o k ≡ true
     → Skipped o (take n (rows l)) 0 i → (i ≡ nearAt o (take n (rows l))) × (b ≡ passing o (take n (rows l)))
 found-at l n i o few lt k b ek eb t s = let e = near-found l n i o few lt k ek t s in (e, passed-at l n i o few e lt k b ek eb)
 
-pub found-none : (l : List ℕ) (n i : ℕ) (o : Row) → n ≤ 65 → n ≤ i → Skipped o (take n (rows l)) 0 i
+pub found-none : (l : List ℕ) (n i : ℕ) (o : Row) → n ≤ slots → n ≤ i → Skipped o (take n (rows l)) 0 i
     → (i ≡ nearAt o (take n (rows l))) × (false ≡ passing o (take n (rows l)))
 found-none l n i o few h s = let e = near-none l n i o h s in (e, passed-none l n i o few e h)
 
 -- ---- the latest arrival
 
-pub latest-turn : (l : List ℕ) (m m′ i : ℕ) (k : Row) → i < 65 → k ≡ getD (rows l) i noRow → m′ ≡ max m (k .arrival)
+pub latest-turn : (l : List ℕ) (m m′ i : ℕ) (k : Row) → i < slots → k ≡ getD (rows l) i noRow → m′ ≡ max m (k .arrival)
     → max m (latestDue (drop i (rows l))) ≡ latestDue (rows l) → max m′ (latestDue (drop (i + 1) (rows l))) ≡ latestDue (rows l)
 unfolding latestDue due
 latest-turn l m m′ i k h ek em inv =
@@ -116,7 +117,7 @@ latest-turn l m m′ i k h ek em inv =
     let s : latest due (drop (i + 1) (rows l)) ≡ latest due (drop (suc i) (rows l)) = ap (λ (j : ℕ). latest due (drop j (rows l))) (add-one i) in
     omega (arith, inv, f, g, s, em)
 
-pub latest-done : (l : List ℕ) (m i : ℕ) → 65 ≤ i → max m (latestDue (drop i (rows l))) ≡ latestDue (rows l) → m ≡ latestDue (rows l)
+pub latest-done : (l : List ℕ) (m i : ℕ) → slots ≤ i → max m (latestDue (drop i (rows l))) ≡ latestDue (rows l) → m ≡ latestDue (rows l)
 unfolding latestDue
 latest-done l m i h inv =
     let e : drop i (rows l) ≡ [] = drop-of-length-le (rows l) {i = i} (omega (arith, rows-length l)) in
@@ -125,10 +126,10 @@ latest-done l m i h inv =
 
 -- ---- packing in place
 
-pub packed-none : (p : Row → Bool) (l : List ℕ) → length l ≡ 654 → Packed p l l 0 0
+pub packed-none : (p : Row → Bool) (l : List ℕ) → length l ≡ size → Packed p l l 0 0
 packed-none p l long = record { long = long; list = refl; small = omega arith; tail = λ x h. refl; upper = λ k h. refl }
 
-module _ (p : Row → Bool) (l m m′ : List ℕ) (i n n′ : ℕ) (h : i < 65) (s : Packed p l m i n) where
+module _ (p : Row → Bool) (l m m′ : List ℕ) (i n n′ : ℕ) (h : i < slots) (s : Packed p l m i n) where
   same-row : rowAt m i ≡ getD (rows l) i noRow
   same-row = sym (rows-get m i h) ∙ s .upper i (omega arith)
 
@@ -141,7 +142,7 @@ module _ (p : Row → Bool) (l m m′ : List ℕ) (i n n′ : ℕ) (h : i < 65) 
 
   kept-turn : p (rowAt m i) ≡ true → Packed p l (putRow m n (rowAt m i)) (i + 1) (n + 1)
   kept-turn e =
-      let room : n < 65 = omega (arith, s .small) in
+      let room : n < slots = omega (arith, s .small) in
       let r = rows-put m n (rowAt m i) (s .long) room in
       let one : filterb p (rowAt m i ∷ []) ≡ rowAt m i ∷ [] = rw e refl in
       record {

@@ -14,6 +14,7 @@ use Rattle.profile.specs.Figures.{lexb}
 use Rattle.profile.specs.Journeys.{cov}
 use Rattle.profile.proofs.CoverLaws.{cov-early}
 use Rattle.profile.proofs.FiguresLaws.{lexb-lt, lexb-gt, lexb-same, lexb-total}
+use Rattle.state.specs.Layout.{width}
 use Rattle.state.specs.View.{rowAt, rows}
 use Rattle.state.proofs.RowLaws.{rows-get}
 use Rattle.candidate.specs.Pieces.{rankBy, turnOf, Ends, nearTo, nearAt, Skipped, passing}
@@ -62,7 +63,7 @@ turn-is : (i c : ℕ) (o k : Row) (x y : Bool) → i < c → x ≡ cov k o → y
 unfolding turnOf
 turn-is i c o k x y h ex ey = rw (lt-ltb i c h, ex, ey) refl
 
-module _ (l : List ℕ) (at i c : ℕ) (o : Row) (le : i ≤ c) (e : at ≡ i * 10) (m : Ends l c o) where
+module _ (l : List ℕ) (at i c : ℕ) (o : Row) (le : i ≤ c) (e : at ≡ i * width) (m : Ends l c o) where
   -- a row that does not leave when o does is a kept one
   kept : getD l at 0 ≢ o .leave → i < c
   unfolding Ends
@@ -70,7 +71,7 @@ module _ (l : List ℕ) (at i c : ℕ) (o : Row) (le : i ≤ c) (e : at ≡ i * 
     where
       go : (ltb i c ≡ true) ⊎ (ltb i c ≡ false) → i < c
       go (inl t) = ltb-true i c t
-      go (inr t) = let q = ltb-false i c t in let f : at ≡ c * 10 = omega arith in absurd (n (ap (λ (x : ℕ). getD l x 0) f ∙ m))
+      go (inr t) = let q = ltb-false i c t in let f : at ≡ c * width = omega arith in absurd (n (ap (λ (x : ℕ). getD l x 0) f ∙ m))
 
   row-leaves : rowAt l i .leave ≡ getD l at 0
   unfolding rowAt
@@ -80,7 +81,7 @@ module _ (l : List ℕ) (at i c : ℕ) (o : Row) (le : i ≤ c) (e : at ≡ i * 
     row-covers : o .leave ≤ getD l at 0 → b ≡ cov (rowAt l i) o
     unfolding rowAt
     row-covers h =
-        let f : b ≡ rankBy (getD l (i * 10 + 1) 0) (getD l (i * 10 + 2) 0) (getD l (i * 10 + 3) 0) (o .arrival) (o .rides) (o .walk) =
+        let f : b ≡ rankBy (getD l (i * width + 1) 0) (getD l (i * width + 2) 0) (getD l (i * width + 3) 0) (o .arrival) (o .rides) (o .walk) =
         rw e at er in
         f ∙ sym (cov-rank (rowAt l i) o (rw row-leaves h))
 
@@ -102,7 +103,7 @@ module _ (l : List ℕ) (at i c : ℕ) (o : Row) (le : i ≤ c) (e : at ≡ i * 
     offer-covers : getD l at 0 ≤ o .leave → b ≡ cov o (rowAt l i)
     unfolding rowAt
     offer-covers h =
-        let f : b ≡ rankBy (o .arrival) (o .rides) (o .walk) (getD l (i * 10 + 1) 0) (getD l (i * 10 + 2) 0) (getD l (i * 10 + 3) 0) =
+        let f : b ≡ rankBy (o .arrival) (o .rides) (o .walk) (getD l (i * width + 1) 0) (getD l (i * width + 2) 0) (getD l (i * width + 3) 0) =
         rw e at er in
         f ∙ sym (cov-rank o (rowAt l i) (rw row-leaves h))
 
@@ -152,7 +153,7 @@ module _ (i c : ℕ) (o k : Row) (t : ℕ) (e : t ≡ turnOf i c o k) where
       go false a y b z d w = inl (ltb-false i c a)
 
 pub walk-empty : (l : List ℕ) (c : ℕ) (o : Row) → c ≤ 64 → c ≡ 0
-    → (0 ≡ nearAt o (take c (rows l))) × (false ≡ passing o (take c (rows l))) × (0 ≡ 0 * 10)
+    → (0 ≡ nearAt o (take c (rows l))) × (false ≡ passing o (take c (rows l))) × (0 ≡ 0 * width)
 walk-empty l c o few z =
     let r = found-none l c 0 o (omega arith) (omega arith) (skip-none o (take c (rows l)) 0) in
     (r .0, r .1, omega arith)
@@ -182,5 +183,5 @@ module _ (l : List ℕ) (c i : ℕ) (o : Row) (few : c ≤ 64) (t : ℕ) (e : t 
       go (inr (lt, f, n)) = found-at l c i o (omega arith) lt (rowAt l i) false (sym (rows-get l i (omega arith))) (sym f) n s
 
 -- the place of a row, from where its numbers start
-pub place-of : (s a n : ℕ) → s ≡ a * 10 → a ≡ n → s / 10 ≡ n
+pub place-of : (s a n : ℕ) → s ≡ a * width → a ≡ n → s / width ≡ n
 place-of s a n e f = omega arith

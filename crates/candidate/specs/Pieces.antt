@@ -12,13 +12,14 @@ use Rattle.profile.specs.Figures.{lexb}
 use Rattle.profile.specs.Kept.{St, latest, settle}
 use Rattle.profile.specs.Walk.{place, near, passes}
 use Rattle.profile.specs.Journeys.{cov, due, noRow}
+use Rattle.state.specs.Layout.{slots, width, countPlace, refusedPlace, size}
 use Rattle.state.specs.View.{rowAt, rows, horizonOf, limitsOf}
 
 -- the row r stored in slot i
 abbrev pub stored : List ℕ → ℕ → Row → List ℕ
 stored l i r =
-    puts (set l (i * 10) (r .leave)) (i * 10) 1
-    (r .arrival ∷ r .rides ∷ r .walk ∷ r .origin ∷ r .target ∷ r .board ∷ r .alight ∷ r .board2 ∷ r .alight2 ∷ [])
+    puts (set l (i * width) (r .leave)) (i * width) 1
+    (r .arrival ∷ r .rides ∷ r .walk ∷ r .origin ∷ r .target ∷ r .board ∷ r .alight ∷ r .board2 ∷ r .alight2 ∷ r .«middle_board» ∷ r .«middle_alight» ∷ [])
 
 -- the same, unfolded only where a proof asks for it
 unfoldable pub putRow : List ℕ → ℕ → Row → List ℕ
@@ -26,7 +27,7 @@ putRow l i r = stored l i r
 
 -- nothing but the slots differs
 abbrev pub Tail : List ℕ → List ℕ → Type 0
-Tail l l′ = (x : ℕ) → 650 ≤ x → getD l′ x 0 ≡ getD l x 0
+Tail l l′ = (x : ℕ) → countPlace ≤ x → getD l′ x 0 ≡ getD l x 0
 
 -- one of the two rows covers the other
 unfoldable pub nearTo : Row → Row → Bool
@@ -46,7 +47,7 @@ turnOf i c o k = cond (ltb i c) (cond (cov k o) 1 (cond (cov o k) 2 0)) 2
 
 -- slot c, behind the c kept rows, leaves when o does: only there is it asked whether the walk is at its end
 unfoldable pub Ends : List ℕ → ℕ → Row → Type 0
-Ends l c o = getD l (c * 10) 0 ≡ o .leave
+Ends l c o = getD l (c * width) 0 ≡ o .leave
 
 -- no row from i up to r covers o or is covered by it
 pub record Skipped (o : Row) (ks : List Row) (i r : ℕ) : Type 0 where
@@ -64,7 +65,7 @@ stays false o h k = leb (due k) h
 
 -- l′ has the rows of the first i of l that stay, n in number, then others; from i on it is l
 pub record Packed (p : Row → Bool) (l l′ : List ℕ) (i n : ℕ) : Type 0 where
-  pub long : length l′ ≡ 654
+  pub long : length l′ ≡ size
   pub list : take n (rows l′) ≡ filterb p (take i (rows l))
   pub small : n ≤ i
   pub tail : Tail l l′
@@ -77,7 +78,7 @@ pub record Moved (p : Row → Bool) (l l′ : List ℕ) (i n n′ : ℕ) : Type 
 
 -- the search is not refused
 unfoldable pub Open : List ℕ → Type 0
-Open l = getD l 653 0 ≡ 0
+Open l = getD l refusedPlace 0 ≡ 0
 
 unfoldable pub latestDue : List Row → ℕ
 latestDue ks = latest due ks

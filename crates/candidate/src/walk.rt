@@ -2,13 +2,16 @@
 ghost use mathlib.Core.Path.{_≡_};
 ghost use Prim.Native.Nat.{_+_, _*_, _≤_, _<_};
 ghost use lib.ListN.{length, getD, take};
+ghost use Rattle.state.specs.Layout.{width, countPlace, size};
 ghost use Rattle.state.specs.View.{rowAt, rows};
 ghost use Rattle.candidate.specs.Pieces.{rankBy, turnOf, Ends, nearAt, passing};
 use profile::Row;
+use state::layout::State;
+use state::layout::WIDTH;
 
 // Whether the row whose numbers start at `at` is no worse than o by arrival, rides and walk.
-fn row_ranks(st: &[u16; 654], at: usize, o: Row) -> bool
-    requires { ⌜ (length (now st) ≡ 654) × (at < 650) ⌝ }
+fn row_ranks(st: &State, at: usize, o: Row) -> bool
+    requires { ⌜ (length (now st) ≡ size) × (at < countPlace) ⌝ }
     ensures { λ r. ⌜ r ≡ rankBy (getD (now (st .entry)) (at + 1) 0) (getD (now (st .entry)) (at + 2) 0) (getD (now (st .entry)) (at + 3) 0)
         (o .arrival) (o .rides) (o .walk) ⌝ }
 {
@@ -25,8 +28,8 @@ fn row_ranks(st: &[u16; 654], at: usize, o: Row) -> bool
 }
 
 // Whether o is no worse than that row.
-fn offer_ranks(st: &[u16; 654], at: usize, o: Row) -> bool
-    requires { ⌜ (length (now st) ≡ 654) × (at < 650) ⌝ }
+fn offer_ranks(st: &State, at: usize, o: Row) -> bool
+    requires { ⌜ (length (now st) ≡ size) × (at < countPlace) ⌝ }
     ensures { λ r. ⌜ r ≡ rankBy (o .arrival) (o .rides) (o .walk)
         (getD (now (st .entry)) (at + 1) 0) (getD (now (st .entry)) (at + 2) 0) (getD (now (st .entry)) (at + 3) 0) ⌝ }
 {
@@ -44,8 +47,8 @@ fn offer_ranks(st: &[u16; 654], at: usize, o: Row) -> bool
 
 // What the walk of o does at row i of the c kept ones, whose numbers start at `at`: 0, it goes on; 1, o is passed over; 2, it stops.
 // A figure is read only where it decides.
-fn turn(st: &[u16; 654], at: usize, i: usize, c: usize, o: Row) -> u8
-    requires { ⌜ (length (now st) ≡ 654) × (c ≤ 64) × (i ≤ c) × (at ≡ i * 10) × Ends (now st) c o ⌝ }
+fn turn(st: &State, at: usize, i: usize, c: usize, o: Row) -> u8
+    requires { ⌜ (length (now st) ≡ size) × (c ≤ 64) × (i ≤ c) × (at ≡ i * width) × Ends (now st) c o ⌝ }
     ensures { λ r. ⌜ r ≡ turnOf i c o (rowAt (now (st .entry)) i) ⌝ }
 {
     if st[at] < o.leave {
@@ -78,10 +81,10 @@ pub struct Found {
 }
 
 // The walk of o over the c kept rows.
-pub fn first_near(st: &[u16; 654], c: usize, o: Row) -> Found
-    requires { ⌜ (length (now st) ≡ 654) × (c ≤ 64) × Ends (now st) c o ⌝ }
+pub fn first_near(st: &State, c: usize, o: Row) -> Found
+    requires { ⌜ (length (now st) ≡ size) × (c ≤ 64) × Ends (now st) c o ⌝ }
     ensures { λ r. ⌜ (r .at ≡ nearAt o (take c (rows (now (st .entry))))) × (r .passes ≡ passing o (take c (rows (now (st .entry)))))
-        × (r .start ≡ r .at * 10) ⌝ }
+        × (r .start ≡ r .at * width) ⌝ }
 {
     if c == 0 {
         return Found {
@@ -109,6 +112,6 @@ pub fn first_near(st: &[u16; 654], c: usize, o: Row) -> Found
             };
         }
         i += 1;
-        at += 10;
+        at += WIDTH;
     }
 }

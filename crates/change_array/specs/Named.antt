@@ -1,7 +1,7 @@
 -- The changes that a search reads: from the stops that its calls name.
 use mathlib.Core.Path.{_≡_}
 use mathlib.Core.List.{List}
-use Prim.Native.Nat.{ℕ, _+_, _*_, _<_}
+use Prim.Native.Nat.{ℕ, _+_, _*_, _<_, _≤_}
 use lib.ListN.{length, getD}
 
 -- the stop of the call at place i of a feed
@@ -12,10 +12,10 @@ stopIn f i = getD f (i * 6 + 2) 0
 abbrev pub Marks : List ℕ → List ℕ → ℕ → Type 0
 Marks m f n = (i : ℕ) → i < n → i < 512 → stopIn f i < 128 → getD m (stopIn f i) 0 ≡ 1
 
--- with depth 1, g has at from * 128 + to the entry of each two stops of which one of the first n calls names the first
+-- with a change, g has at from * 128 + to the entry of each two stops of which one of the first n calls names the first
 abbrev pub HoldsChanges : List ℕ → List ℕ → ℕ → ℕ → (ℕ → ℕ → ℕ) → Type 0
 HoldsChanges g f n depth entry =
-    depth ≡ 1 → (i to : ℕ) → i < n → i < 512 → stopIn f i < 128 → to < 128 → getD g (stopIn f i * 128 + to) 0 ≡ entry (stopIn f i) to
+    1 ≤ depth → (i to : ℕ) → i < n → i < 512 → stopIn f i < 128 → to < 128 → getD g (stopIn f i * 128 + to) 0 ≡ entry (stopIn f i) to
 
 -- if the mark is 1, the n places from a have f of 0, 1, ..; those before them what they had in `first`
 pub record Marked (mark : ℕ) (f : ℕ → ℕ) (a n : ℕ) (first last : List ℕ) : Type 0 where

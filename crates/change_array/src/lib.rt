@@ -129,7 +129,7 @@ fn marked_rows(
 }
 
 // The seconds of a change at from * 128 + to, 65536 where there is none, from each stop that one of the first `calls` calls of the feed names;
-// with a depth other than 1 there are no changes to read. `change` is the settings' change time.
+// with depth 0 there are no changes to read. `change` is the settings' change time.
 pub fn changes_of(
     feed: &[u16; 3208],
     calls: usize,
@@ -142,7 +142,7 @@ pub fn changes_of(
 ) -> [u32; 16384]
     ensures { λ r. ⌜ HoldsChanges r (now (feed .entry)) calls depth (λ from to. entryOf (rulesOf (now (rules .entry)) (least count 128)) (now (parents .entry)) (now (places .entry)) from change to) ⌝ }
 {
-    if depth == 1 {
+    if 1 <= depth {
         let marks = named_stops(feed, calls);
         return marked_rows(marks, rules, count, parents, places, change);
     }

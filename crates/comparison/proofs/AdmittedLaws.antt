@@ -22,12 +22,12 @@ use Rattle.profile.specs.declared.Journey.{Journey}
 use Rattle.profile.specs.Journeys.{noRide}
 use Rattle.load.specs.declared.Load.{Load}
 use Rattle.load.specs.Filling.{Filling}
-use Rattle.offers.specs.Offers.{Timetable, rideOf, directOf, changeOf, journeyOf}
+use Rattle.offers.specs.Offers.{Timetable, rideOf, directOf, changeOf, threeOf, journeyOf}
 use Rattle.offers.specs.Admitted as by-load
 use Rattle.search.specs.Timetable.{timetableOf}
 use Rattle.comparison.specs.Taken.{StopGiven, stopsIn, callsIn}
 use Rattle.comparison.specs.Window.{Seen}
-use Rattle.comparison.specs.Admitted.{Feed, Member, Leg, IsRide, Between, Direct, Changing, Admits}
+use Rattle.comparison.specs.Admitted.{Feed, Member, Leg, IsRide, Between, Direct, Changing, Through, Admits}
 use Rattle.comparison.specs.Feeds.{feedFrom}
 use Rattle.comparison.proofs.NthLaws.{nth-below, nth-one}
 use Rattle.comparison.proofs.WindowLaws.{seen-shown, window-seen}
@@ -185,28 +185,28 @@ module _ (s : Settings) (p : Load) (fs : List Filling) (w : Start s p fs) (o : O
   -- ---- journeys
 
   -- what stands between origin and target, of n rides
-  pub between-in : (n : ℕ) (b x a : Call) (l : Ride) (i k : ℕ) → b .stop < p .«stop_count» → a .stop < p .«stop_count» → by-load.Starts t b i → by-load.Ends t a k
-      → Between F b a (journeyOf t n (rideOf b x) l (a .arrival) i k)
-  between-in n b x a l i k hb ha v u =
-      let (c, m) = starts-in b i hb v in
+  pub between-in : (n : ℕ) (b x a : Call) (m l : Ride) (i k : ℕ) → b .stop < p .«stop_count» → a .stop < p .«stop_count» → by-load.Starts t b i → by-load.Ends t a k
+      → Between F b a (journeyOf t n (rideOf b x) m l (a .arrival) i k)
+  between-in n b x a m l i k hb ha v u =
+      let (c, w′) = starts-in b i hb v in
       let (d, q) = ends-in a k ha u in
       record {
         origin = c;
         target = d;
-        from = m;
+        from = w′;
         to = q;
         walk = origin-walk i c;
         leave = omega (arith, v .walked);
         arrival = ap (λ (z : ℕ). a .arrival + z * 60) (target-walk k d);
       }
 
-  pub between-out : (n : ℕ) (b x a : Call) (j : Journey) (l : Ride) → Between F b a j → j .rides ≡ n → j .first ≡ rideOf b x → j .last ≡ l
-      → j ≡ journeyOf t n (rideOf b x) l (a .arrival) (j .origin) (j .target)
-  between-out n b x a j l v r f e =
+  pub between-out : (n : ℕ) (b x a : Call) (j : Journey) (m l : Ride) → Between F b a j → j .rides ≡ n → j .first ≡ rideOf b x → j .middle ≡ m → j .last ≡ l
+      → j ≡ journeyOf t n (rideOf b x) m l (a .arrival) (j .origin) (j .target)
+  between-out n b x a j m l v r f y e =
       let q : j .walk ≡ t .origin-walk (j .origin) = v .walk ∙ sym (origin-walk (j .origin) (v .origin)) in
       let d : j .leave ≡ b .departure - t .origin-walk (j .origin) * 60 = leaves (j .leave) (j .walk) (t .origin-walk (j .origin)) (b .departure) (v .leave) q in
       let g : j .arrival ≡ a .arrival + t .target-walk (j .target) * 60 = v .arrival ∙ ap (λ (z : ℕ). a .arrival + z * 60) (sym (target-walk (j .target) (v .target))) in
-      λ i. record { leave = d i; arrival = g i; rides = r i; walk = q i; origin = j .origin; target = j .target; first = f i; last = e i }
+      λ i. record { leave = d i; arrival = g i; rides = r i; walk = q i; origin = j .origin; target = j .target; first = f i; middle = y i; last = e i }
     where
       leaves : (x y z d : ℕ) → x + y * 60 ≡ d → y ≡ z → x ≡ d - z * 60
       leaves x y z d e q = omega arith
@@ -224,13 +224,14 @@ module _ (s : Settings) (p : Load) (fs : List Filling) (w : Start s p fs) (o : O
     b = b;
     a = a;
     leg = leg-in b a r;
-    between = between-in 1 b a a noRide i k (known b (r .from)) (known a (r .to)) v u;
+    between = between-in 1 b a a noRide noRide i k (known b (r .from)) (known a (r .to)) v u;
     rides = refl;
     first = is-ride b a;
+    middle = refl;
     last = refl;
   }
 
-  unfoldable pub change-in : (b a c d : Call) (i k : ℕ) → t .max-transfers ≡ 1 → by-load.Rides calls b a → by-load.Rides calls c d → t .joins (rideOf b a) c ≡ true
+  unfoldable pub change-in : (b a c d : Call) (i k : ℕ) → 1 ≤ t .max-transfers → by-load.Rides calls b a → by-load.Rides calls c d → t .joins (rideOf b a) c ≡ true
       → by-load.Starts t b i → by-load.Ends t d k → Changing F (changeOf t (rideOf b a) (rideOf c d) i k)
   unfolding timetableOf
   change-in b a c d i k e r r′ q v u = record {
@@ -238,21 +239,47 @@ module _ (s : Settings) (p : Load) (fs : List Filling) (w : Start s p fs) (o : O
     a = a;
     c = c;
     d = d;
-    may = sym transfers ∙ e;
+    may = omega (arith, transfers, e);
     leg = leg-in b a r;
     leg′ = leg-in c d r′;
     joins = joins-in s p fs w b a c (r .run .trip) (r .run .day) (known a (r .to)) (known c (r′ .from)) q;
-    between = between-in 2 b a d (rideOf c d) i k (known b (r .from)) (known d (r′ .to)) v u;
+    between = between-in 2 b a d noRide (rideOf c d) i k (known b (r .from)) (known d (r′ .to)) v u;
     rides = refl;
     first = is-ride b a;
+    middle = refl;
     last = is-ride c d;
+  }
+
+  unfoldable pub three-in : (b a c d x y : Call) (i k : ℕ) → 2 ≤ t .max-transfers → by-load.Rides calls b a → by-load.Rides calls c d → by-load.Rides calls x y
+      → t .joins (rideOf b a) c ≡ true → t .joins (rideOf c d) x ≡ true → by-load.Starts t b i → by-load.Ends t y k → Through F (threeOf t (rideOf b a) (rideOf c d) (rideOf x y) i k)
+  unfolding timetableOf
+  three-in b a c d x y i k e r r′ r″ q q′ v u = record {
+    b = b;
+    a = a;
+    c = c;
+    d = d;
+    e = x;
+    g = y;
+    may = omega (arith, transfers, e);
+    leg = leg-in b a r;
+    leg′ = leg-in c d r′;
+    leg″ = leg-in x y r″;
+    joins = joins-in s p fs w b a c (r .run .trip) (r .run .day) (known a (r .to)) (known c (r′ .from)) q;
+    joins′ = joins-in s p fs w c d x (r′ .run .trip) (r′ .run .day) (known d (r′ .to)) (known x (r″ .from)) q′;
+    between = between-in 3 b a y (rideOf c d) (rideOf x y) i k (known b (r .from)) (known y (r″ .to)) v u;
+    rides = refl;
+    first = is-ride b a;
+    middle = is-ride c d;
+    last = is-ride x y;
   }
 
   admitted-in : (j : Journey) → by-load.Admitted t j → Admits F j
   unfolding timetableOf
   admitted-in j (inl v) = inl (subst (Direct F) (sym (v .is)) (direct-in (v .b) (v .a) (v .o) (v .k) (v .ride) (v .starts) (v .ends)))
-  admitted-in j (inr v) =
-      inr (subst (Changing F) (sym (v .is)) (change-in (v .b) (v .a) (v .c) (v .d) (v .o) (v .k) (v .may) (v .first) (v .last) (v .joined) (v .starts) (v .ends)))
+  admitted-in j (inr (inl v)) =
+      inr (inl (subst (Changing F) (sym (v .is)) (change-in (v .b) (v .a) (v .c) (v .d) (v .o) (v .k) (v .may) (v .first) (v .last) (v .joined) (v .starts) (v .ends))))
+  admitted-in j (inr (inr v)) =
+      inr (inr (subst (Through F) (sym (v .is)) (three-in (v .b) (v .a) (v .c) (v .d) (v .e) (v .g) (v .o) (v .k) (v .may) (v .first) (v .middle) (v .last) (v .joined) (v .joins) (v .starts) (v .ends))))
 
   unfoldable pub direct-out : (j : Journey) → Direct F j → by-load.Direct t j
   unfolding timetableOf
@@ -264,7 +291,7 @@ module _ (s : Settings) (p : Load) (fs : List Filling) (w : Start s p fs) (o : O
     ride = leg-out (v .b) (v .a) (v .leg);
     starts = starts-of (v .b) (v .a) j (v .between);
     ends = ends-out (v .a) (j .target) (v .between .target) (v .between .to);
-    is = between-out 1 (v .b) (v .a) (v .a) j noRide (v .between) (v .rides) (ride-is (v .b) (v .a) (j .first) (v .first)) (v .last);
+    is = between-out 1 (v .b) (v .a) (v .a) j noRide noRide (v .between) (v .rides) (ride-is (v .b) (v .a) (j .first) (v .first)) (v .middle) (v .last);
   }
 
   unfoldable pub change-out : (j : Journey) → Changing F j → by-load.Change t j
@@ -279,18 +306,45 @@ module _ (s : Settings) (p : Load) (fs : List Filling) (w : Start s p fs) (o : O
         d = v .d;
         o = j .origin;
         k = j .target;
-        may = transfers ∙ v .may;
+        may = omega (arith, transfers, v .may);
         first = f;
         last = l;
         starts = starts-of (v .b) (v .d) j (v .between);
         ends = ends-out (v .d) (j .target) (v .between .target) (v .between .to);
         joined = joins-out s p fs w (v .b) (v .a) (v .c) (f .run .trip) (f .run .day) (known (v .a) (f .to)) (known (v .c) (l .from)) (v .joins);
-        is = between-out 2 (v .b) (v .a) (v .d) j (rideOf (v .c) (v .d)) (v .between) (v .rides) (ride-is (v .b) (v .a) (j .first) (v .first)) (ride-is (v .c) (v .d) (j .last) (v .last));
+        is = between-out 2 (v .b) (v .a) (v .d) j noRide (rideOf (v .c) (v .d)) (v .between) (v .rides) (ride-is (v .b) (v .a) (j .first) (v .first)) (v .middle) (ride-is (v .c) (v .d) (j .last) (v .last));
+      }
+
+  unfoldable pub three-out : (j : Journey) → Through F j → by-load.Three t j
+  unfolding timetableOf
+  three-out j v =
+      let f = leg-out (v .b) (v .a) (v .leg) in
+      let m = leg-out (v .c) (v .d) (v .leg′) in
+      let l = leg-out (v .e) (v .g) (v .leg″) in
+      record {
+        b = v .b;
+        a = v .a;
+        c = v .c;
+        d = v .d;
+        e = v .e;
+        g = v .g;
+        o = j .origin;
+        k = j .target;
+        may = omega (arith, transfers, v .may);
+        first = f;
+        middle = m;
+        last = l;
+        starts = starts-of (v .b) (v .g) j (v .between);
+        ends = ends-out (v .g) (j .target) (v .between .target) (v .between .to);
+        joined = joins-out s p fs w (v .b) (v .a) (v .c) (f .run .trip) (f .run .day) (known (v .a) (f .to)) (known (v .c) (m .from)) (v .joins);
+        joins = joins-out s p fs w (v .c) (v .d) (v .e) (m .run .trip) (m .run .day) (known (v .d) (m .to)) (known (v .e) (l .from)) (v .joins′);
+        is = between-out 3 (v .b) (v .a) (v .g) j (rideOf (v .c) (v .d)) (rideOf (v .e) (v .g)) (v .between) (v .rides) (ride-is (v .b) (v .a) (j .first) (v .first)) (ride-is (v .c) (v .d) (j .middle) (v .middle)) (ride-is (v .e) (v .g) (j .last) (v .last));
       }
 
   admitted-out : (j : Journey) → Admits F j → by-load.Admitted t j
   admitted-out j (inl v) = inl (direct-out j v)
-  admitted-out j (inr v) = inr (change-out j v)
+  admitted-out j (inr (inl v)) = inr (inl (change-out j v))
+  admitted-out j (inr (inr v)) = inr (inr (three-out j v))
 
   pub admits : (j : Journey) → by-load.Admitted (timetableOf p) j ↔ Admits (feedFrom s p fs) j
   admits j = (admitted-in j, admitted-out j)

@@ -15,8 +15,8 @@ use Rattle.steps.proofs.ShownLaws.{rawEarlier}
 use Rattle.comparison.specs.Window.{Seen, Shown, empty, one, pass}
 use Rattle.comparison.specs.Horizon.{Fits, outside, room, full, cut}
 use Rattle.comparison.specs.Neighbours.{Clashing}
-use Rattle.comparison.specs.Admitted.{Feed, Change, Joins, Leg, Between, Direct, Changing, Admits}
-use Rattle.comparison.specs.OfferOrder.{Offer, alone, changing, Gives, Each, Offered}
+use Rattle.comparison.specs.Admitted.{Feed, Change, Joins, Leg, Between, Direct, Changing, Through, Admits}
+use Rattle.comparison.specs.OfferOrder.{Offer, alone, changing, through, Gives, Each, Offered}
 
 perm-length : {A : Type 0} {xs ys : List A} → List·Permᴰ xs ys → length xs ≡ length ys
 perm-length List·Permᴰ·nil = refl
@@ -106,7 +106,7 @@ module _ (F : Feed) (is js : List CallInput) (p : List·Permᴰ is js) where
   between-perm b a j w = record { origin = w .origin; target = w .target; from = w .from; to = w .to; walk = w .walk; leave = w .leave; arrival = w .arrival }
 
   unfoldable direct-perm : (j : Journey) → Direct A j → Direct B j
-  direct-perm j w = record { b = w .b; a = w .a; leg = leg-perm (w .b) (w .a) (w .leg); between = between-perm (w .b) (w .a) j (w .between); rides = w .rides; first = w .first; last = w .last }
+  direct-perm j w = record { b = w .b; a = w .a; leg = leg-perm (w .b) (w .a) (w .leg); between = between-perm (w .b) (w .a) j (w .between); rides = w .rides; first = w .first; middle = w .middle; last = w .last }
 
   unfoldable changing-perm : (j : Journey) → Changing A j → Changing B j
   changing-perm j w = record {
@@ -121,17 +121,41 @@ module _ (F : Feed) (is js : List CallInput) (p : List·Permᴰ is js) where
     between = between-perm (w .b) (w .d) j (w .between);
     rides = w .rides;
     first = w .first;
+    middle = w .middle;
+    last = w .last;
+  }
+
+  unfoldable through-perm : (j : Journey) → Through A j → Through B j
+  through-perm j w = record {
+    b = w .b;
+    a = w .a;
+    c = w .c;
+    d = w .d;
+    e = w .e;
+    g = w .g;
+    may = w .may;
+    leg = leg-perm (w .b) (w .a) (w .leg);
+    leg′ = leg-perm (w .c) (w .d) (w .leg′);
+    leg″ = leg-perm (w .e) (w .g) (w .leg″);
+    joins = joins-perm (w .a) (w .c) (w .joins);
+    joins′ = joins-perm (w .d) (w .e) (w .joins′);
+    between = between-perm (w .b) (w .g) j (w .between);
+    rides = w .rides;
+    first = w .first;
+    middle = w .middle;
     last = w .last;
   }
 
   pub admits-perm : (j : Journey) → Admits A j → Admits B j
   admits-perm j (inl w) = inl (direct-perm j w)
-  admits-perm j (inr w) = inr (changing-perm j w)
+  admits-perm j (inr (inl w)) = inr (inl (changing-perm j w))
+  admits-perm j (inr (inr w)) = inr (inr (through-perm j w))
 
   pub gives-perm : (x : Offer) (j : Journey) → Gives A x j → Gives B x j
-  unfolding direct-perm changing-perm
+  unfolding direct-perm changing-perm through-perm
   gives-perm (alone b o a k) j (w, eb, ea, eo, ek) = (direct-perm j w, eb, ea, eo, ek)
   gives-perm (changing b o a c d k) j (w, eb, ea, ec, ed, eo, ek) = (changing-perm j w, eb, ea, ec, ed, eo, ek)
+  gives-perm (through b o a c d e g k) j (w, eb, ea, ec, ed, ee, eg, eo, ek) = (through-perm j w, eb, ea, ec, ed, ee, eg, eo, ek)
 
   pub each-perm : (es : List Offer) (os : List Journey) → Each A es os → Each B es os
   each-perm [] [] w = tt

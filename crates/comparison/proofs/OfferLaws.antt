@@ -1,25 +1,41 @@
 -- The program's offers stand in the order stated here.
-use Prim.Native.Nat.{ℕ, _*_, _/_, _<_, min}
-use mathlib.Core.Path.{_≡_, refl, subst}
+use Prim.Native.Nat.{ℕ, _*_, _/_, _≤_, _<_, min}
+use native.Mathlib.Omega.{arith}
+use mathlib.Core.Path.{_≡_, refl, sym, ap, subst, _∙_}
 use mathlib.Core.Logic.{_⊎_, inl, inr}
-use mathlib.Core.Bool.{true, cond}
-use mathlib.Core.List.{List, [], _∷_, _++_, map, List·Memᴰ, List·Memᴰ·append-cases, Memᴰ·of-map}
+use mathlib.Core.Bool.{true, false, cond}
+use mathlib.Core.List.{List, [], _∷_, _++_, map, map-append, map-map, append-nil, List·Memᴰ, List·Memᴰ·append-cases, Memᴰ·of-map}
 use lib.Dec.{eqb, leb, ltb}
-use borrow.Author.Tests.{ltb-true}
+use borrow.Author.Tests.{ltb-true, le-leb, leb-true, leb-false}
 use Rattle.laws.specs.Lists.{concatMap, takeWhile}
 use Rattle.laws.specs.Bits.{bitsFrom}
 use Rattle.laws.proofs.Folds.{concatMap-mem}
+use Rattle.laws.proofs.Bools.{test}
 use Rattle.laws.proofs.Tails.{cond-mem}
+use Rattle.laws.proofs.Flat.{map-agree}
+use Rattle.laws.proofs.Places.{concatMap-cong, map-concatMap}
 use Rattle.calls.specs.declared.Call.{Call}
 use Rattle.profile.specs.declared.Journey.{Journey}
 use Rattle.profile.proofs.FiguresLaws.{lexb-true}
 use Rattle.ways.specs.Rides.{Leg, leg, First, firstRide, Network, alightings, rides, firstRides, joinedRides, directs, changes, journeys}
-use Rattle.ways.proofs.ImageLaws.{journeys-map}
+use Rattle.ways.specs.Routes.{Way, Route, here, rideThen, routeOf, onward, pass, routes}
+use Rattle.ways.proofs.RouteLaws.{up-to-one}
 use Rattle.offers.specs.Order.{earlier, Rising}
-use Rattle.offers.specs.Offers.{Timetable, rideOf, directOf, changeOf, networkOf, offers, sorted}
+use Rattle.offers.specs.Offers.{Timetable, rideOf, directOf, changeOf, threeOf, networkOf, rideBy, onJourney, journeyTo, journeyBy, routesOf, offers, sorted}
 use Rattle.comparison.specs.Neighbours.{CallBefore}
-use Rattle.comparison.specs.OfferOrder.{Offer, alone, changing, Sooner, Before, Ascending}
+use Rattle.comparison.specs.OfferOrder.{Offer, alone, changing, through, Sooner, RideSooner, Before, Ascending}
 use Rattle.comparison.proofs.Pairs.{Pairs, pairs-append, pairs-cond, pairs-concat, pairs-tails, pairs-while, pairs-filter, pairs-map, pairs-bits}
+
+-- ---- two passes
+
+none-passed : {C : Type 0} (N : Network C) (fs : List (First C)) → concatMap {A = Route C} (λ (f : First C). []) fs ≡ []
+none-passed N [] = refl
+none-passed N (f ∷ fs) = none-passed N fs
+
+two-passes : {C : Type 0} (N : Network C) (depth : ℕ) (s : List C) → 2 ≤ depth → routes N depth s ≡ routes N 1 s ++ pass N (2 ∷ []) s
+unfolding routes pass
+two-passes N depth s h =
+    rw (le-leb 0 depth (omega arith), le-leb 1 depth (omega arith), le-leb 2 depth h, none-passed N (firstRides N s), append-nil) refl
 
 pub call-before : (b c : Call) → earlier b c ≡ true → CallBefore b c
 call-before b c e = one (lexb-true (b .trip) (c .trip) _ e)
@@ -40,17 +56,44 @@ byAlone f k = alone (f .ride .b) (f .o) (f .ride .a) k
 abbrev pub byChanging : First Call → Leg Call → ℕ → Offer
 byChanging f l k = changing (f .ride .b) (f .o) (f .ride .a) (l .b) (l .a) k
 
+abbrev pub byThrough : First Call → Leg Call → Leg Call → ℕ → Offer
+byThrough f m l k = through (f .ride .b) (f .o) (f .ride .a) (m .b) (m .a) (l .b) (l .a) k
+
+abbrev onKey : First Call → ℕ → Leg Call → Leg Call → List (Leg Call) → Offer
+onKey f k p r [] = byThrough f p r k
+onKey f k p r (l ∷ ls) = onKey f k r l ls
+
+abbrev keyTo : First Call → ℕ → List (Leg Call) → Offer
+keyTo f k [] = byAlone f k
+keyTo f k (l ∷ []) = byChanging f l k
+keyTo f k (p ∷ r ∷ ls) = onKey f k p r ls
+
+abbrev pub keyBy : Route Call → Offer
+keyBy r = keyTo (r .first) (r .way .target) (r .way .rides)
+
 abbrev pub keys : Timetable → List Call → List Offer
-keys t s = journeys (networkOf t) byAlone byChanging (t .max-transfers) s
+keys t s = map keyBy (routes (networkOf t) (t .max-transfers) s)
 
 abbrev pub toJ : Timetable → Offer → Journey
 toJ t (alone b o a k) = directOf t (rideOf b a) o k
 toJ t (changing b o a c d k) = changeOf t (rideOf b a) (rideOf c d) o k
+toJ t (through b o a c d e g k) = threeOf t (rideOf b a) (rideOf c d) (rideOf e g) o k
 
 -- the same journeys
+module _ (t : Timetable) (f : First Call) (k : ℕ) where
+  on-same : (p r : Leg Call) (ls : List (Leg Call)) → toJ t (onKey f k p r ls) ≡ onJourney t (rideBy (f .ride)) (f .o) k p r ls
+  on-same p r [] = refl
+  on-same p r (l ∷ ls) = on-same r l ls
+
+  to-same : (ls : List (Leg Call)) → toJ t (keyTo f k ls) ≡ journeyTo t (rideBy (f .ride)) (f .o) k ls
+  to-same [] = refl
+  to-same (l ∷ []) = refl
+  to-same (p ∷ r ∷ ls) = on-same p r ls
+
 pub same-offers : (t : Timetable) → map (toJ t) (keys t (sorted t)) ≡ offers t
 unfolding offers
-same-offers t = journeys-map (networkOf t) (toJ t) byAlone byChanging (t .max-transfers) (sorted t)
+same-offers t =
+    map-map (toJ t) keyBy (routesOf t) ∙ map-agree (λ r. toJ t (keyBy r)) (journeyBy t) (routesOf t) (λ r m. to-same t (r .first) (r .way .target) (r .way .rides))
 
 -- ---- rides in order
 
@@ -134,7 +177,7 @@ module _ (t : Timetable) (s : List Call) (p : Pairs CallBefore s) where
   unfolding networkOf
   targets a = pairs-bits (min (t .targets) 4) 0 (t .members (a .stop) / 16)
 
-  module _ (f : First Call) where
+  module _ (depth : ℕ) (f : First Call) where
     abbrev alones : List Offer
     alones = directs (networkOf t) byAlone byChanging f
 
@@ -171,24 +214,146 @@ module _ (t : Timetable) (s : List Call) (p : Pairs CallBefore s) where
         later l l′ (inl h) = inl h
         later l l′ (inr (q, h)) = inr (q, inl h)
 
-    after-pairs : Pairs Before (alones ++ cond (eqb (t .max-transfers) 1) changings [])
+    after-pairs : Pairs Before (alones ++ cond (eqb depth 1) changings [])
     after-pairs =
-        pairs-append Before alones (cond (eqb (t .max-transfers) 1) changings []) alone-pairs (pairs-cond Before (eqb (t .max-transfers) 1) changings changing-pairs)
-        (λ x y m n. let (k, e) = alone-of x m in let (l, k′, e′) = changing-of y (cond-mem (eqb (t .max-transfers) 1) changings n .1) in
+        pairs-append Before alones (cond (eqb depth 1) changings []) alone-pairs (pairs-cond Before (eqb depth 1) changings changing-pairs)
+        (λ x y m n. let (k, e) = alone-of x m in let (l, k′, e′) = changing-of y (cond-mem (eqb depth 1) changings n .1) in
         before-by x y (byAlone f k) (byChanging f l k′) e e′ (inr (refl, inr (refl, inr (refl, tt)))))
 
-    after-of : (x : Offer) → List·Memᴰ x (alones ++ cond (eqb (t .max-transfers) 1) changings []) → Of f x
+    after-of : (x : Offer) → List·Memᴰ x (alones ++ cond (eqb depth 1) changings []) → Of f x
     after-of x m = go (List·Memᴰ·append-cases alones m)
       where
-        go : List·Memᴰ x alones ⊎ List·Memᴰ x (cond (eqb (t .max-transfers) 1) changings []) → Of f x
+        go : List·Memᴰ x alones ⊎ List·Memᴰ x (cond (eqb depth 1) changings []) → Of f x
         go (inl n) = inl (alone-of x n)
-        go (inr n) = inr (changing-of x (cond-mem (eqb (t .max-transfers) 1) changings n .1))
+        go (inr n) = inr (changing-of x (cond-mem (eqb depth 1) changings n .1))
+
+  -- by one ride or two
+  few-pairs : (depth : ℕ) → Pairs Before (journeys (networkOf t) byAlone byChanging depth s)
+  unfolding journeys
+  few-pairs depth =
+      pairs-concat Before FirstBefore (λ f. alones depth f ++ cond (eqb depth 1) (changings depth f) []) (firstRides (networkOf t) s) (firsts-pairs (networkOf t) bits s p) (after-pairs depth)
+      (λ f g w x y m n. by-first f g w x y (after-of depth f x m) (after-of depth g y n))
+
+  few-of : (depth : ℕ) (x : Offer) → List·Memᴰ x (journeys (networkOf t) byAlone byChanging depth s) → (f : First Call) × Of f x
+  unfolding journeys
+  few-of depth x m =
+      let (f, i, n) = concatMap-mem (λ f. alones depth f ++ cond (eqb depth 1) (changings depth f) []) (firstRides (networkOf t) s) m in
+      (f, after-of depth f x n)
+
+  -- by three
+  lasts : First Call → Leg Call → Leg Call → List Offer
+  lasts f m l = map (byThrough f m l) (networkOf t .targets (l .a))
+
+  middles : First Call → Leg Call → List Offer
+  middles f m = concatMap (lasts f m) (joinedRides (networkOf t) s m)
+
+  throughs : First Call → List Offer
+  throughs f = concatMap (middles f) (joinedRides (networkOf t) s (f .ride))
+
+  joined-pairs : (r : Leg Call) → Pairs RideBefore (joinedRides (networkOf t) s r)
+  unfolding joinedRides
+  joined-pairs r = pairs-filter RideBefore (λ l. networkOf t .joins r (l .b)) (rides (networkOf t) s) (rides-pairs (networkOf t) bits s p)
+
+  last-is : (f : First Call) (m l : Leg Call) (x : Offer) → List·Memᴰ x (lasts f m l) → (k : ℕ) × (byThrough f m l k ≡ x)
+  unfolding lasts
+  last-is f m l x i = let (k, j, e) = Memᴰ·of-map (byThrough f m l) (networkOf t .targets (l .a)) i in (k, e)
+
+  middle-is : (f : First Call) (m : Leg Call) (x : Offer) → List·Memᴰ x (middles f m) → (l : Leg Call) × (k : ℕ) × (byThrough f m l k ≡ x)
+  unfolding middles
+  middle-is f m x i =
+      let (l, j, n) = concatMap-mem (lasts f m) (joinedRides (networkOf t) s m) i in
+      let (k, e) = last-is f m l x n in
+      (l, k, e)
+
+  through-is : (f : First Call) (x : Offer) → List·Memᴰ x (throughs f) → (m : Leg Call) × (l : Leg Call) × (k : ℕ) × (byThrough f m l k ≡ x)
+  unfolding throughs
+  through-is f x i =
+      let (m, j, n) = concatMap-mem (middles f) (joinedRides (networkOf t) s (f .ride)) i in
+      let (l, k, e) = middle-is f m x n in
+      (m, l, k, e)
+
+  ride-sooner : (l l′ : Leg Call) {Rest : Type 0} → RideBefore l l′ → RideSooner (l .b) (l .a) (l′ .b) (l′ .a) Rest
+  ride-sooner l l′ (inl h) = inl h
+  ride-sooner l l′ (inr (q, h)) = inr (q, inl h)
+
+  last-pairs : (f : First Call) (m l : Leg Call) → Pairs Before (lasts f m l)
+  unfolding lasts
+  last-pairs f m l =
+      pairs-map Before _<_ (byThrough f m l) (networkOf t .targets (l .a)) (targets (l .a)) (λ k k′ h. inr (refl, inr (refl, inr (refl, inr (refl, inr (refl, inr (refl, inr (refl, h))))))))
+
+  middle-pairs : (f : First Call) (m : Leg Call) → Pairs Before (middles f m)
+  unfolding middles
+  middle-pairs f m =
+      pairs-concat Before RideBefore (lasts f m) (joinedRides (networkOf t) s m) (joined-pairs m) (last-pairs f m)
+      (λ l l′ w x y i j. let (k, e) = last-is f m l x i in let (k′, e′) = last-is f m l′ y j in
+      before-by x y (byThrough f m l k) (byThrough f m l′ k′) e e′ (inr (refl, inr (refl, inr (refl, inr (refl, inr (refl, ride-sooner l l′ w)))))))
+
+  through-pairs : (f : First Call) → Pairs Before (throughs f)
+  unfolding throughs
+  through-pairs f =
+      pairs-concat Before RideBefore (middles f) (joinedRides (networkOf t) s (f .ride)) (joined-pairs (f .ride)) (middle-pairs f)
+      (λ m m′ w x y i j. let (l, k, e) = middle-is f m x i in let (l′, k′, e′) = middle-is f m′ y j in
+      before-by x y (byThrough f m l k) (byThrough f m′ l′ k′) e e′ (inr (refl, inr (refl, inr (refl, ride-sooner m m′ w)))))
+
+  three-pairs : Pairs Before (concatMap throughs (firstRides (networkOf t) s))
+  three-pairs =
+      pairs-concat Before FirstBefore throughs (firstRides (networkOf t) s) (firsts-pairs (networkOf t) bits s p) through-pairs
+      (λ f g w x y i j. let (m, l, k, e) = through-is f x i in let (m′, l′, k′, e′) = through-is g y j in
+      before-by x y (byThrough f m l k) (byThrough g m′ l′ k′) e e′ (sooner f g _ w))
+
+  three-is : (x : Offer) → List·Memᴰ x (concatMap throughs (firstRides (networkOf t) s)) → (f : First Call) × (m : Leg Call) × (l : Leg Call) × (k : ℕ) × (byThrough f m l k ≡ x)
+  three-is x i =
+      let (f, j, n) = concatMap-mem throughs (firstRides (networkOf t) s) i in
+      let (m, l, k, e) = through-is f x n in
+      (f, m, l, k, e)
+
+  few-first : (x y : Offer) (f g : First Call) (m l : Leg Call) (k : ℕ) → Of f x → byThrough g m l k ≡ y → Before x y
+  few-first x y f g m l k (inl (k′, e)) q = before-by x y (byAlone f k′) (byThrough g m l k) e q tt
+  few-first x y f g m l k (inr (l′, k′, e)) q = before-by x y (byChanging f l′ k′) (byThrough g m l k) e q tt
+
+  -- these are the keys
+  one-on : (f : First Call) (m : Leg Call) → map (λ (v : Way Call). keyBy (routeOf f (rideThen m v))) (onward (networkOf t) 1 s m) ≡ middles f m
+  unfolding onward middles lasts
+  one-on f m =
+      let N = networkOf t in
+      map-concatMap (λ (v : Way Call). keyBy (routeOf f (rideThen m v))) (λ l. map (rideThen l) (map here (N .targets (l .a)))) (joinedRides N s m)
+      ∙ concatMap-cong (λ l. map (λ (v : Way Call). keyBy (routeOf f (rideThen m v))) (map (rideThen l) (map here (N .targets (l .a))))) (lasts f m)
+      (λ l. map-map (λ (v : Way Call). keyBy (routeOf f (rideThen m v))) (rideThen l) (map here (N .targets (l .a)))
+      ∙ map-map (λ (v : Way Call). keyBy (routeOf f (rideThen m (rideThen l v)))) here (N .targets (l .a))) (joinedRides N s m)
+
+  two-on : (f : First Call) → map (λ (v : Way Call). keyBy (routeOf f v)) (onward (networkOf t) 2 s (f .ride)) ≡ throughs f
+  unfolding onward throughs
+  two-on f =
+      let N = networkOf t in
+      map-concatMap (λ (v : Way Call). keyBy (routeOf f v)) (λ m. map (rideThen m) (onward N 1 s m)) (joinedRides N s (f .ride))
+      ∙ concatMap-cong (λ m. map (λ (v : Way Call). keyBy (routeOf f v)) (map (rideThen m) (onward N 1 s m))) (middles f)
+      (λ m. map-map (λ (v : Way Call). keyBy (routeOf f v)) (rideThen m) (onward N 1 s m) ∙ one-on f m) (joinedRides N s (f .ride))
+
+  three-keys : map keyBy (pass (networkOf t) (2 ∷ []) s) ≡ concatMap throughs (firstRides (networkOf t) s)
+  unfolding pass
+  three-keys =
+      let N = networkOf t in
+      map-concatMap keyBy (λ f. concatMap (λ n. map (routeOf f) (onward N n s (f .ride))) (2 ∷ [])) (firstRides N s)
+      ∙ concatMap-cong (λ f. map keyBy (concatMap (λ n. map (routeOf f) (onward N n s (f .ride))) (2 ∷ []))) throughs
+      (λ f. ap (map keyBy) (append-nil (map (routeOf f) (onward N 2 s (f .ride)))) ∙ map-map keyBy (routeOf f) (onward N 2 s (f .ride)) ∙ two-on f) (firstRides N s)
+
+  few-keys : (depth : ℕ) → depth ≤ 1 → map keyBy (routes (networkOf t) depth s) ≡ journeys (networkOf t) byAlone byChanging depth s
+  few-keys depth h = up-to-one (networkOf t) depth s byAlone byChanging keyBy h (λ f k. refl) (λ f l k. refl)
+
+  all-keys : (depth : ℕ) → 2 ≤ depth → map keyBy (routes (networkOf t) depth s) ≡ journeys (networkOf t) byAlone byChanging 1 s ++ concatMap throughs (firstRides (networkOf t) s)
+  all-keys depth h =
+      ap (map keyBy) (two-passes (networkOf t) depth s h)
+      ∙ map-append keyBy (routes (networkOf t) 1 s) (pass (networkOf t) (2 ∷ []) s) ∙ (λ i. few-keys 1 (omega arith) i ++ three-keys i)
 
   pub pairs-offers : Pairs Before (keys t s)
-  unfolding journeys
-  pairs-offers =
-      pairs-concat Before FirstBefore (λ f. alones f ++ cond (eqb (t .max-transfers) 1) (changings f) []) (firstRides (networkOf t) s) (firsts-pairs (networkOf t) bits s p) after-pairs
-      (λ f g w x y m n. by-first f g w x y (after-of f x m) (after-of g y n))
+  pairs-offers = go (test (leb (t .max-transfers) 1))
+    where
+      go : (leb (t .max-transfers) 1 ≡ true) ⊎ (leb (t .max-transfers) 1 ≡ false) → Pairs Before (keys t s)
+      go (inl h) = subst (Pairs Before) (sym (few-keys (t .max-transfers) (leb-true (t .max-transfers) 1 h))) (few-pairs (t .max-transfers))
+      go (inr h) =
+          subst (Pairs Before) (sym (all-keys (t .max-transfers) (omega (arith, leb-false (t .max-transfers) 1 h))))
+          (pairs-append Before (journeys (networkOf t) byAlone byChanging 1 s) (concatMap throughs (firstRides (networkOf t) s)) (few-pairs 1) three-pairs
+          (λ x y i j. let (f, o) = few-of 1 x i in let (g, m, l, k, e) = three-is y j in few-first x y f g m l k o e))
 
 pub ascends : (es : List Offer) → Pairs Before es → Ascending es
 ascends [] p = tt

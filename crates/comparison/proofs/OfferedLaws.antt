@@ -1,9 +1,9 @@
 -- The program's offers are those stated here, and no other list is.
-use Prim.Native.Nat.{ℕ, _+_, _*_, _<_}
+use Prim.Native.Nat.{ℕ, zero, suc, _+_, _*_, _≤_, _<_}
 use mathlib.Core.Path.{_≡_, refl, sym, ap, subst, _∙_}
 use mathlib.Core.Logic.{_⊎_, inl, inr}
 use mathlib.Core.Bool.{true}
-use mathlib.Core.List.{List, [], _∷_, map, List·Memᴰ, List·Memᴰ·head, List·Memᴰ·tail, List·Memᴰ·not-nil, List·Memᴰ·cases-cons}
+use mathlib.Core.List.{List, [], _∷_, map, List·Memᴰ, Memᴰ·map, Memᴰ·of-map, List·Memᴰ·head, List·Memᴰ·tail, List·Memᴰ·not-nil, List·Memᴰ·cases-cons}
 use native.Mathlib.Omega.{arith}
 use lib.ListN.{getD}
 use Rattle.settings.specs.declared.Settings.{Settings}
@@ -12,72 +12,58 @@ use Rattle.profile.specs.declared.Ride.{Ride}
 use Rattle.profile.specs.declared.Journey.{Journey}
 use Rattle.load.specs.declared.Load.{Load}
 use Rattle.load.specs.Filling.{Filling}
-use Rattle.ways.specs.Rides.{Leg, leg, firstRide}
-use Rattle.ways.proofs.RideLaws.{Alone, Changing, journeys-mem, mem-alone, mem-changing}
-use Rattle.offers.specs.Offers.{Timetable, rideOf, networkOf, sorted, offers}
+use Rattle.ways.specs.Rides.{leg, firstRide}
+use Rattle.ways.specs.Routes.{Way, Route, here, rideThen, routeOf}
+use Rattle.offers.specs.Offers.{Timetable, rideOf, routesOf, sorted, offers}
+use Rattle.offers.specs.Routes.{AdmittedRoute}
+use Rattle.offers.proofs.RouteLaws.{routes-admitted}
 use Rattle.offers.specs.Admitted.{Rides, Starts, Ends, Clear}
-use Rattle.offers.proofs.OfferLaws.{clear-rising, rides-found, found-rides, starts-set, set-starts, ends-set, set-ends}
+use Rattle.offers.proofs.OfferLaws.{clear-rising}
 use Rattle.search.specs.Timetable.{timetableOf}
 use Rattle.comparison.specs.Admitted.{Feed, Between, IsRide}
 use Rattle.comparison.specs.Neighbours.{CallBefore}
-use Rattle.comparison.specs.OfferOrder.{Offer, alone, changing, Before, Ascending, Gives, Each, Offered}
+use Rattle.comparison.specs.OfferOrder.{Offer, alone, changing, through, Before, Ascending, Gives, Each, Offered}
 use Rattle.comparison.specs.Feeds.{feedOf, feedFrom}
 use Rattle.comparison.proofs.Pairs.{Pairs, one-pairs}
 use Rattle.comparison.proofs.SettingLaws.{Opened}
 use Rattle.comparison.proofs.StartLaws.{Start, stateAt, same-feed}
-use Rattle.comparison.proofs.AdmittedLaws.{ride-is, direct-in, change-in, direct-out, change-out}
-use Rattle.comparison.proofs.OfferLaws.{byAlone, byChanging, keys, toJ, pairs-offers, same-offers, ascends, rises}
+use Rattle.comparison.proofs.AdmittedLaws.{ride-is, direct-in, change-in, three-in, direct-out, change-out, three-out}
+use Rattle.comparison.proofs.OfferLaws.{keyBy, keys, toJ, pairs-offers, same-offers, ascends, rises}
 
 -- ---- the calls of an offer
 
 abbrev KeyOf : Timetable → Offer → Type 0
 KeyOf t (alone b o a k) = Rides (t .calls) b a × Starts t b o × Ends t a k
-KeyOf t (changing b o a c d k) = (t .max-transfers ≡ 1) × Rides (t .calls) b a × Rides (t .calls) c d × Starts t b o × Ends t d k × (t .joins (rideOf b a) c ≡ true)
-
--- the network joins as the timetable does
-joins-is : (t : Timetable) (r : Leg Call) (c : Call) → networkOf t .joins r c ≡ true → t .joins (rideOf (r .b) (r .a)) c ≡ true
-unfolding networkOf
-joins-is t r c e = e
-
-is-joins : (t : Timetable) (r : Leg Call) (c : Call) → t .joins (rideOf (r .b) (r .a)) c ≡ true → networkOf t .joins r c ≡ true
-unfolding networkOf
-is-joins t r c e = e
+KeyOf t (changing b o a c d k) = (1 ≤ t .max-transfers) × Rides (t .calls) b a × Rides (t .calls) c d × Starts t b o × Ends t d k × (t .joins (rideOf b a) c ≡ true)
+KeyOf t (through b o a c d e g k) =
+    (2 ≤ t .max-transfers) × Rides (t .calls) b a × Rides (t .calls) c d × Rides (t .calls) e g × Starts t b o × Ends t g k × (t .joins (rideOf b a) c ≡ true) × (t .joins (rideOf c d) e ≡ true)
 
 module _ (t : Timetable) (clear : Clear t) where
   p : Pairs CallBefore (sorted t)
   p = rises (sorted t) (clear-rising t clear)
 
+  by-route : (r : Route Call) → AdmittedRoute t r → KeyOf t (keyBy r)
+  by-route r (zero, h, w) = let (k, en, q) = w .on in subst (λ (v : Way Call). KeyOf t (keyBy (routeOf (r .first) v))) (sym q) (w .ride, w .starts, en)
+  by-route r (suc zero, h, w) =
+      let (l, v, last, joined, (k, en, q), e) = w .on in
+      subst (λ (v : Way Call). KeyOf t (keyBy (routeOf (r .first) v))) (sym (e ∙ ap (rideThen l) q)) (w .may, w .ride, last, w .starts, en, joined)
+  by-route r (suc (suc zero), h, w) =
+      let (m, v, middle, joined, (l, u, last, joins, (k, en, q), e), d) = w .on in
+      subst (λ (v : Way Call). KeyOf t (keyBy (routeOf (r .first) v))) (sym (d ∙ ap (rideThen m) (e ∙ ap (rideThen l) q))) (w .may, w .ride, middle, last, w .starts, en, joined, joins)
+  by-route r (suc (suc (suc n)), h, w) = absurd (omega arith)
+
   key-in : (x : Offer) → List·Memᴰ x (keys t (sorted t)) → KeyOf t x
-  key-in x m = go (journeys-mem (networkOf t) byAlone byChanging (t .max-transfers) (sorted t) x m)
-    where
-      go : Alone (networkOf t) byAlone byChanging (t .max-transfers) (sorted t) x ⊎ Changing (networkOf t) byAlone byChanging (t .max-transfers) (sorted t) x → KeyOf t x
-      go (inl w) =
-          let r = w .f .ride in
-          subst (KeyOf t) (sym (w .is)) (rides-found t clear (r .b) (r .a) (w .ride), starts-set t (r .b) (w .origin), ends-set t (r .a) (w .target))
-      go (inr w) =
-          let r = w .f .ride in
-          let l = w .l in
-          subst (KeyOf t) (sym (w .is))
-          (w .may, rides-found t clear (r .b) (r .a) (w .ride), rides-found t clear (l .b) (l .a) (w .last), starts-set t (r .b) (w .origin), ends-set t (l .a) (w .target), joins-is t r (l .b) (w .joined))
+  key-in x m = let (r, i, e) = Memᴰ·of-map keyBy (routesOf t) m in subst (KeyOf t) e (by-route r (routes-admitted t clear r .0 i))
 
   key-mem : (x : Offer) → KeyOf t x → List·Memᴰ x (keys t (sorted t))
   key-mem (alone b o a k) (r, st, en) =
-      mem-alone (networkOf t) byAlone byChanging (t .max-transfers) (sorted t) (alone b o a k)
-      (record { f = firstRide o b a; k = k; ride = found-rides t clear b a r; origin = set-starts t b o st; target = set-ends t a k en; is = refl })
+      Memᴰ·map keyBy (routes-admitted t clear (routeOf (firstRide o b a) (here k)) .1 (0, omega arith, record { may = omega arith; ride = r; starts = st; on = (k, en, refl) }))
   key-mem (changing b o a c d k) (e, r, r′, st, en, j) =
-      mem-changing (networkOf t) byAlone byChanging (t .max-transfers) (sorted t) (changing b o a c d k)
-      (record {
-        f = firstRide o b a;
-        l = leg c d;
-        k = k;
-        may = e;
-        ride = found-rides t clear b a r;
-        origin = set-starts t b o st;
-        last = found-rides t clear c d r′;
-        joined = is-joins t (leg b a) c j;
-        target = set-ends t d k en;
-        is = refl;
-      })
+      Memᴰ·map keyBy (routes-admitted t clear (routeOf (firstRide o b a) (rideThen (leg c d) (here k))) .1
+      (1, omega arith, record { may = e; ride = r; starts = st; on = (leg c d, here k, r′, j, (k, en, refl), refl) }))
+  key-mem (through b o a c d x y k) (e, r, r′, r″, st, en, j, j′) =
+      Memᴰ·map keyBy (routes-admitted t clear (routeOf (firstRide o b a) (rideThen (leg c d) (rideThen (leg x y) (here k)))) .1
+      (2, omega arith, record { may = e; ride = r; starts = st; on = (leg c d, rideThen (leg x y) (here k), r′, j, (leg x y, here k, r″, j′, (k, en, refl), refl), refl) }))
 
 -- ---- what was taken gives these offers
 
@@ -89,22 +75,26 @@ module _ (s : Settings) (l : Load) (fs : List Filling) (w : Start s l fs) (o : O
   t = timetableOf l
 
   gives : (x : Offer) → KeyOf t x → Gives F x (toJ t x)
-  unfolding timetableOf direct-in change-in
+  unfolding timetableOf direct-in change-in three-in
   gives (alone b i a k) (r, st, en) = (direct-in s l fs w o b a i k r st en, refl, refl, refl, refl)
   gives (changing b i a c d k) (e, r, r′, st, en, j) = (change-in s l fs w o b a c d i k e r r′ j st en, refl, refl, refl, refl, refl, refl)
+  gives (through b i a c d x y k) (e, r, r′, r″, st, en, j, j′) = (three-in s l fs w o b a c d x y i k e r r′ r″ j j′ st en, refl, refl, refl, refl, refl, refl, refl, refl)
 
   each-gives : (es : List Offer) → ((x : Offer) → List·Memᴰ x es → KeyOf t x) → Each F es (map (toJ t) es)
   each-gives [] f = tt
   each-gives (e ∷ es) f = (gives e (f e (List·Memᴰ·head refl)), each-gives es (λ x m. f x (List·Memᴰ·tail m)))
 
   given : (x : Offer) (j : Journey) → Gives F x j → KeyOf t x
-  unfolding timetableOf direct-out change-out
+  unfolding timetableOf direct-out change-out three-out
   given (alone b i a k) j (v, eb, ea, ei, ek) =
       let u = direct-out s l fs w o j v in
       subst (KeyOf t) (λ n. alone (eb n) (ei n) (ea n) (ek n)) (u .ride, u .starts, u .ends)
   given (changing b i a c d k) j (v, eb, ea, ec, ed, ei, ek) =
       let u = change-out s l fs w o j v in
       subst (KeyOf t) (λ n. changing (eb n) (ei n) (ea n) (ec n) (ed n) (ek n)) (u .may, u .first, u .last, u .starts, u .ends, u .joined)
+  given (through b i a c d x y k) j (v, eb, ea, ec, ed, ex, ey, ei, ek) =
+      let u = three-out s l fs w o j v in
+      subst (KeyOf t) (λ n. through (eb n) (ei n) (ea n) (ec n) (ed n) (ex n) (ey n) (ek n)) (u .may, u .first, u .middle, u .last, u .starts, u .ends, u .joined, u .joins)
 
   by-load : Offered F (offers t)
   by-load = record {
@@ -151,6 +141,12 @@ before-asym (alone b o a k) (changing b′ o′ a′ c′ d′ k′) v w = by-ca
 before-asym (changing b o a c d k) (alone b′ o′ a′ k′) v w = by-call b b′ (by-number o o′ (by-call a a′ (λ x u. x))) v w
 before-asym (changing b o a c d k) (changing b′ o′ a′ c′ d′ k′) v w =
     by-call b b′ (by-number o o′ (by-call a a′ (by-call c c′ (by-call d d′ (λ l l′. omega arith))))) v w
+before-asym (alone b o a k) (through b′ o′ a′ c′ d′ e′ g′ k′) v w = w
+before-asym (changing b o a c d k) (through b′ o′ a′ c′ d′ e′ g′ k′) v w = w
+before-asym (through b o a c d e g k) (alone b′ o′ a′ k′) v w = v
+before-asym (through b o a c d e g k) (changing b′ o′ a′ c′ d′ k′) v w = v
+before-asym (through b o a c d e g k) (through b′ o′ a′ c′ d′ e′ g′ k′) v w =
+    by-call b b′ (by-number o o′ (by-call a a′ (by-call c c′ (by-call d d′ (by-call e e′ (by-call g g′ (λ l l′. omega arith))))))) v w
 
 pairs-of : (es : List Offer) → Ascending es → Pairs Before es
 pairs-of [] w = tt
@@ -159,12 +155,12 @@ pairs-of (e ∷ es) w = (w .0, pairs-of es (w .1))
 module _ (F : Feed) where
   -- the journey between two calls is one
   one-between : (b a b′ a′ : Call) (j k : Journey) → b ≡ b′ → a ≡ a′ → j .origin ≡ k .origin → j .target ≡ k .target → Between F b a j → Between F b′ a′ k
-      → j .rides ≡ k .rides → j .first ≡ k .first → j .last ≡ k .last → j ≡ k
-  one-between b a b′ a′ j k eb ea eo ek v w er ef el =
+      → j .rides ≡ k .rides → j .first ≡ k .first → j .middle ≡ k .middle → j .last ≡ k .last → j ≡ k
+  one-between b a b′ a′ j k eb ea eo ek v w er ef em el =
       let q : j .walk ≡ k .walk = v .walk ∙ ap (λ (x : ℕ). getD (F .settings .«origin_walks») x 0) eo ∙ sym (w .walk) in
       let d : j .leave ≡ k .leave = leaves (j .leave) (j .walk) (k .leave) (k .walk) (b .departure) (b′ .departure) (v .leave) (w .leave) (ap (λ (x : Call). x .departure) eb) q in
       let g : j .arrival ≡ k .arrival = v .arrival ∙ (λ n. ea n .arrival + getD (F .settings .«target_walks») (ek n) 0 * 60) ∙ sym (w .arrival) in
-      λ n. record { leave = d n; arrival = g n; rides = er n; walk = q n; origin = eo n; target = ek n; first = ef n; last = el n }
+      λ n. record { leave = d n; arrival = g n; rides = er n; walk = q n; origin = eo n; target = ek n; first = ef n; middle = em n; last = el n }
     where
       leaves : (x y x′ y′ d d′ : ℕ) → x + y * 60 ≡ d → x′ + y′ * 60 ≡ d′ → d ≡ d′ → y ≡ y′ → x ≡ x′
       leaves x y x′ y′ d d′ e f g q = omega arith
@@ -175,11 +171,16 @@ module _ (F : Feed) where
   one-gives : (x : Offer) (j k : Journey) → Gives F x j → Gives F x k → j ≡ k
   one-gives (alone b o a i) j k (v, eb, ea, eo, ei) (w, fb, fa, fo, fi) =
       one-between (v .b) (v .a) (w .b) (w .a) j k (eb ∙ sym fb) (ea ∙ sym fa) (eo ∙ sym fo) (ei ∙ sym fi) (v .between) (w .between) (v .rides ∙ sym (w .rides))
-      (one-ride (v .b) (v .a) (w .b) (w .a) (j .first) (k .first) (eb ∙ sym fb) (ea ∙ sym fa) (v .first) (w .first)) (v .last ∙ sym (w .last))
+      (one-ride (v .b) (v .a) (w .b) (w .a) (j .first) (k .first) (eb ∙ sym fb) (ea ∙ sym fa) (v .first) (w .first)) (v .middle ∙ sym (w .middle)) (v .last ∙ sym (w .last))
   one-gives (changing b o a c d i) j k (v, eb, ea, ec, ed, eo, ei) (w, fb, fa, fc, fd, fo, fi) =
       one-between (v .b) (v .d) (w .b) (w .d) j k (eb ∙ sym fb) (ed ∙ sym fd) (eo ∙ sym fo) (ei ∙ sym fi) (v .between) (w .between) (v .rides ∙ sym (w .rides))
-      (one-ride (v .b) (v .a) (w .b) (w .a) (j .first) (k .first) (eb ∙ sym fb) (ea ∙ sym fa) (v .first) (w .first))
+      (one-ride (v .b) (v .a) (w .b) (w .a) (j .first) (k .first) (eb ∙ sym fb) (ea ∙ sym fa) (v .first) (w .first)) (v .middle ∙ sym (w .middle))
       (one-ride (v .c) (v .d) (w .c) (w .d) (j .last) (k .last) (ec ∙ sym fc) (ed ∙ sym fd) (v .last) (w .last))
+  one-gives (through b o a c d x y i) j k (v, eb, ea, ec, ed, ex, ey, eo, ei) (w, fb, fa, fc, fd, fx, fy, fo, fi) =
+      one-between (v .b) (v .g) (w .b) (w .g) j k (eb ∙ sym fb) (ey ∙ sym fy) (eo ∙ sym fo) (ei ∙ sym fi) (v .between) (w .between) (v .rides ∙ sym (w .rides))
+      (one-ride (v .b) (v .a) (w .b) (w .a) (j .first) (k .first) (eb ∙ sym fb) (ea ∙ sym fa) (v .first) (w .first))
+      (one-ride (v .c) (v .d) (w .c) (w .d) (j .middle) (k .middle) (ec ∙ sym fc) (ed ∙ sym fd) (v .middle) (w .middle))
+      (one-ride (v .e) (v .g) (w .e) (w .g) (j .last) (k .last) (ex ∙ sym fx) (ey ∙ sym fy) (v .last) (w .last))
 
   each-mem : (es : List Offer) (js : List Journey) → Each F es js → (e : Offer) → List·Memᴰ e es → (j : Journey) × Gives F e j
   each-mem [] [] w e m = absurd (List·Memᴰ·not-nil m)

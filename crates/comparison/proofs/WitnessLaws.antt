@@ -40,7 +40,8 @@ use Rattle.laws.proofs.Sort.{sort-mem}
 use Rattle.best.specs.Best.{keptOf}
 use Rattle.steps.specs.Steps.{Step}
 use Rattle.offers.specs.Order.{clash}
-use Rattle.ways.specs.Rides.{rides, firstRides, joinedRides, directs, changes, journeys}
+use Rattle.ways.specs.Rides.{rides, firstRides, joinedRides}
+use Rattle.ways.specs.Routes.{onward, pass, routes}
 use Rattle.offers.specs.Offers.{networkOf, offers}
 use Rattle.offers.specs.Search.{searchOf}
 use Rattle.search.specs.Timetable.{timetableOf}
@@ -69,7 +70,7 @@ pub record Kept : Type 0 where
   pub past-horizon : keptFigures (oneTrip 600 21481) ≡ []
 
 pub computed : Computed
-unfolding firstAnswer overCounts near allNear settingsTests walksOf canonicalOf stationOf idWrong isKnown typeWrong nameNeeded nameWrong stopTests stopAt stopOf heldText known callTests callFit callOn cut fitted timeAfter seenCall seen openAnswer emptyOf undatedWeek stopSpec plainCall callSpec addSpec lexb clash rides firstRides joinedRides directs changes journeys networkOf offers searchOf timetableOf outcomeOf searchSpec
+unfolding firstAnswer overCounts near allNear settingsTests walksOf canonicalOf stationOf idWrong isKnown typeWrong nameNeeded nameWrong stopTests stopAt stopOf heldText known callTests callFit callOn cut fitted timeAfter seenCall seen openAnswer emptyOf undatedWeek stopSpec plainCall callSpec addSpec lexb clash rides firstRides joinedRides networkOf offers searchOf timetableOf outcomeOf searchSpec onward pass routes
 computed = record { opens = (refl, tt); answers = refl; searched = refl }
 
 record Changed : Type 0 where
@@ -79,7 +80,7 @@ record Changed : Type 0 where
   missed : keptBy (undated (settingsWith 1)) (twoTrips 1239) ≡ []
 
 changed : Changed
-unfolding firstAnswer overCounts near allNear settingsTests walksOf canonicalOf stationOf idWrong isKnown typeWrong nameNeeded nameWrong stopTests stopAt stopOf heldText known callTests callFit callOn cut fitted timeAfter seenCall seen openAnswer emptyOf undatedWeek stopSpec plainCall callSpec addSpec ruleTests ruleSpec table parentsOf endsOf transferOf lexb clash rides firstRides joinedRides directs changes journeys networkOf offers searchOf timetableOf outcomeOf searchSpec
+unfolding firstAnswer overCounts near allNear settingsTests walksOf canonicalOf stationOf idWrong isKnown typeWrong nameNeeded nameWrong stopTests stopAt stopOf heldText known callTests callFit callOn cut fitted timeAfter seenCall seen openAnswer emptyOf undatedWeek stopSpec plainCall callSpec addSpec ruleTests ruleSpec table parentsOf endsOf transferOf lexb clash rides firstRides joinedRides networkOf offers searchOf timetableOf outcomeOf searchSpec onward pass routes
 changed = record { opens = (refl, tt); searched = refl; kept = refl; missed = refl }
 
 -- with dates
@@ -90,7 +91,7 @@ record Dated : Type 0 where
   removed : keptBy someDates (datedTrip 20230102) ≡ []
 
 in-dates : Dated
-unfolding firstAnswer overCounts near allNear settingsTests walksOf canonicalOf stationOf idWrong isKnown typeWrong nameNeeded nameWrong stopTests stopAt stopOf heldText known callTests callFit callOn cut fitted timeAfter seenCall seen openAnswer emptyOf datedWeek datesWrong yearOf monthOf dayOf isLeap months monthDays isDate yearDays monthsDays dayNumber weekdayOf spanWrong exceptionWrong serviceOf serviceTests serviceOn exceptionTests mark joinedOn exceptedOf exceptionOn byWeek runsBy runsOf running serviceSpec exceptionSpec stopSpec plainCall gateAnswer datedCall callSpec addSpec lexb clash rides firstRides joinedRides directs changes journeys networkOf offers searchOf timetableOf outcomeOf searchSpec
+unfolding firstAnswer overCounts near allNear settingsTests walksOf canonicalOf stationOf idWrong isKnown typeWrong nameNeeded nameWrong stopTests stopAt stopOf heldText known callTests callFit callOn cut fitted timeAfter seenCall seen openAnswer emptyOf datedWeek datesWrong yearOf monthOf dayOf isLeap months monthDays isDate yearDays monthsDays dayNumber weekdayOf spanWrong exceptionWrong serviceOf serviceTests serviceOn exceptionTests mark joinedOn exceptedOf exceptionOn byWeek runsBy runsOf running serviceSpec exceptionSpec stopSpec plainCall gateAnswer datedCall callSpec addSpec lexb clash rides firstRides joinedRides networkOf offers searchOf timetableOf outcomeOf searchSpec onward pass routes
 in-dates = record { opens = (refl, refl); searched = refl; kept = refl; removed = refl }
 
 -- after the search
@@ -101,11 +102,11 @@ record Later : Type 0 where
   less : keptFigures withdrawnTrip ≡ figuresOf 300 1320 1 5 ∷ []
 
 later : Later
-unfolding firstAnswer overCounts near allNear settingsTests walksOf canonicalOf stationOf idWrong isKnown typeWrong nameNeeded nameWrong stopTests stopAt stopOf heldText known callTests callFit callOn cut fitted timeAfter seenCall seen openAnswer emptyOf undatedWeek stopSpec plainCall callSpec addSpec lexb clash rides firstRides joinedRides directs changes journeys networkOf offers searchOf timetableOf outcomeOf searchSpec addedTo again unsearchedOf hasKey keyKnown withdrawn takenOut withdrawSpec
+unfolding firstAnswer overCounts near allNear settingsTests walksOf canonicalOf stationOf idWrong isKnown typeWrong nameNeeded nameWrong stopTests stopAt stopOf heldText known callTests callFit callOn cut fitted timeAfter seenCall seen openAnswer emptyOf undatedWeek stopSpec plainCall callSpec addSpec lexb clash rides firstRides joinedRides networkOf offers searchOf timetableOf outcomeOf searchSpec addedTo again unsearchedOf hasKey keyKnown withdrawn takenOut withdrawSpec onward routes pass
 later = record { adding = refl; more = refl; taking = refl; less = refl }
 
 pub kept : Kept
-unfolding firstAnswer overCounts near allNear settingsTests walksOf canonicalOf stationOf idWrong isKnown typeWrong nameNeeded nameWrong stopTests stopAt stopOf heldText known callTests callFit callOn cut fitted timeAfter seenCall seen openAnswer emptyOf undatedWeek stopSpec plainCall callSpec addSpec lexb clash rides firstRides joinedRides directs changes journeys networkOf offers searchOf timetableOf outcomeOf searchSpec
+unfolding firstAnswer overCounts near allNear settingsTests walksOf canonicalOf stationOf idWrong isKnown typeWrong nameNeeded nameWrong stopTests stopAt stopOf heldText known callTests callFit callOn cut fitted timeAfter seenCall seen openAnswer emptyOf undatedWeek stopSpec plainCall callSpec addSpec lexb clash rides firstRides joinedRides networkOf offers searchOf timetableOf outcomeOf searchSpec onward pass routes
 kept = record { one-trip = refl; at-zero = refl; not-boarded = refl; at-horizon = refl; past-horizon = refl }
 
 -- a list of one by its figures

@@ -154,7 +154,8 @@ pub record Direct (F : Feed) (j : Journey) : Type 0 where
   pub between : Between F b a j
   pub rides : j .rides ≡ 1
   pub first : IsRide b a (j .first)
-  -- a journey of one ride has no last: the paper leaves open what stands there
+  -- a journey of one ride has no last, and none of fewer than three a middle: the paper leaves open what stands there
+  pub middle : j .middle ≡ noRide
   pub last : j .last ≡ noRide
 
 pub record Changing (F : Feed) (j : Journey) : Type 0 where
@@ -162,14 +163,35 @@ pub record Changing (F : Feed) (j : Journey) : Type 0 where
   pub a : Call
   pub c : Call
   pub d : Call
-  pub may : F .settings .«max_transfers» ≡ 1
+  pub may : 1 ≤ F .settings .«max_transfers»
   pub leg : Leg F b a
   pub leg′ : Leg F c d
   pub joins : Joins F a c
   pub between : Between F b d j
   pub rides : j .rides ≡ 2
   pub first : IsRide b a (j .first)
+  pub middle : j .middle ≡ noRide
   pub last : IsRide c d (j .last)
 
+-- "A middle ride needs a boardable and a later alightable call of one trip and day, and joins on both sides." (request 10)
+pub record Through (F : Feed) (j : Journey) : Type 0 where
+  pub b : Call
+  pub a : Call
+  pub c : Call
+  pub d : Call
+  pub e : Call
+  pub g : Call
+  pub may : 2 ≤ F .settings .«max_transfers»
+  pub leg : Leg F b a
+  pub leg′ : Leg F c d
+  pub leg″ : Leg F e g
+  pub joins : Joins F a c
+  pub joins′ : Joins F d e
+  pub between : Between F b g j
+  pub rides : j .rides ≡ 3
+  pub first : IsRide b a (j .first)
+  pub middle : IsRide c d (j .middle)
+  pub last : IsRide e g (j .last)
+
 abbrev pub Admits : Feed → Journey → Type 0
-Admits F j = Direct F j ⊎ Changing F j
+Admits F j = Direct F j ⊎ (Changing F j ⊎ Through F j)

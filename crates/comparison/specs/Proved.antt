@@ -1,4 +1,5 @@
--- What is proved, all of it. The contract of `demands()` cites this record, so that no part of it can go unseen.
+-- The demands, and what requests 03, 08 and 11 claim of lists of steps. The contract of `demands()` cites this record, so that no part
+-- of it can go unseen.
 use Rattle.comparison.specs.Demands.{Demand1, Demand2, OnlyRunning, Demand3}
 use Rattle.steps.specs.Dated.{DatedSame, LateServices, NameUnread}
 use Rattle.comparison.specs.Again.{Withdrawals}

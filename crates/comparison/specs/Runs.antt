@@ -51,7 +51,7 @@ pub data Runs (s : Settings) : State → List Step → List Answer → State →
 -- "Which journeys are admitted is defined from the settings and the list alone: by the stops and rules taken and the calls answered taken
 -- under this paper's rules, as `window` and the table's cuts leave them when the accepted search starts." And request 11: "a withdrawn call
 -- doesn't count as answered taken, and the search is the last accepted one": that is of what stands taken at the end, since after a search
--- a call that is taken or withdrawn has the load searched again, and nothing else is taken
+-- a call that is taken, withdrawn, or outside after a cut has the load searched again, and nothing else alters what is taken
 pub record Admitted (o : Opening) (xs : List Step) (j : Journey) : Type 0 where
   pub answers : List Answer
   pub end : State

@@ -1,5 +1,5 @@
--- The premises of the demands can be met, by lists that keep a journey: of one ride, of two that a rule joins, of one that is added after the
--- search and withdrawn again. Each by computation.
+-- The premises of the demands can be met, by lists that keep a journey: of one ride, of two that a rule joins, of a service with dates, of one
+-- that is added after the search and withdrawn again. Each by computation.
 use mathlib.Core.Path.{_≡_}
 use mathlib.Core.Bool.{true, false}
 use mathlib.Core.Option.{none}

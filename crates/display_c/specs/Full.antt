@@ -11,7 +11,7 @@ use Rattle.groups.specs.declared.Group.{Group}
 use Rattle.display.specs.Display.{displayOf, partOf}
 
 abbrev pub dueAt : ℕ → Journey
-dueAt arrival = record { leave = 0; arrival = arrival; rides = 0; walk = 0; origin = 0; target = 0; first = noRide; last = noRide }
+dueAt arrival = record { leave = 0; arrival = arrival; rides = 0; walk = 0; origin = 0; target = 0; first = noRide; middle = noRide; last = noRide }
 
 -- 64 journeys, due so
 unfoldable pub listDue : List ℕ → List Journey

@@ -11,7 +11,7 @@ use Rattle.best.specs.Best.{bestOf, firstLeaving}
 
 -- a journey of four figures; it bears its number as its origin, at which best does not look
 abbrev pub journeyWith : ℕ → ℕ → ℕ → ℕ → ℕ → Journey
-journeyWith n l a r w = record { leave = l; arrival = a; rides = r; walk = w; origin = n; target = 0; first = noRide; last = noRide }
+journeyWith n l a r w = record { leave = l; arrival = a; rides = r; walk = w; origin = n; target = 0; first = noRide; middle = noRide; last = noRide }
 
 -- the 64 journeys of columns of leaves, arrivals, rides and walks
 unfoldable pub journeysOf : List ℕ → List ℕ → List ℕ → List ℕ → List Journey

@@ -18,6 +18,7 @@ fn journey_with(number: u8, leave: u16, arrival: u16, rides: u8, walk: u8) -> Jo
         origin: number,
         target: 0,
         first: none,
+        middle: none,
         last: none,
     }
 }

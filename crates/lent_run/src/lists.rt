@@ -22,6 +22,7 @@ fn journey(row: &[u8]) -> Journey {
         origin: 0,
         target: 0,
         first: ride,
+        middle: ride,
         last: ride,
     }
 }

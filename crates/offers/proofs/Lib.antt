@@ -6,3 +6,5 @@ pub mod PlacesLaws
 pub mod SearchLaws
 pub mod MachineLaws
 pub mod MarkedLaws
+pub mod FoundLaws
+pub mod RouteLaws

@@ -26,7 +26,7 @@ search-found t h₀ l₀ h l ks e = go (clashes (sorted t)) refl (searched journ
     go false p refused q r = let z : _≡_ {A = ℕ} 0 1 = cc in absurd (omega arith)
     go false p (going ks′ h′ l′) q r = (p, ks′, cc, cc)
 
-keeping-ends : (os : List Journey) (x : Ends) → foundBy (keeping (covᶠ journeyFigures) (dueᶠ journeyFigures) os x) ≡ endsBy os x
+pub keeping-ends : (os : List Journey) (x : Ends) → foundBy (keeping (covᶠ journeyFigures) (dueᶠ journeyFigures) os x) ≡ endsBy os x
 keeping-ends os (upTo h l) = refl
 keeping-ends os never = refl
 

@@ -10,7 +10,7 @@ use Rattle.calls.specs.declared.Call.{Call}
 use Rattle.profile.specs.declared.Ride.{Ride}
 use Rattle.profile.specs.declared.Journey.{Journey}
 use Rattle.offers.specs.Order.{clashes, Run, Timed}
-use Rattle.offers.specs.Offers.{Timetable, withCalls, rideOf, directOf, changeOf, sorted, offers}
+use Rattle.offers.specs.Offers.{Timetable, withCalls, rideOf, directOf, changeOf, threeOf, sorted, offers}
 
 -- a ride of these calls boards at b and alights at a
 pub record Rides (calls : List Call) (b a : Call) : Type 0 where
@@ -51,7 +51,7 @@ pub record Change (t : Timetable) (j : Journey) : Type 0 where
   pub d : Call
   pub o : ℕ
   pub k : ℕ
-  pub may : t .max-transfers ≡ 1
+  pub may : 1 ≤ t .max-transfers
   pub first : Rides (t .calls) b a
   pub last : Rides (t .calls) c d
   pub starts : Starts t b o
@@ -59,8 +59,28 @@ pub record Change (t : Timetable) (j : Journey) : Type 0 where
   pub joined : t .joins (rideOf b a) c ≡ true
   pub is : j ≡ changeOf t (rideOf b a) (rideOf c d) o k
 
+-- j is the journey of three rides: "A middle ride needs a boardable and a later alightable call of one trip and day, and joins on both sides."
+pub record Three (t : Timetable) (j : Journey) : Type 0 where
+  pub b : Call
+  pub a : Call
+  pub c : Call
+  pub d : Call
+  pub e : Call
+  pub g : Call
+  pub o : ℕ
+  pub k : ℕ
+  pub may : 2 ≤ t .max-transfers
+  pub first : Rides (t .calls) b a
+  pub middle : Rides (t .calls) c d
+  pub last : Rides (t .calls) e g
+  pub starts : Starts t b o
+  pub ends : Ends t g k
+  pub joined : t .joins (rideOf b a) c ≡ true
+  pub joins : t .joins (rideOf c d) e ≡ true
+  pub is : j ≡ threeOf t (rideOf b a) (rideOf c d) (rideOf e g) o k
+
 abbrev pub Admitted : Timetable → Journey → Type 0
-Admitted t j = Direct t j ⊎ Change t j
+Admitted t j = Direct t j ⊎ (Change t j ⊎ Three t j)
 
 -- ---- what is claimed
 

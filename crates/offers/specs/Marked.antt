@@ -48,7 +48,7 @@ kept cs = keptBy (searchOf (marked cs) 21600 0)
 -- a journey with these figures, and the number that a search from the horizon 21600 is answered with, 0 where it is taken
 abbrev pub journeyWith : Figures → Journey
 journeyWith f =
-    record { leave = f .leave; arrival = f .arrival; rides = f .rides; walk = f .walk; origin = 0; target = 0; first = noRide; last = noRide }
+    record { leave = f .leave; arrival = f .arrival; rides = f .rides; walk = f .walk; origin = 0; target = 0; first = noRide; middle = noRide; last = noRide }
 
 abbrev pub numberFor : List Figures → ℕ
 numberFor fs = answerNumber (answerOf (foundBy (searched journeyFigures 64 3600 21600 0 (map journeyWith fs))))

@@ -1,13 +1,14 @@
 -- The journeys that a search offers, over the calls in order: "For each boarding call in order, then each origin of its stop (a stop's
--- origins are taken lowest set bit first), then each alighting call", as `journeys` of crate `ways` lists them. Here stands what a
+-- origins are taken lowest set bit first), then each alighting call", as `routes` of crate `ways` lists them; "all three-ride journeys after all the others". Here stands what a
 -- timetable's calls are to it.
 use mathlib.Core.Bool.{Bool, _&&_}
-use mathlib.Core.List.{List}
+use mathlib.Core.List.{List, [], _∷_, map}
 use Prim.Native.Nat.{ℕ, _+_, _-_, _*_, _/_, min}
 use lib.Dec.{eqb, leb}
 use Rattle.laws.specs.Lists.{filterb}
 use Rattle.laws.specs.Bits.{bitsFrom}
-use Rattle.ways.specs.Rides.{Leg, First, Network, journeys}
+use Rattle.ways.specs.Rides.{Leg, First, Network}
+use Rattle.ways.specs.Routes.{Route, routes}
 use Rattle.calls.specs.declared.Call.{Call}
 use Rattle.profile.specs.declared.Ride.{Ride}
 use Rattle.profile.specs.declared.Journey.{Journey}
@@ -62,9 +63,9 @@ leaveOf t o departure = departure - t .origin-walk o * 60
 abbrev pub arrivalOf : Timetable → ℕ → ℕ → ℕ
 arrivalOf t k alighting = alighting + t .target-walk k * 60
 
--- n rides from origin o to target k, the first f and the last l, that alight last at `alighting`
-abbrev pub journeyOf : Timetable → ℕ → Ride → Ride → ℕ → ℕ → ℕ → Journey
-journeyOf t n f l alighting o k =
+-- n rides from origin o to target k, the first f, the middle m and the last l, that alight last at `alighting`
+abbrev pub journeyOf : Timetable → ℕ → Ride → Ride → Ride → ℕ → ℕ → ℕ → Journey
+journeyOf t n f m l alighting o k =
     record {
       leave = leaveOf t o (f .departure);
       arrival = arrivalOf t k alighting;
@@ -73,15 +74,19 @@ journeyOf t n f l alighting o k =
       origin = o;
       target = k;
       first = f;
+      middle = m;
       last = l;
     }
 
--- one ride: its last is the blank ride
+-- one ride: its last is the blank ride; of fewer than three, the middle one is
 abbrev pub directOf : Timetable → Ride → ℕ → ℕ → Journey
-directOf t f o k = journeyOf t 1 f noRide (f .arrival) o k
+directOf t f o k = journeyOf t 1 f noRide noRide (f .arrival) o k
 
 abbrev pub changeOf : Timetable → Ride → Ride → ℕ → ℕ → Journey
-changeOf t f l o k = journeyOf t 2 f l (l .arrival) o k
+changeOf t f l o k = journeyOf t 2 f noRide l (l .arrival) o k
+
+abbrev pub threeOf : Timetable → Ride → Ride → Ride → ℕ → ℕ → Journey
+threeOf t f m l o k = journeyOf t 3 f m l (l .arrival) o k
 
 -- ---- what is read of a call
 
@@ -110,6 +115,22 @@ networkOf t =
 
 -- ---- the offers
 
+abbrev pub rideBy : Leg Call → Ride
+rideBy r = rideOf (r .b) (r .a)
+
+-- the journey that had the rides p and r after f and goes on by these: the last two are its middle and its last ride
+abbrev pub onJourney : Timetable → Ride → ℕ → ℕ → Leg Call → Leg Call → List (Leg Call) → Journey
+onJourney t f o k p r [] = threeOf t f (rideBy p) (rideBy r) o k
+onJourney t f o k p r (l ∷ ls) = onJourney t f o k r l ls
+
+abbrev pub journeyTo : Timetable → Ride → ℕ → ℕ → List (Leg Call) → Journey
+journeyTo t f o k [] = directOf t f o k
+journeyTo t f o k (l ∷ []) = changeOf t f (rideBy l) o k
+journeyTo t f o k (p ∷ r ∷ ls) = onJourney t f o k p r ls
+
+abbrev pub journeyBy : Timetable → Route Call → Journey
+journeyBy t r = journeyTo t (rideBy (r .first .ride)) (r .first .o) (r .way .target) (r .way .rides)
+
 -- the journeys of a first ride, alone and with a last ride
 abbrev pub directBy : Timetable → First Call → ℕ → Journey
 directBy t f k = directOf t (rideOf (f .ride .b) (f .ride .a)) (f .o) k
@@ -120,6 +141,9 @@ changeBy t f l k = changeOf t (rideOf (f .ride .b) (f .ride .a)) (rideOf (l .b) 
 abbrev pub sorted : Timetable → List Call
 sorted t = inOrder (t .calls)
 
--- every offer of a search, in order
+-- every route, and every offer of a search, in order
+abbrev pub routesOf : Timetable → List (Route Call)
+routesOf t = routes (networkOf t) (t .max-transfers) (sorted t)
+
 unfoldable pub offers : Timetable → List Journey
-offers t = journeys (networkOf t) (directBy t) (changeBy t) (t .max-transfers) (sorted t)
+offers t = map (journeyBy t) (routesOf t)

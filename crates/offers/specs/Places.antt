@@ -4,7 +4,7 @@ use mathlib.Core.Path.{_≡_}
 use mathlib.Core.Bool.{cond}
 use mathlib.Core.List.{map}
 use Prim.Native.Nat.{ℕ, _/_, _%_, _^_, min}
-use lib.Dec.{eqb}
+use lib.Dec.{eqb, leb}
 use Rattle.laws.specs.Lists.{span}
 use Rattle.calls.specs.declared.Call.{Call}
 use Rattle.profile.specs.declared.Row.{Row}
@@ -33,7 +33,8 @@ journeyAt at r =
       origin = r .origin;
       target = r .target;
       first = rideOf (at (r .board)) (at (r .alight));
-      last = cond (eqb (r .rides) 2) (rideOf (at (r .board2)) (at (r .alight2))) noRide;
+      middle = cond (eqb (r .rides) 3) (rideOf (at (r .«middle_board»)) (at (r .«middle_alight»))) noRide;
+      last = cond (leb 2 (r .rides)) (rideOf (at (r .board2)) (at (r .alight2))) noRide;
     }
 
 -- the places hold the calls in order

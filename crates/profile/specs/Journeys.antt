@@ -19,20 +19,34 @@ cov a b = covers (rowFigures a) (rowFigures b)
 unfoldable pub due : Row → ℕ
 due r = r .arrival
 
--- no ride: what a journey of one ride has as its last
+-- no ride: what a journey of one ride has as its last, and one of fewer than three as its middle
 abbrev pub noRide : Ride
 noRide = record { trip = 0; day = 0; from = 0; to = 0; departure = 0; arrival = 0; «board_request» = false; «alight_request» = false }
 
 abbrev pub noJourney : Journey
-noJourney = record { leave = 0; arrival = 0; rides = 0; walk = 0; origin = 0; target = 0; first = noRide; last = noRide }
+noJourney = record { leave = 0; arrival = 0; rides = 0; walk = 0; origin = 0; target = 0; first = noRide; middle = noRide; last = noRide }
 
--- a row of ten numbers; the same as contracts name it, unfolded only where a proof asks for it
-abbrev pub row : ℕ → ℕ → ℕ → ℕ → ℕ → ℕ → ℕ → ℕ → ℕ → ℕ → Row
-row a b c d p q r s t u = record { leave = a; arrival = b; rides = c; walk = d; origin = p; target = q; board = r; alight = s; board2 = t; alight2 = u }
+-- a row of twelve numbers; the same as contracts name it, unfolded only where a proof asks for it
+abbrev pub row : ℕ → ℕ → ℕ → ℕ → ℕ → ℕ → ℕ → ℕ → ℕ → ℕ → ℕ → ℕ → Row
+row a b c d p q r s t u v w =
+    record {
+      leave = a;
+      arrival = b;
+      rides = c;
+      walk = d;
+      origin = p;
+      target = q;
+      board = r;
+      alight = s;
+      board2 = t;
+      alight2 = u;
+      «middle_board» = v;
+      «middle_alight» = w;
+    }
 
-unfoldable pub rowOf : ℕ → ℕ → ℕ → ℕ → ℕ → ℕ → ℕ → ℕ → ℕ → ℕ → Row
-rowOf a b c d p q r s t u = row a b c d p q r s t u
+unfoldable pub rowOf : ℕ → ℕ → ℕ → ℕ → ℕ → ℕ → ℕ → ℕ → ℕ → ℕ → ℕ → ℕ → Row
+rowOf a b c d p q r s t u v w = row a b c d p q r s t u v w
 
 -- no row: what stands past the count
 abbrev pub noRow : Row
-noRow = row 0 0 0 0 0 0 0 0 0 0
+noRow = row 0 0 0 0 0 0 0 0 0 0 0 0

@@ -16,7 +16,7 @@ pub struct Ride {
     pub alight_request: bool,
 }
 
-// A kept journey. For one ride, `last` is the blank ride.
+// A kept journey. For one ride, `last` is the blank ride; for fewer than three, `middle` is.
 pub struct Journey {
     pub leave: u16,
     pub arrival: u16,
@@ -25,11 +25,13 @@ pub struct Journey {
     pub origin: u8,
     pub target: u8,
     pub first: Ride,
+    pub middle: Ride,
     pub last: Ride,
 }
 
 // A journey while the search runs: its figures, its origin and target, and the numbers of the calls where it boards and
-// alights. For one ride, `board2` and `alight2` are 0.
+// alights: of the first ride, the last and the middle one. For one ride, `board2` and `alight2` are 0, and for fewer than three those of
+// the middle ride.
 pub struct Row {
     pub leave: u16,
     pub arrival: u16,
@@ -41,6 +43,8 @@ pub struct Row {
     pub alight: u16,
     pub board2: u16,
     pub alight2: u16,
+    pub middle_board: u16,
+    pub middle_alight: u16,
 }
 
 // The blank ride, the blank journey and the blank row: what stands where there is none.
@@ -71,6 +75,7 @@ pub fn no_journey() -> Journey
         origin: 0,
         target: 0,
         first: none,
+        middle: none,
         last: none,
     }
 }
@@ -89,5 +94,7 @@ pub fn no_row() -> Row
         alight: 0,
         board2: 0,
         alight2: 0,
+        middle_board: 0,
+        middle_alight: 0,
     }
 }

@@ -3,11 +3,12 @@ ghost use mathlib.Core.Path.{_≡_};
 ghost use Rattle.profile.specs.Journeys.{rowOf};
 ghost use Rattle.state.specs.View.{view};
 ghost use Rattle.candidate.specs.Offer.{offerTo, readsTo};
+use state::layout::State;
 
-// Offers a journey to the state (`candidate`); the state has 654 numbers. How many kept journeys are read.
+// Offers a journey to the state (`candidate`), an array of `state::layout`. How many kept journeys are read.
 #[no_mangle]
 pub extern "C" fn profile_candidate(
-    st: &mut [u16; 654],
+    st: &mut State,
     leave: u16,
     arrival: u32,
     rides: u16,
@@ -18,9 +19,11 @@ pub extern "C" fn profile_candidate(
     alight: u16,
     board2: u16,
     alight2: u16,
+    middle_board: u16,
+    middle_alight: u16,
 ) -> usize
-    ensures { λ r. ⌜ (view (now (st .exit)) ≡ offerTo (view (now (st .entry))) (rowOf leave arrival rides walk origin target board alight board2 alight2))
-        × (r ≡ readsTo (view (now (st .entry))) (rowOf leave arrival rides walk origin target board alight board2 alight2)) ⌝ }
+    ensures { λ r. ⌜ (view (now (st .exit)) ≡ offerTo (view (now (st .entry))) (rowOf leave arrival rides walk origin target board alight board2 alight2 «middle_board» «middle_alight»))
+        × (r ≡ readsTo (view (now (st .entry))) (rowOf leave arrival rides walk origin target board alight board2 alight2 «middle_board» «middle_alight»)) ⌝ }
 {
     candidate::candidate(
         st,
@@ -34,5 +37,7 @@ pub extern "C" fn profile_candidate(
         alight,
         board2,
         alight2,
+        middle_board,
+        middle_alight,
     )
 }

@@ -28,11 +28,11 @@ pub target-below : (s : Sheet) (joins : Joins) (i x : ℕ) → List·Memᴰ x (n
 unfolding networkOf bitsOf
 target-below s joins i x m = bits-set 4 (s .targets (s .at i .stop)) m .0
 
-place-below : (n i : ℕ) → List·Memᴰ i (span 0 n) → i < n
+pub place-below : (n i : ℕ) → List·Memᴰ i (span 0 n) → i < n
 place-below n i m = let (p, q) = span-mem 0 n m in omega arith
 
 module _ (s t : Sheet) (joins joins′ : Joins) (depth n : ℕ) (a : Agree s t joins joins′ depth n) where
-  same-network : Images (networkOf s joins) (networkOf t joins′) (λ i. i) depth (span 0 n)
+  pub same-network : Images (networkOf s joins) (networkOf t joins′) (λ i. i) depth (span 0 n)
   unfolding networkOf sameRun bitsOf
   same-network =
       record {
@@ -41,7 +41,7 @@ module _ (s t : Sheet) (joins joins′ : Joins) (depth n : ℕ) (a : Agree s t j
         alight = λ i m. sym (a .alight i (place-below n i m));
         origins = λ i m. origins i (place-below n i m);
         targets = λ i m. ap bitsOf (sym (a .targets i (place-below n i m)));
-        joins = λ one i k j mi mk mj. sym (a .joined one i 0 k j (place-below n i mi) (omega arith) (place-below n k mk) (place-below n j mj));
+        joins = λ one i k j mi mk mj. sym (a .joined (omega arith) i 0 k j (place-below n i mi) (omega arith) (place-below n k mk) (place-below n j mj));
       }
     where
       same : (i k : ℕ) → i < n → k < n → sameRun (s .at i) (s .at k) ≡ sameRun (t .at i) (t .at k)
@@ -66,11 +66,11 @@ module _ (s t : Sheet) (joins joins′ : Joins) (depth n : ℕ) (a : Agree s t j
       }
     where
       alone : (i o k x : ℕ) → i < n → o < 4 → k < n → x < 4 → directRow s (firstOf s i o k) x ≡ directRow t (firstOf t i o k) x
-      alone i o k x li lo lk lx = λ p. row (a .departure i li p - a .origin-walk o lo p * 60) (a .arrival k lk p + a .target-walk x lx p * 60) 1 (a .origin-walk o lo p) o x i k 0 0
+      alone i o k x li lo lk lx = λ p. row (a .departure i li p - a .origin-walk o lo p * 60) (a .arrival k lk p + a .target-walk x lx p * 60) 1 (a .origin-walk o lo p) o x i k 0 0 0 0
 
       changing : (i o k j m x : ℕ) → i < n → o < 4 → m < n → x < 4 → changeRow s (firstOf s i o k) j m x ≡ changeRow t (firstOf t i o k) j m x
       changing i o k j m x li lo lm lx =
-          λ p. row (a .departure i li p - a .origin-walk o lo p * 60) (a .arrival m lm p + a .target-walk x lx p * 60) 2 (a .origin-walk o lo p) o x i k j m
+          λ p. row (a .departure i li p - a .origin-walk o lo p * 60) (a .arrival m lm p + a .target-walk x lx p * 60) 2 (a .origin-walk o lo p) o x i k j m 0 0
 
 pub rows-agree : RowsAgree
 unfolding rows

@@ -4,3 +4,7 @@ pub mod AgreeLaws
 pub mod BoundLaws
 pub mod SkipLaws
 pub mod ReachLaws
+pub mod RouteLaws
+pub mod OnwardLaws
+pub mod PassLaws
+pub mod RouteAgree

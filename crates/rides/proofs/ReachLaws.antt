@@ -19,7 +19,7 @@ use Rattle.laws.proofs.Bools.{and-true-left, and-true-right}
 use Rattle.laws.proofs.Tails.{takeWhile-mem}
 use Rattle.ways.specs.Rides.{Leg, Network, joinedRides}
 use Rattle.ways.specs.Routes.{Way, here, rideThen, onward}
-use Rattle.ways.proofs.RideLaws.{Listed, rides-mem, mem-rides, joined-mem, listed-in}
+use Rattle.ways.proofs.RideLaws.{Listed, joined-mem, listed-in}
 use Rattle.feed.specs.declared.FeedCall.{FeedCall}
 use Rattle.feed.specs.declared.FirstRide.{FirstRide}
 use Rattle.feed.specs.Feed.{callAt, sameRun, targetMask, changeAt, joined}
@@ -149,32 +149,34 @@ module _ (feed changes : List ℕ) (n : ℕ) where
   unfolding laterFrom networkOf sheetOf
   later r w = rw (← tail-span n 0 n (r .b) (w .later) (omega arith) (w .tail)) (w .run)
 
+  -- the calls of a ride are of one run
+  of-run : (r : Leg ℕ) → Listed net (span 0 n) r → sameRun (callAt feed (r .b)) (callAt feed (r .a)) ≡ true
+  unfolding networkOf sheetOf
+  of-run r w = takeWhile-mem (λ k. sameRun (callAt feed (r .b)) (callAt feed k)) (w .later) (w .run) .1
+
   -- a join asks the same of a ride and of the call where it alights
-  joined-alighted : (r : Leg ℕ) (c : ℕ) → Listed net (span 0 n) r → net .joins r c ≡ true → joinsOf feed changes (alightedAt feed (r .a)) c ≡ true
+  joined-alighted : (r : Leg ℕ) (c : ℕ) → sameRun (callAt feed (r .b)) (callAt feed (r .a)) ≡ true → net .joins r c ≡ true → joinsOf feed changes (alightedAt feed (r .a)) c ≡ true
   unfolding networkOf joinsOf joined firstOf sheetOf sameRun
-  joined-alighted r c w e =
-      let s = takeWhile-mem (λ k. sameRun (callAt feed (r .b)) (callAt feed k)) (w .later) (w .run) .1 in
+  joined-alighted r c s e =
       let t : callAt feed (r .b) .trip ≡ callAt feed (r .a) .trip = eqb-true _ _ (and-true-left (eqb (callAt feed (r .b) .trip) (callAt feed (r .a) .trip)) (eqb (callAt feed (r .b) .day) (callAt feed (r .a) .day)) s) in
       let d : callAt feed (r .b) .day ≡ callAt feed (r .a) .day = eqb-true _ _ (and-true-right (eqb (callAt feed (r .b) .trip) (callAt feed (r .a) .trip)) (eqb (callAt feed (r .b) .day) (callAt feed (r .a) .day)) s) in
       rw (t, d) at e
 
   pub not-before-here : (at : List ℕ) → Each (AtCall feed) 0 n at → NotBefore feed changes n 0 at
   unfolding NotBefore onward AtCall AtTargets dueAt networkOf sheetOf
-  not-before-here at f r w i m =
-      let l = rides-mem net (span 0 n) r i in
+  not-before-here at f r w h y i m =
       let (k, j, e) = Memᴰ·of-map here (bitsOf (targetMask feed (callAt feed (r .a) .stop))) m in
-      subst (λ (v : Way ℕ). getD at (r .a) 0 ≤ dueAt feed (r .a) v) e (f .each (r .a) (omega arith) (below r l .1) (alighted r l) k j)
+      subst (λ (v : Way ℕ). getD at (r .a) 0 ≤ dueAt feed (r .a) v) e (f .each (r .a) (omega arith) h y k j)
 
   pub not-before-on : (at boards new : List ℕ) (left : ℕ) → Each (BoardAt feed n at) 0 n boards → Each (JoinsAt feed changes n boards) 0 n new
       → NotBefore feed changes n left at → NotBefore feed changes n (suc left) new
   unfolding NotBefore onward BoardAt JoinsAt JoinAt dueAt
-  not-before-on at boards new left f g h r w i m =
+  not-before-on at boards new left f g h r w hr y z m =
       let s = span 0 n in
-      let p = rides-mem net s r i in
       let (l, j, m₁) = concatMap-mem (λ l. map (rideThen l) (onward net left s l)) (joinedRides net s r) m in
       let (v, k, e) = Memᴰ·of-map (rideThen l) (onward net left s l) m₁ in
       let (q, x) = joined-mem net s r l j in
-      let on = h l v (mem-rides net s l q) k in
+      let on = h l v (below l q .1) (alighted l q) (of-run l q) k in
       let board = f .each (l .b) (omega arith) (below l q .0) (l .a) (later l q) (alighted l q) in
-      let join = g .each (r .a) (omega arith) (below r p .1) (alighted r p) .least (l .b) (below l q .0) (boarded l q) (joined-alighted r (l .b) p x) in
+      let join = g .each (r .a) (omega arith) hr y .least (l .b) (below l q .0) (boarded l q) (joined-alighted r (l .b) z x) in
       subst (λ (u : Way ℕ). getD new (r .a) 0 ≤ dueAt feed (r .a) u) e (omega (arith, on, board, join))

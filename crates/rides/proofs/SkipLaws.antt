@@ -30,16 +30,16 @@ cond-mem true m = (refl, m)
 cond-mem false m = absurd (List·Memᴰ·not-nil m)
 
 -- the row covers every row of the list
-abbrev Covers : Row → List Row → Type 0
+abbrev pub Covers : Row → List Row → Type 0
 Covers b os = (o : Row) → List·Memᴰ o os → cov b o ≡ true
 
-passes : {l : List ℕ} {r : Bool} (b : Row) (os : List Row) → r ≡ passedOver (view l) b → r ≡ true → Covers b os → Offered l l os
+pub passes : {l : List ℕ} {r : Bool} (b : Row) (os : List Row) → r ≡ passedOver (view l) b → r ≡ true → Covers b os → Offered l l os
 unfolding offerAll
 passes {l} b os e t f = record { is = sym (offers-covered (view l) b os (sym e ∙ t) f) }
 
 -- the earliest that a two-ride journey after f could be, if it is due at t or later
 abbrev earliest : FirstRide → ℕ → Row
-earliest f t = rowOf (f .leave) t 2 (f .walk) 0 0 0 0 0 0
+earliest f t = rowOf (f .leave) t 2 (f .walk) 0 0 0 0 0 0 0 0
 
 module _ (feed : List ℕ) (f : FirstRide) where
   -- it covers every last ride that boards at j, if none is at a target earlier

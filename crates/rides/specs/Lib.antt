@@ -5,3 +5,4 @@ pub mod Offered
 pub mod Agree
 pub mod Bounds
 pub mod Reach
+pub mod Routes

@@ -1,4 +1,5 @@
--- The rows that a search offers, by the places of the calls in order: `journeys` of crate `ways` lists them. Here stands what a place is to it.
+-- The rows of one ride and of two, by the places of the calls in order: `journeys` of crate `ways` lists them; all rows that a search
+-- offers are `routeRows`. Here stands what a place is to it.
 use mathlib.Core.Bool.{Bool}
 use mathlib.Core.List.{List}
 use Prim.Native.Nat.{ℕ, _*_}
@@ -44,11 +45,16 @@ firstOf s i o k =
 
 -- one ride, to target x
 unfoldable pub directRow : Sheet → FirstRide → ℕ → Row
-directRow s f x = rowOf (f .leave) (arrivalOf (s .target-walk x) (f .arrival)) 1 (f .walk) (f .origin) x (f .board) (f .alight) 0 0
+directRow s f x = rowOf (f .leave) (arrivalOf (s .target-walk x) (f .arrival)) 1 (f .walk) (f .origin) x (f .board) (f .alight) 0 0 0 0
 
 -- and then a ride that boards at j and alights at m, to target x
 unfoldable pub changeRow : Sheet → FirstRide → ℕ → ℕ → ℕ → Row
-changeRow s f j m x = rowOf (f .leave) (arrivalOf (s .target-walk x) (s .at m .arrival)) 2 (f .walk) (f .origin) x (f .board) (f .alight) j m
+changeRow s f j m x = rowOf (f .leave) (arrivalOf (s .target-walk x) (s .at m .arrival)) 2 (f .walk) (f .origin) x (f .board) (f .alight) j m 0 0
+
+-- and then a middle ride, which boards at b and alights at a, and a last one from j to m, to target x
+unfoldable pub threeRow : Sheet → FirstRide → ℕ → ℕ → ℕ → ℕ → ℕ → Row
+threeRow s f b a j m x =
+    rowOf (f .leave) (arrivalOf (s .target-walk x) (s .at m .arrival)) 3 (f .walk) (f .origin) x (f .board) (f .alight) j m b a
 
 -- the rows of a first ride, alone and with a last ride
 abbrev pub firstAt : Sheet → First ℕ → FirstRide
@@ -72,6 +78,6 @@ networkOf s joins =
       joins = λ r j. joins (firstOf s (r .b) 0 (r .a)) j;
     }
 
--- every row, in order. n: how many calls there are
+-- every row of one ride or two, in order. n: how many calls there are
 unfoldable pub rows : Sheet → Joins → ℕ → ℕ → List Row
 rows s joins depth n = journeys (networkOf s joins) (directBy s) (changeBy s) depth (span 0 n)

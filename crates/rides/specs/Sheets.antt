@@ -1,11 +1,10 @@
--- The lent arrays as a sheet, and the rows of a search over them.
+-- The lent arrays as a sheet.
 use mathlib.Core.Bool.{Bool}
 use mathlib.Core.List.{List}
-use Prim.Native.Nat.{ℕ, min}
-use Rattle.profile.specs.declared.Row.{Row}
+use Prim.Native.Nat.{ℕ}
 use Rattle.feed.specs.declared.FirstRide.{FirstRide}
 use Rattle.feed.specs.Feed.{callAt, originMask, targetMask, originWalk, targetWalk, changeAt, joined}
-use Rattle.rides.specs.Rows.{Sheet, rows}
+use Rattle.rides.specs.Rows.{Sheet}
 
 -- the first ride joins the ride that boards at j, by the changes g
 unfoldable pub joinsOf : List ℕ → List ℕ → FirstRide → ℕ → Bool
@@ -14,7 +13,3 @@ joinsOf f g r j = joined r (callAt f j) (changeAt g (r .stop) (callAt f j .stop)
 -- the feed as what the loops read
 unfoldable pub sheetOf : List ℕ → Sheet
 sheetOf f = record { at = callAt f; origins = originMask f; targets = targetMask f; origin-walk = originWalk f; target-walk = targetWalk f }
-
--- every row of a search over the first n calls, of which there are at most 512
-unfoldable pub rowsOf : List ℕ → List ℕ → ℕ → ℕ → List Row
-rowsOf f g n depth = rows (sheetOf f) (joinsOf f g) depth (min n 512)

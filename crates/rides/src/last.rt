@@ -21,9 +21,10 @@ use feed::join;
 use feed::same_run;
 use feed::targets_of;
 use state::is_refused;
+use state::layout::State;
 
 // Offers the first ride and then the ride from j to m, to target x.
-fn last_at(st: &mut [u16; 654], feed: &[u16; 3208], f: FirstRide, j: usize, m: usize, x: u8)
+fn last_at(st: &mut State, feed: &[u16; 3208], f: FirstRide, j: usize, m: usize, x: u8)
     requires { ⌜ (j < 512) × (m < 512) × (x < 4) ⌝ }
     ensures { λ _. ⌜ Offered (now (st .entry)) (now (st .exit)) (lastAt (sheetOf (now (feed .entry))) f j m x) ⌝ }
 {
@@ -41,11 +42,13 @@ fn last_at(st: &mut [u16; 654], feed: &[u16; 3208], f: FirstRide, j: usize, m: u
         f.alight,
         j as u16,
         m as u16,
+        0,
+        0,
     );
 }
 
 // The targets of a mask.
-fn last_targets(st: &mut [u16; 654], feed: &[u16; 3208], f: FirstRide, j: usize, m: usize, mask: u8)
+fn last_targets(st: &mut State, feed: &[u16; 3208], f: FirstRide, j: usize, m: usize, mask: u8)
     requires { ⌜ (j < 512) × (m < 512) × (mask < 16) ⌝ }
     ensures { λ _. ⌜ Offered (now (st .entry)) (now (st .exit)) (overBits (lastAt (sheetOf (now (feed .entry))) f j m) mask) ⌝ }
 {
@@ -57,7 +60,7 @@ fn last_targets(st: &mut [u16; 654], feed: &[u16; 3208], f: FirstRide, j: usize,
     }
 }
 
-fn last_alight(st: &mut [u16; 654], feed: &[u16; 3208], f: FirstRide, j: usize, m: usize)
+fn last_alight(st: &mut State, feed: &[u16; 3208], f: FirstRide, j: usize, m: usize)
     requires { ⌜ (j < 512) × (m < 512) ⌝ }
     ensures { λ _. ⌜ Offered (now (st .entry)) (now (st .exit)) (lastAlightRows (sheetOf (now (feed .entry))) f j m) ⌝ }
 {
@@ -68,7 +71,7 @@ fn last_alight(st: &mut [u16; 654], feed: &[u16; 3208], f: FirstRide, j: usize, 
 }
 
 // The later calls of the trip and day of the call at j.
-fn last_alightings(st: &mut [u16; 654], feed: &[u16; 3208], n: usize, f: FirstRide, j: usize)
+fn last_alightings(st: &mut State, feed: &[u16; 3208], n: usize, f: FirstRide, j: usize)
     requires { ⌜ (n ≤ 512) × (j < n) ⌝ }
     ensures { λ _. ⌜ Offered (now (st .entry)) (now (st .exit)) (overRun (lastAlightRows (sheetOf (now (feed .entry))) f j) (callAt (now (feed .entry))) n j (j + 1)) ⌝ }
 {
@@ -87,7 +90,7 @@ fn last_alightings(st: &mut [u16; 654], feed: &[u16; 3208], n: usize, f: FirstRi
 
 // The rides that board at j, if the first ride joins them; unless one as early as any of them could be would be passed over.
 fn last_board(
-    st: &mut [u16; 654],
+    st: &mut State,
     feed: &[u16; 3208],
     changes: &[u32; 16384],
     n: usize,
@@ -111,7 +114,7 @@ fn last_board(
 
 // Every last ride. A refused search stays as it is, so the loop may end there.
 fn last_rides(
-    st: &mut [u16; 654],
+    st: &mut State,
     feed: &[u16; 3208],
     changes: &[u32; 16384],
     n: usize,
@@ -133,7 +136,7 @@ fn last_rides(
 
 // With depth 1, every last ride; else none. None either if one as early as any that departs after f arrives would be passed over.
 pub fn change_rides(
-    st: &mut [u16; 654],
+    st: &mut State,
     feed: &[u16; 3208],
     changes: &[u32; 16384],
     n: usize,

@@ -2,6 +2,7 @@
 mod bits;
 mod bounds;
 mod last;
+mod onward;
 pub mod paths;
 pub mod reach;
 mod reads;

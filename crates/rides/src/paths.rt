@@ -1,16 +1,20 @@
 // First rides, and the whole search.
 ghost use mathlib.Core.Path.{_≡_};
-ghost use Prim.Native.Nat.{_+_, _≤_, _<_};
+ghost use mathlib.Core.Bool.{true};
+ghost use Prim.Native.Nat.{_+_, _≤_, _<_, min};
 ghost use Rattle.state.specs.View.{view};
-ghost use Rattle.rides.specs.Loops.{overBits, overRun, directAt, directRows, alightRows, originRows, boardRows};
-ghost use Rattle.feed.specs.Feed.{callAt};
-ghost use Rattle.rides.specs.Sheets.{joinsOf, sheetOf, rowsOf};
-ghost use Rattle.rides.specs.Bounds.{Bounds};
+ghost use Rattle.rides.specs.Loops.{overBits, overCalls, overRun, directAt, directRows, firstRows, alightRows, originRows, boardRows};
+ghost use Rattle.feed.specs.Feed.{callAt, sameRun};
+ghost use Rattle.rides.specs.Sheets.{joinsOf, sheetOf};
+ghost use Rattle.rides.specs.Reach.{Told};
+ghost use Rattle.rides.specs.Routes.{rowsOf};
 ghost use Rattle.rides.specs.Offered.{offerAll, Offered};
 use crate::bits::clear_lowest;
 use crate::bits::lowest;
 use crate::bounds::bounds_of;
 use crate::last::change_rides;
+use crate::onward::onward;
+use crate::reach::onward_times;
 use crate::reads::call_at;
 use crate::reads::first_of;
 use crate::reads::origin_walk;
@@ -24,9 +28,10 @@ use feed::origins_of;
 use feed::same_run;
 use feed::targets_of;
 use state::is_refused;
+use state::layout::State;
 
 // Offers the ride alone, to target x.
-fn direct_at(st: &mut [u16; 654], feed: &[u16; 3208], f: FirstRide, x: u8)
+fn direct_at(st: &mut State, feed: &[u16; 3208], f: FirstRide, x: u8)
     requires { ⌜ x < 4 ⌝ }
     ensures { λ _. ⌜ Offered (now (st .entry)) (now (st .exit)) (directAt (sheetOf (now (feed .entry))) f x) ⌝ }
 {
@@ -43,11 +48,13 @@ fn direct_at(st: &mut [u16; 654], feed: &[u16; 3208], f: FirstRide, x: u8)
         f.alight,
         0,
         0,
+        0,
+        0,
     );
 }
 
 // The targets of the stop where the ride ends.
-fn directs(st: &mut [u16; 654], feed: &[u16; 3208], f: FirstRide)
+fn directs(st: &mut State, feed: &[u16; 3208], f: FirstRide)
     ensures { λ _. ⌜ Offered (now (st .entry)) (now (st .exit)) (directRows (sheetOf (now (feed .entry))) f) ⌝ }
 {
     let mut left = targets_of(feed, f.stop);
@@ -58,8 +65,32 @@ fn directs(st: &mut [u16; 654], feed: &[u16; 3208], f: FirstRide)
     }
 }
 
+// What a pass offers of the first ride f, that from i to k: three rides, or the direct journeys and then those with a change.
+fn first_ride(
+    st: &mut State,
+    feed: &[u16; 3208],
+    changes: &[u32; 16384],
+    n: usize,
+    depth: u16,
+    bounds: &[u16; 1024],
+    f: FirstRide,
+    i: usize,
+    k: usize,
+)
+    requires { ⌜ (n ≤ 512) × (i < 512) × (k < n) × (callAt (now feed) k .alight ≡ true) × (sameRun (callAt (now feed) i) (callAt (now feed) k) ≡ true)
+        × Told depth (now bounds) (now feed) (now changes) n ⌝ }
+    ensures { λ _. ⌜ Offered (now (st .entry)) (now (st .exit)) (firstRows (sheetOf (now (feed .entry))) (joinsOf (now (feed .entry)) (now (changes .entry))) depth n f i k) ⌝ }
+{
+    if depth == 2 {
+        onward(st, feed, changes, bounds, n, f, 2, 0, 0, i, k);
+        return;
+    }
+    directs(st, feed, f);
+    change_rides(st, feed, changes, n, depth, f, bounds);
+}
+
 fn alight_at(
-    st: &mut [u16; 654],
+    st: &mut State,
     feed: &[u16; 3208],
     changes: &[u32; 16384],
     n: usize,
@@ -69,20 +100,29 @@ fn alight_at(
     o: u8,
     k: usize,
 )
-    requires { ⌜ (n ≤ 512) × (i < 512) × (o < 4) × (k < 512) × Bounds (now bounds) (now feed) n ⌝ }
+    requires { ⌜ (n ≤ 512) × (i < 512) × (o < 4) × (k < n) × (sameRun (callAt (now feed) i) (callAt (now feed) k) ≡ true)
+        × Told depth (now bounds) (now feed) (now changes) n ⌝ }
     ensures { λ _. ⌜ Offered (now (st .entry)) (now (st .exit)) (alightRows (sheetOf (now (feed .entry))) (joinsOf (now (feed .entry)) (now (changes .entry))) depth n i o k) ⌝ }
 {
     let a = call_at(feed, k);
     if a.alight {
-        let f = first_of(feed, i, o, k);
-        directs(st, feed, f);
-        change_rides(st, feed, changes, n, depth, f, bounds);
+        first_ride(
+            st,
+            feed,
+            changes,
+            n,
+            depth,
+            bounds,
+            first_of(feed, i, o, k),
+            i,
+            k,
+        );
     }
 }
 
 // The rides that board at i, from origin o: the later calls of the trip and day of the call at i.
 fn first_rides(
-    st: &mut [u16; 654],
+    st: &mut State,
     feed: &[u16; 3208],
     changes: &[u32; 16384],
     n: usize,
@@ -91,7 +131,7 @@ fn first_rides(
     i: usize,
     o: u8,
 )
-    requires { ⌜ (n ≤ 512) × (i < n) × (o < 4) × Bounds (now bounds) (now feed) n ⌝ }
+    requires { ⌜ (n ≤ 512) × (i < n) × (o < 4) × Told depth (now bounds) (now feed) (now changes) n ⌝ }
     ensures { λ _. ⌜ Offered (now (st .entry)) (now (st .exit)) (overRun (alightRows (sheetOf (now (feed .entry))) (joinsOf (now (feed .entry)) (now (changes .entry))) depth n i o) (callAt (now (feed .entry))) n i (i + 1)) ⌝ }
 {
     let b = call_at(feed, i);
@@ -109,7 +149,7 @@ fn first_rides(
 
 // Boarding at i from origin o needs departure at or above walk × 60.
 fn origin_at(
-    st: &mut [u16; 654],
+    st: &mut State,
     feed: &[u16; 3208],
     changes: &[u32; 16384],
     n: usize,
@@ -118,7 +158,7 @@ fn origin_at(
     i: usize,
     o: u8,
 )
-    requires { ⌜ (n ≤ 512) × (i < n) × (o < 4) × Bounds (now bounds) (now feed) n ⌝ }
+    requires { ⌜ (n ≤ 512) × (i < n) × (o < 4) × Told depth (now bounds) (now feed) (now changes) n ⌝ }
     ensures { λ _. ⌜ Offered (now (st .entry)) (now (st .exit)) (originRows (sheetOf (now (feed .entry))) (joinsOf (now (feed .entry)) (now (changes .entry))) depth n i o) ⌝ }
 {
     let b = call_at(feed, i);
@@ -130,7 +170,7 @@ fn origin_at(
 
 // The origins of a mask, lowest first.
 fn origins(
-    st: &mut [u16; 654],
+    st: &mut State,
     feed: &[u16; 3208],
     changes: &[u32; 16384],
     n: usize,
@@ -139,7 +179,7 @@ fn origins(
     i: usize,
     mask: u8,
 )
-    requires { ⌜ (n ≤ 512) × (i < n) × (mask < 16) × Bounds (now bounds) (now feed) n ⌝ }
+    requires { ⌜ (n ≤ 512) × (i < n) × (mask < 16) × Told depth (now bounds) (now feed) (now changes) n ⌝ }
     ensures { λ _. ⌜ Offered (now (st .entry)) (now (st .exit)) (overBits (originRows (sheetOf (now (feed .entry))) (joinsOf (now (feed .entry)) (now (changes .entry))) depth n i) mask) ⌝ }
 {
     let mut left = mask;
@@ -151,7 +191,7 @@ fn origins(
 }
 
 fn board_at(
-    st: &mut [u16; 654],
+    st: &mut State,
     feed: &[u16; 3208],
     changes: &[u32; 16384],
     n: usize,
@@ -159,7 +199,7 @@ fn board_at(
     bounds: &[u16; 1024],
     i: usize,
 )
-    requires { ⌜ (n ≤ 512) × (i < n) × Bounds (now bounds) (now feed) n ⌝ }
+    requires { ⌜ (n ≤ 512) × (i < n) × Told depth (now bounds) (now feed) (now changes) n ⌝ }
     ensures { λ _. ⌜ Offered (now (st .entry)) (now (st .exit)) (boardRows (sheetOf (now (feed .entry))) (joinsOf (now (feed .entry)) (now (changes .entry))) depth n i) ⌝ }
 {
     let b = call_at(feed, i);
@@ -177,10 +217,44 @@ fn board_at(
     }
 }
 
-// The state after every offer of a search over the first n calls, in order; with depth 1, journeys with a change too. A refused search stays as it
-// is, so the loop may end there.
+// What the loops of a pass are told of the ways on.
+fn told(feed: &[u16; 3208], changes: &[u32; 16384], n: usize, depth: u16) -> [u16; 1024]
+    requires { ⌜ n ≤ 512 ⌝ }
+    ensures { λ r. ⌜ Told depth r (now (feed .entry)) (now (changes .entry)) n ⌝ }
+{
+    if depth == 2 {
+        return onward_times(feed, changes, n);
+    }
+    bounds_of(feed, n, depth)
+}
+
+// One pass over the first n calls: with depth 0 the direct journeys, with 1 those with a change too, with 2 those of three rides alone. A
+// refused search stays as it is, so the loop may end there.
+fn passed(st: &mut State, feed: &[u16; 3208], changes: &[u32; 16384], n: usize, depth: u16)
+    requires { ⌜ n ≤ 512 ⌝ }
+    ensures { λ _. ⌜ Offered (now (st .entry)) (now (st .exit)) (overCalls (boardRows (sheetOf (now (feed .entry))) (joinsOf (now (feed .entry)) (now (changes .entry))) depth n) n 0) ⌝ }
+{
+    let bounds = told(feed, changes, n, depth);
+    let mut i = 0;
+    while i < n {
+        if is_refused(st) {
+            return;
+        }
+        board_at(st, feed, changes, n, depth, &bounds, i);
+        i += 1;
+    }
+}
+
+fn at_most_one(depth: u16) -> u16
+    ensures { λ r. ⌜ r ≡ min depth 1 ⌝ }
+{
+    if depth < 1 { depth } else { 1 }
+}
+
+// The state after every offer of a search over the first n calls, in order: journeys with at most so many changes, those of three rides
+// after all others.
 pub fn endpoint_paths(
-    st: &mut [u16; 654],
+    st: &mut State,
     feed: &[u16; 3208],
     changes: &[u32; 16384],
     n: usize,
@@ -189,13 +263,8 @@ pub fn endpoint_paths(
     ensures { λ _. ⌜ view (now (st .exit)) ≡ offerAll (view (now (st .entry))) (rowsOf (now (feed .entry)) (now (changes .entry)) n depth) ⌝ }
 {
     let count = at_most_512(n);
-    let bounds = bounds_of(feed, count, depth);
-    let mut i = 0;
-    while i < count {
-        if is_refused(st) {
-            return;
-        }
-        board_at(st, feed, changes, count, depth, &bounds, i);
-        i += 1;
+    passed(st, feed, changes, count, at_most_one(depth));
+    if 2 <= depth {
+        passed(st, feed, changes, count, 2);
     }
 }

@@ -4,7 +4,7 @@ ghost use mathlib.Core.Path.{_≡_};
 ghost use Prim.Native.Nat.{_+_, _≤_, _<_, min};
 ghost use lib.ListN.{getD};
 ghost use Rattle.rides.specs.Bounds.{AtCall};
-ghost use Rattle.rides.specs.Reach.{TargetTimes, TimesBefore, BoardAt, JoinAt, Least, JoinsAt, Each};
+ghost use Rattle.rides.specs.Reach.{TargetTimes, TimesBefore, Onward, BoardAt, JoinAt, Least, JoinsAt, Each, Beside};
 use crate::bounds::alight_bound;
 use crate::bounds::earlier;
 use crate::reads::call_at;
@@ -165,4 +165,28 @@ pub fn times_before(
     let count = at_most_512(n);
     let boards = put_boards(feed, count, at);
     put_joined(feed, changes, count, &boards)
+}
+
+// Two such arrays in one.
+fn beside(one: &[u16; 512], two: &[u16; 512]) -> [u16; 1024]
+    ensures { λ r. ⌜ Beside (now (one .entry)) (now (two .entry)) r 512 ⌝ }
+{
+    let mut both = [0u16; 1024];
+    let mut i: usize = 0;
+    while i < 512 {
+        both[i] = one[i];
+        both[512 + i] = two[i];
+        i += 1;
+    }
+    both
+}
+
+// Those with one change left, then those with two.
+pub fn onward_times(feed: &[u16; 3208], changes: &[u32; 16384], n: usize) -> [u16; 1024]
+    ensures { λ r. ⌜ Onward r (now (feed .entry)) (now (changes .entry)) (min n 512) ⌝ }
+{
+    let none = target_times(feed, n);
+    let one = times_before(feed, changes, n, &none);
+    let two = times_before(feed, changes, n, &one);
+    beside(&one, &two)
 }

@@ -30,9 +30,10 @@ use Rattle.transfer.specs.Rows.{entryOf}
 use Rattle.offers.specs.Offers.{rideOf}
 use Rattle.offers.specs.Places as by
 use Rattle.feed.specs.Feed.{callAt, memberAt, originMask, targetMask, originWalk, targetWalk, changeAt, joined}
-use Rattle.rides.specs.Sheets.{joinsOf, sheetOf, rowsOf}
+use Rattle.rides.specs.Sheets.{joinsOf, sheetOf}
+use Rattle.rides.specs.Routes.{routeRows, rowsOf}
 use Rattle.rides.specs.Offered.{offerAll}
-use Rattle.rides.specs.Rows.{firstOf, rows}
+use Rattle.rides.specs.Rows.{firstOf}
 use Rattle.feed_array.specs.Feeds.{Feeds}
 use Rattle.change_array.specs.Named.{stopIn, HoldsChanges}
 use Rattle.load.specs.declared.Load.{Load}
@@ -129,7 +130,7 @@ module _ (l : Load) (calls : List Call) (f g : List ℕ) (w : Feeds f calls (l .
       λ p. not (eqb (w .trip i hi p) (w .trip j hj p) && eqb (w .day i hi p) (w .day j hj p))
       && leb (w .arrival k hk p + changeAt g (getD f (k * 6 + 2) 0) (getD f (j * 6 + 2) 0)) (w .departure j hj p)
 
-  joins-right : l .settings .«max_transfers» ≡ 1 → (i k j : ℕ) → k < n → j < n
+  joins-right : 1 ≤ l .settings .«max_transfers» → (i k j : ℕ) → k < n → j < n
       → (not (runs i j) && leb (placed calls k .arrival + changeAt g (stopIn f k) (stopIn f j)) (placed calls j .departure))
       ≡ joinsIn l (rideOf (placed calls i) (placed calls k)) (placed calls j)
   joins-right one i k j hk hj = go (ltb (placed calls k .stop) 128) refl (ltb (placed calls j .stop) 128) refl
@@ -202,8 +203,8 @@ module _ (l : Load) (calls : List Call) (f g flat parents places st st′ : List
       let rs : rulesOf flat (least (l .«rule_count») 128) ≡ take (l .«rule_count») (l .rules) =
       er (least (l .«rule_count») 128) (least-under (l .«rule_count») 128) ∙ take-least (l .rules) (l .«rule_count») 128 (least (l .«rule_count») 128) refl rules-long in
       let numbered : HoldsChanges g f (min (l .«call_count») 512) (l .settings .«max_transfers») (λ p q. changeNumber (changeIn l p q)) =
-      λ one k q hk few near hq. here (ed ∙ one) k q (omega arith) few near hq
+      λ one k q hk few near hq. here (omega (arith, ed, one)) k q (omega arith) few near hq
       ∙ (λ i. entryOf (rulesOf flat (least (l .«rule_count») 128)) (ep i) (el i) (stopIn f k) (ec i) q) ∙ entry-number l (rulesOf flat (least (l .«rule_count») 128)) (stopIn f k) q rs in
-      let same : rows (sheetOf f) (joinsOf f g) depth (min (l .«call_count») 512) ≡ rowOffers (timetableOf l) (placed calls) (min (l .«call_count») 512) =
+      let same : routeRows (sheetOf f) (joinsOf f g) depth (min (l .«call_count») 512) ≡ rowOffers (timetableOf l) (placed calls) (min (l .«call_count») 512) =
       same-rows (sheetOf f) (joinsOf f g) (timetableOf l) (placed calls) (min (l .«call_count») 512) depth (agrees l calls f g w small long (min (l .«call_count») 512) (omega arith) numbered) (ed ∙ max-is l) in
       e1 ∙ (λ i. foldl offerTo (e0 i) (same i)) ∙ offers-search (l .«table_horizon») (l .«table_limits») (rowOffers (timetableOf l) (placed calls) (min (l .«call_count») 512))

@@ -11,7 +11,8 @@ use Rattle.offers.specs.Offers.{Timetable, rideOf, offers}
 use Rattle.offers.specs.Places.{originMask, targetMask, journeyAt, InPlaces}
 use Rattle.feed.specs.declared.FeedCall.{FeedCall}
 use Rattle.feed.specs.declared.FirstRide.{FirstRide}
-use Rattle.rides.specs.Rows.{Sheet, Joins, rows}
+use Rattle.rides.specs.Rows.{Sheet, Joins}
+use Rattle.rides.specs.Routes.{routeRows}
 use Rattle.rides.specs.Agree.{Agree}
 
 -- what the loops read of a call
@@ -28,7 +29,7 @@ joinsFrom t at f j = t .joins (rideOf (at (f .board)) (at (f .alight))) (at j)
 
 -- every offer as a row, in order. n: how many calls there are
 unfoldable pub rowOffers : Timetable → (ℕ → Call) → ℕ → List Row
-rowOffers t at n = rows (sheetFrom t at) (joinsFrom t at) (t .max-transfers) n
+rowOffers t at n = routeRows (sheetFrom t at) (joinsFrom t at) (t .max-transfers) n
 
 -- ---- what is claimed
 
@@ -48,4 +49,4 @@ Agrees s joins t at n = Agree s (sheetFrom t at) joins (joinsFrom t at) (t .max-
 -- then its rows are those of the offers
 abbrev pub SameRows : Type 0
 SameRows = (s : Sheet) (joins : Joins) (t : Timetable) (at : ℕ → Call) (n depth : ℕ) → Agrees s joins t at n → depth ≡ t .max-transfers
-    → rows s joins depth n ≡ rowOffers t at n
+    → routeRows s joins depth n ≡ rowOffers t at n

@@ -21,6 +21,7 @@ use state::count;
 use state::fresh;
 use state::horizon;
 use state::is_refused;
+use state::layout::State;
 use state::limits;
 use transfer::copied::flat_rules;
 use transfer::copied::parents_of;
@@ -44,7 +45,7 @@ fn bytes(a: &[u8])
 }
 
 // The state of a search of the load over these calls, every offer made.
-fn offered(load: Load, calls: [Call; 512]) -> [u16; 654]
+fn offered(load: Load, calls: [Call; 512]) -> State
     ensures { λ r. ⌜ view r ≡ offeredOf load calls ⌝ }
 {
     let settings = load.settings;

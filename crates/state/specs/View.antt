@@ -1,4 +1,4 @@
--- An array of 654 numbers as the state of a search: 65 slots of ten numbers (a row), the last of them spare, then count, horizon, limits and refused.
+-- An array of numbers as the state of a search: slots of a row each, the last of them spare, then count, horizon, limits and refused.
 use mathlib.Core.Path.{_≡_}
 use mathlib.Core.Bool.{Bool, true, false, cond}
 use mathlib.Core.Logic.{_↔_}
@@ -10,12 +10,13 @@ use Rattle.profile.specs.declared.Row.{Row}
 use Rattle.laws.specs.Tables.{table}
 use Rattle.profile.specs.Kept.{St, going, refused}
 use Rattle.profile.specs.Journeys.{row}
+use Rattle.state.specs.Layout.{slots, width, countPlace, horizonPlace, limitsPlace, refusedPlace}
 
--- the ten numbers of slot i
+-- the numbers of slot i
 abbrev pub slot : List ℕ → ℕ → Row
 slot l i =
-    row (getD l (i * 10) 0) (getD l (i * 10 + 1) 0) (getD l (i * 10 + 2) 0) (getD l (i * 10 + 3) 0) (getD l (i * 10 + 4) 0) (getD l (i * 10 + 5) 0)
-    (getD l (i * 10 + 6) 0) (getD l (i * 10 + 7) 0) (getD l (i * 10 + 8) 0) (getD l (i * 10 + 9) 0)
+    row (getD l (i * width) 0) (getD l (i * width + 1) 0) (getD l (i * width + 2) 0) (getD l (i * width + 3) 0) (getD l (i * width + 4) 0) (getD l (i * width + 5) 0)
+    (getD l (i * width + 6) 0) (getD l (i * width + 7) 0) (getD l (i * width + 8) 0) (getD l (i * width + 9) 0) (getD l (i * width + 10) 0) (getD l (i * width + 11) 0)
 
 -- the same, unfolded only where a proof asks for it
 unfoldable pub rowAt : List ℕ → ℕ → Row
@@ -23,25 +24,25 @@ rowAt l i = slot l i
 
 -- every slot
 unfoldable pub rows : List ℕ → List Row
-rows l = table 65 (rowAt l)
+rows l = table slots (rowAt l)
 
 -- how many are kept: the number stored, read as 64 if it is more
 unfoldable pub countOf : List ℕ → ℕ
-countOf l = min (getD l 650 0) 64
+countOf l = min (getD l countPlace 0) 64
 
 unfoldable pub horizonOf : List ℕ → ℕ
-horizonOf l = getD l 651 0
+horizonOf l = getD l horizonPlace 0
 
 -- the mark: the number stored, read as 255 if it is more
 unfoldable pub limitsOf : List ℕ → ℕ
-limitsOf l = min (getD l 652 0) 255
+limitsOf l = min (getD l limitsPlace 0) 255
 
 unfoldable pub keptOf : List ℕ → List Row
 keptOf l = take (countOf l) (rows l)
 
 -- refused, unless the number stored is 0
 unfoldable pub openOf : List ℕ → Bool
-openOf l = eqb (getD l 653 0) 0
+openOf l = eqb (getD l refusedPlace 0) 0
 
 -- the array as a state
 unfoldable pub view : List ℕ → St Row

@@ -67,7 +67,7 @@ module _ {C D : Type 0} (N : Network C) (M : Network D) (h : C → D) (depth : �
   module _ {A B : Type 0} (φ : A → B) (direct : First C → ℕ → A) (change : First C → Leg C → ℕ → A) (direct′ : First D → ℕ → B) (change′ : First D → Leg D → ℕ → B)
       (v : Stand N h depth s φ direct change direct′ change′) where
     module _ (f : First C) (p : RideIn s (f .ride)) (o : List·Memᴰ (f .o) (N .origins (f .ride .b))) where
-      directs-images : map φ (directs N direct change f) ≡ directs M direct′ change′ (firstBy h f)
+      pub directs-images : map φ (directs N direct change f) ≡ directs M direct′ change′ (firstBy h f)
       unfolding directs
       directs-images =
           rw (map-map, w .targets (f .ride .a) (p .1))

@@ -1,9 +1,7 @@
 -- Journeys by depth, for request 10: "Search onward with the number of changes left falling by one at each ride. A middle ride needs a
 -- boardable and a later alightable call of one trip and day, and joins on both sides. Offer all three-ride journeys after all the
 -- others, by first, middle and last ride in call order, origin and target placed as for two rides." Over calls of any type, as
--- `journeys` is. Only crate `onward` and the bounds of crate `rides` use this yet: request 10 puts `routes` in the place of `journeys`
--- in `offers` and in `rows`, once a journey and a row hold a middle ride; `UpToOne` says that nothing moves then with max_transfers 0
--- and 1.
+-- `journeys` is. `offers` and the rows of crate `rides` are made of `routes`; with max_transfers 0 and 1 these are `journeys` (`UpToOne`).
 use mathlib.Core.Path.{_≡_}
 use mathlib.Core.List.{List, [], _∷_, _++_, map, List·Memᴰ}
 use Prim.Native.Nat.{ℕ, zero, suc, _≤_}

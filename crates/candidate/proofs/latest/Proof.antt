@@ -3,6 +3,7 @@ use mathlib.Core.Path.{_≡_}
 use Prim.Native.Nat.{_-_, max}
 use native.Mathlib.Omega.{arith}
 use lib.ListN.{drop}
+use Rattle.state.specs.Layout.{slots}
 use Rattle.state.specs.View.{rows}
 use Rattle.candidate.specs.Pieces.{latestDue}
 use Rattle.candidate.proofs.StepLaws.{latest-turn, latest-done}
@@ -13,7 +14,7 @@ abbrev Inv-loop : tie.InvT-loop
 Inv-loop st m₀ i₀ m i = max m (latestDue (drop i (rows st))) ≡ latestDue (rows st)
 
 abbrev μ-loop : tie.MeasureT-loop
-μ-loop st m₀ i₀ m i = 65 - i
+μ-loop st m₀ i₀ m i = slots - i
 
 loop-holds : tie.Need-loop-holds Inv-loop μ-loop
 loop-holds c = omega arith

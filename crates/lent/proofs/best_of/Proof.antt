@@ -191,11 +191,11 @@ module _ {M : Type 1} (𝓤 : URA M) (H : Heap 𝓤) (A : Atoms 𝓤) (W : Given
           assigns ! (of-opd ! (load ! (from ! (fld ! refl (stop !))) (look-in ! 8 (sub ! 1 refl (whole !))))) (from ! (stop !)) (init ! 4 refl (tt, record { fits = gn .0 })) $
           assigns ! (bin ! (load ! (from ! (stop !)) (look ! 3 refl)) (load ! (from ! (stop !)) (look ! 4 refl)) tt) (from ! (stop !)) (init ! 5 refl (tt, tt)) $
           tests ! (load ! (from ! (stop !)) (look ! 5 refl)) (λ z.
-          -- a turn: the place of the journey is i * 36 past the slice's
+          -- a turn: the place of the journey is i * 50 past the slice's
           let l : n - t < n = ltb→lt (n - t) n z in
           assigns ! (bin ! (load ! (from ! (stop !)) (look ! 3 refl)) (lit ! tt) (record { fits = scaled l })) (from ! (stop !)) (store ! 4 refl (tt, record { fits = scaled l })) $
           assigns ! (bin ! (load ! (from ! (fld ! refl (stop !))) (look-in ! 8 (sub ! 0 refl (whole !)))) (load ! (from ! (stop !)) (look ! 4 refl)) tt) (from ! (stop !)) (init ! 6 refl (tt, tt)) $
-          rewrite ! 6 (λ (p : ℕ). ‵ (fat fullShare tyPtr l₈ 0 (vptr b p))) (sym (place-is 36 o (n - t))) refl $
+          rewrite ! 6 (λ (p : ℕ). ‵ (fat fullShare tyPtr l₈ 0 (vptr b p))) (sym (place-is 50 o (n - t))) refl $
           move ! (2 ∷ []) $ elem-out ! R (Is R) (shows 𝓤 H A R) jval (LL.tells J.the-type J′.the-laws) q′ ys (n - t) noJourney b o l (λ g.
           -- [the journey; what it owns; the others; what is found; _4; _5; _6; _7; _8; _9; _1; _2; _3; _0; …]
           assigns ! (of-opd ! (load ! (from ! (hop ! (look ! 8 refl) (stop !))) (look-raw ! 0 refl))) (from ! (stop !)) (init ! 9 refl (LL.lawful J.the-type J′.the-laws 𝓤 H A W .typed (j t) _ g .0)) $
@@ -232,10 +232,10 @@ module _ {M : Type 1} (𝓤 : URA M) (H : Heap 𝓤) (A : Atoms 𝓤) (W : Given
           j : ℕ → Journey
           j t = getD ys (n - t) noJourney
 
-          bytes : n * 36 < 2 ^ 63
+          bytes : n * 50 < 2 ^ 63
           bytes = gn .1
 
-          scaled : {i : ℕ} → i < n → i * 36 < 2 ^ 64
+          scaled : {i : ℕ} → i < n → i * 50 < 2 ^ 64
           scaled l = omega arith
 
       looped : ent 𝓤 (⋆ 𝓤 H A (At Found.Nothing 0)) (Wp 𝓤 H C Λ En (loop body.turn-1) Left)

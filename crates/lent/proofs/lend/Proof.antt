@@ -141,7 +141,7 @@ module _ {M : Type 1} (𝓤 : URA M) (H : Heap 𝓤) (A : Atoms 𝓤) (W : Given
     fits : Room R (length (take n xs))
     fits = subst (Room R) (sym count-is) (gi, small)
       where
-        small : n * 36 < 2 ^ 63
+        small : n * 50 < 2 ^ 63
         small = omega arith
 
     typed : Holds (hasTy array (aval xs)) × WT (aval xs)

@@ -5,11 +5,11 @@ use display::journey::harness::{Run, Settings};
 use std::hint::black_box;
 use std::time::Instant;
 
-const SLOTS: usize = 654;
-const COUNT: usize = 650;
-const HORIZON: usize = 651;
-const LIMITS: usize = 652;
-const REFUSED: usize = 653;
+const SLOTS: usize = 784;
+const COUNT: usize = 780;
+const HORIZON: usize = 781;
+const LIMITS: usize = 782;
+const REFUSED: usize = 783;
 #[link(name = "profile_c", kind = "static")]
 unsafe extern "C" {
     safe fn profile_candidate(
@@ -24,6 +24,8 @@ unsafe extern "C" {
         alight: u16,
         board2: u16,
         alight2: u16,
+        middle_board: u16,
+        middle_alight: u16,
     ) -> usize;
 }
 // An earlier build, under another name; `bench/candidate` makes the library.
@@ -42,6 +44,8 @@ unsafe extern "C" {
         alight: u16,
         board2: u16,
         alight2: u16,
+        middle_board: u16,
+        middle_alight: u16,
     ) -> usize;
 }
 #[cfg(not(feature = "before"))]
@@ -59,10 +63,10 @@ impl Journey {
         Offer::new(self.leave, self.arrival, self.rides == 2, 0, 0)
     }
     fn offer(self, st: &mut [u16; SLOTS]) -> usize {
-        profile_candidate(st, self.leave, u32::from(self.arrival), self.rides, 0, 0, 0, 1, 2, 0, 0)
+        profile_candidate(st, self.leave, u32::from(self.arrival), self.rides, 0, 0, 0, 1, 2, 0, 0, 0, 0)
     }
     fn offer_before(self, st: &mut [u16; SLOTS]) {
-        black_box(before_candidate(st, self.leave, u32::from(self.arrival), self.rides, 0, 0, 0, 1, 2, 0, 0));
+        black_box(before_candidate(st, self.leave, u32::from(self.arrival), self.rides, 0, 0, 0, 1, 2, 0, 0, 0, 0));
     }
 }
 /// The i-th of 64 unbeaten journeys; each leaves and arrives 100 seconds after the one before.

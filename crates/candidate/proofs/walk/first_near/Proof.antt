@@ -3,6 +3,7 @@ use mathlib.Core.Path.{_≡_, refl}
 use Prim.Native.Nat.{_-_, _*_, _≤_}
 use native.Mathlib.Omega.{arith}
 use lib.ListN.{take}
+use Rattle.state.specs.Layout.{width}
 use Rattle.state.specs.View.{rows}
 use Rattle.candidate.specs.Pieces.{Skipped}
 use Rattle.candidate.proofs.StepLaws.{skip-none}
@@ -11,7 +12,7 @@ use Rattle.candidate.proofs.walk.first_near.Statement.{statement}
 use Rattle.candidate.proofs.walk.first_near.Tie as tie
 
 abbrev Inv-loop : tie.InvT-loop
-Inv-loop st c o i₀ at₀ i at = Skipped o (take c (rows st)) 0 i × (i ≤ c) × (at ≡ i * 10)
+Inv-loop st c o i₀ at₀ i at = Skipped o (take c (rows st)) 0 i × (i ≤ c) × (at ≡ i * width)
 
 abbrev μ-loop : tie.MeasureT-loop
 μ-loop st c o i₀ at₀ i at = c - i

@@ -1,7 +1,8 @@
--- `alight_at` meets its contract: if the call is alightable, the direct journeys, then those with a change.
+-- `alight_at` meets its contract: if the call is alightable, what the pass offers of the ride.
 use Rattle.rides.specs.Loops.{alightRows}
 use Rattle.rides.specs.Sheets.{sheetOf}
-use Rattle.rides.proofs.LoopLaws.{nothing, both}
+use Rattle.rides.proofs.LoopLaws.{nothing}
+use Rattle.rides.proofs.OnwardLaws.{alight-is}
 use borrow.Author.Needs.{needs}
 use Rattle.rides.proofs.paths.alight_at.Statement.{statement}
 use Rattle.rides.proofs.paths.alight_at.Tie as tie
@@ -12,17 +13,14 @@ call-at-requires c κs = search needs
 first-of-requires : tie.Need-first-of-requires
 first-of-requires c κs = search needs
 
-directs-requires : tie.Need-directs-requires
-directs-requires c κs = search needs
-
-change-rides-requires : tie.Need-change-rides-requires
-change-rides-requires c κs = search needs
+first-ride-requires : tie.Need-first-ride-requires
+first-ride-requires c κs =
+    let q = c .before .before .before .before .pre in
+    (q .0, q .1, q .3, alight-is _ _ (c .before .before .before .call-at .ensures) (c .before .before .if1 .taken), q .4, q .5)
 
 returns : tie.Need-returns
 unfolding alightRows sheetOf
-returns c =
-    let p = c .before .before .before .before in
-    rw (← p .before .before .call-at .ensures, p .before .if1 .taken, ← p .first-of .ensures) (both (c .before .before .directs .ensures) (c .change-rides .ensures))
+returns c = rw (← c .before .before .before .before .call-at .ensures, c .before .before .before .if1 .taken, ← c .before .first-of .ensures) (c .first-ride .ensures)
 
 returns-2 : tie.Need-returns-2
 unfolding alightRows sheetOf
@@ -34,7 +32,6 @@ alight-at-spec =
     (tie.spec
     call-at-requires
     first-of-requires
-    directs-requires
-    change-rides-requires
+    first-ride-requires
     returns
     returns-2)

@@ -6,6 +6,7 @@ use Rattle.rides.specs.Loops.{overRun, alightRows}
 use Rattle.feed.specs.Feed.{callAt}
 use Rattle.rides.specs.Sheets.{joinsOf, sheetOf}
 use Rattle.rides.proofs.LoopLaws.{Left, starts, run-turn, run-other, run-done}
+use Rattle.rides.proofs.OnwardLaws.{same-run-is}
 use Rattle.rides.proofs.paths.first_rides.Statement.{statement}
 use Rattle.rides.proofs.paths.first_rides.Tie as tie
 
@@ -32,7 +33,11 @@ same-run-requires : tie.Need-same-run-requires Inv-loop μ-loop
 same-run-requires c κs = tt
 
 alight-at-requires : tie.Need-alight-at-requires Inv-loop μ-loop
-alight-at-requires c κs = search needs
+alight-at-requires c κs =
+    let p = c .before .before .before .before in
+    let q = p .before .before .before .pre in
+    let run = same-run-is _ _ _ (p .before .before .call-at .ensures) (c .before .before .before .call-at2 .ensures) (c .before .before .same-run .ensures) (c .before .if1 .taken) in
+    (q .0, omega arith, q .2, p .loop-test .taken, run, q .3)
 
 add-k-2 : tie.Need-add-k-2 Inv-loop μ-loop
 add-k-2 c = omega arith

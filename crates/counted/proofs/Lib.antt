@@ -1,0 +1,2 @@
+pub mod EventLaws
+pub mod JoinLaws

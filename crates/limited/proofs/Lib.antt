@@ -1,0 +1,4 @@
+pub mod GrowthLaws
+pub mod LimitLaws
+pub mod MarginLaws
+pub mod InstanceLaws

@@ -1,0 +1,4 @@
+pub mod Growth
+pub mod Limited
+pub mod Margin
+pub mod Instances

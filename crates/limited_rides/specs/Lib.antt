@@ -1,0 +1,5 @@
+pub mod Runs
+pub mod RowEvents
+pub mod Counts
+pub mod Within
+pub mod Earliest

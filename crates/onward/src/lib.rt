@@ -1,1 +1,0 @@
-// The journeys that a timetable admits, by depth: one ride, two or three. There is no code here.
