@@ -74,7 +74,8 @@ def call(judge, c, number):
         return f"arrives {clock(c.arrival)}, after it departs, {clock(c.departure)}"
     if number == 11:
         return "so many calls or journeys that the horizon would fall below an hour"
-    return clash(judge)[0] if number == 14 else None
+    # 14 of a call after the search: the searched load stays, so the clash is not in it
+    return "clashes with a call of its trip and day: one sequence, or a departure after the next arrival" if number == 14 else None
 
 
 def rule(judge, r, number):
