@@ -1,5 +1,5 @@
--- The premises of the demands can be met, by lists that keep a journey: of one ride, of two that a rule joins, of a service with dates, of one
--- that is added after the search and withdrawn again. Each by computation.
+-- The premises of the demands can be met, by lists that keep a journey: of one ride, of two that a rule joins, of three, of a service with
+-- dates, of one that is added after the search and withdrawn again. Each by computation.
 use mathlib.Core.Path.{_≡_}
 use mathlib.Core.Bool.{true, false}
 use mathlib.Core.Option.{none}
@@ -103,6 +103,23 @@ twoTrips departs =
     ∷ search
     ∷ []
 
+-- request 10: trip 1 from the origin to a stop, which it reaches at 1000; trip 2 from there, at 1180, to another, which it reaches at 1500; trip
+-- 3 from there to the target, which departs so and arrives at 2000
+abbrev pub threeTrips : ℕ → List Step
+threeTrips departs =
+    filling (stop (65 ∷ []) [] [] (someStop 1))
+    ∷ filling (stop (66 ∷ []) [] [] (someStop 0))
+    ∷ filling (stop (67 ∷ []) [] [] (someStop 0))
+    ∷ filling (stop (68 ∷ []) [] [] (someStop 16))
+    ∷ filling (call [] (callOf 1 1 0 600))
+    ∷ filling (call [] (callOf 1 2 1 1000))
+    ∷ filling (call [] (callOf 2 1 1 1180))
+    ∷ filling (call [] (callOf 2 2 2 1500))
+    ∷ filling (call [] (callOf 3 1 2 departs))
+    ∷ filling (call [] (callOf 3 2 3 2000))
+    ∷ search
+    ∷ []
+
 -- the same trip on a dated load, whose three days are Monday 2 to Wednesday 4 January 2023: a service of Mondays that year, which an exception
 -- may remove on the second; the calls name it
 abbrev pub mondays : List ℕ
@@ -151,6 +168,12 @@ pub record Met : Type 0 where
   pub admitted-changing : OneAdmitted (undated (settingsWith 1)) (twoTrips 1240) (figuresOf 300 1620 2 5)
   pub kept-changing : keptBy (undated (settingsWith 1)) (twoTrips 1240) ≡ figuresOf 300 1620 2 5 ∷ []
   pub missed : keptBy (undated (settingsWith 1)) (twoTrips 1239) ≡ []
+  -- request 10: three rides with two changes; 1500 + 180 joins 1680, and not 1679; with one change, none
+  pub opens-through : Opens (undated (settingsWith 2))
+  pub admitted-through : OneAdmitted (undated (settingsWith 2)) (threeTrips 1680) (figuresOf 300 2120 3 5)
+  pub kept-through : keptBy (undated (settingsWith 2)) (threeTrips 1680) ≡ figuresOf 300 2120 3 5 ∷ []
+  pub missed-through : keptBy (undated (settingsWith 2)) (threeTrips 1679) ≡ []
+  pub one-change : keptBy (undated (settingsWith 1)) (threeTrips 1680) ≡ []
   -- with dates: the service runs on Monday 2 January, unless that date is removed
   pub opens-dated : Opens someDates
   pub admitted-dated : OneAdmitted someDates (datedTrip 20230109) (figuresOf 300 1320 1 5)
