@@ -100,12 +100,12 @@ def not_removed(self, load, j):
 
 def changes_first(self, load, origin, first, lasts, known):
     offers = list(Reading.from_first(self, load, origin, first, lasts, known))
-    return [j for j in offers if j.rides == 2] + [j for j in offers if j.rides == 1]
+    return sorted(offers, key=lambda j: -j.rides)
 
 
 def direct_all_first(self, load, calls):
     offers = list(Reading.offers(self, load, calls))
-    return [j for j in offers if j.rides == 1] + [j for j in offers if j.rides == 2]
+    return sorted(offers, key=lambda j: j.rides)
 
 
 def origin_outermost(self, load, calls):
@@ -194,7 +194,8 @@ misread("next-before-the-second", next_after=lambda self, load, second, j: self.
 
 # --- refusals ---
 misread("five-origins", ENDS=5)
-misread("two-transfers", TRANSFERS=2)
+misread("three-transfers", TRANSFERS=3)
+misread("one-transfer", TRANSFERS=1)
 misread("start-below-2-to-40", TIME=2**40 - 1)
 misread("start-above-2-to-40", TIME=2**40 + 1)
 misread("id-of-31", ID=31)
