@@ -156,6 +156,16 @@ fn lists(files: &mut Vec<Vec<u8>>) {
     let better = vec![vec![(ORIGIN, 906), (TARGET, 4505)]];
     files.push(paper(&[three(905, 4506), list.clone(), better.clone()].concat()));
     files.push(paper(&[list, better, three(905, 4506)].concat()));
+    // One that is a 65th, and one that beats it and one of the 64, offered after it by first rides and before it by middle rides (as the
+    // Rust goes), and the other way round.
+    let list = (0..64).map(direct).collect::<Vec<_>>();
+    let [one, other] = [vec![(ORIGIN, 905), (NEAR, 950)], vec![(ORIGIN, 906), (NEAR, 911)]];
+    let middles = vec![vec![(NEAR, 911), (FAR, 915)], vec![(NEAR, 950), (FAR, 960)]];
+    let lasts = vec![vec![(FAR, 915), (TARGET, 4499)], vec![(FAR, 960), (TARGET, 4506)]];
+    files.push(paper(&[vec![one, other], middles, lasts, list.clone()].concat()));
+    let [one, other] = [three(905, 4506), three(906, 4499)];
+    let chains = vec![other[0].clone(), one[0].clone(), one[1].clone(), other[1].clone(), one[2].clone(), other[2].clone()];
+    files.push(paper(&[chains, list].concat()));
     for due in 3599..3603 {
         let direct = |k: u32| vec![(ORIGIN, 600 + 10 * k), (TARGET, 2900 + 10 * k)];
         files.push(paper(&[(0..64).map(direct).collect(), three(2000, due)].concat()));
