@@ -1,4 +1,4 @@
-//! Fixed files of request 10: journeys of three rides. The place where each join, bar, order, bound and limit turns, a second before and after.
+//! Fixed files of request 10: journeys of three rides, where each join, bar, order, bound and limit turns, a second before and after.
 use super::writer::{Call, Settings, Step, Stop, file};
 
 const ORIGIN: u16 = 0;
@@ -53,7 +53,7 @@ fn joins(files: &mut Vec<Vec<u8>>) {
         let trips = [chain()[0].clone(), vec![(NEAR, first), (FAR, 1300)], vec![(FAR, last), (TARGET, 2000)]];
         files.push(of_calls(Settings { transfer_minutes: 1, ..settings([0; 2], [0; 4]) }, calls(&trips)));
     }
-    // The middle ride starts, or ends, elsewhere; the first and the last are of one trip; the first and the middle, or the middle and the last.
+    // The middle ride starts, or ends, elsewhere; of one trip are the first and the last, the first and the middle, the other two.
     files.push(paper(&[chain()[0].clone(), vec![(FAR, 1000), (FAR, 1300)], chain()[2].clone()]));
     files.push(paper(&[chain()[0].clone(), vec![(NEAR, 1000), (NEAR, 1300)], chain()[2].clone()]));
     files.push(paper(&[vec![(ORIGIN, 600), (NEAR, 900), (FAR, 1400), (TARGET, 2000)], chain()[1].clone()]));
