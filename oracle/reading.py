@@ -1,4 +1,4 @@
-"""Document 01 and requests 02, 05, 06, 07 and 09, read slowly: a method for each sentence, so that wrong.py can misread one at a time.
+"""Document 01 and requests 02, 05, 06, 07, 09 and 10, read slowly: a method for each sentence, so that wrong.py can misread one at a time.
 Request 03 is in weeks.py, 11 in withdrawals.py, 13 in writing.py.
 
 Written from the words of 01, its constants for the place test from `same_place_keys`, which 01 names as the definition.
@@ -25,7 +25,7 @@ class Load:
 
 
 class Reading(Places, Weeks, Withdrawals, Writing):
-    ENDS, TRANSFERS, TIME, ID, NAME, STOPS, RULES, CALLS, LIST, LEAST = 4, 1, 2**40, 32, 64, 128, 128, 512, 64, 3600
+    ENDS, TRANSFERS, TIME, ID, NAME, STOPS, RULES, CALLS, LIST, LEAST = 4, 2, 2**40, 32, 64, 128, 128, 512, 64, 3600
     CHANGE = 15300   # seconds, request 05
 
     Fields = Fields
@@ -225,28 +225,67 @@ class Reading(Places, Weeks, Withdrawals, Writing):
         due = legs[-1].arrival + load.settings.target_walks[target] * 60
         return Journey(legs[0].departure - walk * 60, due, len(legs), walk, origin, target, legs)
 
-    def offers(self, load, calls):
-        rides = [(b, [self.ride(b, a) for a in self.alightings(calls, i)]) for i, b in enumerate(calls) if b.board]
-        lasts = [(r, self.targets(load, r.dst)) for _, rs in rides for r in rs]
-        lasts = [(r, targets) for r, targets in lasts if targets]
-        known = {}
-        for b, firsts in rides:
-            for origin in self.origins(load, b.stop):
+    def rides(self, calls):
+        """The rides of the table in call order: from a boardable call to a later alightable one of its trip and day."""
+        return [self.ride(b, a) for i, b in enumerate(calls) if b.board for a in self.alightings(calls, i)]
+
+    def middles(self, calls):
+        return self.rides(calls)
+
+    def lasts(self, load, rides):
+        """Those that end at a target, with its targets."""
+        return [(r, self.targets(load, r.dst)) for r in rides if self.targets(load, r.dst)]
+
+    def firsts(self, load, calls):
+        """First rides by boarding call, origin and alighting call."""
+        for i, b in enumerate(calls):
+            for origin in self.origins(load, b.stop) if b.board else []:
                 if self.boards(b.departure, load.settings.origin_walks[origin]):
-                    for first in firsts:
-                        yield from self.from_first(load, origin, first, lasts, known)
+                    for a in self.alightings(calls, i):
+                        yield origin, self.ride(b, a)
+
+    def offers(self, load, calls):
+        firsts, lasts, known = list(self.firsts(load, calls)), self.lasts(load, self.rides(calls)), {}
+        for origin, first in firsts:
+            yield from self.from_first(load, origin, first, lasts, known)
+        yield from self.three_rides(load, firsts, self.middles(calls), lasts, known)
+
+    def most_changes(self, load):
+        return load.settings.max_transfers
+
+    def joins(self, load, a, b, known):
+        pair = a.dst, b.src
+        if pair not in known:
+            known[pair] = self.transfer(load, *pair)
+        return self.other(a, b) and known[pair] is not None and self.meets(a.arrival, known[pair], b.departure)
 
     def from_first(self, load, origin, first, lasts, known):
         for target in self.targets(load, first.dst):
             yield self.journey(load, origin, target, [first])
-        if load.settings.max_transfers == 1:
+        if self.most_changes(load) >= 1:
             for last, targets in lasts:
-                pair = first.dst, last.src
-                if pair not in known:
-                    known[pair] = self.transfer(load, *pair)
-                if self.other(first, last) and known[pair] is not None and self.meets(first.arrival, known[pair], last.departure):
+                if self.joins(load, first, last, known):
                     for target in targets:
                         yield self.journey(load, origin, target, [first, last])
+
+    # request 10: all three-ride journeys after all the others, by first, middle and last ride in call order
+    def three_rides(self, load, firsts, middles, lasts, known):
+        if self.most_changes(load) == 2:
+            onward = {}   # for each middle ride its last rides, found once
+            for origin, first in firsts:
+                for i, middle in enumerate(middles):
+                    if self.joins_middle(load, first, middle, known):
+                        if i not in onward:
+                            onward[i] = [(r, targets) for r, targets in lasts if self.joins_last(load, middle, r, known)]
+                        for last, targets in onward[i]:
+                            for target in targets:
+                                yield self.journey(load, origin, target, [first, middle, last])
+
+    def joins_middle(self, load, first, middle, known):
+        return self.joins(load, first, middle, known)
+
+    def joins_last(self, load, middle, last, known):
+        return self.joins(load, middle, last, known)
 
     def covers(self, a, b):
         return a.leave >= b.leave and (a.arrival, a.rides, a.walk) <= (b.arrival, b.rides, b.walk)

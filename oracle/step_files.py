@@ -50,7 +50,7 @@ class Maker(WeekMaker, CallMaker):
         walks = bytes(self.usual([0, 0, 1, 2, 3, 5], [60, 255], 0.05) for _ in range(sum(counts)))
         self.walks = walks[:counts[0]] or b"\0"
         change = self.usual([0, 60, 90, 180, 300, rng.randrange(600)], [59, 61, 3600, 15299, 15300, 15301, 15360, 65520, 65535], 0.08)
-        transfers = self.usual([0, 1, 1, 1], [2, 3, 255], 0.03)
+        transfers = self.usual([0, 1, 1, 2], [3, 3, 255], 0.03)
         self.now = self.usual([0, 1000, 1_700_000_000], [2**40, -2**40, 2**40 + 1, -2**40 - 1, *ENDS[:2]], 0.08)
         self.epochs = [self.now - rng.choice([0, 0, 600, 25200]) + day * 86400 * rng.choice([0, 0, 1]) for day in range(3)]
         if self.seldom():

@@ -100,12 +100,12 @@ def not_removed(self, load, j):
 
 def changes_first(self, load, origin, first, lasts, known):
     offers = list(Reading.from_first(self, load, origin, first, lasts, known))
-    return [j for j in offers if j.rides == 2] + [j for j in offers if j.rides == 1]
+    return sorted(offers, key=lambda j: -j.rides)
 
 
 def direct_all_first(self, load, calls):
     offers = list(Reading.offers(self, load, calls))
-    return [j for j in offers if j.rides == 1] + [j for j in offers if j.rides == 2]
+    return sorted(offers, key=lambda j: j.rides)
 
 
 def origin_outermost(self, load, calls):
@@ -181,6 +181,77 @@ misread("list-rides-before-arrival", list_order=lambda self, j: (j.rides, j.arri
 misread("list-walk-before-rides", list_order=lambda self, j: (j.arrival, j.walk, j.rides, -j.leave))
 misread("list-latest-arrival-first", list_order=lambda self, j: (-j.arrival, j.rides, j.walk, -j.leave))
 
+
+# --- journeys of three rides (request 10) ---
+# Which of the three rides may be of one trip and day is no reading here, as no file tells it: where two of them are, the trip's own ride
+# from the first boarding to the last alighting makes a journey of fewer rides, which is offered before and covers this one.
+def any_boarding(self, calls):
+    return [self.ride(b, a) for i, b in enumerate(calls) for a in self.alightings(calls, i)]
+
+
+def any_alighting(self, calls):
+    return self.rides([c._replace(alight=True) for c in calls])
+
+
+def three_first(self, load, calls):
+    return sorted(Reading.offers(self, load, calls), key=lambda j: j.rides != 3)
+
+
+def three_in_turn(self, load, calls):
+    """The journeys of three rides of each first ride just after its others."""
+    lasts, known = self.lasts(load, self.rides(calls)), {}
+    for origin, first in self.firsts(load, calls):
+        yield from self.from_first(load, origin, first, lasts, known)
+        yield from self.three_rides(load, [(origin, first)], self.middles(calls), lasts, known)
+
+
+def by_ride(*places):
+    """Journeys of three rides by their first, middle and last ride in another order of these."""
+    def three_rides(self, load, firsts, middles, lasts, known):
+        offers = list(Reading.three_rides(self, load, firsts, middles, lasts, known))
+        order = {}
+        for place in places:
+            for ride in [first for _, first in firsts] if place == 0 else middles if place == 1 else [last for last, _ in lasts]:
+                order.setdefault((place, ride), len(order))
+        return sorted(offers, key=lambda j: [order[place, j.legs[place]] for place in places])
+    return three_rides
+
+
+def two_counted(self, load, origin, target, legs):
+    return Reading.journey(self, load, origin, target, legs)._replace(rides=min(len(legs), 2))
+
+
+def untimed(self, load, a, b, known):
+    return Reading.joins(self, load, a, b._replace(departure=65535), known)
+
+
+def elsewhere(self, load, a, b, known):
+    return self.other(a, b) and self.meets(a.arrival, self.change(load), b.departure)
+
+
+misread("first-join-missed", joins_middle=lambda self, load, first, middle, known: True)
+misread("second-join-missed", joins_last=lambda self, load, middle, last, known: True)
+misread("first-join-untimed", joins_middle=untimed)
+misread("second-join-untimed", joins_last=untimed)
+misread("first-join-anywhere", joins_middle=elsewhere)
+misread("second-join-anywhere", joins_last=elsewhere)
+misread("middle-boards-where-barred", middles=any_boarding)
+misread("middle-alights-where-barred", middles=any_alighting)
+misread("middle-next-alighting-alone", middles=lambda self, calls: [
+    self.ride(b, a) for i, b in enumerate(calls) if b.board for a in self.alightings(calls, i)[:1]])
+misread("three-rides-first", offers=three_first)
+misread("three-rides-in-turn", offers=three_in_turn)
+misread("by-middle-ride-first", three_rides=by_ride(1, 0, 2))
+misread("by-last-ride-first", three_rides=by_ride(2, 0, 1))
+misread("last-before-middle", three_rides=by_ride(0, 2, 1))
+misread("three-rides-counted-2", journey=two_counted)
+misread("three-rides-alone", from_first=lambda self, load, *rest: (
+    [] if load.settings.max_transfers == 2 else Reading.from_first(self, load, *rest)))
+misread("two-rides-left-out", from_first=lambda self, load, *rest: (
+    j for j in Reading.from_first(self, load, *rest) if load.settings.max_transfers < 2 or j.rides == 1))
+misread("three-rides-left-out", three_rides=lambda self, *rest: [])
+misread("three-rides-with-1", most_changes=lambda self, load: 2 * load.settings.max_transfers)
+
 # --- best ---
 misread("best-before-0", best=lambda self, load, second: Reading.best(self, load, max(second, 0)))
 misread("best-after-horizon", best=lambda self, load, second: Reading.best(self, load, min(second, load.horizon)))
@@ -194,7 +265,8 @@ misread("next-before-the-second", next_after=lambda self, load, second, j: self.
 
 # --- refusals ---
 misread("five-origins", ENDS=5)
-misread("two-transfers", TRANSFERS=2)
+misread("three-transfers", TRANSFERS=3)
+misread("one-transfer", TRANSFERS=1)
 misread("start-below-2-to-40", TIME=2**40 - 1)
 misread("start-above-2-to-40", TIME=2**40 + 1)
 misread("id-of-31", ID=31)

@@ -279,7 +279,7 @@ module _ (s : Settings) (p : Load) (fs : List Filling) (w : Start s p fs) (o : O
   admitted-in j (inr (inl v)) =
       inr (inl (subst (Changing F) (sym (v .is)) (change-in (v .b) (v .a) (v .c) (v .d) (v .o) (v .k) (v .may) (v .first) (v .last) (v .joined) (v .starts) (v .ends))))
   admitted-in j (inr (inr v)) =
-      inr (inr (subst (Through F) (sym (v .is)) (three-in (v .b) (v .a) (v .c) (v .d) (v .e) (v .g) (v .o) (v .k) (v .may) (v .first) (v .middle) (v .last) (v .joined) (v .joins) (v .starts) (v .ends))))
+      inr (inr (subst (Through F) (sym (v .is)) (three-in (v .b) (v .a) (v .c) (v .d) (v .e) (v .g) (v .o) (v .k) (v .may) (v .first) (v .middle) (v .last) (v .joins-middle) (v .joins-last) (v .starts) (v .ends))))
 
   unfoldable pub direct-out : (j : Journey) → Direct F j → by-load.Direct t j
   unfolding timetableOf
@@ -336,8 +336,8 @@ module _ (s : Settings) (p : Load) (fs : List Filling) (w : Start s p fs) (o : O
         last = l;
         starts = starts-of (v .b) (v .g) j (v .between);
         ends = ends-out (v .g) (j .target) (v .between .target) (v .between .to);
-        joined = joins-out s p fs w (v .b) (v .a) (v .c) (f .run .trip) (f .run .day) (known (v .a) (f .to)) (known (v .c) (m .from)) (v .joins);
-        joins = joins-out s p fs w (v .c) (v .d) (v .e) (m .run .trip) (m .run .day) (known (v .d) (m .to)) (known (v .e) (l .from)) (v .joins′);
+        joins-middle = joins-out s p fs w (v .b) (v .a) (v .c) (f .run .trip) (f .run .day) (known (v .a) (f .to)) (known (v .c) (m .from)) (v .joins);
+        joins-last = joins-out s p fs w (v .c) (v .d) (v .e) (m .run .trip) (m .run .day) (known (v .d) (m .to)) (known (v .e) (l .from)) (v .joins′);
         is = between-out 3 (v .b) (v .a) (v .g) j (rideOf (v .c) (v .d)) (rideOf (v .e) (v .g)) (v .between) (v .rides) (ride-is (v .b) (v .a) (j .first) (v .first)) (ride-is (v .c) (v .d) (j .middle) (v .middle)) (ride-is (v .e) (v .g) (j .last) (v .last));
       }
 

@@ -104,7 +104,7 @@ opening-match o =
     let s = o .settings in (
       refl,
       dec-or (ltb 4 (s .origins)) _ (dec-ltb 4 (s .origins)) (dec-or (ltb 4 (s .targets)) _ (dec-ltb 4 (s .targets))
-          (dec-or (ltb 1 (s .«max_transfers»)) (ltb 15300 (s .«transfer_seconds»)) (dec-ltb 1 (s .«max_transfers»)) (dec-ltb 15300 (s .«transfer_seconds»)))),
+          (dec-or (ltb 2 (s .«max_transfers»)) (ltb 15300 (s .«transfer_seconds»)) (dec-ltb 2 (s .«max_transfers»)) (dec-ltb 15300 (s .«transfer_seconds»)))),
       λ a. (refl, dec-clock s, λ b. dates-match (o .dates)),
     )
 

@@ -94,7 +94,7 @@ module _ (s : Settings) (l : Load) (fs : List Filling) (w : Start s l fs) (o : O
       subst (KeyOf t) (λ n. changing (eb n) (ei n) (ea n) (ec n) (ed n) (ek n)) (u .may, u .first, u .last, u .starts, u .ends, u .joined)
   given (through b i a c d x y k) j (v, eb, ea, ec, ed, ex, ey, ei, ek) =
       let u = three-out s l fs w o j v in
-      subst (KeyOf t) (λ n. through (eb n) (ei n) (ea n) (ec n) (ed n) (ex n) (ey n) (ek n)) (u .may, u .first, u .middle, u .last, u .starts, u .ends, u .joined, u .joins)
+      subst (KeyOf t) (λ n. through (eb n) (ei n) (ea n) (ec n) (ed n) (ex n) (ey n) (ek n)) (u .may, u .first, u .middle, u .last, u .starts, u .ends, u .joins-middle, u .joins-last)
 
   by-load : Offered F (offers t)
   by-load = record {

@@ -53,7 +53,7 @@ use Rattle.steps.proofs.HeldLaws.{searched-holds}
 use Rattle.comparison.specs.Taken.{fresh}
 use Rattle.comparison.specs.Runs.{Runs, Admitted}
 use Rattle.comparison.specs.Demands.{answersFrom}
-use Rattle.comparison.specs.Witness.{settingsWith, someSettings, someOpening, someDates, oneTrip, addedTrip, withdrawnTrip, twoTrips, datedTrip, keptBy, keptFigures, Met}
+use Rattle.comparison.specs.Witness.{settingsWith, someSettings, someOpening, someDates, oneTrip, addedTrip, withdrawnTrip, twoTrips, threeTrips, datedTrip, keptBy, keptFigures, Met}
 use Rattle.comparison.proofs.DemandLaws.{ending, run, same-admitted}
 
 -- what the program answers
@@ -82,6 +82,18 @@ record Changed : Type 0 where
 changed : Changed
 unfolding firstAnswer overCounts near allNear settingsTests walksOf canonicalOf stationOf idWrong isKnown typeWrong nameNeeded nameWrong stopTests stopAt stopOf heldText known callTests callFit callOn cut fitted timeAfter seenCall seen openAnswer emptyOf undatedWeek stopSpec plainCall callSpec addSpec ruleTests ruleSpec table parentsOf endsOf transferOf lexb clash rides firstRides joinedRides networkOf offers searchOf timetableOf outcomeOf searchSpec onward pass routes
 changed = record { opens = (refl, tt); searched = refl; kept = refl; missed = refl }
+
+-- by two changes
+record Through : Type 0 where
+  opens : Opens (undated (settingsWith 2))
+  searched : endOf (undated (settingsWith 2)) (threeTrips 1740) .searched ≡ true
+  kept : keptBy (undated (settingsWith 2)) (threeTrips 1740) ≡ figuresOf 300 2120 3 5 ∷ []
+  missed : keptBy (undated (settingsWith 2)) (threeTrips 1739) ≡ []
+  one-change : keptBy (undated (settingsWith 1)) (threeTrips 1740) ≡ []
+
+through : Through
+unfolding firstAnswer overCounts near allNear settingsTests walksOf canonicalOf stationOf idWrong isKnown typeWrong nameNeeded nameWrong stopTests stopAt stopOf heldText known callTests callFit callOn cut fitted timeAfter seenCall seen openAnswer emptyOf undatedWeek stopSpec plainCall callSpec addSpec ruleTests ruleSpec table parentsOf endsOf transferOf lexb clash rides firstRides joinedRides networkOf offers searchOf timetableOf outcomeOf searchSpec onward pass routes
+through = record { opens = (refl, tt); searched = refl; kept = refl; missed = refl; one-change = refl }
 
 -- with dates
 record Dated : Type 0 where
@@ -127,6 +139,7 @@ met =
     let (j, m, e) = one-of (keptOf (endOf someOpening xs)) (figuresOf 300 1320 1 5) (kept .one-trip) in
     let (k, l, g) = one-of (keptOf (endOf someDates (datedTrip 20230109))) (figuresOf 300 1320 1 5) (in-dates .kept) in
     let (i, n, f) = one-of (keptOf (endOf (undated (settingsWith 1)) (twoTrips 1240))) (figuresOf 300 1620 2 5) (changed .kept) in
+    let (x, y, z) = one-of (keptOf (endOf (undated (settingsWith 2)) (threeTrips 1740))) (figuresOf 300 2120 3 5) (through .kept) in
     let (a, b, c) = one-of (keptOf (endOf someOpening addedTrip)) (figuresOf 400 1220 1 5) (later .more) in
     let (p, q, r) = one-of (keptOf (endOf someOpening withdrawnTrip)) (figuresOf 300 1320 1 5) (later .less) in
     record {
@@ -142,6 +155,11 @@ met =
       admitted-changing = record { j = i; figures = f; admitted = one-kept (undated (settingsWith 1)) (twoTrips 1240) (changed .opens) (changed .searched) i n };
       kept-changing = changed .kept;
       missed = changed .missed;
+      opens-through = through .opens;
+      admitted-through = record { j = x; figures = z; admitted = one-kept (undated (settingsWith 2)) (threeTrips 1740) (through .opens) (through .searched) x y };
+      kept-through = through .kept;
+      missed-through = through .missed;
+      one-change = through .one-change;
       opens-dated = in-dates .opens;
       admitted-dated = record { j = k; figures = g; admitted = one-kept someDates (datedTrip 20230109) (in-dates .opens) (in-dates .searched) k l };
       kept-dated = in-dates .kept;

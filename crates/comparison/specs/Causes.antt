@@ -71,11 +71,12 @@ abbrev pub dateCauses : Option (List ℕ) → List Cause
 dateCauses none = []
 dateCauses (some dates) = cause ((d : ℕ) × List·Memᴰ d dates × NoDate d) (Refused DateWrong) ∷ []
 
--- "count above 4, `max_transfers` above 1"; of the change time "a value above 15300 belongs to refusal 1" (request 05)
+-- "count above 4, `max_transfers` above 1", which request 10 alters: "`max_transfers` 2 is accepted and refusal 1 starts at 3"; of the change
+-- time "a value above 15300 belongs to refusal 1" (request 05)
 abbrev pub openingCauses : Opening → List Cause
 openingCauses o =
     let s = o .settings in
-    cause (4 < s .origins ⊎ 4 < s .targets ⊎ 1 < s .«max_transfers» ⊎ 15300 < s .«transfer_seconds») (Refused SettingsRange)
+    cause (4 < s .origins ⊎ 4 < s .targets ⊎ 2 < s .«max_transfers» ⊎ 15300 < s .«transfer_seconds») (Refused SettingsRange)
     ∷ cause (Beyond (s .now) ⊎ ((day : ℕ) × (day ≤ 2) × Beyond (getD (s .epochs) day (pos 0)))) (Refused ClockRange)
     ∷ dateCauses (o .dates)
 

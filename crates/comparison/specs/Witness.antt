@@ -1,5 +1,5 @@
--- The premises of the demands can be met, by lists that keep a journey: of one ride, of two that a rule joins, of a service with dates, of one
--- that is added after the search and withdrawn again. Each by computation.
+-- The premises of the demands can be met, by lists that keep a journey: of one ride, of two that a rule joins, of three, of a service with
+-- dates, of one that is added after the search and withdrawn again. Each by computation.
 use mathlib.Core.Path.{_≡_}
 use mathlib.Core.Bool.{true, false}
 use mathlib.Core.Option.{none}
@@ -103,6 +103,28 @@ twoTrips departs =
     ∷ search
     ∷ []
 
+-- request 10: trip 1 from the origin to a stop, which it reaches at 1000; trip 2 from there, at 1240, to another, which it reaches at 1500; trip
+-- 3 from there to the target, which departs so and arrives at 2000. At both stops a rule of type 2 asks for 240 seconds; two of type 3 forbid
+-- changes that no journey here needs
+abbrev pub threeTrips : ℕ → List Step
+threeTrips departs =
+    filling (stop (65 ∷ []) [] [] (someStop 1))
+    ∷ filling (stop (66 ∷ []) [] [] (someStop 0))
+    ∷ filling (stop (67 ∷ []) [] [] (someStop 0))
+    ∷ filling (stop (68 ∷ []) [] [] (someStop 16))
+    ∷ filling (rule (record { from = 1; to = 1; «transfer_type» = 2; seconds = min-time.Given 240 }))
+    ∷ filling (rule (record { from = 2; to = 2; «transfer_type» = 2; seconds = min-time.Given 240 }))
+    ∷ filling (rule (record { from = 1; to = 2; «transfer_type» = 3; seconds = min-time.Given 0 }))
+    ∷ filling (rule (record { from = 2; to = 0; «transfer_type» = 3; seconds = min-time.Given 0 }))
+    ∷ filling (call [] (callOf 1 1 0 600))
+    ∷ filling (call [] (callOf 1 2 1 1000))
+    ∷ filling (call [] (callOf 2 1 1 1240))
+    ∷ filling (call [] (callOf 2 2 2 1500))
+    ∷ filling (call [] (callOf 3 1 2 departs))
+    ∷ filling (call [] (callOf 3 2 3 2000))
+    ∷ search
+    ∷ []
+
 -- the same trip on a dated load, whose three days are Monday 2 to Wednesday 4 January 2023: a service of Mondays that year, which an exception
 -- may remove on the second; the calls name it
 abbrev pub mondays : List ℕ
@@ -151,6 +173,12 @@ pub record Met : Type 0 where
   pub admitted-changing : OneAdmitted (undated (settingsWith 1)) (twoTrips 1240) (figuresOf 300 1620 2 5)
   pub kept-changing : keptBy (undated (settingsWith 1)) (twoTrips 1240) ≡ figuresOf 300 1620 2 5 ∷ []
   pub missed : keptBy (undated (settingsWith 1)) (twoTrips 1239) ≡ []
+  -- request 10: three rides with two changes; 1500 + 240 joins 1740, and not 1739; with one change, none
+  pub opens-through : Opens (undated (settingsWith 2))
+  pub admitted-through : OneAdmitted (undated (settingsWith 2)) (threeTrips 1740) (figuresOf 300 2120 3 5)
+  pub kept-through : keptBy (undated (settingsWith 2)) (threeTrips 1740) ≡ figuresOf 300 2120 3 5 ∷ []
+  pub missed-through : keptBy (undated (settingsWith 2)) (threeTrips 1739) ≡ []
+  pub one-change : keptBy (undated (settingsWith 1)) (threeTrips 1740) ≡ []
   -- with dates: the service runs on Monday 2 January, unless that date is removed
   pub opens-dated : Opens someDates
   pub admitted-dated : OneAdmitted someDates (datedTrip 20230109) (figuresOf 300 1320 1 5)

@@ -11,7 +11,7 @@ use lib.ListN.{length}
 use borrow.Author.Tests.{leb-true, leb-false, le-leb, eqb-true, eqb-false, eq-eqb, le-ltb}
 use Rattle.laws.specs.Lists.{filterb}
 use Rattle.laws.proofs.Bools.{test, not-true, and-true, or-false-left, or-false-right}
-use Rattle.laws.proofs.Lists.{filterb-mem, mem-filterb, filterb-all}
+use Rattle.laws.proofs.Lists.{filterb-mem, mem-filterb, filterb-all, snoc-ind}
 use Rattle.laws.proofs.Folds.{foldl-append}
 use Rattle.profile.specs.Figures.{Figures, covᶠ, dueᶠ, lexb}
 use Rattle.profile.specs.Front.{front}
@@ -20,9 +20,9 @@ use Rattle.profile.specs.Kept.{St, going, refused, latest, settle, offer, run}
 use Rattle.profile.specs.Best.{pick, best}
 use Rattle.profile.proofs.FiguresLaws.{figures-order, covers-arrival, lexb-eq, prefer-arrival}
 use Rattle.profile.proofs.FrontLaws.{after-mem, front-covers, front-antichain}
-use Rattle.profile.proofs.KeptLaws.{settle-elim, Holds, offer-settles, run-holds}
+use Rattle.profile.proofs.KeptLaws.{settle-elim, Holds, offer-settles, run-holds, run-kept, run-covers}
 use Rattle.profile.proofs.PickLaws.{Picked, pick-picked}
-use Rattle.limited.specs.Growth.{Kinds, FewTogether, NeverLater, TogetherGo}
+use Rattle.limited.specs.Growth.{Kinds, FewTogether, NeverLater, NeverEmptied, TogetherGo}
 
 -- ---- elements whose numbers are below n and all differ are at most n
 
@@ -178,6 +178,15 @@ module _ {A : Type 0} (fig : A → Figures) (kind : A → ℕ) where
   Has a (going ks h l) = (k : A) × List·Memᴰ k ks × (fig k .arrival ≤ a)
   Has a refused = Unit {0}
 
+  -- the horizon is as it was at the start, or something is kept
+  abbrev Left : ℕ → St A → Type 0
+  Left h₀ (going ks h l) = (h₀ ≤ h) ⊎ ((k : A) × List·Memᴰ k ks)
+  Left h₀ refused = Unit {0}
+
+  has-left : (h₀ a : ℕ) (s : St A) → Has a s → Left h₀ s
+  has-left h₀ a refused w = tt
+  has-left h₀ a (going ks h l) (k, m, d) = inr (k, m)
+
   abbrev search : ℕ → ℕ → List A → St A
   search h₀ l₀ os = run (covᶠ fig) (dueᶠ fig) 64 3600 h₀ l₀ os
 
@@ -217,6 +226,31 @@ module _ {A : Type 0} (fig : A → Figures) (kind : A → ℕ) where
         (offer-has a h₀ xs y (search h₀ l₀ xs) (kinds-part n (xs ++ y ∷ []) ys few′) (run-holds (figures-order fig) 64 3600 (omega arith) h₀ l₀ xs) has) in
         rw q (goes-on-has a h₀ l₀ (xs ++ y ∷ []) ys few′ one)
 
+    offer-left : (h₀ : ℕ) (os : List A) (o : A) (s : St A) → Kinds fig kind n (os ++ o ∷ []) → Holds (covᶠ fig) (dueᶠ fig) 64 h₀ os s → Left h₀ s → Left h₀ (offer (covᶠ fig) (dueᶠ fig) 64 3600 s o)
+    offer-left h₀ os o refused few w x = tt
+    offer-left h₀ os o (going ks h l) few w (inr (k, m)) =
+        has-left h₀ (fig k .arrival) (offer (covᶠ fig) (dueᶠ fig) 64 3600 (going ks h l) o) (offer-has (fig k .arrival) h₀ os o (going ks h l) few w (k, m, omega arith))
+    offer-left h₀ os o (going ks h l) few (e, len, up) (inl le) =
+        let len′ : length (front (covᶠ fig) (dueᶠ fig) h os) ≤ 64 = rw e at len in
+        rw (e, offer-settles (figures-order fig) 64 3600 (omega arith) h l os o len′)
+        (settle-elim (dueᶠ fig) 64 3600 (Left h₀) fr h l (λ fits. inl le) (λ more. tt) (λ more low. cut more))
+      where
+        fr : List A
+        fr = front (covᶠ fig) (dueᶠ fig) h (os ++ o ∷ [])
+
+        g : ℕ
+        g = latest (dueᶠ fig) fr - 1
+
+        cut : 64 < length fr → Left h₀ (going (filterb (λ z. leb (dueᶠ fig z) g) fr) g 1)
+        cut more =
+            let (x, i, d) = one-before n (os ++ o ∷ []) few h (omega (arith, at64)) in
+            inr (x, mem-filterb (λ z. leb (dueᶠ fig z) g) i (le-leb (fig x .arrival) g d))
+
+    run-left : (h₀ l₀ : ℕ) (os : List A) → Kinds fig kind n os → Left h₀ (search h₀ l₀ os)
+    run-left h₀ l₀ os = snoc-ind (λ xs. Kinds fig kind n xs → Left h₀ (search h₀ l₀ xs)) (λ few. inl (omega arith))
+        (λ xs x ih few. rw (foldl-append (offer (covᶠ fig) (dueᶠ fig) 64 3600) (going [] h₀ l₀) xs (x ∷ []))
+        (offer-left h₀ xs x (search h₀ l₀ xs) few (run-holds (figures-order fig) 64 3600 (omega arith) h₀ l₀ xs) (ih (kinds-part n xs (x ∷ []) few)))) os
+
 -- ---- best at second 0
 
 module _ {A : Type 0} (fig : A → Figures) where
@@ -245,6 +279,23 @@ module _ {A : Type 0} (fig : A → Figures) where
       let (k, m, d) = after in
       let (j′, p, q) = least ks′ (fig j .arrival) k m d (pick fig ks′) (pick-picked fig ks′) in
       (j′, best-zero ks′ h′ ∙ p, q)
+
+  pub never-emptied : NeverEmptied fig
+  never-emptied kind n h₀ l₀ os ks h l at64 few e o m d = go (test (leb (fig o .arrival) h))
+    where
+      held : Left fig kind h₀ (going ks h l)
+      held = rw e at (run-left fig kind n at64 h₀ l₀ os few)
+
+      -- cut before the offer: what is kept is due by the horizon
+      before : h < fig o .arrival → Left fig kind h₀ (going ks h l) → (k : A) × List·Memᴰ k ks × (fig k .arrival ≤ fig o .arrival)
+      before lt (inl le) = absurd (omega (arith, d))
+      before lt (inr (k, i)) = let (j, due) = run-kept (figures-order fig) 64 3600 (omega arith) h₀ l₀ os ks h l e .3 k i in (k, i, omega (arith, due))
+
+      go : (leb (fig o .arrival) h ≡ true) ⊎ (leb (fig o .arrival) h ≡ false) → (k : A) × List·Memᴰ k ks × (fig k .arrival ≤ fig o .arrival)
+      go (inl t) =
+          let (k, i, c) = run-covers (figures-order fig) 64 3600 (omega arith) h₀ l₀ os ks h l e o m (leb-true (fig o .arrival) h t) in
+          (k, i, covers-arrival (fig k) (fig o) c)
+      go (inr t) = before (leb-false (fig o .arrival) h t) held
 
 -- ---- the instance, by computation
 

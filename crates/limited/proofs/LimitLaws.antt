@@ -128,31 +128,31 @@ pub best-ordered : (ks : List Journey) (h : ℕ) (z : ℤ) → bestℤ journeyFi
 best-ordered ks h z =
     sym (best-in-order journeyFigures (ordered journeyFigures ks) (put-in-order journeyFigures ks .0) h z) ∙ ordered-best journeyFigures ks h z
 
--- ---- the offers are of eight kinds, by rides and origin
+-- ---- the offers of at most so many rides are of four times as many kinds, by rides and origin
 
-kind : Journey → ℕ
+pub kind : Journey → ℕ
 kind j = (j .rides - 1) * 4 + j .origin
 
-record Kind (t : Timetable) (j : Journey) : Type 0 where
-  some-ride : 1 ≤ j .rides
-  rides : j .rides ≤ 2
-  origin : j .origin < 4
-  walk : j .walk ≡ t .origin-walk (j .origin)
+pub record Kind (most : ℕ) (t : Timetable) (j : Journey) : Type 0 where
+  pub some-ride : 1 ≤ j .rides
+  pub rides : j .rides ≤ most
+  pub origin : j .origin < 4
+  pub walk : j .walk ≡ t .origin-walk (j .origin)
 
 -- what the events offer, by first ride
 abbrev pub journeysOf : Timetable → List Journey
 journeysOf t = journeys (networkOf t) (directBy t) (changeBy t) (t .max-transfers) (sorted t)
 
-journey-kind : (t : Timetable) (j : Journey) → List·Memᴰ j (journeysOf t) → Kind t j
+journey-kind : (t : Timetable) (j : Journey) → List·Memᴰ j (journeysOf t) → Kind 2 t j
 journey-kind t j m = go (journeys-mem (networkOf t) (directBy t) (changeBy t) (t .max-transfers) (sorted t) j m)
   where
-    go : Alone (networkOf t) (directBy t) (changeBy t) (t .max-transfers) (sorted t) j ⊎ Changing (networkOf t) (directBy t) (changeBy t) (t .max-transfers) (sorted t) j → Kind t j
+    go : Alone (networkOf t) (directBy t) (changeBy t) (t .max-transfers) (sorted t) j ⊎ Changing (networkOf t) (directBy t) (changeBy t) (t .max-transfers) (sorted t) j → Kind 2 t j
     go (inl w) = let x = starts-set t (w .f .ride .b) (w .origin) in rw (w .is) (record { some-ride = omega arith; rides = omega arith; origin = omega (arith, x .count); walk = refl })
     go (inr w) = let x = starts-set t (w .f .ride .b) (w .origin) in rw (w .is) (record { some-ride = omega arith; rides = omega arith; origin = omega (arith, x .count); walk = refl })
 
-kinds : (t : Timetable) (os : List Journey) → ((j : Journey) → List·Memᴰ j os → Kind t j) → Kinds journeyFigures kind 8 os
+pub kinds : (most : ℕ) (t : Timetable) (os : List Journey) → ((j : Journey) → List·Memᴰ j os → Kind most t j) → Kinds journeyFigures kind (most * 4) os
 unfolding kind
-kinds t os f = record {
+kinds most t os f = record {
   small = λ j m. let k = f j m in omega (arith, k .some-ride, k .rides, k .origin);
   rides = λ a b m n e. let k = f a m in let l = f b n in omega (arith, k .some-ride, l .some-ride, k .origin, l .origin);
   walk = λ a b m n e.
@@ -172,7 +172,7 @@ within-offer n t m =
     rw q (Memᴰ·append-left (offersOf (past n (eventsOf t))) m)
 
 within-kinds : (n : ℕ) (t : Timetable) → Kinds journeyFigures kind 8 (offersWithin n t)
-within-kinds n t = kinds t (offersWithin n t) (λ j m. journey-kind t j (within-offer n t m))
+within-kinds n t = kinds 2 t (offersWithin n t) (λ j m. journey-kind t j (within-offer n t m))
 
 pub eight-together : EightTogether
 eight-together n t h a = few-together journeyFigures kind 8 (offersWithin n t) (within-kinds n t) h a

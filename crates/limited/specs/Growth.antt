@@ -33,6 +33,11 @@ module _ {A : Type 0} (fig : A → Figures) where
       → Keeps fig h₀ l₀ xs ks h l → Keeps fig h₀ l₀ (xs ++ ys) ks′ h′ l′
       → (j : A) → best fig ks h 0 ≡ some j → (j′ : A) × (best fig ks′ h′ 0 ≡ some j′) × (fig j′ .arrival ≤ fig j .arrival)
 
+  -- and a cut never empties the list: of each offer due by the horizon at the start, one is kept that arrives no later
+  abbrev pub NeverEmptied : Type 0
+  NeverEmptied = (kind : A → ℕ) (n h₀ l₀ : ℕ) (os ks : List A) (h l : ℕ) → n ≤ 64 → Kinds kind n os → Keeps fig h₀ l₀ os ks h l
+      → (o : A) → List·Memᴰ o os → fig o .arrival ≤ h₀ → (k : A) × List·Memᴰ k ks × (fig k .arrival ≤ fig o .arrival)
+
 -- n journeys that arrive together; each leaves a second later and walks a minute more than the one before
 abbrev pub together : ℕ → ℕ → List Figures
 together a zero = []

@@ -60,8 +60,8 @@ other t ys p j (inr (inr w)) = inr (inr (record {
   last = rides-of p (w .last);
   starts = starts-of t ys (w .starts);
   ends = ends-of t ys (w .ends);
-  joined = w .joined;
-  joins = w .joins;
+  joins-middle = w .joins-middle;
+  joins-last = w .joins-last;
   is = w .is;
 }))
 

@@ -56,8 +56,8 @@ module _ (t : Timetable) (j : Journey) where
         last = last;
         starts = x .starts;
         ends = en;
-        joined = joined;
-        joins = joins;
+        joins-middle = joined;
+        joins-last = joins;
         is = e ∙ ap (λ (w : Way Call). journeyBy t (routeOf (r .first) w)) (s ∙ ap (rideThen m) (p ∙ ap (rideThen l) q));
       }))
   by-route r (suc (suc (suc n)), h, x) e = absurd (omega arith)
@@ -75,7 +75,7 @@ module _ (t : Timetable) (j : Journey) where
       let m = leg (w .c) (w .d) in
       let l = leg (w .e) (w .g) in
       let r = routeOf (firstRide (w .o) (w .b) (w .a)) (rideThen m (rideThen l (here (w .k)))) in
-      (r, (2, omega arith, record { may = w .may; ride = w .first; starts = w .starts; on = (m, rideThen l (here (w .k)), w .middle, w .joined, (l, here (w .k), w .last, w .joins, (w .k, w .ends, refl), refl), refl) }), sym (w .is))
+      (r, (2, omega arith, record { may = w .may; ride = w .first; starts = w .starts; on = (m, rideThen l (here (w .k)), w .middle, w .joins-middle, (l, here (w .k), w .last, w .joins-last, (w .k, w .ends, refl), refl), refl) }), sym (w .is))
 
 pub offers-admitted : OffersAdmitted
 unfolding offers
@@ -100,8 +100,8 @@ module _ (t : Timetable) (clear : Clear t) (timed : Timed (t .calls)) (join : In
       let h = ride-ahead t clear (w .b) (w .a) timed (w .first) in
       let i = ride-ahead t clear (w .c) (w .d) timed (w .middle) in
       let k = ride-ahead t clear (w .e) (w .g) timed (w .last) in
-      let g : w .a .arrival ≤ w .c .departure = join (rideOf (w .b) (w .a)) (w .c) (w .joined) in
-      let g′ : w .d .arrival ≤ w .e .departure = join (rideOf (w .c) (w .d)) (w .e) (w .joins) in
+      let g : w .a .arrival ≤ w .c .departure = join (rideOf (w .b) (w .a)) (w .c) (w .joins-middle) in
+      let g′ : w .d .arrival ≤ w .e .departure = join (rideOf (w .c) (w .d)) (w .e) (w .joins-last) in
       rw (w .is) (omega arith)
 
 pub offers-ahead : OffersAhead

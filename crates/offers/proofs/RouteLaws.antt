@@ -1,6 +1,7 @@
 -- Routes of a timetable: what is listed is what is admitted, no route leaves after it arrives, and up to one change they are the offers as they were.
 use mathlib.Core.Path.{refl, sym, ap, subst}
 use mathlib.Core.Logic.{_⊎_, inl, inr}
+use mathlib.Core.Bool.{cond}
 use mathlib.Core.List.{List, [], _∷_, _++_, map, List·Memᴰ, List·Memᴰ·head, List·Memᴰ·tail, List·Memᴰ·not-nil, List·Memᴰ·append-cases, Memᴰ·append-left, Memᴰ·append-right, Memᴰ·map, Memᴰ·of-map}
 use Prim.Native.Nat.{ℕ, zero, suc, _≤_}
 use native.Mathlib.Omega.{arith}
@@ -8,13 +9,17 @@ use Rattle.laws.proofs.Folds.{concatMap-mem, mem-concatMap}
 use Rattle.ways.specs.Rides.{Leg, joinedRides}
 use Rattle.ways.proofs.RideLaws.{joined-mem, mem-joined}
 use Rattle.calls.specs.declared.Call.{Call}
-use Rattle.offers.specs.Order.{Timed}
+use Rattle.profile.specs.declared.Journey.{Journey}
+use Rattle.profile.specs.Kept.{searched}
+use Rattle.profile.specs.Journeys.{journeyFigures}
+use Rattle.offers.specs.Order.{clashes, Timed}
 use Rattle.offers.specs.Offers.{Timetable, networkOf, journeyBy, directBy, changeBy, sorted, offers}
 use Rattle.offers.specs.Admitted.{Clear, InTime}
+use Rattle.offers.specs.Search.{clashing, foundBy, searchOf}
 use Rattle.offers.proofs.OrderLaws.{accepted-any-order}
 use Rattle.offers.proofs.FoundLaws.{rides-found, found-rides, ride-ahead, starts-set, set-starts, ends-set, set-ends}
 use Rattle.ways.specs.Routes.{Way, Route, here, rideThen, allowed, onward, pass, routes}
-use Rattle.offers.specs.Routes.{Onward, WithChanges, AdmittedRoute, arrivesAt, OnwardIs, RoutesAdmitted, RoutesAhead, RoutesInAnyOrder, OffersUpToOne}
+use Rattle.offers.specs.Routes.{Onward, WithChanges, AdmittedRoute, arrivesAt, OnwardIs, RoutesAdmitted, RoutesAhead, RoutesInAnyOrder, OffersUpToOne, SearchUpToOne}
 use Rattle.ways.proofs.RouteLaws.{Passed, pass-mem, mem-pass, allowed-mem, mem-allowed, up-to-one}
 
 -- ---- what leads on
@@ -114,3 +119,7 @@ routes-in-any-order t ys p e = ap (routes (networkOf t) (t .max-transfers)) (acc
 pub offers-up-to-one : OffersUpToOne
 unfolding offers
 offers-up-to-one t h = up-to-one (networkOf t) (t .max-transfers) (sorted t) (directBy t) (changeBy t) (journeyBy t) h (λ f k. refl) (λ f l k. refl)
+
+pub search-up-to-one : SearchUpToOne
+unfolding searchOf
+search-up-to-one t h l few = ap (λ (os : List Journey). cond (clashes (sorted t)) clashing (foundBy (searched journeyFigures 64 3600 h l os))) (offers-up-to-one t few)

@@ -75,8 +75,8 @@ pub record Three (t : Timetable) (j : Journey) : Type 0 where
   pub last : Rides (t .calls) e g
   pub starts : Starts t b o
   pub ends : Ends t g k
-  pub joined : t .joins (rideOf b a) c ≡ true
-  pub joins : t .joins (rideOf c d) e ≡ true
+  pub joins-middle : t .joins (rideOf b a) c ≡ true
+  pub joins-last : t .joins (rideOf c d) e ≡ true
   pub is : j ≡ threeOf t (rideOf b a) (rideOf c d) (rideOf e g) o k
 
 abbrev pub Admitted : Timetable → Journey → Type 0

@@ -1,14 +1,17 @@
 -- Which routes a timetable admits, by depth: a relation over the calls as taken, with no order in it; and that they are those listed.
 use mathlib.Core.Path.{_≡_}
 use mathlib.Core.Logic.{_↔_}
-use mathlib.Core.Bool.{true}
+use mathlib.Core.Bool.{true, cond}
 use mathlib.Core.List.{List, [], _∷_, List·Memᴰ, List·Permᴰ}
 use Prim.Native.Nat.{ℕ, zero, suc, _≤_}
 use Rattle.ways.specs.Rides.{Leg, journeys}
 use Rattle.calls.specs.declared.Call.{Call}
-use Rattle.offers.specs.Order.{Timed}
+use Rattle.profile.specs.Kept.{searched}
+use Rattle.profile.specs.Journeys.{journeyFigures}
+use Rattle.offers.specs.Order.{clashes, Timed}
 use Rattle.offers.specs.Offers.{Timetable, withCalls, rideOf, leaveOf, arrivalOf, networkOf, directBy, changeBy, sorted, routesOf, offers}
 use Rattle.offers.specs.Admitted.{Rides, Starts, Ends, Clear, InTime}
+use Rattle.offers.specs.Search.{clashing, foundBy, searchOf}
 use Rattle.ways.specs.Routes.{Way, Route, here, rideThen, onward}
 
 -- w leads on from the ride r, by so many changes
@@ -61,3 +64,9 @@ RoutesInAnyOrder = (t : Timetable) (ys : List Call) → List·Permᴰ (t .calls)
 -- with max_transfers 0 and 1 the offers are the journeys as they were, by first ride
 abbrev pub OffersUpToOne : Type 0
 OffersUpToOne = (t : Timetable) → t .max-transfers ≤ 1 → offers t ≡ journeys (networkOf t) (directBy t) (changeBy t) (t .max-transfers) (sorted t)
+
+-- so a search answers as it did
+abbrev pub SearchUpToOne : Type 0
+SearchUpToOne = (t : Timetable) (h l : ℕ) → t .max-transfers ≤ 1
+    → searchOf t h l
+    ≡ cond (clashes (sorted t)) clashing (foundBy (searched journeyFigures 64 3600 h l (journeys (networkOf t) (directBy t) (changeBy t) (t .max-transfers) (sorted t))))

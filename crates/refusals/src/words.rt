@@ -49,8 +49,8 @@ fn open_changing(label: &[u8], seconds: u16, now: i64) {
 pub fn opens() {
     open(b"5 origins", 5, 4, 1, 0, 0, 0, 0);
     open(b"5 targets", 4, 5, 1, 0, 0, 0, 0);
-    open(b"2 transfers", 4, 4, 2, 0, 0, 0, 0);
-    open(b"4 origins, 4 targets, 1 transfer", 4, 4, 1, 0, 0, 0, 0);
+    open(b"3 transfers", 4, 4, 3, 0, 0, 0, 0);
+    open(b"4 origins, 4 targets, 2 transfers", 4, 4, 2, 0, 0, 0, 0);
     open(b"start 2^40 + 1", 4, 4, 1, 1099511627777, 0, 0, 0);
     open(b"start -2^40 - 1", 4, 4, 1, -1099511627777, 0, 0, 0);
     open(b"first epoch 2^40 + 1", 4, 4, 1, 0, 1099511627777, 0, 0);
@@ -67,6 +67,7 @@ pub fn opens() {
         -1099511627776,
     );
     open(b"1+2", 5, 4, 1, 1099511627777, 0, 0, 0);
+    open(b"3 transfers, 1+2", 4, 4, 3, 1099511627777, 0, 0, 0);
     open_changing(b"15300 seconds", 15300, 0);
     open_changing(b"15301 seconds", 15301, 0);
     open_changing(b"65535 seconds", 65535, 0);

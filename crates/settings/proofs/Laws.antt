@@ -58,13 +58,13 @@ module _ (o t m n : ℕ) where
   unfolding overCounts
   many-targets h k = rw (le-ltb 4 o h, lt-ltb 4 t k)
 
-  pub many-transfers : o ≤ 4 → t ≤ 4 → 1 < m → true ≡ overCounts o t m n
+  pub many-transfers : o ≤ 4 → t ≤ 4 → 2 < m → true ≡ overCounts o t m n
   unfolding overCounts
-  many-transfers h k l = rw (le-ltb 4 o h, le-ltb 4 t k, lt-ltb 1 m l)
+  many-transfers h k l = rw (le-ltb 4 o h, le-ltb 4 t k, lt-ltb 2 m l)
 
-  pub by-seconds : o ≤ 4 → t ≤ 4 → m ≤ 1 → ltb 15300 n ≡ overCounts o t m n
+  pub by-seconds : o ≤ 4 → t ≤ 4 → m ≤ 2 → ltb 15300 n ≡ overCounts o t m n
   unfolding overCounts
-  by-seconds h k l = rw (le-ltb 4 o h, le-ltb 4 t k, le-ltb 1 m l)
+  by-seconds h k l = rw (le-ltb 4 o h, le-ltb 4 t k, le-ltb 2 m l)
 
 -- the answers to settings: 1, 2, or taken
 module _ (s : Settings) where

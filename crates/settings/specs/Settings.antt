@@ -11,9 +11,10 @@ use Rattle.refusal.specs.declared.Answer.the-variants.{Refused}
 use Rattle.refusal.specs.declared.Refusal.the-variants.{SettingsRange, ClockRange}
 use Rattle.settings.specs.declared.Settings.{Settings}
 
--- a count above 4, `max_transfers` above 1, a change time above 15300 seconds (request 05)
+-- a count above 4, `max_transfers` above 2 (request 10: "`max_transfers` 2 is accepted and refusal 1 starts at 3"), a change time above 15300
+-- seconds (request 05)
 unfoldable pub overCounts : ℕ → ℕ → ℕ → ℕ → Bool
-overCounts origins targets transfers seconds = ltb 4 origins || (ltb 4 targets || (ltb 1 transfers || ltb 15300 seconds))
+overCounts origins targets transfers seconds = ltb 4 origins || (ltb 4 targets || (ltb 2 transfers || ltb 15300 seconds))
 
 -- at most 2^40 in size
 unfoldable pub near : ℤ → Bool

@@ -51,7 +51,7 @@ fn over_counts(origins: u8, targets: u8, transfers: u8, seconds: u16) -> bool
     if 4 < targets {
         return true;
     }
-    if 1 < transfers {
+    if 2 < transfers {
         return true;
     }
     15300 < seconds

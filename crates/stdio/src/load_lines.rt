@@ -61,8 +61,17 @@ fn ride(out: &mut [u8; 65536], at: usize, r: Ride) -> usize {
     out::flag(out, h, r.alight_request)
 }
 
+// Only a journey of three rides has a middle one.
+fn middle_ride(out: &mut [u8; 65536], at: usize, j: Journey) -> usize {
+    if j.rides == 3 {
+        let middle = j.middle;
+        return ride(out, at, middle);
+    }
+    at
+}
+
 fn last_ride(out: &mut [u8; 65536], at: usize, j: Journey) -> usize {
-    if j.rides == 2 {
+    if 2 <= j.rides {
         let last = j.last;
         return ride(out, at, last);
     }
@@ -76,11 +85,12 @@ fn journey(out: &mut [u8; 65536], at: usize, j: Journey) -> usize
     let b = figures(out, a, j);
     let first = j.first;
     let c = ride(out, b, first);
-    let d = last_ride(out, c, j);
-    out::line(out, d)
+    let d = middle_ride(out, c, j);
+    let e = last_ride(out, d, j);
+    out::line(out, e)
 }
 
-// The kept journeys, each with its rides.
+// The kept journeys, each with its rides in order.
 pub fn journeys(out: &mut [u8; 65536], at: usize, kept: [Journey; 64], count: usize) -> usize
     ensures { λ r. ⌜ r ≤ 65536 ⌝ }
 {

@@ -106,7 +106,7 @@ unfolding overCounts
 opens-within o w =
     let s = o .settings in
     ltb-false 15300 (s .«transfer_seconds»)
-    (or-false-right (ltb 1 (s .«max_transfers»)) _ (or-false-right (ltb 4 (s .targets)) _ (or-false-right (ltb 4 (s .origins)) _ (open-fails o w .0))))
+    (or-false-right (ltb 2 (s .«max_transfers»)) _ (or-false-right (ltb 4 (s .targets)) _ (or-false-right (ltb 4 (s .origins)) _ (open-fails o w .0))))
 
 pub change-in-range : ChangeInRange
 unfolding canonicalOf

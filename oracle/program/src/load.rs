@@ -45,7 +45,7 @@ impl Load {
         let Record::Settings { origin_walks, target_walks, transfer_minutes, max_transfers, now, epochs } = record else {
             return Err(Beyond(19));
         };
-        test(origin_walks.len() > 4 || target_walks.len() > 4 || max_transfers > 1, Beyond(1))?;
+        test(origin_walks.len() > 4 || target_walks.len() > 4 || max_transfers > 2, Beyond(1))?;
         test([now, epochs[0], epochs[1], epochs[2]].iter().any(|t| t.unsigned_abs() > 1 << 40), Beyond(2))?;
         let run = Run::open(&Settings { origin_walks, target_walks, transfer_minutes, max_transfers, now, epochs });
         Ok(Self { run, answers: String::new(), searched: false, stops: Vec::new(), rules: Vec::new() })

@@ -96,6 +96,9 @@ fn queries(out: &mut String, run: &Run) {
 }
 fn accepted(out: &mut String, load: &Load) {
     let run = &load.run;
+    if run.max_transfers() == 2 {
+        line(out, "changes", ["2".to_string()]);
+    }
     line(out, "answers", (!load.answers.is_empty()).then(|| load.answers.clone()));
     calls(out, run);
     if load.searched {

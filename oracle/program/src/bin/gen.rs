@@ -1,8 +1,8 @@
 //! `gen --profile P --files N --seed S [--from I]` writes load files in batch form (a big-endian u32 length before each);
 //! `gen --marked` writes 01's marked instances likewise, `gen --combined` each pair of causes of one step, `gen --damaged`
-//! files that are malformed in each way, `gen --pruned` those where last rides are left out by a bound; `gen --profiles` lists
-//! the profiles; `gen --tables DIR` writes the benchmark's tables.
-use program::generate::{self, PROFILES, combined, damaged, marked, pruned, tables};
+//! files that are malformed in each way, `gen --pruned` those where last rides are left out by a bound, `gen --chained` journeys of three
+//! rides; `gen --profiles` lists the profiles; `gen --tables DIR` writes the benchmark's tables.
+use program::generate::{self, PROFILES, chained, combined, damaged, marked, pruned, tables};
 use std::io::{self, Write};
 
 fn value(words: &[String], name: &str) -> Option<String> {
@@ -37,6 +37,9 @@ fn main() -> io::Result<()> {
     }
     if words.iter().any(|w| w == "--pruned") {
         return pruned::files().into_iter().try_for_each(write);
+    }
+    if words.iter().any(|w| w == "--chained") {
+        return chained::files().into_iter().try_for_each(write);
     }
     let name = value(&words, "--profile").unwrap_or("all".to_string());
     let number = |word, other| value(&words, word).and_then(|n| n.parse().ok()).unwrap_or(other);

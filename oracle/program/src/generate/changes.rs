@@ -66,7 +66,7 @@ fn load(rng: &mut Rng, draw: &Draw) -> Vec<u8> {
         origin_walks: (0..rng.range(1, 2)).map(|_| rng.pick(&draw.walks)).collect(),
         target_walks: (0..rng.range(1, 2)).map(|_| rng.pick(&draw.walks)).collect(),
         transfer_minutes: rng.pick(&[0, 1, 3]),
-        max_transfers: u8::from(!rng.once_in(8)),
+        max_transfers: rng.pick(&[0, 1, 1, 1, 1, 1, 2, 2]),
         now: 0,
         epochs: [epoch(rng), epoch(rng), epoch(rng)],
     };
@@ -103,7 +103,7 @@ fn load(rng: &mut Rng, draw: &Draw) -> Vec<u8> {
 /// Three origins and two targets with their own walks, one change stop: equal arrivals with other rides and walks.
 pub fn figures(rng: &mut Rng) -> Vec<u8> {
     let walks = rng.pick(&[vec![0, 1, 2, 3], vec![0, 5, 10], vec![0, 2]]);
-    let settings = Settings {
+    let mut settings = Settings {
         origin_walks: (0..3).map(|_| rng.pick(&walks)).collect(),
         target_walks: (0..2).map(|_| rng.pick(&walks)).collect(),
         transfer_minutes: 0,
@@ -131,6 +131,7 @@ pub fn figures(rng: &mut Rng) -> Vec<u8> {
             _ => run(trip, &[origin, target], rng),
         }
     }
+    settings.max_transfers = rng.pick(&[1, 1, 2]);
     steps.push(Step::Search);
     file(&settings, &steps)
 }

@@ -148,7 +148,9 @@ pub fn files() -> Vec<Vec<u8>> {
     pairs(&[9, 0, 10, 1, 11], &[(0, 10)], stop_time, &mut files);
     pairs(&[9, 0, 10, 1, 11, 14, FALLS], &[(0, 10)], added, &mut files);
     files.push(clash_and_fall());
-    for (origins, max_transfers, now) in [(5, 1, 0), (4, 2, 0), (4, 1, (1 << 40) + 1), (5, 1, i64::MIN), (4, 1, 1 << 40)] {
+    for (origins, max_transfers, now) in
+        [(5, 1, 0), (4, 3, 0), (4, 2, (1 << 40) + 1), (5, 1, i64::MIN), (4, 2, 1 << 40), (4, 3, i64::MIN)]
+    {
         files.push(opened(origins, max_transfers, now));
     }
     not_text(&mut files);

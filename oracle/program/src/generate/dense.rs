@@ -42,7 +42,7 @@ fn stop(i: u8, members: u8) -> Step {
 fn load(rng: &mut Rng, draw: &Draw) -> Vec<u8> {
     let (origin_walks, target_walks) = (ends(rng, &draw.walks), ends(rng, &draw.walks));
     let transfer_minutes = rng.pick(&[0, 0, 0, 1]);
-    let settings = Settings { origin_walks, target_walks, transfer_minutes, max_transfers: 1, ..Settings::default() };
+    let mut settings = Settings { origin_walks, target_walks, transfer_minutes, max_transfers: 1, ..Settings::default() };
     let masks = [1u8, 2, 3, 5, 9, 15];
     let mut steps = (0..2).map(|i| stop(i, rng.pick(&masks))).collect::<Vec<_>>();
     steps.extend((2..4).map(|i| stop(i, rng.pick(&[0, 0, 0, 1, 0x20]))));
@@ -56,6 +56,7 @@ fn load(rng: &mut Rng, draw: &Draw) -> Vec<u8> {
             steps.push(call(trip, k as u32, (from[0] + rng.below(from[1])) as u16, at));
         }
     }
+    settings.max_transfers = rng.pick(&[1, 1, 2]);
     steps.push(Step::Search);
     file(&settings, &steps)
 }
@@ -65,7 +66,7 @@ fn load(rng: &mut Rng, draw: &Draw) -> Vec<u8> {
 pub fn crowd(rng: &mut Rng) -> Vec<u8> {
     let (walk, other) = (rng.pick(&[0, 1, 5]), rng.pick(&[0, 1, 2]));
     let (origin_walks, target_walks) = (vec![walk, walk + other], vec![rng.pick(&[0, 2]), 0]);
-    let settings = Settings { origin_walks, target_walks, max_transfers: 1, ..Settings::default() };
+    let mut settings = Settings { origin_walks, target_walks, max_transfers: 1, ..Settings::default() };
     let mut steps =
         vec![stop(0, 1), stop(1, rng.pick(&[1, 2, 3])), stop(2, 0), stop(3, 0x20), stop(4, rng.pick(&[0x10, 0x20, 0x30]))];
     let (n, step, ride) = (rng.range(58, 66) as u32, rng.pick(&[1, 2, 10]), rng.pick(&[600, 3000]));
@@ -88,6 +89,7 @@ pub fn crowd(rng: &mut Rng) -> Vec<u8> {
     for (trip, run) in runs.iter().enumerate() {
         steps.extend(run.iter().enumerate().map(|(k, &(stop, at))| call(trip as u16, k as u32, stop, at)));
     }
+    settings.max_transfers = rng.pick(&[1, 1, 2]);
     steps.push(Step::Search);
     file(&settings, &steps)
 }

@@ -14,7 +14,7 @@ pub fn settings(rng: &mut Rng) -> Vec<u8> {
         origin_walks: (0..origins).map(|_| rng.below(256) as u8).collect(),
         target_walks: (0..targets).map(|_| rng.below(256) as u8).collect(),
         transfer_minutes: rng.below(256) as u8,
-        max_transfers: rng.pick(&[0, 1, 1, 1, 1, 1, 0, 2, 255]),
+        max_transfers: rng.pick(&[0, 1, 1, 2, 1, 1, 2, 3, 255]),
         now: if quiet { 0 } else { time(rng) },
         epochs: [0; 3].map(|_| if quiet { 0 } else { time(rng) }),
     };

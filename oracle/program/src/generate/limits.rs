@@ -19,7 +19,7 @@ pub fn list(rng: &mut Rng) -> Vec<u8> {
     let walk = rng.pick(&[0, 0, 1]);
     let (mut settings, mut steps) =
         endpoints(vec![walk, walk + 1], vec![rng.pick(&[0, 0, 2]), 1], (rng.pick(&[1, 1, 3]), rng.pick(&[16, 16, 48])));
-    settings.max_transfers = rng.pick(&[0, 1]);
+    settings.max_transfers = rng.pick(&[0, 1, 0, 2]);
     let step = rng.pick(&[1, 7, 20]);
     let last = rng.pick(&[3599u32, 3600, 3600, 3601, 3601, 3602, 3660, 3720, 3721, 9000, 21480, 21600]);
     let ride = rng.pick(&[60, 240, 600]);
@@ -51,7 +51,7 @@ pub fn list(rng: &mut Rng) -> Vec<u8> {
 /// A list near 64 made by plain trips, then trips through a change stop and from a second origin, whose journeys come
 /// and go: the order of offers, equal arrivals and one trip's own changes show in the horizon.
 pub fn brim(rng: &mut Rng) -> Vec<u8> {
-    let (settings, mut steps) = endpoints(vec![0, 5], vec![0, rng.pick(&[2, 10])], (1, 16));
+    let (mut settings, mut steps) = endpoints(vec![0, 5], vec![0, rng.pick(&[2, 10])], (1, 16));
     let stop = |id: &str, members| Step::Stop(Stop { id: id.into(), members, ..Stop::default() });
     steps.extend([stop("m", rng.pick(&[0, 16, 32, 32])), stop("c", rng.pick(&[2, 2, 3, 32])), stop("d", rng.pick(&[32, 48]))]);
     let (n, step, ride) = (rng.pick(&[60, 62, 63, 63, 64]), rng.pick(&[20, 40]), 2000);
@@ -77,6 +77,7 @@ pub fn brim(rng: &mut Rng) -> Vec<u8> {
             steps.push(call(trip as u16, k as u32, stop, at, at));
         }
     }
+    settings.max_transfers = rng.pick(&[1, 1, 2]);
     steps.push(Step::Search);
     file(&settings, &steps)
 }
@@ -86,7 +87,7 @@ pub fn cut(rng: &mut Rng) -> Vec<u8> {
     let k = rng.below(8) as usize;
     let members = rng.pick(&[(0, 0), (1, 16), (17, 17), (1, 16)]);
     let (mut settings, mut steps) = endpoints(vec![rng.pick(&[0, 1, 5])], vec![rng.pick(&[0, 2])], members);
-    settings.max_transfers = u8::from(rng.once_in(3));
+    settings.max_transfers = rng.pick(&[1, 0, 0, 2, 0, 0]);
     let within = if k == 7 { 513 } else { rng.pick(&[512, 512, 511, 400, 300]) };
     let total = if k == 0 { within } else { 513 + rng.below(40) };
     let mut calls = Vec::new();

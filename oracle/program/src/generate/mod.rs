@@ -1,5 +1,7 @@
 //! Load files from a seed: one profile for each group of rules that could go wrong.
 pub mod accents;
+pub mod chained;
+pub mod chains;
 pub mod changes;
 pub mod combined;
 pub mod damaged;
@@ -20,15 +22,15 @@ pub type Profile = fn(&mut Rng) -> Vec<u8>;
 /// Name, generator, and how many of a hundred files of `all` are drawn from it.
 pub const PROFILES: &[(&str, Profile, u64)] = &[
     ("small", world::small, 4),
-    ("window", world::window, 6),
+    ("window", world::window, 5),
     ("types", world::types, 5),
-    ("days", world::days, 7),
+    ("days", world::days, 6),
     ("neighbours", world::neighbours, 6),
     ("ties", world::ties, 4),
-    ("changes", changes::changes, 7),
+    ("changes", changes::changes, 6),
     ("change-ties", changes::ties, 5),
     ("figures", changes::figures, 5),
-    ("rules", places::rules, 6),
+    ("rules", places::rules, 5),
     ("halves", places::halves, 2),
     ("places", places::places, 6),
     ("names", places::names, 5),
@@ -48,6 +50,7 @@ pub const PROFILES: &[(&str, Profile, u64)] = &[
     ("dense", dense::dense, 3),
     ("edge", dense::edge, 2),
     ("crowd", dense::crowd, 1),
+    ("chains", chains::chains, 4),
 ];
 
 /// The i-th file of a profile and seed. It does not depend on the files before it.

@@ -49,7 +49,7 @@ pub fn settings(rng: &mut Rng, draw: &Draw) -> Settings {
         origin_walks: (0..origins).map(|_| rng.pick(&draw.walks)).collect(),
         target_walks: (0..targets).map(|_| rng.pick(&draw.walks)).collect(),
         transfer_minutes: rng.pick(&draw.minutes),
-        max_transfers: u8::from(!rng.once_in(4)),
+        max_transfers: rng.pick(&[0, 1, 1, 2]),
         now,
         epochs: [back(rng, spread), back(rng, spread), back(rng, spread)],
     }

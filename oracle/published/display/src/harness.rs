@@ -1,15 +1,17 @@
 //! Not a published file. Drives the private functions of journey.rs for one load. It fills `Search` as the published driver does, but for
 //! the seconds of rules (request 02) and their order (request 06), calls the published functions and hands out what they left. A call
-//! after the search goes back to the load before it, which is then searched again (request 11).
+//! after the search goes back to the load before it, which is then searched again (request 11). Middle rides (request 10) are in middle.rs.
 use super::*;
 use crate::config::JourneyStop;
 
+#[path = "middle.rs"]
+mod middle;
 #[path = "timing.rs"]
 pub mod timing;
 
 type List<T> = std::vec::Vec<T>;
-/// 512 calls, 128 stops; trips, middle calls, services and routes are not used.
-type Sized = Search<512, 128, 1, 1, 1, 1>;
+/// 512 calls and as many trips and middle calls, 128 stops; a service for each day and one route, which middle rides ask for.
+type Sized = Search<512, 128, 512, 512, 3, 1>;
 
 pub struct StopRow {
     pub id: std::string::String,
@@ -97,6 +99,7 @@ pub struct Settings<'a> {
     pub now: i64,
     pub epochs: [i64; 3],
 }
+#[derive(Clone, Copy)]
 pub struct StopTimes {
     pub trip: u16,
     pub day: u8,
@@ -119,6 +122,8 @@ pub struct Run {
     calls: Box<Vec<Call, 512>>,
     config: Journey,
     rows: List<StopRow>,
+    /// The calls that were taken, as handed in.
+    taken: List<StopTimes>,
     cache: Cache,
     /// The calls, horizon and mark before the last search.
     before: (Box<Vec<Call, 512>>, u16, u8),
@@ -142,7 +147,8 @@ impl Run {
             max_transfers: settings.max_transfers,
         };
         let before = (Box::new(Vec::new()), search.horizon, search.limits);
-        Self { search, calls: Box::new(Vec::new()), config, rows: List::new(), cache: Cache::default(), before }
+        let (rows, taken) = (List::new(), List::new());
+        Self { search, calls: Box::new(Vec::new()), config, rows, taken, cache: Cache::default(), before }
     }
     /// The place key as `group_places` will see it, which refuses a needed name.
     pub fn place_key(&self, row: &StopRow) -> Result<(), Error> {
@@ -174,7 +180,9 @@ impl Run {
         };
         let day = usize::from(row.day);
         self.search.push(&mut self.calls, &call, row.trip, row.stop, day)?;
-        Ok(self.search.window(&call, day)?.is_some())
+        let taken = self.search.window(&call, day)?.is_some();
+        self.taken.extend(taken.then_some(*row));
+        Ok(taken)
     }
     /// Request 02: the Rust is fed 0 seconds for types 0 and 1, whatever the rule was handed in with; then it gives the change time.
     pub fn rule(&mut self, from: u16, to: u16, transfer_type: u8, seconds: u16) -> Result<(), Error> {
@@ -197,7 +205,10 @@ impl Run {
         self.search.order_rules(|stop| rows[stop].location_type == 1);
         block_on(self.search.stations(&mut Feed(&self.rows), &mut zip::Workspace, false))?;
         self.places()?;
-        self.search.endpoint_paths(&mut self.calls, &self.config, self.config.max_transfers)
+        match self.config.max_transfers {
+            2 => self.search_middle(),
+            depth => self.search.endpoint_paths(&mut self.calls, &self.config, depth),
+        }
     }
     /// The kept candidates as `publish` writes them, without labels.
     pub fn publish(&mut self) {
@@ -219,6 +230,9 @@ impl Run {
             };
             let _ = self.cache.paths.push(path);
         }
+    }
+    pub fn max_transfers(&self) -> u8 {
+        self.config.max_transfers
     }
     pub fn horizon(&self) -> u16 {
         self.search.horizon

@@ -112,7 +112,8 @@ impl Filled {
     pub fn search(&mut self) -> Result<(), Error> {
         let run = &mut self.run;
         run.search.closing_loop(&self.keys);
-        run.search.endpoint_paths(&mut run.calls, &run.config, run.config.max_transfers)
+        run.search.endpoint_paths(&mut run.calls, &run.config, run.config.max_transfers)?;
+        if run.config.max_transfers == 2 { run.search.three_rides(&run.calls, &run.config) } else { Ok(()) }
     }
     /// So many searches of a load that is filled, and what they start from put back after each; or that alone.
     pub fn searches(&mut self, times: usize, searched: bool) -> Result<(), Error> {
@@ -131,6 +132,45 @@ impl Filled {
     pub fn kept(&mut self) -> &Run {
         self.run.publish();
         &self.run
+    }
+}
+
+/// Every ride of the table, as `last_rides` makes them, at a target or not.
+fn rides(calls: &[Call]) -> impl Iterator<Item = Ride> + '_ {
+    calls.iter().enumerate().filter(|(_, board)| board.flags & 1 != 0).flat_map(|(i, board)| {
+        calls[i + 1..]
+            .iter()
+            .take_while(|alight| (alight.trip, alight.day) == (board.trip, board.day))
+            .filter(|alight| alight.flags & 2 != 0)
+            .map(|alight| Ride {
+                trip: board.trip,
+                from: board.stop,
+                to: alight.stop,
+                departure: board.departure,
+                arrival: alight.arrival,
+                endpoint: 0,
+                day: ride_day(*board, *alight),
+            })
+    })
+}
+impl Sized {
+    /// Journeys of three rides in request 10's order, plainly: every first, middle and last ride, by the published `join` and `candidate`.
+    /// The published `middle` goes by the middle ride first and scans a feed.
+    fn three_rides(&mut self, calls: &[Call], config: &Journey) -> Result<(), Error> {
+        for first in first_rides(calls, &self.endpoints, config) {
+            for middle in rides(calls) {
+                if !self.join(first, middle, config.transfer_minutes) {
+                    continue;
+                }
+                for last in last_rides(calls, &self.endpoints, config) {
+                    if self.join(middle, last, config.transfer_minutes) {
+                        let c = Candidate { first, middle: Some(middle), last: Some(last), target: last.endpoint };
+                        Self::candidate(&mut self.candidates, &mut self.horizon, &mut self.limits, c, config)?;
+                    }
+                }
+            }
+        }
+        Ok(())
     }
 }
 

@@ -66,16 +66,50 @@ fn growth(paths: &[String]) {
         }
     }
 }
+/// Each file with one change and with two: the port's searches in turns. Beside the latter a plain loop over first, middle and last rides,
+/// of files that it ends with in seconds: those of up to 128 calls, and the first trips of the others.
+fn three(paths: &[String]) {
+    println!(
+        "\n| search | one change, ms: least, median, quartiles | two changes | journeys of three rides |\n|---|---|---|---|"
+    );
+    for (name, bytes) in paths.iter().map(|path| read(path)) {
+        let [one, two] = [1, 2].map(|changes| tables::with_transfers(&bytes, changes));
+        let lines = port::lines(&two);
+        let found = lines.lines().filter(|line| line.split(' ').nth(3) == Some("3")).count();
+        let [one, two] = rounds::port_searches([&one, &two]);
+        println!("| {name} | {} | {} | {found} |", side(&one), side(&two));
+    }
+    head("two changes, beside the plain loop");
+    let search = |name: String, bytes: &[u8]| {
+        check(&name, bytes);
+        row(&name, &rounds::searches(bytes));
+    };
+    for (name, bytes) in paths.iter().map(|path| read(path)) {
+        let two = tables::with_transfers(&bytes, 2);
+        match tables::calls(&two) {
+            0..=128 => search(name, &two),
+            _ if name.starts_with("32x16") => search(format!("{name}, 64 calls"), &tables::first_trips(&two, 4)),
+            _ => {}
+        }
+    }
+    for calls in [16, 32, 64] {
+        search(format!("improving, {calls} calls"), &tables::improving(calls));
+    }
+}
 type Table = fn(u16) -> Vec<u8>;
 const WORST: [(&str, Table); 3] =
     [("two trips", tables::two_trips), ("near at last", tables::near_at_last), ("out of reach", tables::out_of_reach)];
 /// The search of the worst cases with as many calls as a load holds, without the Rust.
 fn worst() {
-    for (name, table) in WORST {
-        let bytes = tables::unsearched(&table(512));
+    let time = |name: &str, changes, bytes: &[u8]| {
+        let bytes = tables::unsearched(&tables::with_transfers(bytes, changes));
         let [one, none] = [1, 0].map(|times| rounds::least(5, || port::searches(&bytes, times)));
-        println!("{name}, 512 calls: {} ms", ms(one - none));
+        println!("{name}, 512 calls, changes {changes}: {} ms", ms(one - none));
+    };
+    for (name, table) in WORST {
+        [1, 2].into_iter().for_each(|changes| time(name, changes, &table(512)));
     }
+    time("improving", 2, &tables::improving(512));
 }
 /// The last call of a file withdrawn, and added to the file without it: unsearched and searched. Beside them its search.
 fn altered(name: &str, bytes: &[u8]) {
@@ -133,9 +167,12 @@ fn main() {
     let words: Vec<String> = std::env::args().skip(1).collect();
     match words.split_first() {
         Some((mode, paths)) if mode == "--growth" => growth(paths),
+        Some((mode, paths)) if mode == "--three" => three(paths),
         Some((mode, [])) if mode == "--steps" => steps(),
         Some((mode, [])) if mode == "--worst" => worst(),
         Some(_) => compare(&words),
-        None => eprintln!("usage: speed FILE ..   speed --growth FILE ..   speed --steps   speed --worst"),
+        None => {
+            eprintln!("usage: speed FILE ..   speed --growth FILE ..   speed --three FILE ..   speed --steps   speed --worst")
+        }
     }
 }

@@ -73,14 +73,7 @@ pub fn loads(bytes: &[u8]) -> [Times; 2] {
 /// one.
 pub fn searches(searched: &[u8]) -> [Times; 2] {
     let bytes = tables::unsearched(searched);
-    let read = least(5, || port::searches(&bytes, 0));
-    let enough = |one: f64| ((4.0 * read).max(2e-3) / one.max(1e-6)).ceil().clamp(1.0, 2000.0) as u16;
-    let some = enough(least(3, || port::searches(&bytes, 1)) - read);
-    let times = enough((least(3, || port::searches(&bytes, some)) - read) / f64::from(some));
-    let mut port = || {
-        let read = timed(|| port::searches(&bytes, 0));
-        (timed(|| port::searches(&bytes, times)) - read) / f64::from(times)
-    };
+    let mut port = port_search(&bytes);
     let mut filled = published::load(&bytes);
     let mut turns = |times, searched| timed(|| filled.searches(times, searched).expect("an accepted search"));
     let times = (1e-3 / turns(1, true)).ceil().clamp(1.0, 2000.0) as usize;
@@ -89,6 +82,29 @@ pub fn searches(searched: &[u8]) -> [Times; 2] {
         (turns(times, true) - put_back) / times as f64
     };
     in_turns([&mut port, &mut published])
+}
+/// The port's side of it alone, of a file without a search.
+fn port_search(bytes: &[u8]) -> impl FnMut() -> f64 {
+    let read = least(5, || port::searches(bytes, 0));
+    let enough = |one: f64| ((4.0 * read).max(2e-3) / one.max(1e-6)).ceil().clamp(1.0, 2000.0) as u16;
+    let some = enough(least(3, || port::searches(bytes, 1)) - read);
+    let times = enough((least(3, || port::searches(bytes, some)) - read) / f64::from(some));
+    move || {
+        let read = timed(|| port::searches(bytes, 0));
+        (timed(|| port::searches(bytes, times)) - read) / f64::from(times)
+    }
+}
+/// The searches of some files by the port, a round of one after a round of the other.
+pub fn port_searches<const N: usize>(searched: [&[u8]; N]) -> [Times; N] {
+    let files = searched.map(tables::unsearched);
+    let mut sides = files.each_ref().map(|bytes| port_search(bytes));
+    let mut seconds = [const { Vec::new() }; N];
+    for _ in 0..101 {
+        for (side, seconds) in sides.iter_mut().zip(&mut seconds) {
+            seconds.push(side());
+        }
+    }
+    seconds.map(Times::of)
 }
 /// A call withdrawn from the load of a file, or added to it: the difference between what does it many times and the same without it.
 pub fn altered(bytes: &[u8], adds: bool, call: &Call) -> Times {

@@ -19,6 +19,29 @@ const SEARCH: u8 = 5;
 pub fn unsearched(bytes: &[u8]) -> Vec<u8> {
     only(bytes, |record| record[0] != SEARCH)
 }
+const SETTINGS: u8 = 1;
+/// Where the settings of a file have `max_transfers`: behind the counts, the walks and the change time.
+fn transfers_at(bytes: &[u8]) -> usize {
+    assert!(bytes[3] == SETTINGS, "settings first");
+    7 + usize::from(bytes[4]) + usize::from(bytes[5])
+}
+pub fn transfers(bytes: &[u8]) -> u8 {
+    bytes[transfers_at(bytes)]
+}
+pub fn with_transfers(bytes: &[u8], max_transfers: u8) -> Vec<u8> {
+    let mut bytes = bytes.to_vec();
+    let at = transfers_at(&bytes);
+    bytes[at] = max_transfers;
+    bytes
+}
+pub fn calls(bytes: &[u8]) -> usize {
+    let mut found = 0;
+    only(bytes, |record| {
+        found += usize::from(record[0] == CALL);
+        false
+    });
+    found
+}
 /// The file's last call, as one of day 0 in the second of its arrival, and the file without it.
 pub fn last_call(bytes: &[u8]) -> (Call, Vec<u8>) {
     let mut found = Vec::new();
@@ -58,6 +81,41 @@ pub fn near_at_last(calls: u16) -> Vec<u8> {
 /// first ride's changes can be left out before they are looked at.
 pub fn out_of_reach(calls: u16) -> Vec<u8> {
     trips(calls, &[0x0f, 0xf0, 0xf0, 0x10], &[0, 1, 2, 3])
+}
+/// Two changes: a trip whose later alightings lead to ever earlier arrivals, by a ride of their own and then another, after each of its
+/// boardings and for four origins, each leaving later than the one before. All of them also join a long trip, every ride of which is
+/// looked at each time and leads to a target late. Up to 60 other journeys are kept and read by each question.
+pub fn improving(calls: u16) -> Vec<u8> {
+    let (kept, boards, ends) = ((calls / 8).min(60), calls / 9, calls / 20);
+    let long = calls - (kept + 1) - boards - 5 * ends - 2;
+    let (row, origin, hub, meet, target, first_end) = (0, 1, 2, 3, 4, 5);
+    let stop = |id: u16, members| Step::Stop(Stop { id: format!("s{id}").into(), members, ..Stop::default() });
+    let mut steps = vec![stop(row, 0x18), stop(origin, 0x0f), stop(hub, 0), stop(meet, 0), stop(target, 0x10)];
+    steps.extend((0..ends).map(|k| stop(first_end + k, 0)));
+    steps.extend((0..ends).map(|k| Step::Rule(Rule { from: first_end + k, to: hub, ..Rule::default() })));
+    let mut call = |trip, sequence: u16, stop, at: u16| {
+        let (sequence, at) = (sequence.into(), Some(at.into()));
+        steps.push(Step::Call(Call { trip, sequence, stop, arrival: at, departure: at, ..Call::default() }));
+    };
+    (0..=kept).for_each(|i| call(0, i, row, 3 * i));
+    (0..boards).for_each(|i| call(1, i, origin, 400 + 241 * i));
+    let alights = 400 + 241 * boards;
+    (0..ends).for_each(|k| call(1, boards + k, first_end + k, alights + 5 * k));
+    let on = alights + 5 * ends;
+    (0..long).for_each(|i| call(2, i, hub, on + 3 * i));
+    let after = on + 3 * long;
+    call(3, 0, hub, after);
+    call(3, 1, target, 21000);
+    for k in 0..ends {
+        let met = 20000 - 10 * k;
+        call(10 + 2 * k, 0, first_end + k, after);
+        call(10 + 2 * k, 1, meet, met);
+        call(11 + 2 * k, 0, meet, met);
+        call(11 + 2 * k, 1, target, met + 4);
+    }
+    steps.push(Step::Search);
+    let settings = Settings { transfer_minutes: 0, max_transfers: 2, ..settings(&[3, 2, 1, 0], &[0]) };
+    file(&settings, &steps)
 }
 fn trips(calls: u16, members: &[u8], target_walks: &[u8]) -> Vec<u8> {
     let stop = |(i, members): (u8, &u8)| {
