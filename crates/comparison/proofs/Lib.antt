@@ -25,6 +25,8 @@ pub mod AsideLaws
 pub mod FallLaws
 pub mod OfferLaws
 pub mod OfferedLaws
+pub mod EventLaws
+pub mod WithinLaws
 pub mod HorizonLaws
 pub mod NeighbourLaws
 pub mod CauseLaws

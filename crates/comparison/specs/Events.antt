@@ -63,10 +63,10 @@ offersIn [] = []
 offersIn (join b o a c d ∷ es) = offersIn es
 offersIn (offer x ∷ es) = x ∷ offersIn es
 
--- with the limit n a search of these events comes to those in front, and is finished (true) or stopped
-pub data Stops (n : ℕ) : List Event → List Event → Bool → Type 0 where
-  finished : {es : List Event} → joinsIn es ≤ n → Stops n es es true
-  stopped : {front rest : List Event} {b a c d : Call} {o : ℕ} → joinsIn front ≡ n → Stops n (front ++ join b o a c d ∷ rest) front false
+-- with the limit n a search of the events es comes to those in front, and is finished (true) or stopped
+pub data Stops (n : ℕ) (es front : List Event) : Bool → Type 0 where
+  finished : front ≡ es → joinsIn es ≤ n → Stops n es front true
+  stopped : (b : Call) (o : ℕ) (a c d : Call) (rest : List Event) → es ≡ front ++ join b o a c d ∷ rest → joinsIn front ≡ n → Stops n es front false
 
 -- within the limit n these journeys are offered, so many joins are tested, and it is finished or stopped
 pub record Within (F : Feed) (n : ℕ) (os : List Journey) (tested : ℕ) (finishes : Bool) : Type 0 where
