@@ -8,3 +8,4 @@ pub mod MarkedLaws
 pub mod JoinLaws
 pub mod RunLaws
 pub mod SearchSound
+pub mod WithinLaws

@@ -3,4 +3,5 @@ pub mod Joins
 pub mod Rows
 pub mod Offered
 pub mod Search
+pub mod Within
 pub mod Marked
