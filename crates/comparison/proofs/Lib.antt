@@ -27,6 +27,7 @@ pub mod OfferLaws
 pub mod OfferedLaws
 pub mod EventLaws
 pub mod WithinLaws
+pub mod MarginLaws
 pub mod HorizonLaws
 pub mod NeighbourLaws
 pub mod CauseLaws
