@@ -36,6 +36,7 @@ pub mod CallLaws
 pub mod ComesLaws
 pub mod AddedLaws
 pub mod SearchedLaws
+pub mod SearchStepLaws
 pub mod AddedStepLaws
 pub mod WithdrawLaws
 pub mod SearchingLaws
