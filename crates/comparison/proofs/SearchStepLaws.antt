@@ -7,9 +7,11 @@ use mathlib.Core.List.{List}
 use Rattle.refusal.specs.declared.Answer.{Answer}
 use Rattle.refusal.specs.declared.Answer.the-variants.{Taken, Refused}
 use Rattle.refusal.specs.declared.Refusal.{Refusal}
+use Rattle.refusal.specs.declared.Refusal.the-variants.{SettingsRange, AlreadySearched, Neighbours, NoRoom}
 use Rattle.refusal.specs.First.{isTaken}
 use Rattle.settings.specs.declared.Settings.{Settings}
 use Rattle.offers.specs.Admitted.{Clear}
+use Rattle.offers.specs.Search.{Outcome, clashing, falling, found}
 use Rattle.limited.specs.Limited.{offersWithin, joinsWithin, finishedWithin}
 use Rattle.load.specs.declared.Load.{Load}
 use Rattle.load.specs.declared.Stepped.{Stepped}
@@ -17,7 +19,7 @@ use Rattle.load.specs.Filling.{Filling}
 use Rattle.search.specs.declared.Limited.{Limited}
 use Rattle.search.specs.Timetable.{timetableOf}
 use Rattle.search.specs.Search.{searchSpec}
-use Rattle.search.specs.Within.{finishesIn, withinSpec, stepOf}
+use Rattle.search.specs.Within.{finishesIn, ranWithin, withinSpec, stepOf}
 use Rattle.search.proofs.WithinLaws.{taken-within, within-clear, within-cases}
 use Rattle.again.specs.Again.{unsearchedOf, researched}
 use Rattle.again.proofs.ResearchLaws.{researched-within, researched-full, taken-researched, untaken-researched}
@@ -50,8 +52,8 @@ module _ (s : Settings) (o : Opened s) (l : Load) (fs : List Filling) (w : Start
   back x r = record { after = sent-back; new = λ d. w; done = λ d. absurd (true≢false (sym d ∙ w .fresh)) }
 
   -- taken
-  found : (x : Step) (b : Bool) (n : ℕ) (e : isTaken (researched b n l .answer) ≡ true) → After s t x Taken (done (limitOf (researched b n l .load)) t) → Found x (researched b n l)
-  found x b n e v = record {
+  taken : (x : Step) (b : Bool) (n : ℕ) (e : isTaken (researched b n l .answer) ≡ true) → After s t x Taken (done (limitOf (researched b n l .load)) t) → Found x (researched b n l)
+  taken x b n e v = record {
     after = subst (λ (r : Stepped). After s t x (r .answer) (stateAt (researched b n l .load) fs)) (sym (taken-researched b n l e .is)) (subst (After s t x Taken) (sym (found-state b n l e fs)) v);
     new = λ d. absurd (true≢false (sym (found-searched b n l e) ∙ d));
     done = λ d. searched-start s l fs fs w (beside-same fs) (w .held .days) refl b n e;
@@ -66,7 +68,7 @@ module _ (s : Settings) (o : Opened s) (l : Load) (fs : List Filling) (w : Start
           ap (λ (r : Stepped). limitOf (r .load)) q ∙ limit-full l (sym (ap (λ (r : Stepped). isTaken (r .answer)) q) ∙ e)
 
       go : (b : Bool) → isTaken (researched false 0 l .answer) ≡ b → Found search (researched false 0 l)
-      go true e = found search false 0 e (subst (λ (k : Option ℕ). After s t search Taken (done k t)) (sym (none-so e)) a-search)
+      go true e = taken search false 0 e (subst (λ (k : Option ℕ). After s t search Taken (done k t)) (sym (none-so e)) a-search)
       go false e =
           subst (λ (m : Load). Searching s l fs search (researched false 0 l .answer) m) (sym (untaken-researched false 0 l e))
           (untaken-refused false 0 l (w .fresh) (λ a. Searching s l fs search a l) (back search) e)
@@ -92,11 +94,18 @@ module _ (s : Settings) (o : Opened s) (l : Load) (fs : List Filling) (w : Start
           (a-limited limited-here)
 
       limited-found : Found (limited n) (stepOf (withinSpec l n))
-      limited-found = subst (Found (limited n)) is (found (limited n) true n (ap (λ (r : Stepped). isTaken (r .answer)) is ∙ e) limited-after)
+      limited-found = subst (Found (limited n)) is (taken (limited n) true n (ap (λ (r : Stepped). isTaken (r .answer)) is ∙ e) limited-after)
 
     pub limited-so : Searching s l fs (limited n) (withinSpec l n .answer) (withinSpec l n .load)
     limited-so = go (isTaken (withinSpec l n .answer)) refl
       where
         go : (b : Bool) → isTaken (withinSpec l n .answer) ≡ b → Searching s l fs (limited n) (withinSpec l n .answer) (withinSpec l n .load)
         go true e = limited-found e
-        go false e = within-cases l n (λ r. isTaken (r .answer) ≡ false → Searching s l fs (limited n) (r .answer) (r .load)) TODO e
+        go false e =
+            within-cases l n (λ r. isTaken (r .answer) ≡ false → Searching s l fs (limited n) (r .answer) (r .load))
+            (λ x q. back (limited n) AlreadySearched) (λ x y q. back (limited n) SettingsRange) (λ x y z q. by z) e
+          where
+            by : (z : Outcome) → isTaken (ranWithin l n z .answer) ≡ false → Searching s l fs (limited n) (ranWithin l n z .answer) (ranWithin l n z .load)
+            by clashing q = back (limited n) Neighbours
+            by falling q = back (limited n) NoRoom
+            by (found ks h m) q = absurd (true≢false q)

@@ -1,5 +1,5 @@
 -- What a load that is not searched holds of a list: what the list gave.
-use mathlib.Core.Path.{_≡_, refl, sym, _∙_}
+use mathlib.Core.Path.{_≡_, refl, sym, ap, _∙_}
 use mathlib.Core.Bool.{Bool, true, false, cond, true≢false}
 use mathlib.Core.Option.{Option, none, some}
 use mathlib.Core.List.{List, []}
@@ -42,6 +42,28 @@ no-limit l v f = go (l .stopped) refl
     go : (b : Bool) → l .stopped ≡ b → cond b (some (l .limit)) none ≡ none
     go true e = absurd (true≢false (sym (v .stopped-search e) ∙ f))
     go false e = refl
+
+abbrev stoppedIn : Option ℕ → Bool
+stoppedIn none = false
+stoppedIn (some n) = true
+
+abbrev limitIn : Option ℕ → ℕ
+limitIn none = 0
+limitIn (some n) = n
+
+pub not-limited : (l : Load) → limitOf l ≡ none → l .stopped ≡ false
+not-limited l e = go (l .stopped) refl
+  where
+    go : (b : Bool) → l .stopped ≡ b → b ≡ false
+    go true q = absurd (true≢false (ap (λ (b : Bool). stoppedIn (cond b (some (l .limit)) none)) (sym q) ∙ ap stoppedIn e))
+    go false q = refl
+
+pub limit-is : (l : Load) (n : ℕ) → limitOf l ≡ some n → (l .stopped ≡ true) × (l .limit ≡ n)
+limit-is l n e = go (l .stopped) refl
+  where
+    go : (b : Bool) → l .stopped ≡ b → (b ≡ true) × (l .limit ≡ n)
+    go true q = (refl, ap (λ (b : Bool). limitIn (cond b (some (l .limit)) none)) (sym q) ∙ ap limitIn e)
+    go false q = absurd (true≢false (sym (ap stoppedIn e) ∙ ap (λ (b : Bool). stoppedIn (cond b (some (l .limit)) none)) q))
 
 -- what a load was given, as the steps' answers tell it
 abbrev pub stateAt : Load → List Filling → State

@@ -156,6 +156,14 @@ counted-of F n os k f es v w =
     let r : f ≡ leb (joinsIn es) n = q ∙ ap (λ (es : List Event). leb (joinsIn es) n) e in
     (sym (v .count) ∙ ap joinsIn (x ∙ ap (cut n) e) ∙ cut-joins n es, (λ t. leb-true (joinsIn es) n (sym r ∙ t), λ h. r ∙ le-leb (joinsIn es) n h))
 
+-- a stopped one tested as many as its limit
+pub stopped-count : (F : Feed) (n : ℕ) (os : List Journey) (k : ℕ) → Within F n os k false → Within F n os n false
+stopped-count F n os k w = record { events = w .events; listed = w .listed; front = w .front; stops = w .stops; offered = w .offered; count = go false refl (w .stops) }
+  where
+    go : (f : Bool) → f ≡ false → Stops n (w .events) (w .front) f → joinsIn (w .front) ≡ n
+    go _ q (finished e h) = absurd (let z : _≡_ {A = ℕ} 0 1 = cc in omega arith)
+    go _ q (stopped b o a c d rest e h) = h
+
 ascending-in : (es : List Event) → InTurn es → Ascending (offersIn es)
 ascending-in [] w = tt
 ascending-in (join b o a c d ∷ es) w = ascending-in es (w .1)

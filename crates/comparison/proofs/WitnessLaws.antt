@@ -114,9 +114,9 @@ one-of : (ks : List Journey) (f : Figures) → map journeyFigures ks ≡ f ∷ [
 one-of [] f e = absurd (let z : _≡_ {A = ℕ} 0 1 = cc in omega arith)
 one-of (k ∷ ks) f e = (k, List·Memᴰ·head refl, ap (λ (l : List Figures). getD l 0 f) e)
 
-one-kept : (s : Opening) (xs : List Step) → (o : Opens s) → endOf s xs .searched ≡ true → (j : Journey) → List·Memᴰ j (keptOf (endOf s xs)) → Admitted s xs j
-one-kept s xs o d j m =
-    let w = searched-holds s xs o d in
+one-kept : (s : Opening) (xs : List Step) → (o : Opens s) → endOf s xs .searched ≡ true → endOf s xs .stopped ≡ false → (j : Journey) → List·Memᴰ j (keptOf (endOf s xs)) → Admitted s xs j
+one-kept s xs o d f j m =
+    let w = searched-holds s xs o d f in
     let n = after-mem (covᶠ journeyFigures) (dueᶠ journeyFigures) (endOf s xs .horizon) [] (offersOf s xs) (sort-mem (sooner journeyFigures) (front (covᶠ journeyFigures) (dueᶠ journeyFigures) (endOf s xs .horizon) (offersOf s xs)) (subst (List·Memᴰ j) (w .unbeaten) m)) in
     same-admitted s xs o j .0 (w .admitted j .0 (n .0))
 
