@@ -1,4 +1,5 @@
 pub mod RowsLaws
+pub mod EventsLaws
 pub mod AnswerLaws
 pub mod OfferedLaws
 pub mod SmallLaws
