@@ -29,10 +29,10 @@ use Rattle.search.specs.Search.{searchSpec}
 use Rattle.again.specs.Again.{unsearchedOf, searchedAs, again, leavesTable, addedTo, addSpec, takenOut, withdrawSpec}
 
 pub unsearched-made : (l : Load) (j : Journey) → j ≡ noJourney
-    → withSeen l (tableOf l) (record { journeys = replicate 64 j; count = 0; horizon = l .«table_horizon»; limits = l .«table_limits»; searched = false }) ≡ unsearchedOf l
+    → withSeen l (tableOf l) (record { journeys = replicate 64 j; count = 0; horizon = l .«table_horizon»; limits = l .«table_limits»; searched = false; stopped = false; limit = 0 }) ≡ unsearchedOf l
 unfolding unsearchedOf
 unsearched-made l j e =
-    ap (λ (x : Journey). withSeen l (tableOf l) (record { journeys = replicate 64 x; count = 0; horizon = l .«table_horizon»; limits = l .«table_limits»; searched = false })) e
+    ap (λ (x : Journey). withSeen l (tableOf l) (record { journeys = replicate 64 x; count = 0; horizon = l .«table_horizon»; limits = l .«table_limits»; searched = false; stopped = false; limit = 0 })) e
 
 -- ---- searched again
 

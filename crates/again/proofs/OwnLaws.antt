@@ -33,7 +33,7 @@ module _ (m : Load) (ks : List Journey) (h k : ℕ) (s : Sound m) where
   back = unsearchedOf (withJourneys m ks h k)
 
   abbrev seen : Seen
-  seen = record { journeys = padded noJourney 64 ks; count = length ks; horizon = h; limits = k; searched = true }
+  seen = record { journeys = padded noJourney 64 ks; count = length ks; horizon = h; limits = k; searched = true; stopped = false; limit = 0 }
 
   -- the search reads the same calls in order
   same-outcome : outcomeOf m ≡ outcomeOf back

@@ -30,6 +30,8 @@ unsearchedOf l =
       horizon = l .«table_horizon»;
       limits = l .«table_limits»;
       searched = false;
+      stopped = false;
+      limit = 0;
     })
 
 -- ---- searched again

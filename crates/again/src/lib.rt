@@ -28,6 +28,8 @@ pub fn unsearched(load: Load) -> Load
     back.horizon = load.table_horizon;
     back.limits = load.table_limits;
     back.searched = false;
+    back.stopped = false;
+    back.limit = 0;
     back
 }
 

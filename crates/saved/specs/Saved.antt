@@ -46,6 +46,8 @@ loadAtStart l = record {
   horizon = l .horizon;
   limits = l .limits;
   searched = l .searched;
+  stopped = l .stopped;
+  limit = l .limit;
   week = l .week;
 }
 

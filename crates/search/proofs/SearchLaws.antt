@@ -107,7 +107,7 @@ module _ (l : Load) (cs : List Call) (order : cs ≡ sortFirst (l .«call_count�
         (ej : js ≡ padded noJourney 64 (map (journeyOf cs) (ordered rowFigures (keptOf st)))) (en : n ≡ countOf st) (eh : h′ ≡ horizonOf st) (em : m′ ≡ limitsOf st) where
       abbrev kept : List Call → List Journey → ℕ → ℕ → ℕ → Load
       kept c j k h m =
-          withSeen l (record { calls = c; count = l .«call_count»; horizon = l .«table_horizon»; limits = l .«table_limits» }) (record { journeys = j; count = k; horizon = h; limits = m; searched = true })
+          withSeen l (record { calls = c; count = l .«call_count»; horizon = l .«table_horizon»; limits = l .«table_limits» }) (record { journeys = j; count = k; horizon = h; limits = m; searched = true; stopped = false; limit = 0 })
 
       -- the journeys of the rows kept, in list order
       going-returned : (ks : List Row) (h m : ℕ) → view st ≡ going ks h m → _≡_ {A = Stepped} (record { answer = Taken; load = kept cs js n h′ m′ }) (searchSpec l)

@@ -4,4 +4,5 @@ pub mod Rows
 pub mod Events
 pub mod Offered
 pub mod Search
+pub mod Within
 pub mod Marked

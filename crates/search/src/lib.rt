@@ -26,6 +26,15 @@ use state::limits;
 use transfer::copied::flat_rules;
 use transfer::copied::parents_of;
 
+// What a search within a limit on joins answers, and the load that it returns; how many joins it tested, and whether none is left. 0 and
+// false where it is sent back.
+pub struct Limited {
+    pub answer: Answer,
+    pub load: Load,
+    pub joins: u64,
+    pub finished: bool,
+}
+
 // What a lent array tells: each of its numbers is below 65536.
 fn numbers(a: &[u16])
     ensures { λ _. ⌜ ((i : ℕ) → getD (now (a .entry)) i 0 < 65536) ⌝ }
@@ -108,6 +117,8 @@ pub fn search(load: Load) -> Stepped
     next.horizon = horizon(&st);
     next.limits = limits(&st);
     next.searched = true;
+    next.stopped = false;
+    next.limit = 0;
     Stepped {
         answer: Answer::Taken,
         load: next,
