@@ -3,7 +3,9 @@ pub mod EventsLaws
 pub mod AnswerLaws
 pub mod OfferedLaws
 pub mod SmallLaws
+pub mod FoundLaws
 pub mod SearchLaws
+pub mod LimitedLaws
 pub mod Known
 pub mod MarkedLaws
 pub mod JoinLaws
