@@ -25,8 +25,7 @@ use Rattle.load.specs.declared.Load.{Load}
 use Rattle.load.specs.declared.Stepped.{Stepped}
 use Rattle.load.specs.Load.{tableOf, withSeen, withTable, withWeek}
 use Rattle.load.specs.Steps.{callSpec}
-use Rattle.search.specs.Search.{searchSpec}
-use Rattle.again.specs.Again.{unsearchedOf, searchedAs, again, leavesTable, addedTo, addSpec, takenOut, withdrawSpec}
+use Rattle.again.specs.Again.{unsearchedOf, researched, searchedAs, again, leavesTable, addedTo, addSpec, takenOut, withdrawSpec}
 
 pub unsearched-made : (l : Load) (j : Journey) → j ≡ noJourney
     → withSeen l (tableOf l) (record { journeys = replicate 64 j; count = 0; horizon = l .«table_horizon»; limits = l .«table_limits»; searched = false; stopped = false; limit = 0 }) ≡ unsearchedOf l
@@ -41,7 +40,7 @@ module _ (l : Load) (r : Stepped) where
   unfolding again
   again-refused e = sym (cond-by _ _ e)
 
-  module _ (q : Stepped) (is : q ≡ searchSpec (r .load)) (e : isRefused (r .answer) ≡ false) where
+  module _ (q : Stepped) (is : q ≡ researched (l .stopped) (l .limit) (r .load)) (e : isRefused (r .answer) ≡ false) where
     went : searchedAs l (r .answer) q ≡ again l r
     unfolding again
     went = ap (searchedAs l (r .answer)) is ∙ sym (cond-not _ _ e)

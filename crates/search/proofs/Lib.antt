@@ -11,3 +11,4 @@ pub mod MarkedLaws
 pub mod JoinLaws
 pub mod RunLaws
 pub mod SearchSound
+pub mod WithinLaws
