@@ -1,8 +1,11 @@
 pub mod RowsLaws
+pub mod EventsLaws
 pub mod AnswerLaws
 pub mod OfferedLaws
 pub mod SmallLaws
+pub mod FoundLaws
 pub mod SearchLaws
+pub mod LimitedLaws
 pub mod Known
 pub mod MarkedLaws
 pub mod JoinLaws

@@ -1,9 +1,9 @@
--- `search_within` meets its contract.
+-- `run_within` meets its contract.
 use mathlib.Core.Path.{refl}
 use Rattle.limited_rides.proofs.WithinLaws.{within-arrays}
 use borrow.Author.Needs.{needs}
-use Rattle.limited_rides.proofs.within.search_within.Statement.{statement}
-use Rattle.limited_rides.proofs.within.search_within.Tie as tie
+use Rattle.limited_rides.proofs.within.run_within.Statement.{statement}
+use Rattle.limited_rides.proofs.within.run_within.Tie as tie
 
 array-write-tally : tie.Need-array-write-tally
 array-write-tally c = search needs
@@ -23,8 +23,8 @@ tested-requires c κs = search needs
 returns : tie.Need-returns
 returns c = within-arrays _ _ _ _ (c .before .before .before .before .pre .0) refl refl (c .before .limited-paths .ensures) (c .tested .ensures)
 
-pub search-within-spec : {M : Type 1} → statement M
-search-within-spec =
+pub run-within-spec : {M : Type 1} → statement M
+run-within-spec =
     tie.close
     (tie.spec
     array-write-tally
