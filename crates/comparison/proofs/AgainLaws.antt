@@ -93,7 +93,7 @@ taken-same s t v name i (step f (a-call {h = h} {m = m} {u = u} q g) (step p (a-
 
 abbrev headOf : Answer → List Answer → Answer
 headOf d [] = d
-headOf d (a ∷ as) = a
+headOf d (a ∷ rs) = a
 
 -- the rest by the load, which is given back
 there-and-back : (o : Opening) (xs : List Step) (rs : List Answer) (t v : State) (name : List ℕ) (i : CallInput) → Opens o → Runs (o .settings) (fresh (o .dates)) xs rs t

@@ -137,8 +137,8 @@ module _ (s : Settings) (o : Opened s) (l : Load) (fs : List Filling) (w : Start
   same x a m v = subst (λ (gs : List Filling). After s t x a (stateAt m gs)) (sym (append-nil fs)) v
 
   -- an unsearched load has no limit
-  unlimited : {u : State} → Again s u u
-  unlimited = in-full (no-limit l (w .sound) (w .fresh))
+  unlimited : limitOf l ≡ none
+  unlimited = no-limit l (w .sound) (w .fresh)
 
   call-after : (name : List ℕ) (i : CallInput) (r : Stepped) → Comes s l fs name i r → After s t (filling (call name i)) (r .answer) (stateAt (r .load) (fs ++ cond (isTaken (r .answer)) (call name i ∷ []) []))
   call-after name i _ (came {a = a} {n = n} c) = go a c
@@ -148,9 +148,9 @@ module _ (s : Settings) (o : Opened s) (l : Load) (fs : List Filling) (w : Start
       at a gs v = λ k. record { taken = gs; horizon = n .«table_horizon»; limits = n .«table_limits»; searched = v .searched k; stopped = v .limit k; dates = v .dates k; closed = v .closed k }
 
       go : (a : Answer) → Came s l fs name i a n → After s (stateAt l fs) (filling (call name i)) a (stateAt n (fs ++ cond (isTaken a) (call name i ∷ []) []))
-      go Taken v = subst (After s (stateAt l fs) (filling (call name i)) Taken) (sym (at Taken (fs ++ call name i ∷ []) v)) (a-call (v .fits) unlimited)
+      go Taken v = subst (After s (stateAt l fs) (filling (call name i)) Taken) (sym (at Taken (fs ++ call name i ∷ []) v)) (a-call (v .fits) (in-full unlimited))
       go Outside v = same (filling (call name i)) Outside n (subst (After s (stateAt l fs) (filling (call name i)) Outside) (sym (at Outside fs v))
-          (outside (awake-so (l .week) fs (w .held .week) (stateAt l fs) refl refl name i (v .runs) (v .day)) (v .fits) unlimited))
+          (outside (awake-so (l .week) fs (w .held .week) (stateAt l fs) refl refl name i (v .runs) (v .day)) (v .fits) (in-full unlimited)))
       go (Refused r) v = absurd (true≢false (v .answered))
   call-after name i _ (rested v h) = same (filling (call name i)) Outside (closedLoad l) (resting (rests-so (l .week) fs (w .held .week) (stateAt l fs) refl refl name i v h))
   call-after name i _ (back {r = r}) = same (filling (call name i)) (Refused r) l sent-back

@@ -20,7 +20,7 @@ use Rattle.load.specs.Steps.{isUnknown, isResting, serviceSpec, exceptionSpec}
 use Rattle.load.specs.Filling.{Filling, stop, call, rule, service, exception, filled}
 use Rattle.withdrawal.specs.Removal.{withoutLast}
 use Rattle.again.specs.Again.{addSpec, withdrawSpec}
-use Rattle.steps.specs.Steps.{Step, filling, withdraw, search}
+use Rattle.steps.specs.Steps.{Step, filling, withdraw, search, limited}
 use Rattle.steps.specs.Lists.{next}
 use Rattle.steps.proofs.AnsweredLaws.{step-answered}
 use Rattle.steps.proofs.WeekLaws.{search-week, within-week, stop-week, rule-week, withdraw-week, add-week, add-closes, step-dated}

@@ -17,7 +17,6 @@ pub mod Causes
 pub mod Runs
 pub mod Demands
 pub mod Again
-pub mod Limited
 pub mod Witness
 pub mod Displays
 pub mod Marked
