@@ -161,9 +161,13 @@ module _ (b : Bool) (n : ℕ) (m : Load) where
   pub researched-sound : Sound m → Sound (researched b n m .load)
   researched-sound s = research-cases b n m (λ r. Sound (r .load)) (λ w. within-sound m n s) (search-sound m s)
 
-  pub researched-horizon : researched b n m .load .«table_horizon» ≡ m .«table_horizon»
-  researched-horizon = go (isTaken (researched b n m .answer)) refl
+  -- what no search alters, this one leaves
+  pub researched-keeps : {X : Type 0} (f : Load → X) → ((ks : List Journey) (h k : ℕ) (c : Bool) (j : ℕ) → f (withFound m ks h k c j) ≡ f m) → f (researched b n m .load) ≡ f m
+  researched-keeps f same = go (isTaken (researched b n m .answer)) refl
     where
-      go : (c : Bool) → isTaken (researched b n m .answer) ≡ c → researched b n m .load .«table_horizon» ≡ m .«table_horizon»
-      go true t = ap (λ (r : Stepped). r .load .«table_horizon») (taken-researched t .is)
-      go false t = ap (λ (x : Load). x .«table_horizon») (untaken-researched t)
+      go : (c : Bool) → isTaken (researched b n m .answer) ≡ c → f (researched b n m .load) ≡ f m
+      go true t = let w = taken-researched t in ap (λ (r : Stepped). f (r .load)) (w .is) ∙ same (w .kept) (w .to) (w .mark) (w .stop) (w .at)
+      go false t = ap f (untaken-researched t)
+
+  pub researched-horizon : researched b n m .load .«table_horizon» ≡ m .«table_horizon»
+  researched-horizon = researched-keeps (λ x. x .«table_horizon») (λ ks h k c j. refl)

@@ -50,7 +50,7 @@ found-week : (m : Load) (n : ℕ) (w : Week) (ks : List Journey) (h k : ℕ) (f 
 found-week m n w ks h k true = refl
 found-week m n w ks h k false = refl
 
-within-week : (m : Load) (n : ℕ) (w : Week) → stepOf (withinSpec (withWeek m w) n) ≡ withWeekOf w (stepOf (withinSpec m n))
+pub within-week : (m : Load) (n : ℕ) (w : Week) → stepOf (withinSpec (withWeek m w) n) ≡ withWeekOf w (stepOf (withinSpec m n))
 unfolding withinSpec outcomeWithin finishesIn timetableOf
 within-week m n w = go (m .searched) (ltb 1 (m .settings .«max_transfers»)) (outcomeWithin m n)
   where

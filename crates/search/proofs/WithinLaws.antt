@@ -135,6 +135,19 @@ untaken-within l n = within-cases l n (λ w. isTaken (w .answer) ≡ false → w
 pub found-load : (l : Load) (n : ℕ) (ks : List Journey) (h m : ℕ) (b : Bool) → finishesIn l n ≡ b → withinFound l n ks h m ≡ cond b (withJourneys l ks h m) (withFound l ks h m true n)
 found-load l n ks h m b e = ap (λ (c : Bool). cond c (withJourneys l ks h m) (withFound l ks h m true n)) e
 
+-- what no search alters, this one leaves
+pub within-keeps : {X : Type 0} (f : Load → X) (l : Load) (n : ℕ) → ((ks : List Journey) (h m : ℕ) (b : Bool) (k : ℕ) → f (withFound l ks h m b k) ≡ f l)
+    → f (withinSpec l n .load) ≡ f l
+within-keeps f l n same = go (isTaken (withinSpec l n .answer)) refl
+  where
+    left : (ks : List Journey) (h m : ℕ) (c : Bool) → f (cond c (withJourneys l ks h m) (withFound l ks h m true n)) ≡ f l
+    left ks h m true = same ks h m false 0
+    left ks h m false = same ks h m true n
+
+    go : (b : Bool) → isTaken (withinSpec l n .answer) ≡ b → f (withinSpec l n .load) ≡ f l
+    go true t = let w = taken-within l n t in ap (λ (r : Limited). f (r .load)) (w .is) ∙ left (w .kept) (w .to) (w .mark) (finishesIn l n)
+    go false t = ap f (untaken-within l n t)
+
 -- by whether it finished
 abbrev leftBy : Load → ℕ → List Journey → ℕ → ℕ → Bool → Limited
 leftBy l n ks h m b =
