@@ -4,6 +4,7 @@ pub mod AnswerLaws
 pub mod OfferedLaws
 pub mod SmallLaws
 pub mod FoundLaws
+pub mod EarliestLaws
 pub mod SearchLaws
 pub mod LimitedLaws
 pub mod Known

@@ -35,6 +35,8 @@ use state::limits;
 use transfer::copied::flat_rules;
 use transfer::copied::parents_of;
 
+pub mod earliest;
+
 // What a search within a limit on joins answers, and the load that it returns; how many joins it tested, and whether none is left. 0 and
 // false where it is sent back.
 pub struct Limited {
