@@ -45,6 +45,7 @@ pub mod AlikeLaws
 pub mod OwnLaws
 pub mod DemandLaws
 pub mod AgainLaws
+pub mod LimitedLaws
 pub mod WitnessLaws
 pub mod ShownLaws
 pub mod DisplayLaws

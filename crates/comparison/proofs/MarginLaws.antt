@@ -1,8 +1,9 @@
 -- The earliest arrival of a ride of the table at a target, by what was taken.
 use Prim.Native.Nat.{ℕ, _+_, _*_, _≤_}
 use mathlib.Core.Path.{_≡_, refl, sym, ap, subst, _∙_}
-use mathlib.Core.List.{List}
+use mathlib.Core.List.{List, List·Permᴰ, Permᴰ·symm}
 use Rattle.settings.specs.declared.Settings.{Settings}
+use Rattle.calls.specs.declared.CallInput.{CallInput}
 use Rattle.calls.specs.declared.Call.{Call}
 use Rattle.load.specs.declared.Load.{Load}
 use Rattle.load.specs.Filling.{Filling}
@@ -10,11 +11,14 @@ use Rattle.offers.specs.Offers.{Timetable, arrivalOf}
 use Rattle.offers.specs.Admitted.{Rides, Ends}
 use Rattle.limited.specs.Margin as limited
 use Rattle.search.specs.Timetable.{timetableOf}
+use Rattle.comparison.specs.Taken.{callsIn, State, keeping}
 use Rattle.comparison.specs.Admitted.{Feed}
 use Rattle.comparison.specs.Events.{Reaches, Earliest}
 use Rattle.comparison.specs.Feeds.{feedOf, feedFrom}
 use Rattle.comparison.proofs.SettingLaws.{Opened}
 use Rattle.comparison.proofs.StartLaws.{Start, stateAt, same-feed}
+use Rattle.comparison.proofs.BagLaws.{handing, leg-perm}
+use Rattle.comparison.proofs.AsideLaws.{Like, feed-beside}
 use Rattle.comparison.proofs.AdmittedLaws.{known, leg-in, leg-out, ends-in, ends-out, target-walk}
 
 module _ (s : Settings) (l : Load) (fs : List Filling) (w : Start s l fs) (o : Opened s) where
@@ -40,3 +44,15 @@ module _ (s : Settings) (l : Load) (fs : List Filling) (w : Start s l fs) (o : O
 
   pub earliest-in : (m : ℕ) → limited.Earliest (timetableOf l) m → Earliest (feedOf s (stateAt l fs)) m
   earliest-in m v = subst (λ (G : Feed). Earliest G m) (same-feed s l fs w) (earliest-load m v)
+
+-- ---- in any order of the calls
+
+reaches-perm : (F : Feed) (is js : List CallInput) → List·Permᴰ is js → (m : ℕ) → Reaches (handing F is) m → Reaches (handing F js) m
+reaches-perm F is js q m w = record { b = w .b; a = w .a; k = w .k; leg = leg-perm F is js q (w .b) (w .a) (w .leg); target = w .target; to = w .to; arrives = w .arrives }
+
+earliest-perm : (F : Feed) (is js : List CallInput) → List·Permᴰ is js → (m : ℕ) → Earliest (handing F is) m → Earliest (handing F js) m
+earliest-perm F is js q m w = record { one = reaches-perm F is js q m (w .one); least = λ n r. w .least n (reaches-perm F js is (Permᴰ·symm q) n r) }
+
+pub earliest-like : (s : Settings) (t : State) (gs fs : List Filling) (m : ℕ) → Like gs fs → Earliest (feedOf s (keeping t gs)) m → Earliest (feedOf s (keeping t fs)) m
+earliest-like s t gs fs m w a =
+    earliest-perm (feedOf s (keeping t fs)) (callsIn gs) (callsIn fs) (w .calls) m (subst (λ (F : Feed). Earliest F m) (feed-beside s t gs fs (w .beside)) a)

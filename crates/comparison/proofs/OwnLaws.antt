@@ -94,7 +94,7 @@ module _ (l : Load) (k : Kept l) (e : l .stopped ≡ true) where
   load-is =
       sym (ap (λ (r : Limited). r .load) (w .is) ∙ cond-not _ _ (own-unfinished l (k .sound) (k .own (k .sound .stopped-search e)) e)) ∙ ap (λ (r : Limited). r .load) (own-stops l k e .is)
 
-  outcome-is : outcomeWithin (unsearchedOf l) (l .limit) ≡ found (keptOf l) (l .horizon) (l .limits)
+  pub outcome-is : outcomeWithin (unsearchedOf l) (l .limit) ≡ found (keptOf l) (l .horizon) (l .limits)
   outcome-is =
       w .outcome
       ∙ (λ i. found (sym (found-kept (unsearchedOf l) (w .kept) (w .to) (w .mark) true (l .limit)) i) (w .to) (w .mark))

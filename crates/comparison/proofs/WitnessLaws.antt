@@ -124,7 +124,7 @@ record Limited : Type 0 where
   one-left : limitOf (endOf (undated (settingsWith 1)) (limitedLess 1)) ≡ none
 
 within-limits : Limited
-unfolding firstAnswer overCounts near allNear settingsTests walksOf canonicalOf stationOf idWrong isKnown typeWrong nameNeeded nameWrong stopTests stopAt stopOf heldText known callTests callFit callOn cut fitted timeAfter seenCall seen openAnswer emptyOf undatedWeek stopSpec plainCall callSpec addSpec lexb clash rides firstRides joinedRides networkOf offers searchOf timetableOf outcomeOf searchSpec addedTo researched again unsearchedOf hasKey keyKnown withdrawn takenOut withdrawSpec onward routes pass table parentsOf endsOf transferOf directs joinEvents changeEvents events eventsOf offersWithin joinsWithin finishedWithin searchWithin outcomeWithin finishesIn withinSpec
+unfolding firstAnswer overCounts near allNear settingsTests walksOf canonicalOf stationOf idWrong isKnown typeWrong nameNeeded nameWrong stopTests stopAt stopOf heldText known callTests callFit callOn cut fitted timeAfter seenCall seen openAnswer emptyOf undatedWeek stopSpec plainCall callSpec addSpec lexb clash rides firstRides joinedRides networkOf offers searchOf timetableOf outcomeOf searchSpec addedTo researched again unsearchedOf hasKey keyKnown withdrawn takenOut withdrawSpec onward routes pass ruleTests ruleSpec table parentsOf endsOf transferOf directs joinEvents changeEvents events eventsOf offersWithin joinsWithin finishedWithin searchWithin outcomeWithin finishesIn withinSpec
 within-limits = record { none-tested = refl; two-tested = refl; three = refl; four = refl; less = refl; one-left = refl }
 
 -- what the load says was taken

@@ -17,6 +17,7 @@ pub mod Causes
 pub mod Runs
 pub mod Demands
 pub mod Again
+pub mod Limited
 pub mod Witness
 pub mod Displays
 pub mod Marked

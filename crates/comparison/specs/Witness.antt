@@ -104,11 +104,12 @@ twoTrips departs =
     ∷ search
     ∷ []
 
--- request 12: trips 1 and 2 of `addedTrip`, in a search within a limit: two first rides and two rides, so four joins
+-- request 12: trips 1 and 2 of `addedTrip`, in a search within a limit: two first rides and two rides, so four joins; a rule forbids the change
 abbrev pub limitedTrips : ℕ → List Step
 limitedTrips n =
     filling (stop (65 ∷ []) [] [] (someStop 1))
     ∷ filling (stop (66 ∷ []) [] [] (someStop 16))
+    ∷ filling (rule (record { from = 1; to = 0; «transfer_type» = 3; seconds = min-time.Absent }))
     ∷ filling (call [] (callOf 1 1 0 600))
     ∷ filling (call [] (callOf 1 2 1 1200))
     ∷ filling (call [] (callOf 2 1 0 700))
