@@ -1,10 +1,9 @@
 -- Demand 3 with windows as horizons: what a group shows is its load's list cut at the window.
 use mathlib.Core.Path.{_≡_, refl, sym, ap, subst, _∙_}
-use mathlib.Core.Logic.{_⊎_, inl, inr, _↔_}
-use mathlib.Core.Bool.{Bool, true, false, true≢false}
-use mathlib.Core.Option.{Option}
+use mathlib.Core.Logic.{_↔_}
+use mathlib.Core.Bool.{Bool, true, false}
 use mathlib.Core.List.{List, List·Memᴰ}
-use Prim.Native.Nat.{ℕ, _≤_, min}
+use Prim.Native.Nat.{ℕ, _≤_}
 use lib.IntN.{ℤ}
 use Rattle.laws.proofs.Sort.{sort-mem}
 use Rattle.settings.specs.declared.Settings.{Settings}
@@ -23,7 +22,6 @@ use Rattle.load.specs.Sound.{Opens}
 use Rattle.best.specs.Best.{keptOf}
 use Rattle.groups.specs.declared.Group.{Group}
 use Rattle.groups.specs.Groups.{groupOf}
-use Rattle.groups.specs.Refused.{turnedAway}
 use Rattle.groups.proofs.RefusedLaws.{not-away}
 use Rattle.display.specs.Promises.{Given}
 use Rattle.display.proofs.ListLaws.{shown-in}
@@ -34,7 +32,6 @@ use Rattle.steps.specs.Lists as by-load
 use Rattle.steps.proofs.HeldLaws.{agrees-within}
 use Rattle.steps.proofs.WithdrawnLaws.{end-kept}
 use Rattle.steps.proofs.HandedLaws.{handed-sound}
-use Rattle.comparison.specs.Demands.{Second, Alike, MatchedBy, Earlier}
 use Rattle.comparison.specs.Displays.{Displayed, windowIn, answerIn, DisplaysAgree, Displays}
 use Rattle.comparison.proofs.ShownLaws.{displayed}
 use Rattle.comparison.proofs.AlikeLaws.{alike-reads, reads-alike, second-in, in-second, earlier-is}

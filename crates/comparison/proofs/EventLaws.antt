@@ -1,18 +1,16 @@
 -- The program's joins and offers stand in the order stated here, and a limit stops them as stated.
-use Prim.Native.Nat.{ℕ, zero, suc, _≤_, _<_}
+use Prim.Native.Nat.{ℕ, zero, suc, _<_}
 use native.Mathlib.Omega.{arith}
 use mathlib.Core.Path.{_≡_, refl, sym, ap, subst, _∙_}
 use mathlib.Core.Logic.{_⊎_, inl, inr}
-use mathlib.Core.Bool.{Bool, true, false, cond}
-use mathlib.Core.List.{List, [], _∷_, _++_, map, map-id, List·Memᴰ, List·Memᴰ·head, List·Memᴰ·tail, List·Memᴰ·not-nil, List·Memᴰ·cases-cons, List·Memᴰ·append-cases, Memᴰ·of-map}
+use mathlib.Core.Bool.{Bool, cond}
+use mathlib.Core.List.{List, [], _∷_, _++_, map, map-id, List·Memᴰ, List·Memᴰ·cases-cons, List·Memᴰ·append-cases, Memᴰ·of-map}
 use lib.Dec.{eqb}
-use Rattle.laws.specs.Lists.{concatMap}
 use Rattle.laws.proofs.Folds.{concatMap-mem}
 use Rattle.laws.proofs.Tails.{cond-mem}
 use Rattle.calls.specs.declared.Call.{Call}
 use Rattle.profile.specs.declared.Journey.{Journey}
 use Rattle.ways.specs.Rides.{Leg, First, rides, firstRides, directs}
-use Rattle.ways.specs.Images.{Images, Stand}
 use Rattle.offers.specs.Offers.{Timetable, networkOf, directBy, changeBy, sorted}
 use Rattle.counted.specs.Events as by
 use Rattle.counted.specs.Events.{tested, offered, joinsOf, offersOf, upTo}

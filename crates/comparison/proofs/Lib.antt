@@ -27,6 +27,7 @@ pub mod OfferLaws
 pub mod OfferedLaws
 pub mod EventLaws
 pub mod WithinLaws
+pub mod StatedLaws
 pub mod MarginLaws
 pub mod HorizonLaws
 pub mod NeighbourLaws
@@ -44,6 +45,7 @@ pub mod RunLaws
 pub mod AlikeLaws
 pub mod OwnLaws
 pub mod DemandLaws
+pub mod OnlyRunningLaws
 pub mod AgainLaws
 pub mod LimitedLaws
 pub mod WitnessLaws

@@ -2,12 +2,13 @@
 use Prim.Native.Nat.{ℕ, _+_, _-_, _≤_, min}
 use native.Mathlib.Omega.{arith}
 use mathlib.Core.Path.{_≡_, refl, sym, ap, subst, _∙_}
-use mathlib.Core.Logic.{_↔_}
-use mathlib.Core.Bool.{Bool, true, false, cond, true≢false, false≢true}
-use mathlib.Core.Option.{Option, none, some, Option·none-ne-some, Option·some-injective}
-use mathlib.Core.List.{List, []}
+use mathlib.Core.Bool.{Bool, true, false, cond, true≢false}
+use mathlib.Core.Option.{none, some, Option·none-ne-some, Option·some-injective}
+use mathlib.Core.List.{List}
+use lib.Dec.{leb}
 use lib.IntN.{pos}
-use Rattle.laws.proofs.Bools.{cond-not, cond-by, not-true}
+use borrow.Author.Tests.{leb-true, leb-false}
+use Rattle.laws.proofs.Bools.{cond-not, cond-by}
 use Rattle.refusal.specs.declared.Answer.{Answer}
 use Rattle.refusal.specs.declared.Answer.the-variants.{Taken}
 use Rattle.refusal.specs.First.{isTaken}
@@ -21,14 +22,11 @@ use Rattle.limited.specs.Margin.{earliest, marginOf, marginWithin, answerAt0}
 use Rattle.limited.proofs.LimitLaws.{count-within, finished-within, larger-never-later}
 use Rattle.limited.proofs.MarginLaws.{answer-after-earliest, within-margin}
 use Rattle.load.specs.declared.Load.{Load}
-use Rattle.load.specs.declared.Stepped.{Stepped}
 use Rattle.load.specs.Steps.{Opening}
-use Rattle.load.specs.Filling.{Filling}
 use Rattle.load.specs.Sound.{Opens, Sound}
 use Rattle.best.specs.Best.{answerOf, bestSpec, keptOf}
 use Rattle.best.specs.declared.Found.{Found}
 use Rattle.best.specs.declared.Found.the-variants as found
-use Rattle.margin.specs.declared.Margin.{Margin}
 use Rattle.margin.specs.declared.Margin.the-variants.{Is, Nothing}
 use Rattle.margin.specs.Stopped.{marginFrom, marginSpec}
 use Rattle.search.specs.declared.Limited.{Limited}
@@ -46,13 +44,12 @@ use Rattle.steps.proofs.WithdrawnLaws.{end-kept}
 use Rattle.search.proofs.SearchSound.{search-sound}
 use Rattle.again.proofs.SoundLaws.{unsearched-sound}
 use Rattle.comparison.specs.Taken.{State, fresh}
-use Rattle.comparison.specs.Admitted.{Feed}
 use Rattle.comparison.specs.Feeds.{feedOf}
 use Rattle.comparison.specs.Events.{Within, Earliest}
 use Rattle.comparison.specs.Runs.{Runs}
 use Rattle.comparison.specs.Limited.{atZero, NoLater, TakenWithin, MarginOf, Limits}
 use Rattle.comparison.proofs.SettingLaws.{opens}
-use Rattle.comparison.proofs.StartLaws.{Start, stateAt}
+use Rattle.comparison.proofs.StartLaws.{stateAt}
 use Rattle.comparison.proofs.AsideLaws.{apart, apart-like}
 use Rattle.comparison.proofs.WithinLaws.{counted-of, all-offered}
 use Rattle.comparison.proofs.MarginLaws.{earliest-in, earliest-like}
@@ -101,20 +98,11 @@ stops o xs n r w (e, q) f =
 -- a stopped load tested as many joins as its limit
 tested-limit : (n : ℕ) (l : Load) → finishesIn l n ≡ false → joinsWithin n (timetableOf l) ≡ n
 unfolding finishesIn
-tested-limit n l e = count-within n (timetableOf l) ∙ go
+tested-limit n l e = count-within n (timetableOf l) ∙ least (leb (allJoins (timetableOf l)) n) refl
   where
-    more : allJoins (timetableOf l) ≤ n → ⊥
-    more h = true≢false (sym (finished-within n (timetableOf l) .1 h) ∙ e)
-
-    go : min n (allJoins (timetableOf l)) ≡ n
-    go = least n (allJoins (timetableOf l)) more
-      where
-        least : (a b : ℕ) → (b ≤ a → ⊥) → min a b ≡ a
-        least a b f = by (lib.Dec.leb b a) refl
-          where
-            by : (c : Bool) → lib.Dec.leb b a ≡ c → min a b ≡ a
-            by true q = absurd (f (borrow.Author.Tests.leb-true b a q))
-            by false q = omega (arith, borrow.Author.Tests.leb-false b a q)
+    least : (b : Bool) → leb (allJoins (timetableOf l)) n ≡ b → min n (allJoins (timetableOf l)) ≡ n
+    least true q = absurd (true≢false (sym (finished-within n (timetableOf l) .1 (leb-true (allJoins (timetableOf l)) n q)) ∙ e))
+    least false q = omega (arith, leb-false (allJoins (timetableOf l)) n q)
 
 afresh : (o : Opening) (xs : List Step) → Opens o → endOf o xs .stopped ≡ true
     → withinSpec (unsearchedOf (endOf o xs)) (endOf o xs .limit) ≡ record { answer = Taken; load = endOf o xs; joins = endOf o xs .limit; finished = false }

@@ -1,6 +1,7 @@
 -- All of it.
 use Rattle.comparison.specs.Proved.{Proved}
-use Rattle.comparison.proofs.DemandLaws.{demand-1, demand-2, only-running, demand-3}
+use Rattle.comparison.proofs.DemandLaws.{demand-1, demand-2, demand-3}
+use Rattle.comparison.proofs.OnlyRunningLaws.{only-running}
 use Rattle.steps.proofs.DatedLaws.{dated-same, late-services, name-unread}
 use Rattle.comparison.proofs.AgainLaws.{withdrawals}
 use Rattle.comparison.proofs.LimitedLaws.{limits}

@@ -45,7 +45,7 @@ use Rattle.steps.proofs.ShownLaws.{rawEarlier}
 use Rattle.steps.proofs.WithdrawnLaws.{step-kept, end-kept}
 use Rattle.comparison.specs.Taken.{callsIn, State, fresh}
 use Rattle.comparison.specs.Causes.{First, causesOf}
-use Rattle.comparison.specs.Runs.{Again, in-full, After, sent-back, a-stop, a-rule, a-call, resting, outside, a-service, an-exception, Runs, end, step}
+use Rattle.comparison.specs.Runs.{in-full, After, sent-back, a-stop, a-rule, a-call, resting, outside, a-service, an-exception, Runs, end, step}
 use Rattle.comparison.specs.Demands.{answersFrom}
 use Rattle.comparison.proofs.Deciding.{Matches, first-matches}
 use Rattle.comparison.proofs.TakenLaws.{given}

@@ -1,8 +1,8 @@
 -- A search of a load that is not searched, in full or within a limit: what it leaves holds what was taken.
 use Prim.Native.Nat.{ℕ, _≤_}
 use mathlib.Core.Path.{_≡_, refl, sym, ap, subst, _∙_}
-use mathlib.Core.Bool.{Bool, true, false, cond, true≢false}
-use mathlib.Core.Option.{Option, none, some}
+use mathlib.Core.Bool.{Bool, true, false, true≢false}
+use mathlib.Core.Option.{Option, none}
 use mathlib.Core.List.{List}
 use Rattle.refusal.specs.declared.Answer.{Answer}
 use Rattle.refusal.specs.declared.Answer.the-variants.{Taken, Refused}
@@ -16,7 +16,6 @@ use Rattle.limited.specs.Limited.{offersWithin, joinsWithin, finishedWithin}
 use Rattle.load.specs.declared.Load.{Load}
 use Rattle.load.specs.declared.Stepped.{Stepped}
 use Rattle.load.specs.Filling.{Filling}
-use Rattle.search.specs.declared.Limited.{Limited}
 use Rattle.search.specs.Timetable.{timetableOf}
 use Rattle.search.specs.Search.{searchSpec}
 use Rattle.search.specs.Within.{finishesIn, ranWithin, withinSpec, stepOf}
@@ -24,7 +23,7 @@ use Rattle.search.proofs.WithinLaws.{taken-within, within-clear, within-cases}
 use Rattle.again.specs.Again.{unsearchedOf, researched}
 use Rattle.again.proofs.ResearchLaws.{researched-within, researched-full, taken-researched, untaken-researched}
 use Rattle.steps.specs.Steps.{Step, search, limited}
-use Rattle.comparison.specs.Taken.{State, done, limitedTo}
+use Rattle.comparison.specs.Taken.{State, done}
 use Rattle.comparison.specs.Feeds.{feedOf}
 use Rattle.comparison.specs.Events.{Within}
 use Rattle.comparison.specs.Runs.{After, sent-back, a-search, a-limited}

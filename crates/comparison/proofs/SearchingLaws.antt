@@ -55,7 +55,8 @@ use Rattle.comparison.proofs.NeighbourLaws.{dec-clashing}
 use Rattle.comparison.proofs.BagLaws.{clashing-perm}
 use Rattle.comparison.proofs.AsideLaws.{Like, like-back, offered-like}
 use Rattle.comparison.proofs.OfferedLaws.{offered-is, one-offered}
-use Rattle.comparison.proofs.WithinLaws.{one-within, within-like, within-is}
+use Rattle.comparison.proofs.WithinLaws.{one-within, within-like}
+use Rattle.comparison.proofs.StatedLaws.{within-is}
 
 dec-never : (e : Ends) → Decides (isNever e) (endOf e ≡ below)
 dec-never (upTo h m) = (λ e. absurd (false≢true e), λ e. absurd (let z : _≡_ {A = ℕ} 0 1 = cc in omega arith))

@@ -3,7 +3,7 @@
 use mathlib.Core.Path.{_≡_}
 use mathlib.Core.Logic.{_↔_}
 use mathlib.Core.Bool.{true}
-use mathlib.Core.Option.{Option, none, some}
+use mathlib.Core.Option.{Option}
 use mathlib.Core.List.{List, [], _∷_, List·Memᴰ}
 use Prim.Native.Nat.{ℕ, _≤_}
 use lib.IntN.{ℤ}
