@@ -53,7 +53,7 @@ module _ (a : Load) (cs : List Call) where
     same-load falling e q = absurd (true≢false q)
     same-load (found ks h m) e q = λ k. withSeen a
         (record { calls = same-sorted ks h m e k ++ u k; count = n; horizon = a .«table_horizon»; limits = a .«table_limits» })
-        (record { journeys = withJourneys a ks h m .journeys; count = withJourneys a ks h m .«journey_count»; horizon = h; limits = m; searched = true })
+        (record { journeys = withJourneys a ks h m .journeys; count = withJourneys a ks h m .«journey_count»; horizon = h; limits = m; searched = true; stopped = false; limit = 0 })
 
     alike : Alike searchSpec a other
     alike = record {
