@@ -1,12 +1,19 @@
 // Calls added to and withdrawn from any load. On a searched load each goes back to the unsearched load, is done there, and the load
 // is searched again.
 ghost use mathlib.Core.Path.{_≡_};
-ghost use Rattle.again.specs.Again.{unsearchedOf, takenOut};
+ghost use mathlib.Core.Bool.{_&&_};
+ghost use lib.Dec.{leb};
+ghost use Rattle.again.specs.Again.{unsearchedOf, researched, again, addedTo, addSpec, takenOut, withdrawSpec};
+use calls::CallInput;
 use load::Load;
 use load::Stepped;
 use profile::no_journey;
 use refusal::Answer;
 use refusal::Refusal;
+use refusal::is_refused;
+use refusal::is_taken;
+use search::search;
+use search::search_within;
 use withdrawal::CallKey;
 use withdrawal::is_known;
 use withdrawal::last_of;
@@ -27,6 +34,84 @@ pub fn unsearched(load: Load) -> Load
     back.stopped = false;
     back.limit = 0;
     back
+}
+
+// Whether a load is searched within a limit: its search was stopped, and it has at most one change, as a stopped load has.
+fn is_limited(stopped: bool, most: u8) -> bool
+    ensures { λ r. ⌜ r ≡ (stopped && leb most 1) ⌝ }
+{
+    if stopped {
+        return most <= 1;
+    }
+    false
+}
+
+// The load searched: within the limit where the search before it was stopped there, in full otherwise.
+fn search_as(stopped: bool, limit: u64, load: Load) -> Stepped
+    ensures { λ r. ⌜ r ≡ researched stopped limit load ⌝ }
+{
+    let settings = load.settings;
+    if is_limited(stopped, settings.max_transfers) {
+        let found = search_within(load, limit);
+        let answer = found.answer;
+        let left = found.load;
+        return Stepped { answer, load: left };
+    }
+    search(load)
+}
+
+// What a step made of the unsearched load, searched as that load was; a refusal, also of the search, leaves the searched load.
+fn searched_again(load: Load, made: Stepped) -> Stepped
+    ensures { λ r. ⌜ r ≡ again load made ⌝ }
+{
+    let answer = made.answer;
+    if is_refused(answer) {
+        return Stepped { answer, load };
+    }
+    let next = made.load;
+    let found = search_as(load.stopped, load.limit, next);
+    let second = found.answer;
+    if is_taken(second) {
+        let after = found.load;
+        return Stepped {
+            answer,
+            load: after,
+        };
+    }
+    Stepped {
+        answer: second,
+        load,
+    }
+}
+
+// The same of a call: where it left the table, the searched load stays, but for its services, which an answered call closes.
+fn added(load: Load, made: Stepped) -> Stepped
+    ensures { λ r. ⌜ r ≡ addedTo load made ⌝ }
+{
+    let answer = made.answer;
+    if is_taken(answer) {
+        return searched_again(load, made);
+    }
+    let after = made.load;
+    if after.table_horizon == load.table_horizon {
+        let week = after.week;
+        let mut next = load;
+        next.week = week;
+        return Stepped { answer, load: next };
+    }
+    searched_again(load, made)
+}
+
+// A call on any load, with the name of its service.
+pub fn add(load: Load, service: &[u8], input: CallInput) -> Stepped
+    ensures { λ r. ⌜ r ≡ addSpec load (now (service .entry)) input ⌝ }
+{
+    if load.searched {
+        let before = unsearched(load);
+        let made = before.call_of(service, input);
+        return added(load, made);
+    }
+    load.call_of(service, input)
 }
 
 // A call withdrawn from an unsearched load: 9, 24.
@@ -58,4 +143,16 @@ fn taken_out(load: Load, key: CallKey) -> Stepped
         answer: Answer::Refused(Refusal::FieldRange),
         load,
     }
+}
+
+// A call withdrawn from any load: 9, 24; of a searched load then 14, 11 of its search.
+pub fn withdraw(load: Load, key: CallKey) -> Stepped
+    ensures { λ r. ⌜ r ≡ withdrawSpec load key ⌝ }
+{
+    if load.searched {
+        let before = unsearched(load);
+        let made = taken_out(before, key);
+        return searched_again(load, made);
+    }
+    taken_out(load, key)
 }
