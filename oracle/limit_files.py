@@ -1,6 +1,6 @@
 """Request 12's records of random step files: searches within a limit, and loads whose rides join in many ways.
 
-Limits are 0, 1, 2 and other small numbers, ends of u64, numbers between 0 and the joins that the load has, and those about their sum.
+Limits are 0, 1, 2 and other small numbers, ends of u64, numbers between 0 and the joins that the load has, and numbers about that total.
 What depends on the joins is put in when the file is whole (`put_in`).
 """
 import struct
