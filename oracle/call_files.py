@@ -91,10 +91,14 @@ class CallMaker:
         return parts + self.some(self.AFTER, 3)
 
     def brim(self):
-        """A table that is all but full, searched, and calls at its horizons: taken, cut for, outside after a cut, or without room."""
-        rng, parts = self.rng, self.ends(0)
+        """A table that is all but full, searched, and calls at its horizons: taken, cut for, outside after a cut, or without room. Some
+        have two rides, and so joins."""
+        rng, joins = self.rng, self.rng.randrange(2)
+        parts = self.ends(joins)
         early = rng.choice([0, 0, 200, 400, 500, 511, 512])
-        count = rng.choice([509, 510, 511, 512, 512, 512])
+        count = rng.choice([509, 510, 511, 512, 512, 512]) - 4 * joins
+        for trip in (600, 601) if joins else ():
+            parts += map(self.note, self.ride(trip, trip - 590, 900 - trip))
         steps = [rng.choice([3600, 3601, 3846, 5127, 9113, 12150, 12151, 16200, 16201, 20000, 21600]) for _ in range(4)]
         for i in range(count):
             time = 1000 + i if i < early else rng.choice(steps) - rng.choice([0, 0, 1, 2])
