@@ -4,7 +4,7 @@ ghost use Rattle.refusal.specs.Causes.{numberOf};
 ghost use Rattle.refusal.specs.First.{isRefused, isTaken};
 
 pub enum Refusal {
-    // 1: an origin or target count above 4, or `max_transfers` above 1
+    // 1: an origin or target count above 4, or `max_transfers` above 2
     SettingsRange,
     // 2: the start or an epoch beyond ±2^40
     ClockRange,
