@@ -19,6 +19,7 @@ use Rattle.offers.proofs.OrderLaws.{strict-earlier, between}
 use Rattle.offers.proofs.RunLaws.{run-same, same-run}
 use Rattle.limited.specs.Limited.{allJoins, finishedWithin}
 use Rattle.limited.proofs.LimitLaws.{finished-within}
+use Rattle.again.specs.Claims.{MoreJoins}
 use Rattle.again.proofs.SortLaws.{put-sorted, rises}
 
 -- where one alights that boarded at b
@@ -121,7 +122,7 @@ less-joins : (b : Bool) (m n p q : ℕ) → m ≤ p → n ≤ q → cond b (m * 
 less-joins true m n p q h k = mul-le-mul h k
 less-joins false m n p q h k = omega arith
 
-pub more-joins : (t : Timetable) (c : Call) → clashes (inOrder (t .calls ++ c ∷ [])) ≡ false → allJoins t ≤ allJoins (withCall t c)
+pub more-joins : MoreJoins
 unfolding allJoins networkOf
 more-joins t c clear =
     let up = rises (t .calls) c clear in

@@ -84,9 +84,9 @@ own-full m ks h k s e =
     ∙ ap (λ (o : Outcome). record { answer = answerOf o; load = settled (unsearchedOf (withJourneys m ks h k)) o }) (sym (same-outcome m ks h k false 0 s) ∙ e)
     ∙ ap (λ (l : Load). record { answer = Taken; load = l }) (same-load m ks h k false 0 s)
 
-own-stopped : (m : Load) (n : ℕ) (ks : List Journey) (h k : ℕ) → Sound m → m .settings .«max_transfers» ≤ 1 → outcomeWithin m n ≡ found ks h k → finishesIn m n ≡ false
+stopped-is : (m : Load) (n : ℕ) (ks : List Journey) (h k : ℕ) → Sound m → m .settings .«max_transfers» ≤ 1 → outcomeWithin m n ≡ found ks h k → finishesIn m n ≡ false
     → researched true n (unsearchedOf (withFound m ks h k true n)) ≡ record { answer = Taken; load = withFound m ks h k true n }
-own-stopped m n ks h k s one e f =
+stopped-is m n ks h k s one e f =
     let u : Load = unsearchedOf (withFound m ks h k true n) in
     let few : unsearchedOf (withFound m ks h k true n) .settings .«max_transfers» ≤ 1 = subst (λ (x : ℕ). x ≤ 1) (sym (same-change (withFound m ks h k true n))) one in
     let clear = within-clear m n ks h k e in
@@ -107,7 +107,7 @@ stopped-own m n s f t d =
     let w = taken-within m n t in
     subst (λ (l : Load). researched (l .stopped) (l .limit) (unsearchedOf l) ≡ record { answer = Taken; load = l })
     (sym (ap (λ (r : Limited). r .load) (w .is) ∙ cond-not _ _ f))
-    (own-stopped m n (w .kept) (w .to) (w .mark) s (w .one) (w .outcome) f)
+    (stopped-is m n (w .kept) (w .to) (w .mark) s (w .one) (w .outcome) f)
 
 pub within-own : (m : Load) (n : ℕ) → Sound m → isTaken (withinSpec m n .answer) ≡ true → Own (withinSpec m n .load)
 within-own m n s t = go (finishesIn m n) refl
@@ -150,8 +150,8 @@ same-finish l n = ap (finishedWithin n) (same-timetable l)
 pub own-finished : OwnFinished
 own-finished l k d e = sym (researched-full (l .stopped) (l .limit) (unsearchedOf l) e) ∙ k .own d
 
-pub own-stops : OwnStopped
-own-stops l k e =
+pub own-stopped : OwnStopped
+own-stopped l k e =
     let o = k .own (k .sound .stopped-search e) in
     let q = own-within l (k .sound) o e in
     let w = own-leaves l (k .sound) o e in

@@ -3,11 +3,12 @@ use Prim.Native.Nat.{ℕ, _≤_}
 use mathlib.Core.Path.{_≡_}
 use mathlib.Core.Logic.{_⊎_}
 use mathlib.Core.Bool.{true, false}
-use mathlib.Core.List.{List}
+use mathlib.Core.List.{List, [], _∷_, _++_}
 use Rattle.refusal.specs.declared.Answer.the-variants.{Taken}
+use Rattle.calls.specs.declared.Call.{Call}
 use Rattle.calls.specs.declared.CallInput.{CallInput}
-use Rattle.offers.specs.Order.{clashes}
-use Rattle.offers.specs.Offers.{sorted}
+use Rattle.offers.specs.Order.{inOrder, clashes}
+use Rattle.offers.specs.Offers.{Timetable, withCalls, sorted}
 use Rattle.load.specs.declared.Load.{Load}
 use Rattle.load.specs.Steps.{closedLoad}
 use Rattle.load.specs.Sound.{Sound}
@@ -16,7 +17,7 @@ use Rattle.withdrawal.specs.Removal.{keyOf}
 use Rattle.search.specs.Timetable.{timetableOf}
 use Rattle.search.specs.Search.{searchSpec}
 use Rattle.search.specs.Within.{finishesIn, withinSpec}
-use Rattle.limited.specs.Limited.{joinsWithin}
+use Rattle.limited.specs.Limited.{joinsWithin, allJoins}
 use Rattle.again.specs.Again.{unsearchedOf, researched, addSpec, takenOut, withdrawSpec}
 
 -- a searched load is the search of its own table: the list is the one that a fresh search of the load gives, in full or, where it was stopped,
@@ -53,6 +54,10 @@ pub record Stops (l : Load) : Type 0 where
 
 abbrev pub OwnStopped : Type 0
 OwnStopped = (l : Load) → Kept l → l .stopped ≡ true → Stops l
+
+-- a call more has no fewer joins: a search that was stopped is stopped with it too
+abbrev pub MoreJoins : Type 0
+MoreJoins = (t : Timetable) (c : Call) → clashes (inOrder (t .calls ++ c ∷ [])) ≡ false → allJoins t ≤ allJoins (withCalls t (t .calls ++ c ∷ []))
 
 -- withdrawing straight after taking gives back the load, unsearched, finished or stopped, save that services stay closed, if the table's
 -- horizon didn't fall

@@ -54,11 +54,8 @@ fn search_as(stopped: bool, limit: u64, load: Load) -> Stepped
     if is_limited(stopped, settings.max_transfers) {
         let found = search_within(load, limit);
         let answer = found.answer;
-        let after = found.load;
-        return Stepped {
-            answer,
-            load: after,
-        };
+        let left = found.load;
+        return Stepped { answer, load: left };
     }
     search(load)
 }
