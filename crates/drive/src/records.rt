@@ -150,7 +150,7 @@ fn stepped(out: &mut [u8; 65536], at: usize, s: Stepped) -> Turned
 }
 
 // A search within a limit.
-fn limited(out: &mut [u8; 65536], at: usize, w: Limited) -> Turned
+fn searched_within(out: &mut [u8; 65536], at: usize, w: Limited) -> Turned
     ensures { λ r. ⌜ r .to ≤ 65536 ⌝ }
 {
     let answer = w.answer;
@@ -283,7 +283,7 @@ pub fn step(out: &mut [u8; 65536], at: usize, reader: Reader, b: &[u8]) -> Turne
         Way::Filling => filling(out, at, reader, b),
         Way::OfWeek => stepped(out, at, week_records::step(reader, b)),
         Way::Calling => stepped(out, at, call_records::step(reader, b)),
-        Way::Limited => limited(out, at, limit_step(reader, b)),
+        Way::Limited => searched_within(out, at, limit_step(reader, b)),
         Way::Query => asked(out, at, reader, b),
         Way::Malformed => stopped(out, at, reader),
     }
