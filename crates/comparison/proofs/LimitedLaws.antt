@@ -32,11 +32,11 @@ use Rattle.margin.specs.Stopped.{marginFrom, marginSpec}
 use Rattle.search.specs.declared.Limited.{Limited}
 use Rattle.search.specs.Timetable.{timetableOf}
 use Rattle.search.specs.Search.{withFound, withJourneys, searchSpec}
-use Rattle.search.specs.Within.{outcomeWithin, finishesIn, withinFound, withinSpec, stepOf}
+use Rattle.search.specs.Within.{outcomeWithin, finishesIn, withinFound, withinSpec}
 use Rattle.search.proofs.WithinLaws.{FoundIn, taken-within, within-taken, within-sound, finished-is-search}
 use Rattle.again.specs.Again.{unsearchedOf}
 use Rattle.again.specs.Claims.{Kept}
-use Rattle.again.proofs.OwnLaws.{own-stops, own-unfinished}
+use Rattle.again.proofs.OwnLaws.{own-stopped, own-unfinished}
 use Rattle.steps.specs.Steps.{Step}
 use Rattle.steps.specs.Lists.{endOf}
 use Rattle.steps.proofs.StepLaws.{best-asks, found-kept, taken-searches}
@@ -67,10 +67,12 @@ told o xs rs v n w run a =
     let t : isTaken (withinSpec l n .answer) ≡ true = ap isTaken a in
     let f = limited-here (o .settings) (opens o w) l (whole o w xs .taken) (whole o w xs .stands .new (taken-within l n t .new)) n t in
     let k = within-taken l n a in
-    let os = offersWithin n (timetableOf (endOf o xs)) in
-    (offersWithin n (timetableOf (endOf o xs)), subst (λ (z : State). Within (feedOf (o .settings) z) n os (withinSpec l n .joins) (withinSpec l n .finished)) (ends-so o w xs rs v run)
-    (subst (λ (b : Bool). Within (feedOf (o .settings) (ending o w xs)) n os (withinSpec l n .joins) b) (sym (k .says))
-    (subst (λ (i : ℕ). Within (feedOf (o .settings) (ending o w xs)) n os i (finishedWithin n (timetableOf l))) (sym (k .counts)) f)))
+    let os = offersWithin n (timetableOf (endOf o xs)) in (
+      offersWithin n (timetableOf (endOf o xs)),
+      subst (λ (z : State). Within (feedOf (o .settings) z) n os (withinSpec l n .joins) (withinSpec l n .finished)) (ends-so o w xs rs v run)
+          (subst (λ (b : Bool). Within (feedOf (o .settings) (ending o w xs)) n os (withinSpec l n .joins) b) (sym (k .says))
+          (subst (λ (i : ℕ). Within (feedOf (o .settings) (ending o w xs)) n os i (finishedWithin n (timetableOf l))) (sym (k .counts)) f)),
+    )
 
 full : (o : Opening) (xs : List Step) (n : ℕ) → limitedBy o xs n .answer ≡ Taken → limitedBy o xs n .finished ≡ true → searchSpec (endOf o xs) ≡ record { answer = Taken; load = limitedBy o xs n .load }
 full o xs n a f =
@@ -92,7 +94,7 @@ tested-limit n l e = count-within n (timetableOf l) ∙ least (leb (allJoins (ti
 afresh : (o : Opening) (xs : List Step) → endOf o xs .stopped ≡ true
     → withinSpec (unsearchedOf (endOf o xs)) (endOf o xs .limit) ≡ record { answer = Taken; load = endOf o xs; joins = endOf o xs .limit; finished = false }
 afresh o xs e =
-    let k = own-stops (endOf o xs) (end-kept o xs) e in
+    let k = own-stopped (endOf o xs) (end-kept o xs) e in
     k .is ∙ (λ i. record { answer = Taken; load = endOf o xs; joins = tested-limit (endOf o xs .limit) (endOf o xs) (k .unfinished) i; finished = false })
 
 -- ---- second 0
