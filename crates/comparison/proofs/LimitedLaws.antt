@@ -51,7 +51,7 @@ use Rattle.comparison.specs.Limited.{atZero, NoLater, limitedBy, MarginO
 use Rattle.comparison.proofs.SettingLaws.{opens}
 use Rattle.comparison.proofs.StartLaws.{stateAt}
 use Rattle.comparison.proofs.AsideLaws.{apart, apart-like}
-use Rattle.comparison.proofs.WithinLaws.{counted-of, all-offered}
+use Rattle.comparison.proofs.WithinLaws.{offered-if, counted-of, all-offered}
 use Rattle.comparison.proofs.MarginLaws.{earliest-in, earliest-like}
 use Rattle.comparison.proofs.SearchStepLaws.{limited-here}
 use Rattle.comparison.proofs.OwnLaws.{outcome-is}
@@ -222,6 +222,7 @@ margin o xs rs v j w run e z =
 pub limits : Limits
 limits = record {
   told = told;
+  offered-if = λ s t. offered-if (feedOf s t);
   counted = λ s t. counted-of (feedOf s t);
   all-offered = λ s t. all-offered (feedOf s t);
   full = full;

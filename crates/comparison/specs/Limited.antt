@@ -4,7 +4,7 @@ use mathlib.Core.Path.{_≡_}
 use mathlib.Core.Logic.{_↔_}
 use mathlib.Core.Bool.{Bool, true, false}
 use mathlib.Core.Option.{Option, none, some}
-use mathlib.Core.List.{List}
+use mathlib.Core.List.{List, _∷_, _++_, List·Memᴰ}
 use Prim.Native.Nat.{ℕ, _+_, _-_, _≤_, min}
 use lib.IntN.{pos}
 use Rattle.refusal.specs.declared.Answer.{Answer}
@@ -26,8 +26,8 @@ use Rattle.steps.specs.Lists.{endOf}
 use Rattle.comparison.specs.Taken.{State, fresh}
 use Rattle.comparison.specs.Admitted.{Feed}
 use Rattle.comparison.specs.Feeds.{feedOf}
-use Rattle.comparison.specs.OfferOrder.{Offered}
-use Rattle.comparison.specs.Events.{Event, Listed, joinsIn, Within, Earliest}
+use Rattle.comparison.specs.OfferOrder.{Offer, Offered}
+use Rattle.comparison.specs.Events.{Event, offer, Listed, joinsIn, offersIn, Within, Earliest}
 use Rattle.comparison.specs.Runs.{Runs}
 
 -- the program's best for second 0
@@ -57,6 +57,9 @@ pub record Limits : Type 0 where
   -- "the result carries the number of joins tested .. It says finished when no untested join is left, and stopped otherwise": by what was handed in
   pub told : (o : Opening) (xs : List Step) (rs : List Answer) (v : State) (n : ℕ) → Opens o → Runs (o .settings) (fresh (o .dates)) xs rs v
       → limitedBy o xs n .answer ≡ Taken → (os : List Journey) × Within (feedOf (o .settings) v) n os (limitedBy o xs n .joins) (limitedBy o xs n .finished)
+  -- a journey is offered exactly if at most n joins stand in front of it
+  pub offered-if : (s : Settings) (t : State) (n : ℕ) (os : List Journey) (k : ℕ) (f : Bool) (w : Within (feedOf s t) n os k f) (x : Offer) (fore rest : List Event)
+      → w .events ≡ fore ++ offer x ∷ rest → List·Memᴰ x (offersIn (w .front)) ↔ (joinsIn fore ≤ n)
   -- so many, of all joins; and the journeys offered by a finished one are all
   pub counted : (s : Settings) (t : State) (n : ℕ) (os : List Journey) (k : ℕ) (f : Bool) (es : List Event) → Within (feedOf s t) n os k f → Listed (feedOf s t) es
       → (k ≡ min n (joinsIn es)) × ((f ≡ true) ↔ (joinsIn es ≤ n))
