@@ -32,11 +32,11 @@ use Rattle.margin.specs.Stopped.{marginFrom, marginSpec}
 use Rattle.search.specs.declared.Limited.{Limited}
 use Rattle.search.specs.Timetable.{timetableOf}
 use Rattle.search.specs.Search.{withFound, withJourneys, searchSpec}
-use Rattle.search.specs.Within.{outcomeWithin, finishesIn, withinFound, withinSpec, stepOf}
+use Rattle.search.specs.Within.{outcomeWithin, finishesIn, withinFound, withinSpec}
 use Rattle.search.proofs.WithinLaws.{FoundIn, taken-within, within-taken, within-sound, finished-is-search}
 use Rattle.again.specs.Again.{unsearchedOf}
 use Rattle.again.specs.Claims.{Kept}
-use Rattle.again.proofs.OwnLaws.{own-stops, own-unfinished}
+use Rattle.again.proofs.OwnLaws.{own-stopped, own-unfinished}
 use Rattle.steps.specs.Steps.{Step}
 use Rattle.steps.specs.Lists.{endOf}
 use Rattle.steps.proofs.StepLaws.{best-asks, found-kept, taken-searches}
@@ -47,11 +47,11 @@ use Rattle.comparison.specs.Taken.{State, fresh}
 use Rattle.comparison.specs.Feeds.{feedOf}
 use Rattle.comparison.specs.Events.{Within, Earliest}
 use Rattle.comparison.specs.Runs.{Runs}
-use Rattle.comparison.specs.Limited.{atZero, NoLater, TakenWithin, MarginOf, Limits}
+use Rattle.comparison.specs.Limited.{atZero, NoLater, limitedBy, MarginOf, Limits}
 use Rattle.comparison.proofs.SettingLaws.{opens}
 use Rattle.comparison.proofs.StartLaws.{stateAt}
 use Rattle.comparison.proofs.AsideLaws.{apart, apart-like}
-use Rattle.comparison.proofs.WithinLaws.{counted-of, all-offered}
+use Rattle.comparison.proofs.WithinLaws.{offered-if, counted-of, all-offered}
 use Rattle.comparison.proofs.MarginLaws.{earliest-in, earliest-like}
 use Rattle.comparison.proofs.SearchStepLaws.{limited-here}
 use Rattle.comparison.proofs.OwnLaws.{outcome-is}
@@ -59,41 +59,28 @@ use Rattle.comparison.proofs.DemandLaws.{whole, ending, ends-so}
 
 -- ---- what it tells
 
-is-taken : (l : Load) (n : ℕ) (r : Limited) → withinSpec l n ≡ r → r .answer ≡ Taken → withinSpec l n .answer ≡ Taken
-is-taken l n r e q = ap (λ (w : Limited). w .answer) e ∙ q
-
-told : (o : Opening) (xs : List Step) (rs : List Answer) (v : State) (n : ℕ) (r : Limited) → Opens o → Runs (o .settings) (fresh (o .dates)) xs rs v
-    → TakenWithin o xs n r → (os : List Journey) × Within (feedOf (o .settings) v) n os (r .joins) (r .finished)
+told : (o : Opening) (xs : List Step) (rs : List Answer) (v : State) (n : ℕ) → Opens o → Runs (o .settings) (fresh (o .dates)) xs rs v
+    → limitedBy o xs n .answer ≡ Taken → (os : List Journey) × Within (feedOf (o .settings) v) n os (limitedBy o xs n .joins) (limitedBy o xs n .finished)
 unfolding finishesIn
-told o xs rs v n r w run (e, q) =
+told o xs rs v n w run a =
     let l = endOf o xs in
-    let a = is-taken l n r e q in
     let t : isTaken (withinSpec l n .answer) ≡ true = ap isTaken a in
-    let s = whole o w xs .stands .new (taken-within l n t .new) in
-    let f = limited-here (o .settings) (opens o w) l (whole o w xs .taken) s n t in
+    let f = limited-here (o .settings) (opens o w) l (whole o w xs .taken) (whole o w xs .stands .new (taken-within l n t .new)) n t in
     let k = within-taken l n a in
-    let x : joinsWithin n (timetableOf l) ≡ r .joins = sym (k .counts) ∙ ap (λ (y : Limited). y .joins) e in
-    let y : finishedWithin n (timetableOf l) ≡ r .finished = sym (k .says) ∙ ap (λ (y : Limited). y .finished) e in
     let os = offersWithin n (timetableOf (endOf o xs)) in (
       offersWithin n (timetableOf (endOf o xs)),
-      subst (λ (z : State). Within (feedOf (o .settings) z) n os (r .joins) (r .finished)) (ends-so o w xs rs v run)
-          (subst (λ (b : Bool). Within (feedOf (o .settings) (ending o w xs)) n os (r .joins) b) y (subst (λ (i : ℕ). Within (feedOf (o .settings) (ending o w xs)) n os i (finishedWithin n (timetableOf l))) x f)),
+      subst (λ (z : State). Within (feedOf (o .settings) z) n os (withinSpec l n .joins) (withinSpec l n .finished)) (ends-so o w xs rs v run)
+          (subst (λ (b : Bool). Within (feedOf (o .settings) (ending o w xs)) n os (withinSpec l n .joins) b) (sym (k .says))
+          (subst (λ (i : ℕ). Within (feedOf (o .settings) (ending o w xs)) n os i (finishedWithin n (timetableOf l))) (sym (k .counts)) f)),
     )
 
-full : (o : Opening) (xs : List Step) (n : ℕ) (r : Limited) → Opens o → TakenWithin o xs n r → r .finished ≡ true → searchSpec (endOf o xs) ≡ record { answer = Taken; load = r .load }
-full o xs n r w (e, q) f =
+full : (o : Opening) (xs : List Step) (n : ℕ) → limitedBy o xs n .answer ≡ Taken → limitedBy o xs n .finished ≡ true → searchSpec (endOf o xs) ≡ record { answer = Taken; load = limitedBy o xs n .load }
+full o xs n a f =
     let l = endOf o xs in
-    let a = is-taken l n r e q in
-    let t : isTaken (withinSpec l n .answer) ≡ true = ap isTaken a in
-    let b : finishesIn l n ≡ true = sym (within-taken l n a .says) ∙ ap (λ (y : Limited). y .finished) e ∙ f in
-    sym (finished-is-search l n (taken-within l n t .one) b) ∙ ap stepOf e ∙ (λ i. record { answer = q i; load = r .load })
+    sym (finished-is-search l n (taken-within l n (ap isTaken a) .one) (sym (within-taken l n a .says) ∙ f)) ∙ (λ i. record { answer = a i; load = withinSpec l n .load })
 
-stops : (o : Opening) (xs : List Step) (n : ℕ) (r : Limited) → Opens o → TakenWithin o xs n r → r .finished ≡ false → (r .load .stopped ≡ true) × (r .load .limit ≡ n)
-stops o xs n r w (e, q) f =
-    let l = endOf o xs in
-    let k = within-taken l n (is-taken l n r e q) in
-    let b : withinSpec l n .finished ≡ false = ap (λ (y : Limited). y .finished) e ∙ f in
-    (ap (λ (y : Limited). y .load .stopped) (sym e) ∙ k .stops .1 b, ap (λ (y : Limited). y .load .limit) (sym e) ∙ k .holds ∙ cond-not _ _ (sym (k .says) ∙ b))
+stops : (o : Opening) (xs : List Step) (n : ℕ) → limitedBy o xs n .answer ≡ Taken → limitedBy o xs n .finished ≡ false → (limitedBy o xs n .load .stopped ≡ true) × (limitedBy o xs n .load .limit ≡ n)
+stops o xs n a f = let k = within-taken (endOf o xs) n a in (k .stops .1 f, k .holds ∙ cond-not _ _ (sym (k .says) ∙ f))
 
 -- a stopped load tested as many joins as its limit
 tested-limit : (n : ℕ) (l : Load) → finishesIn l n ≡ false → joinsWithin n (timetableOf l) ≡ n
@@ -104,10 +91,10 @@ tested-limit n l e = count-within n (timetableOf l) ∙ least (leb (allJoins (ti
     least true q = absurd (true≢false (sym (finished-within n (timetableOf l) .1 (leb-true (allJoins (timetableOf l)) n q)) ∙ e))
     least false q = omega (arith, leb-false (allJoins (timetableOf l)) n q)
 
-afresh : (o : Opening) (xs : List Step) → Opens o → endOf o xs .stopped ≡ true
+afresh : (o : Opening) (xs : List Step) → endOf o xs .stopped ≡ true
     → withinSpec (unsearchedOf (endOf o xs)) (endOf o xs .limit) ≡ record { answer = Taken; load = endOf o xs; joins = endOf o xs .limit; finished = false }
-afresh o xs w e =
-    let k = own-stops (endOf o xs) (end-kept o xs) e in
+afresh o xs e =
+    let k = own-stopped (endOf o xs) (end-kept o xs) e in
     k .is ∙ (λ i. record { answer = Taken; load = endOf o xs; joins = tested-limit (endOf o xs .limit) (endOf o xs) (k .unfinished) i; finished = false })
 
 -- ---- second 0
@@ -136,18 +123,16 @@ module _ (l : Load) (n : ℕ) (s : Sound l) (t : withinSpec l n .answer ≡ Take
       at-zero (withinSpec l n .load) (within-sound l n s) (within-taken l n t .searched)
       ∙ (λ i. bestℤ journeyFigures ((ap keptOf (sym load-is) ∙ kept-is (finishesIn l n)) i) ((ap (λ (m : Load). m .horizon) (sym load-is) ∙ to-is (finishesIn l n)) i) (pos 0))
 
-larger : (o : Opening) (xs : List Step) (n m : ℕ) (r q : Limited) (j : Journey) → Opens o → n ≤ m → TakenWithin o xs n r → TakenWithin o xs m q → atZero (r .load) ≡ some j → NoLater (r .load) (q .load) j
+larger : (o : Opening) (xs : List Step) (n m : ℕ) (j : Journey) → n ≤ m → limitedBy o xs n .answer ≡ Taken → limitedBy o xs m .answer ≡ Taken
+    → atZero (limitedBy o xs n .load) ≡ some j → NoLater (limitedBy o xs m .load) j
 unfolding outcomeWithin
-larger o xs n m r q j op h (e, a) (f, b) z =
+larger o xs n m j h a b z =
     let l = endOf o xs in
     let s = end-kept o xs .sound in
-    let ta = is-taken l n r e a in
-    let tb = is-taken l m q f b in
-    let x = w l n s ta in
-    let y = w l m s tb in
-    let (j′, k, g) = larger-never-later n m (timetableOf l) (l .«table_horizon») (l .«table_limits») (x .kept) (y .kept) (x .to) (y .to) (x .mark) (y .mark) h (x .outcome) (y .outcome) j
-    (sym (zero-within l n s ta) ∙ ap (λ (u : Limited). atZero (u .load)) e ∙ z) in
-    record { j′ = j′; there = ap (λ (u : Limited). atZero (u .load)) (sym f) ∙ zero-within l m s tb ∙ k; no-later = g }
+    let x = w l n s a in
+    let y = w l m s b in
+    let (j′, k, g) = larger-never-later n m (timetableOf l) (l .«table_horizon») (l .«table_limits») (x .kept) (y .kept) (x .to) (y .to) (x .mark) (y .mark) h (x .outcome) (y .outcome) j (sym (zero-within l n s a) ∙ z) in
+    record { j′ = j′; there = zero-within l m s b ∙ k; no-later = g }
 
 -- ---- the margin
 
@@ -206,7 +191,7 @@ module _ (l : Load) (k : Kept l) (e : l .stopped ≡ true) (j : Journey) (z : at
   few = k .sound .stopped-change e
 
   -- where the full search is accepted
-  finished-answer : searchSpec u .answer ≡ Taken → (w : NoLater l (searchSpec u .load) j) × (j .arrival ≤ w .j′ .arrival + (j .arrival - earliest (timetableOf u)))
+  finished-answer : searchSpec u .answer ≡ Taken → (w : NoLater (searchSpec u .load) j) × (j .arrival ≤ w .j′ .arrival + (j .arrival - earliest (timetableOf u)))
   unfolding outcomeWithin
   finished-answer t =
       let f = taken-searches u (ap isTaken t) in
@@ -237,6 +222,7 @@ margin o xs rs v j w run e z =
 pub limits : Limits
 limits = record {
   told = told;
+  offered-if = λ s t. offered-if (feedOf s t);
   counted = λ s t. counted-of (feedOf s t);
   all-offered = λ s t. all-offered (feedOf s t);
   full = full;

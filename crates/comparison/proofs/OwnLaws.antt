@@ -36,7 +36,7 @@ use Rattle.limited.specs.Limited.{offersWithin}
 use Rattle.limited.proofs.LimitLaws.{within-by-offers, within-offer}
 use Rattle.again.specs.Again.{unsearchedOf}
 use Rattle.again.specs.Claims.{Kept}
-use Rattle.again.proofs.OwnLaws.{own-unfinished, own-finished, own-stops}
+use Rattle.again.proofs.OwnLaws.{own-unfinished, own-finished, own-stopped}
 use Rattle.steps.specs.Steps.{Step}
 use Rattle.steps.specs.Lists.{endOf, startOf}
 use Rattle.again.proofs.SoundLaws.{unsearched-sound}
@@ -88,11 +88,11 @@ own-found l k d b =
 -- of a stopped load
 module _ (l : Load) (k : Kept l) (e : l .stopped ≡ true) where
   w : FoundIn (unsearchedOf l) (l .limit)
-  w = taken-within (unsearchedOf l) (l .limit) (ap (λ (r : Limited). isTaken (r .answer)) (own-stops l k e .is))
+  w = taken-within (unsearchedOf l) (l .limit) (ap (λ (r : Limited). isTaken (r .answer)) (own-stopped l k e .is))
 
   load-is : withFound (unsearchedOf l) (w .kept) (w .to) (w .mark) true (l .limit) ≡ l
   load-is =
-      sym (ap (λ (r : Limited). r .load) (w .is) ∙ cond-not _ _ (own-unfinished l (k .sound) (k .own (k .sound .stopped-search e)) e)) ∙ ap (λ (r : Limited). r .load) (own-stops l k e .is)
+      sym (ap (λ (r : Limited). r .load) (w .is) ∙ cond-not _ _ (own-unfinished l (k .sound) (k .own (k .sound .stopped-search e)) e)) ∙ ap (λ (r : Limited). r .load) (own-stopped l k e .is)
 
   pub outcome-is : outcomeWithin (unsearchedOf l) (l .limit) ≡ found (keptOf l) (l .horizon) (l .limits)
   outcome-is =

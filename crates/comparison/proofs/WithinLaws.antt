@@ -1,12 +1,12 @@
 -- What is offered within a limit, how many joins are tested and whether it finishes: in one way, whatever the order of the calls.
-use Prim.Native.Nat.{ℕ, zero, suc, _+_, _≤_, min}
+use Prim.Native.Nat.{ℕ, zero, suc, _+_, _≤_, _<_, min}
 use native.Mathlib.Omega.{arith}
 use mathlib.Core.Path.{_≡_, refl, sym, ap, subst, _∙_}
 use mathlib.Core.Logic.{_⊎_, inl, inr, _↔_}
 use mathlib.Core.Bool.{Bool, true, false}
-use mathlib.Core.List.{List, [], _∷_, _++_, List·Memᴰ, List·Permᴰ, Permᴰ·symm, List·Memᴰ·head, List·Memᴰ·tail, List·Memᴰ·not-nil, List·Memᴰ·cases-cons}
+use mathlib.Core.List.{List, [], _∷_, _++_, List·Memᴰ, List·Permᴰ, Permᴰ·symm, Memᴰ·append-right, List·Memᴰ·head, List·Memᴰ·tail, List·Memᴰ·not-nil, List·Memᴰ·cases-cons}
 use lib.Dec.{leb}
-use borrow.Author.Tests.{leb-true, le-leb, lt-leb}
+use borrow.Author.Tests.{leb-true, leb-false, le-leb, lt-leb}
 use Rattle.settings.specs.declared.Settings.{Settings}
 use Rattle.calls.specs.declared.CallInput.{CallInput}
 use Rattle.calls.specs.declared.Call.{Call}
@@ -135,6 +135,47 @@ counted-of F n os k f es v w =
     let (x, q) = stops-cut n (v .events) (v .front) f (v .stops) in
     let r : f ≡ leb (joinsIn es) n = q ∙ ap (λ (es : List Event). leb (joinsIn es) n) e in
     (sym (v .count) ∙ ap joinsIn (x ∙ ap (cut n) e) ∙ cut-joins n es, (λ t. leb-true (joinsIn es) n (sym r ∙ t), λ h. r ∙ le-leb (joinsIn es) n h))
+
+-- ---- which are offered
+
+-- what stands in front precedes
+fore-precedes : (fore rest : List Event) (e d : Event) → InTurn (fore ++ e ∷ rest) → List·Memᴰ d fore → Precedes d e
+fore-precedes [] rest e d w m = absurd (List·Memᴰ·not-nil m)
+fore-precedes (c ∷ fore) rest e d w m = go (List·Memᴰ·cases-cons m) (fore-precedes fore rest e d (w .1))
+  where
+    go : (d ≡ c) ⊎ List·Memᴰ d fore → (List·Memᴰ d fore → Precedes d e) → Precedes d e
+    go (inl q) ih = subst (λ (x : Event). Precedes x e) (sym q) (w .0 e (Memᴰ·append-right fore (List·Memᴰ·head refl)))
+    go (inr n) ih = ih n
+
+-- with few joins in front it is before the stop; with more, only what stands in front is
+cut-has : (n : ℕ) (fore rest : List Event) (x : Offer) → joinsIn fore ≤ n → List·Memᴰ x (offersIn (cut n (fore ++ offer x ∷ rest)))
+cut-has n [] rest x h = List·Memᴰ·head refl
+cut-has n (offer y ∷ fore) rest x h = List·Memᴰ·tail (cut-has n fore rest x h)
+cut-has zero (join b o a c d ∷ fore) rest x h = absurd (omega arith)
+cut-has (suc n) (join b o a c d ∷ fore) rest x h = cut-has n fore rest x (omega arith)
+
+cut-fore : (n : ℕ) (fore rest : List Event) (x : Offer) → n < joinsIn fore → List·Memᴰ x (offersIn (cut n (fore ++ rest))) → List·Memᴰ (offer x) fore
+cut-fore n [] rest x h m = absurd (omega arith)
+cut-fore n (offer y ∷ fore) rest x h m = go (List·Memᴰ·cases-cons m) (cut-fore n fore rest x h)
+  where
+    go : (x ≡ y) ⊎ List·Memᴰ x (offersIn (cut n (fore ++ rest))) → (List·Memᴰ x (offersIn (cut n (fore ++ rest))) → List·Memᴰ (offer x) fore) → List·Memᴰ (offer x) (offer y ∷ fore)
+    go (inl e) ih = List·Memᴰ·head (ap offer e)
+    go (inr k) ih = List·Memᴰ·tail (ih k)
+cut-fore zero (join b o a c d ∷ fore) rest x h m = absurd (List·Memᴰ·not-nil m)
+cut-fore (suc n) (join b o a c d ∷ fore) rest x h m = List·Memᴰ·tail (cut-fore n fore rest x (omega arith) m)
+
+pub offered-if : (F : Feed) (n : ℕ) (os : List Journey) (k : ℕ) (f : Bool) (w : Within F n os k f) (x : Offer) (fore rest : List Event) → w .events ≡ fore ++ offer x ∷ rest
+    → List·Memᴰ x (offersIn (w .front)) ↔ (joinsIn fore ≤ n)
+offered-if F n os k f w x fore rest e = (λ m. few (leb (joinsIn fore) n) refl (subst (λ (es : List Event). List·Memᴰ x (offersIn es)) front m), λ h. subst (λ (es : List Event). List·Memᴰ x (offersIn es)) (sym front) (cut-has n fore rest x h))
+  where
+    front : w .front ≡ cut n (fore ++ offer x ∷ rest)
+    front = stops-cut n (w .events) (w .front) f (w .stops) .0 ∙ ap (cut n) e
+
+    few : (b : Bool) → leb (joinsIn fore) n ≡ b → List·Memᴰ x (offersIn (cut n (fore ++ offer x ∷ rest))) → joinsIn fore ≤ n
+    few true q m = leb-true (joinsIn fore) n q
+    few false q m =
+        let p = fore-precedes fore rest (offer x) (offer x) (subst InTurn e (w .listed .in-turn)) (cut-fore n fore (offer x ∷ rest) x (leb-false (joinsIn fore) n q) m) in
+        absurd (precedes-asym (offer x) (offer x) p p)
 
 -- a stopped one tested as many as its limit
 pub stopped-count : (F : Feed) (n : ℕ) (os : List Journey) (k : ℕ) → Within F n os k false → Within F n os n false

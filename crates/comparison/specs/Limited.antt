@@ -4,7 +4,7 @@ use mathlib.Core.Path.{_≡_}
 use mathlib.Core.Logic.{_↔_}
 use mathlib.Core.Bool.{Bool, true, false}
 use mathlib.Core.Option.{Option, none, some}
-use mathlib.Core.List.{List}
+use mathlib.Core.List.{List, _∷_, _++_, List·Memᴰ}
 use Prim.Native.Nat.{ℕ, _+_, _-_, _≤_, min}
 use lib.IntN.{pos}
 use Rattle.refusal.specs.declared.Answer.{Answer}
@@ -26,23 +26,23 @@ use Rattle.steps.specs.Lists.{endOf}
 use Rattle.comparison.specs.Taken.{State, fresh}
 use Rattle.comparison.specs.Admitted.{Feed}
 use Rattle.comparison.specs.Feeds.{feedOf}
-use Rattle.comparison.specs.OfferOrder.{Offered}
-use Rattle.comparison.specs.Events.{Event, Listed, joinsIn, Within, Earliest}
+use Rattle.comparison.specs.OfferOrder.{Offer, Offered}
+use Rattle.comparison.specs.Events.{Event, offer, Listed, joinsIn, offersIn, Within, Earliest}
 use Rattle.comparison.specs.Runs.{Runs}
 
 -- the program's best for second 0
 abbrev pub atZero : Load → Option Journey
 atZero l = answerOf (bestSpec l (pos 0))
 
--- p has an answer j for second 0, and q one that is no later
-pub record NoLater (p q : Load) (j : Journey) : Type 0 where
+-- the load has an answer for second 0, and none later than j
+pub record NoLater (l : Load) (j : Journey) : Type 0 where
   pub j′ : Journey
-  pub there : atZero q ≡ some j′
+  pub there : atZero l ≡ some j′
   pub no-later : j′ .arrival ≤ j .arrival
 
--- a limited search of the load that a list of steps leaves, which is taken
-abbrev pub TakenWithin : Opening → List Step → ℕ → Limited → Type 0
-TakenWithin o xs n r = (withinSpec (endOf o xs) n ≡ r) × (r .answer ≡ Taken)
+-- a limited search of the load that a list of steps leaves
+abbrev pub limitedBy : Opening → List Step → ℕ → Limited
+limitedBy o xs n = withinSpec (endOf o xs) n
 
 -- "A stopped answer for second 0 also gives a margin: its arrival less the earliest arrival, walk included, of any ride in the table at a target,
 -- and the finished answer, where the full search is accepted, is at most that much earlier." The stopped load l answers j; F is what was taken
@@ -51,23 +51,26 @@ pub record MarginOf (F : Feed) (l : Load) (j : Journey) : Type 0 where
   pub is-earliest : Earliest F earliest
   pub no-earlier : earliest ≤ j .arrival
   pub margin : marginSpec l ≡ Is (j .arrival - earliest)
-  pub finished : searchSpec (unsearchedOf l) .answer ≡ Taken → (w : NoLater l (searchSpec (unsearchedOf l) .load) j) × (j .arrival ≤ w .j′ .arrival + (j .arrival - earliest))
+  pub finished : searchSpec (unsearchedOf l) .answer ≡ Taken → (w : NoLater (searchSpec (unsearchedOf l) .load) j) × (j .arrival ≤ w .j′ .arrival + (j .arrival - earliest))
 
 pub record Limits : Type 0 where
   -- "the result carries the number of joins tested .. It says finished when no untested join is left, and stopped otherwise": by what was handed in
-  pub told : (o : Opening) (xs : List Step) (rs : List Answer) (v : State) (n : ℕ) (r : Limited) → Opens o → Runs (o .settings) (fresh (o .dates)) xs rs v
-      → TakenWithin o xs n r → (os : List Journey) × Within (feedOf (o .settings) v) n os (r .joins) (r .finished)
+  pub told : (o : Opening) (xs : List Step) (rs : List Answer) (v : State) (n : ℕ) → Opens o → Runs (o .settings) (fresh (o .dates)) xs rs v
+      → limitedBy o xs n .answer ≡ Taken → (os : List Journey) × Within (feedOf (o .settings) v) n os (limitedBy o xs n .joins) (limitedBy o xs n .finished)
+  -- a journey is offered exactly if at most n joins stand in front of it
+  pub offered-if : (s : Settings) (t : State) (n : ℕ) (os : List Journey) (k : ℕ) (f : Bool) (w : Within (feedOf s t) n os k f) (x : Offer) (fore rest : List Event)
+      → w .events ≡ fore ++ offer x ∷ rest → List·Memᴰ x (offersIn (w .front)) ↔ (joinsIn fore ≤ n)
   -- so many, of all joins; and the journeys offered by a finished one are all
   pub counted : (s : Settings) (t : State) (n : ℕ) (os : List Journey) (k : ℕ) (f : Bool) (es : List Event) → Within (feedOf s t) n os k f → Listed (feedOf s t) es
       → (k ≡ min n (joinsIn es)) × ((f ≡ true) ↔ (joinsIn es ≤ n))
   pub all-offered : (s : Settings) (t : State) (n : ℕ) (os : List Journey) (k : ℕ) → Within (feedOf s t) n os k true → Offered (feedOf s t) os
   -- a finished one is the full search; a stopped one holds its limit
-  pub full : (o : Opening) (xs : List Step) (n : ℕ) (r : Limited) → Opens o → TakenWithin o xs n r → r .finished ≡ true
-      → searchSpec (endOf o xs) ≡ record { answer = Taken; load = r .load }
-  pub stops : (o : Opening) (xs : List Step) (n : ℕ) (r : Limited) → Opens o → TakenWithin o xs n r → r .finished ≡ false
-      → (r .load .stopped ≡ true) × (r .load .limit ≡ n)
+  pub full : (o : Opening) (xs : List Step) (n : ℕ) → limitedBy o xs n .answer ≡ Taken → limitedBy o xs n .finished ≡ true
+      → searchSpec (endOf o xs) ≡ record { answer = Taken; load = limitedBy o xs n .load }
+  pub stops : (o : Opening) (xs : List Step) (n : ℕ) → limitedBy o xs n .answer ≡ Taken → limitedBy o xs n .finished ≡ false
+      → (limitedBy o xs n .load .stopped ≡ true) × (limitedBy o xs n .load .limit ≡ n)
   -- a stopped load is each time the search of the remaining load within its limit, and no finished one
-  pub afresh : (o : Opening) (xs : List Step) → Opens o → endOf o xs .stopped ≡ true
+  pub afresh : (o : Opening) (xs : List Step) → endOf o xs .stopped ≡ true
       → withinSpec (unsearchedOf (endOf o xs)) (endOf o xs .limit) ≡ record { answer = Taken; load = endOf o xs; joins = endOf o xs .limit; finished = false }
   pub margin : (o : Opening) (xs : List Step) (rs : List Answer) (v : State) (j : Journey) → Opens o → Runs (o .settings) (fresh (o .dates)) xs rs v
       → endOf o xs .stopped ≡ true → atZero (endOf o xs) ≡ some j → MarginOf (feedOf (o .settings) v) (endOf o xs) j
@@ -75,5 +78,5 @@ pub record Limits : Type 0 where
   pub no-margin : (l : Load) → atZero l ≡ none → marginSpec l ≡ Nothing
   pub no-margin-finished : (l : Load) → l .stopped ≡ false → marginSpec l ≡ Nothing
   -- "Where neither run is refused, a larger limit never turns an answer for second 0 into none or into a later arrival"
-  pub larger : (o : Opening) (xs : List Step) (n m : ℕ) (r q : Limited) (j : Journey) → Opens o → n ≤ m → TakenWithin o xs n r → TakenWithin o xs m q
-      → atZero (r .load) ≡ some j → NoLater (r .load) (q .load) j
+  pub larger : (o : Opening) (xs : List Step) (n m : ℕ) (j : Journey) → n ≤ m → limitedBy o xs n .answer ≡ Taken → limitedBy o xs m .answer ≡ Taken
+      → atZero (limitedBy o xs n .load) ≡ some j → NoLater (limitedBy o xs m .load) j
