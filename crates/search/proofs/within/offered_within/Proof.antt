@@ -3,8 +3,8 @@ use mathlib.Core.Path.{refl}
 use Rattle.search.proofs.Known.{stops-long}
 use Rattle.search.proofs.OfferedLaws.{within-is}
 use borrow.Author.Needs.{needs}
-use Rattle.search.proofs.offered_within.Statement.{statement}
-use Rattle.search.proofs.offered_within.Tie as tie
+use Rattle.search.proofs.within.offered_within.Statement.{statement}
+use Rattle.search.proofs.within.offered_within.Tie as tie
 
 feed-of-requires : tie.Need-feed-of-requires
 feed-of-requires c κs = search needs

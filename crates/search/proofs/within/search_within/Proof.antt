@@ -3,8 +3,8 @@ use native.Mathlib.Omega.{arith}
 use Rattle.search.proofs.Known.{calls-long}
 use Rattle.search.proofs.LimitedLaws.{within-again, within-settings, within-clash, within-falling, within-found}
 use borrow.Author.Needs.{needs}
-use Rattle.search.proofs.search_within.Statement.{statement}
-use Rattle.search.proofs.search_within.Tie as tie
+use Rattle.search.proofs.within.search_within.Statement.{statement}
+use Rattle.search.proofs.within.search_within.Tie as tie
 
 returns : tie.Need-returns
 returns c = within-again (c .before .args .load) (c .before .args .limit) (c .if1 .taken)
