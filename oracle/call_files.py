@@ -8,7 +8,7 @@ from records import number, optional, record
 
 
 class CallMaker:
-    """What Maker (step_files.py) has for request 11; `rng`, `usual`, `seldom`, `ends`, `ride`, `search` and `some` are Maker's."""
+    """What Maker (step_files.py) has for request 11; `rng`, `usual`, `seldom`, `ends`, `ride`, `searching` and `some` are Maker's."""
     def forget_calls(self):
         self.handed = []   # the fields of calls handed in, without a service's name
 
@@ -52,7 +52,7 @@ class CallMaker:
     # --- loads that are searched again and again ---
     def listing(self):
         """Rides of which none beats another, as many as a list holds or so, due by about 3600 or later, with room for one between them."""
-        rng, parts = self.rng, self.ends(0)
+        rng, parts = self.rng, self.ends(self.rng.randrange(2))
         count, last = rng.choice([62, 63, 64, 64, 64, 64, 65, 66, 70]), rng.choice([3598, 3599, 3600, 3600, 3601, 3602, 5000, 20000, 21600])
         due = [last - count + trip + (trip > count // 2) for trip in range(1, count + 1)]
         for trip in range(1, count + 1):
@@ -77,7 +77,7 @@ class CallMaker:
         rng = self.rng
         parts, count, due = self.listing()
         parts += self.hiding(due) if rng.random() < 0.6 else []
-        parts.append(self.search())
+        parts.append(self.searching())
         for turn in range(rng.choice([2, 4, 6])):
             way = rng.random()
             if way < 0.25:
@@ -91,15 +91,19 @@ class CallMaker:
         return parts + self.some(self.AFTER, 3)
 
     def brim(self):
-        """A table that is all but full, searched, and calls at its horizons: taken, cut for, outside after a cut, or without room."""
-        rng, parts = self.rng, self.ends(0)
+        """A table that is all but full, searched, and calls at its horizons: taken, cut for, outside after a cut, or without room. Some
+        have two rides, and so joins."""
+        rng, joins = self.rng, self.rng.randrange(2)
+        parts = self.ends(joins)
         early = rng.choice([0, 0, 200, 400, 500, 511, 512])
-        count = rng.choice([509, 510, 511, 512, 512, 512])
+        count = rng.choice([509, 510, 511, 512, 512, 512]) - 4 * joins
+        for trip in (600, 601) if joins else ():
+            parts += map(self.note, self.ride(trip, trip - 590, 900 - trip))
         steps = [rng.choice([3600, 3601, 3846, 5127, 9113, 12150, 12151, 16200, 16201, 20000, 21600]) for _ in range(4)]
         for i in range(count):
             time = 1000 + i if i < early else rng.choice(steps) - rng.choice([0, 0, 1, 2])
             parts.append(self.note(self.at(i, time)))
-        parts += [self.search()] * (rng.random() < 0.9)
+        parts += [self.searching()] * (rng.random() < 0.9)
         for i in range(rng.choice([3, 6, 10])):
             way = rng.random()
             if way < 0.55:
@@ -127,7 +131,7 @@ class CallMaker:
             elif way < 0.8:
                 parts.append(record(8, struct.pack(">HBI", rng.randrange(2), 0, rng.randrange(3))))
             else:
-                parts += [self.search()] if way < 0.93 else self.some(self.AFTER, 1)
+                parts += [self.searching()] if way < 0.93 else self.some(self.AFTER, 1)
         return parts + self.some(self.AFTER, 2)
 
     def altered(self):

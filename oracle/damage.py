@@ -118,17 +118,24 @@ def huge(rng, record):
 
 
 # --- version 2 ---
-def second(rng, data):
-    """A file of version 1 as one of version 2, its change time in seconds, often no whole minutes; another file as it is."""
+def in_seconds(data, seconds):
+    """A file of version 1 as one of version 2, `seconds` telling its change time of the minutes; another file as it is."""
     parts = records(data)
     body = parts[0][3:] if parts and parts[0][2:3] == b"\1" else b""
     at = 2 + sum(body[:2])
     if data[:1] != b"\1" or at >= len(body):
         return data
-    odd = [0, 1, 59, 61, 90, 15299, 15300, 15301, 65535, rng.randrange(65536)]
-    seconds = body[at] * 60 if rng.random() < 0.5 else rng.choice(odd)
-    parts[0] = fitted(b"\1", body[:at] + seconds.to_bytes(2, "big") + body[at + 1:])
+    parts[0] = fitted(b"\1", body[:at] + seconds(body[at]).to_bytes(2, "big") + body[at + 1:])
     return b"\2" + b"".join(parts)
+
+
+def second(rng, data):
+    """A file of version 1 as one of version 2, its change time in seconds, often no whole minutes."""
+    def seconds(minutes):
+        odd = [0, 1, 59, 61, 90, 15299, 15300, 15301, 65535, rng.randrange(65536)]
+        return minutes * 60 if rng.random() < 0.5 else rng.choice(odd)
+
+    return in_seconds(data, seconds)
 
 
 BYTES = [changed, flipped, cut, inserted, removed, doubled, version, tail]

@@ -66,6 +66,10 @@ def withdrawal(trip=1, day=0, sequence=1):
     return record(8, struct.pack(">HBI", trip, day, sequence))
 
 
+def limited(limit=2**64 - 1):
+    return record(9, number("Q")(limit))
+
+
 def write(room=70000):
     return record(14, number("I")(room))
 

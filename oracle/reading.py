@@ -1,10 +1,11 @@
 """Document 01 and requests 02, 05, 06, 07, 09 and 10, read slowly: a method for each sentence, so that wrong.py can misread one at a time.
-Request 03 is in weeks.py, 11 in withdrawals.py, 13 in writing.py.
+Request 03 is in weeks.py, 11 in withdrawals.py, 12 in limits.py, 13 in writing.py.
 
 Written from the words of 01, its constants for the place test from `same_place_keys`, which 01 names as the definition.
 """
 from collections import namedtuple
 from fields import Fields, first_cause
+from limits import Limits
 from places import Places
 from weeks import Weeks
 from withdrawals import Withdrawals
@@ -22,9 +23,10 @@ class Load:
         self.horizon, self.limits, self.kept, self.places = 21600, 0, [], None
         self.dates, self.services, self.exceptions, self.answered = None, [], [], False   # request 03; whether a call was answered
         self.before = None   # request 11: of a searched load, the load that was searched
+        self.stopped, self.limit = False, None   # request 12: a stopped load holds its limit
 
 
-class Reading(Places, Weeks, Withdrawals, Writing):
+class Reading(Places, Weeks, Withdrawals, Limits, Writing):
     ENDS, TRANSFERS, TIME, ID, NAME, STOPS, RULES, CALLS, LIST, LEAST = 4, 2, 2**40, 32, 64, 128, 128, 512, 64, 3600
     CHANGE = 15300   # seconds, request 05
 
@@ -317,16 +319,23 @@ class Reading(Places, Weeks, Withdrawals, Writing):
     def list_order(self, j):
         return j.arrival, j.rides, j.walk, -j.leave
 
-    def search(self, load):
-        first_cause([(load.searched, 15)])
+    def prepared(self, load):
+        """The calls in order, of a load that is to be searched."""
         load.before = self.copied(load)
         calls = sorted(load.table, key=self.call_order)
         first_cause([(any(self.clash(a, b) for a, b in zip(calls, calls[1:])), 14)])
         load.places = self.group(load.stops)
-        for j in self.offers(load, calls):
-            self.candidate(load, j)
+        return calls
+
+    def settled(self, load):
         load.kept.sort(key=self.list_order)
         load.searched = True
+
+    def search(self, load):
+        first_cause([(load.searched, 15)])
+        for j in self.offers(load, self.prepared(load)):
+            self.candidate(load, j)
+        self.settled(load)
 
     # --- best ---
     def rank(self, j):

@@ -6,6 +6,7 @@ ids and numbers are mostly such that steps are taken, and now and then such that
 import struct
 from call_files import CallMaker
 from damage import damage_once
+from limit_files import LimitMaker, put_in
 from records import FIRST, number, optional, record, text
 from week_files import WeekMaker
 
@@ -16,14 +17,14 @@ PLACES = [(52.0, 5.0), (52.001124, 5.0), (52.001125, 5.0), (52.002248, 5.0), (-3
 NAMES = [b"Main Street", b"main  street", b"MAIN\tSTREET", b"Quay", b" ", b"", b"a\x01b", b"Caf\xc3\xa9", b"\xff", b"n" * 64, b"n" * 65]
 
 
-class Maker(WeekMaker, CallMaker):
+class Maker(WeekMaker, CallMaker, LimitMaker):
     # kinds of the steps between an opening and its search, and of those after it
     WEIGHTS = {"stop": 5, "call": 12, "rule": 3, "search": 0.1, "best": 1, "next_after": 1, "service": 0.1, "exception": 0.1, "call_of": 1,
                "set_aside": 0.05, "display": 0.05, "best_of_group": 0.05, "next_of_group": 0.05, "withdrawal": 1, "repeated": 0.05,
-               "again": 0.3, "write": 0.5}
+               "again": 0.3, "write": 0.5, "limited": 0.1}
     AFTER = {"stop": 1, "call": 3, "rule": 1, "search": 1, "best": 8, "next_after": 6, "service": 0.4, "exception": 0.4, "call_of": 2,
              "set_aside": 0.6, "display": 1, "best_of_group": 2, "next_of_group": 1, "withdrawal": 4, "repeated": 0.5, "again": 1,
-             "write": 2}
+             "write": 2, "limited": 1, "at_0": 2}
     DATED = {**WEIGHTS, "call": 0.5, "call_of": 12, "service": 0.4, "exception": 0.4}   # as WEIGHTS, in a load with dates
 
     def __init__(self, rng):
@@ -165,7 +166,7 @@ class Maker(WeekMaker, CallMaker):
                 parts += self.ride(trip, leave + 60 * walk, arrival, (walk, 4))
                 trip, leave = trip + 1, leave + rng.choice([1, 1, 2, 5])
             arrival += rng.choice([1, 1, rise])
-        return parts + [self.search()] * (not self.seldom())
+        return parts + [self.searching()] * (not self.seldom())
 
     def aside_as(self, group):
         return record(15, bytes([self.group() if self.seldom() else group]))
@@ -200,7 +201,7 @@ class Maker(WeekMaker, CallMaker):
         parts += [self.stop() for _ in range(rng.choice([0, 2, 3, 3, 4, 4, 6]))]
         parts += self.some(self.DATED if dated else self.WEIGHTS, rng.choice([0, 3, 10, 20, 30, 40]))
         if rng.random() < 0.8:
-            parts += [self.search()] + self.some(self.AFTER, rng.choice([0, 1, 3, 8, 16]))
+            parts += [self.searching()] + self.some(self.AFTER, rng.choice([0, 1, 3, 8, 16]))
         return parts
 
     def ends(self, transfers, change=0):
@@ -232,7 +233,7 @@ class Maker(WeekMaker, CallMaker):
             departure = max(0, arrival + seconds + rng.choice([-1, 0, 0, 1]))
             parts += self.ride(trip, self.leaves[-1], arrival, (0, 3))
             parts += self.ride(trip + 1, departure, departure + rng.randrange(600), (rng.choice([3, 4]), 1))
-        return parts + [self.search()] + self.some(self.AFTER, 4)
+        return parts + [self.searching()] + self.some(self.AFTER, 4)
 
     def many(self):
         """A table that is cut, or a list that falls: many rides between two stops, then a search and queries."""
@@ -245,7 +246,7 @@ class Maker(WeekMaker, CallMaker):
             arrival = min(last, first + trip * step + length) if rng.random() < 0.98 else 21600
             self.leaves.append(min(first + trip * step, arrival))
             parts += self.ride(trip, self.leaves[-1], arrival)
-        return parts + [self.search()] + self.some(self.AFTER, 6)
+        return parts + [self.searching()] + self.some(self.AFTER, 6)
 
     def full(self):
         """127 to 130 stops or rules."""
@@ -264,17 +265,17 @@ class Maker(WeekMaker, CallMaker):
                 parts += self.displayed()
                 continue
             one = (self.many() if way < 0.006 else self.full() if way < 0.009 else self.altered() if way < 0.06
-                   else self.changing() if way < 0.17 else self.load())
-            parts += self.dated_ones(one) if way < 0.17 and rng.random() < 0.4 else one
+                   else self.changing() if way < 0.17 else self.joining() if way < 0.3 else self.load())
+            parts += self.dated_ones(one) if way < 0.3 and rng.random() < 0.4 else one
         if self.seldom():
             parts += self.some(self.WEIGHTS, 3)
             del parts[0]
-        return FIRST + b"".join(parts)
+        return FIRST + b"".join(put_in(parts))
 
 
 def made_display(rng):
     """A file of one display."""
-    return FIRST + b"".join(Maker(rng).displayed())
+    return FIRST + b"".join(put_in(Maker(rng).displayed()))
 
 
 def made(rng):

@@ -41,6 +41,9 @@ class StepFields(Fields):
     def key(self):
         return Key(*self.numbers("HBI"))
 
+    def limit(self):
+        return self.number("Q")
+
     def room(self):
         return self.number("I")
 
@@ -68,7 +71,7 @@ class Steps:
     # kind: the name of its fields, its method, and whether it needs a load
     KINDS = {1: ("settings", "settings", False), 2: ("stop", "stop", True), 3: ("call", "call", True), 4: ("rule", "rule", True),
              5: ("nothing", "search", True), 6: ("service", "service", True), 7: ("exception", "exception", True),
-             8: ("key", "withdrawal", True), 10: ("call_of", "call_of", True), 11: ("dated", "dated", False),
+             8: ("key", "withdrawal", True), 9: ("limit", "limited", True), 10: ("call_of", "call_of", True), 11: ("dated", "dated", False),
              12: ("best", "best", True), 13: ("next_after", "next_after", True), 14: ("room", "write", True),
              15: ("group", "set_aside", True), 16: ("nothing", "display", False), 17: ("best_of_group", "best_of_group", False),
              18: ("next_of_group", "next_of_group", False)}
@@ -118,20 +121,29 @@ class Steps:
         self.reading.rule(self.load, rule)
         return "taken"
 
-    def search(self, _):
+    def searched(self, search):
+        """What the search answers; one that is refused leaves the load as it was."""
         found = self.load.horizon, self.load.limits, self.load.kept
         try:
-            self.reading.search(self.load)
-        except Refused:   # the load is as it was
+            return search()
+        except Refused:
             self.load.horizon, self.load.limits, self.load.kept = found
             raise
+
+    def search(self, _):
+        self.searched(lambda: self.reading.search(self.load))
         return "taken"
+
+    def limited(self, limit):
+        tested = self.searched(lambda: self.reading.search_within(self.load, limit))
+        return spaced("stopped" if self.load.stopped else "finished", tested)
 
     def told(self, journey):
         return "journey " + figures(journey) if journey else "none"
 
     def best(self, second):
-        return self.told(self.reading.best(self.load, second))
+        margin = self.reading.margin(self.load) if second == 0 else None
+        return self.told(self.reading.best(self.load, second)) + ("" if margin is None else f" margin {margin}")
 
     def next_after(self, asked):
         second, leave = asked
@@ -206,7 +218,7 @@ class Steps:
         for j in load.kept:
             yield "journey " + figures(j) + "".join(" | " + spaced(*leg) for leg in j.legs)
         yield f"horizon {load.horizon} limits {load.limits}"
-        yield spaced("searched", load.searched, "stopped", 0)
+        yield spaced("searched", load.searched, "stopped", load.stopped)
 
     def lines(self, data):
         try:

@@ -46,7 +46,7 @@ class Withdrawals:
 
     def search_again(self, load, before):
         """What the step made of the unsearched load is searched; a refusal of that search leaves the searched load."""
-        self.search(before)
+        self.search_as(load, before)
         load.__dict__.update(before.__dict__)
 
     def withdraw(self, load, key):

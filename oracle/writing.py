@@ -14,7 +14,7 @@ class Writing:
         return (load.before if load.searched else load).horizon
 
     def unwritable(self, load):
-        return load.dates is not None or self.table_horizon(load) < self.WHOLE
+        return load.dates is not None or load.stopped or self.table_horizon(load) < self.WHOLE
 
     def writing_causes(self, load, room, size):
         return [(self.unwritable(load), 25), (room < size, 26)]

@@ -14,7 +14,7 @@ from reader import batch
 from reading import Reading
 from step_files import made, made_display
 from steps import Malformed, Steps
-import wrong_calls, wrong_weeks, wrong_writes
+import wrong_calls, wrong_limits, wrong_stopped, wrong_weeks, wrong_writes
 
 FIXED = pathlib.Path(__file__).resolve().parent.parent / "crates" / "drive" / "stdin"
 
@@ -194,8 +194,9 @@ CHANGES = [misread("ChangeBelow15300", CHANGE=15299), misread("ChangeUpTo15301",
 READINGS = {way.__name__: way for way in (RefusedCallCuts, RefusedSearchKeeps, RefusedOpeningCloses, FirstLoadStays, NextAtLeave,
                                           NextWithoutSecond, SecondOf32Bits, MalformedPrintsLoad, *CHANGES, AsideFollows, AsideStays,
                                           RefusedDisplayStays, QueriedToHorizon, *map(dealing, DEALINGS))}
-# requests 03's, 11's and 13's: the steps right, over a reading that isn't
-for readings in (wrong_weeks.READINGS, wrong_calls.READINGS, wrong_writes.READINGS):
+READINGS.update(wrong_stopped.STEPS)
+# requests 03's, 11's, 12's and 13's: the steps right, over a reading that isn't
+for readings in (wrong_weeks.READINGS, wrong_calls.READINGS, wrong_limits.READINGS, wrong_stopped.READINGS, wrong_writes.READINGS):
     READINGS.update((name, lambda reading=reading: Steps(reading())) for name, reading in readings.items())
 
 

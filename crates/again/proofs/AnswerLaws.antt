@@ -39,13 +39,14 @@ use Rattle.week.specs.declared.Running.the-variants.{Runs}
 use Rattle.week.specs.Weeks.{closedWeek, running}
 use Rattle.week.proofs.StepLaws.{runs-undated}
 use Rattle.search.specs.Timetable.{timetableOf}
-use Rattle.search.specs.Search.{wouldFall, searchSpec}
-use Rattle.search.proofs.AnswerLaws.{search-answered}
+use Rattle.search.specs.Search.{wouldFall}
+use Rattle.search.specs.Within.{wouldFallWithin}
 use Rattle.withdrawal.specs.declared.CallKey.{CallKey}
 use Rattle.withdrawal.specs.Removal.{hasKey, keyKnown}
-use Rattle.again.specs.Again.{unsearchedOf, again, searchedAs, leavesTable, addedTo, addSpec, withdrawTests, withdrawAnswer, takenOut, withdrawSpec}
+use Rattle.again.specs.Again.{unsearchedOf, researched, again, searchedAs, leavesTable, addedTo, addSpec, withdrawTests, withdrawAnswer, takenOut, withdrawSpec}
 use Rattle.again.specs.Causes.{noRoom, searchTests, againTests, laterTests, Answered, AddAnswered, WithdrawAnswered}
-use Rattle.again.proofs.WeekLaws.{search-week}
+use Rattle.again.proofs.WeekLaws.{research-week}
+use Rattle.again.proofs.ResearchLaws.{research-first}
 use Rattle.again.proofs.SoundLaws.{unsearched-new, taken-out-searched}
 
 -- ---- the search again
@@ -54,26 +55,26 @@ past-one : {a c : Answer} {b : Bool} {ts : List (Bool × Answer)} → First a ((
 past-one (hit e) q = absurd (true≢false (sym e ∙ q))
 past-one (miss e f) q = f
 
-module _ (m : Load) (new : m .searched ≡ false) where
-  search-first : First (searchSpec m .answer) (searchTests m)
-  search-first = past-one (search-answered m .first) new
+-- the step's answer a, unless the search is refused
+searched-first : (l m : Load) → m .searched ≡ false → (a : Answer) (more : List (Bool × Answer)) → First a more
+    → First (searchedAs l a (researched (l .stopped) (l .limit) m) .answer) (searchTests l m ++ more)
+searched-first l m new a more f = go (isTaken (researched (l .stopped) (l .limit) m .answer)) refl
+  where
+    first : First (researched (l .stopped) (l .limit) m .answer) (searchTests l m)
+    first = research-first (l .stopped) (l .limit) m new
 
-  -- the step's answer a, unless the search is refused
-  searched-first : (l : Load) (a : Answer) (more : List (Bool × Answer)) → First a more → First (searchedAs l a (searchSpec m) .answer) (searchTests m ++ more)
-  searched-first l a more f = go (isTaken (searchSpec m .answer)) refl
-    where
-      go : (b : Bool) → isTaken (searchSpec m .answer) ≡ b
-          → First (cond {A = Stepped} b (record { answer = a; load = searchSpec m .load }) (record { answer = searchSpec m .answer; load = l }) .answer) (searchTests m ++ more)
-      go true e = first-past a (searchTests m) more (first-taken (searchSpec m .answer) (searchTests m) refl search-first (taken-is (searchSpec m .answer) e)) f
-      go false e = first-append (searchSpec m .answer) (searchTests m) more search-first (λ q. false≢true (sym e ∙ ap isTaken q))
+    go : (b : Bool) → isTaken (researched (l .stopped) (l .limit) m .answer) ≡ b
+        → First (cond {A = Stepped} b (record { answer = a; load = researched (l .stopped) (l .limit) m .load }) (record { answer = researched (l .stopped) (l .limit) m .answer; load = l }) .answer) (searchTests l m ++ more)
+    go true e = first-past a (searchTests l m) more (first-taken _ (searchTests l m) refl first (taken-is _ e)) f
+    go false e = first-append _ (searchTests l m) more first (λ q. false≢true (sym e ∙ ap isTaken q))
 
 -- refused, the searched load stays
 again-same : (l : Load) (r : Stepped) → isRefused (again l r .answer) ≡ true → again l r .load ≡ l
 unfolding again
-again-same l r q = go (isRefused (r .answer)) (isTaken (searchSpec (r .load) .answer)) refl q
+again-same l r q = go (isRefused (r .answer)) (isTaken (researched (l .stopped) (l .limit) (r .load) .answer)) refl q
   where
     go : (b c : Bool) → isRefused (r .answer) ≡ b
-        → (let x = cond {A = Stepped} b (record { answer = r .answer; load = l }) (cond {A = Stepped} c (record { answer = r .answer; load = searchSpec (r .load) .load }) (record { answer = searchSpec (r .load) .answer; load = l })) in
+        → (let x = cond {A = Stepped} b (record { answer = r .answer; load = l }) (cond {A = Stepped} c (record { answer = r .answer; load = researched (l .stopped) (l .limit) (r .load) .load }) (record { answer = researched (l .stopped) (l .limit) (r .load) .answer; load = l })) in
         isRefused (x .answer) ≡ true → x .load ≡ l)
     go true c e q = refl
     go false true e q = absurd (true≢false (sym q ∙ e))
@@ -103,7 +104,7 @@ out-same : (l : Load) (k : CallKey) → isRefused (takenOut l k .answer) ≡ tru
 unfolding takenOut
 out-same l k e = cond-not _ _ (refused-not-taken (withdrawAnswer l k) e)
 
-again-first : (l u : Load) (k : CallKey) → u .searched ≡ false → First (again l (takenOut u k) .answer) (withdrawTests u k ++ searchTests (takenOut u k .load))
+again-first : (l u : Load) (k : CallKey) → u .searched ≡ false → First (again l (takenOut u k) .answer) (withdrawTests u k ++ searchTests l (takenOut u k .load))
 unfolding again
 again-first l u k new = go (isRefused (takenOut u k .answer)) refl
   where
@@ -116,13 +117,13 @@ again-first l u k new = go (isRefused (takenOut u k .answer)) refl
     first : First (takenOut u k .answer) (withdrawTests u k)
     first = subst (λ (a : Answer). First a (withdrawTests u k)) (sym (out-answer u k)) (answer-is-first (withdrawTests u k))
 
-    go : (b : Bool) → isRefused (r .answer) ≡ b → First (cond {A = Stepped} b (record { answer = r .answer; load = l }) (searchedAs l (r .answer) (searchSpec (r .load))) .answer) (ts ++ searchTests (r .load))
-    go true e = first-append (r .answer) ts (searchTests (r .load)) first (λ q. true≢false (sym e ∙ ap isRefused q))
+    go : (b : Bool) → isRefused (r .answer) ≡ b → First (cond {A = Stepped} b (record { answer = r .answer; load = l }) (searchedAs l (r .answer) (researched (l .stopped) (l .limit) (r .load))) .answer) (ts ++ searchTests l (r .load))
+    go true e = first-append (r .answer) ts (searchTests l (r .load)) first (λ q. true≢false (sym e ∙ ap isRefused q))
     go false e =
         let t : r .answer ≡ Taken = out-answer u k ∙ tests-taken u k (ap isRefused (sym (out-answer u k)) ∙ e) in
         let all : AllFail (withdrawTests u k) = first-taken (r .answer) (withdrawTests u k) refl first t in
-        first-past (searchedAs l (r .answer) (searchSpec (r .load)) .answer) ts (searchTests (r .load)) all
-        (searched-first (r .load) (taken-out-searched u k ∙ new) l (r .answer) [] (subst (λ (a : Answer). First a []) (sym t) none))
+        first-past (searchedAs l (r .answer) (researched (l .stopped) (l .limit) (r .load)) .answer) ts (searchTests l (r .load)) all
+        (searched-first l (r .load) (taken-out-searched u k ∙ new) (r .answer) [] (subst (λ (a : Answer). First a []) (sym t) none))
 
 pub withdraw-answered : WithdrawAnswered
 unfolding withdrawSpec
@@ -132,7 +133,7 @@ withdraw-answered l k = go (l .searched)
     u = unsearchedOf l
 
     go : (b : Bool) → Answered (cond b (again l (takenOut (unsearchedOf l) k)) (takenOut l k)) l
-        (cond b (withdrawTests (unsearchedOf l) k ++ searchTests (takenOut (unsearchedOf l) k .load)) (withdrawTests l k))
+        (cond b (withdrawTests (unsearchedOf l) k ++ searchTests l (takenOut (unsearchedOf l) k .load)) (withdrawTests l k))
     go true =
         let f = again-first l (unsearchedOf l) k (unsearched-new l) in
         record { first = f; taken = first-taken _ _ refl f; unchanged = again-same l (takenOut (unsearchedOf l) k) }
@@ -209,12 +210,12 @@ module _ (l : Load) (i : CallInput) where
   stands x e = rw (e, same-horizon) refl
 
   abbrev Goal : Stepped → Type 0
-  Goal x = First (addedTo l x .answer) (tests ++ againTests (l .«table_horizon») a d r (x .load))
+  Goal x = First (addedTo l x .answer) (tests ++ againTests l a d r (x .load))
 
   sent-first : (x : Answer) → firstAnswer tests ≡ x → isTaken x ≡ false → Goal (record { answer = x; load = u })
   sent-first x e n =
-      subst (λ (y : Answer). First y (tests ++ againTests (l .«table_horizon») a d r u)) (sym (ap (λ (s : Stepped). s .answer) (stands x n)))
-      (first-append x tests (againTests (l .«table_horizon») a d r u) (subst (λ (y : Answer). First y tests) e (answer-is-first tests)) (λ q. false≢true (sym n ∙ ap isTaken q)))
+      subst (λ (y : Answer). First y (tests ++ againTests l a d r u)) (sym (ap (λ (s : Stepped). s .answer) (stands x n)))
+      (first-append x tests (againTests l a d r u) (subst (λ (y : Answer). First y tests) e (answer-is-first tests)) (λ q. false≢true (sym n ∙ ap isTaken q)))
 
   -- outside at the table reached
   outside-first : AllFail tests → outside (r .horizon) a d ≡ true → r .horizon ≤ l .«table_horizon» → Goal (record { answer = Outside; load = withTable u r })
@@ -225,14 +226,14 @@ module _ (l : Load) (i : CallInput) where
       m = withTable u r
 
       go : (b : Bool) → eqb (r .horizon) (l .«table_horizon») ≡ b
-          → First (cond {A = Stepped} b (record { answer = Outside; load = withWeek l (withTable u r .week) }) (searchedAs l Outside (searchSpec (withTable u r))) .answer) (tests ++ againTests (l .«table_horizon») a d r (withTable u r))
+          → First (cond {A = Stepped} b (record { answer = Outside; load = withWeek l (withTable u r .week) }) (searchedAs l Outside (researched (l .stopped) (l .limit) (withTable u r))) .answer) (tests ++ againTests l a d r (withTable u r))
       go true e =
           let h : ltb (r .horizon) (l .«table_horizon») ≡ false = le-ltb (r .horizon) (l .«table_horizon») (omega (arith, eqb-true (r .horizon) (l .«table_horizon») e)) in
-          first-past Outside tests (againTests (l .«table_horizon») a d r (withTable u r)) p (hit (rw (o, h) refl))
+          first-past Outside tests (againTests l a d r (withTable u r)) p (hit (rw (o, h) refl))
       go false e =
           let h : ltb (r .horizon) (l .«table_horizon») ≡ true = lt-ltb (r .horizon) (l .«table_horizon») (omega (arith, low, eqb-false (r .horizon) (l .«table_horizon») e)) in
-          first-past _ tests (againTests (l .«table_horizon») a d r (withTable u r)) p
-          (miss (rw (o, h) refl) (miss (rw o refl) (searched-first (withTable u r) (new-with r) l Outside ((outside (r .horizon) a d, Outside) ∷ []) (hit o))))
+          first-past _ tests (againTests l a d r (withTable u r)) p
+          (miss (rw (o, h) refl) (miss (rw o refl) (searched-first l (withTable u r) (new-with r) Outside ((outside (r .horizon) a d, Outside) ∷ []) (hit o))))
 
   -- the horizon of the table reached, where the call is outside there
   reached-low : plainCall u i ≡ record { answer = Outside; load = withTable u r } → r .horizon ≤ l .«table_horizon»
@@ -241,14 +242,14 @@ module _ (l : Load) (i : CallInput) where
 
   full-first : AllFail tests → outside (r .horizon) a d ≡ false → noRoom r ≡ true → Goal (record { answer = Refused NoRoom; load = u })
   full-first p o f =
-      subst (λ (y : Answer). First y (tests ++ againTests (l .«table_horizon») a d r u)) (sym (ap (λ (s : Stepped). s .answer) (stands (Refused NoRoom) refl)))
-      (first-past (Refused NoRoom) tests (againTests (l .«table_horizon») a d r u) p (miss (rw o refl) (hit (rw (o, f) refl))))
+      subst (λ (y : Answer). First y (tests ++ againTests l a d r u)) (sym (ap (λ (s : Stepped). s .answer) (stands (Refused NoRoom) refl)))
+      (first-past (Refused NoRoom) tests (againTests l a d r u) p (miss (rw o refl) (hit (rw (o, f) refl))))
 
   taken-first : AllFail tests → outside (r .horizon) a d ≡ false → noRoom r ≡ false → Goal (record { answer = Taken; load = withTable u (put r c) })
   unfolding addedTo again
   taken-first p o f =
-      first-past _ tests (againTests (l .«table_horizon») a d r (withTable u (put r c))) p
-      (miss (rw o refl) (miss (rw (o, f) refl) (searched-first (withTable u (put r c)) (new-with (put r c)) l Taken ((outside (r .horizon) a d, Outside) ∷ []) (miss o none))))
+      first-past _ tests (againTests l a d r (withTable u (put r c))) p
+      (miss (rw o refl) (miss (rw (o, f) refl) (searched-first l (withTable u (put r c)) (new-with (put r c)) Taken ((outside (r .horizon) a d, Outside) ∷ []) (miss o none))))
 
   passed-first : firstAnswer tests ≡ Taken → Goal (plainCall u i)
   passed-first e = go (outside (r .horizon) a d) (noRoom r) refl refl (passed-by e)
@@ -285,15 +286,15 @@ unfolding addedTo again
 week-answer l a m w = go (leavesTable l (record { answer = a; load = m })) (isRefused a)
   where
     go : (b c : Bool)
-        → cond {A = Stepped} b (record { answer = a; load = withWeek l w }) (cond {A = Stepped} c (record { answer = a; load = l }) (searchedAs l a (searchSpec (withWeek m w)))) .answer
-        ≡ cond {A = Stepped} b (record { answer = a; load = withWeek l (m .week) }) (cond {A = Stepped} c (record { answer = a; load = l }) (searchedAs l a (searchSpec m))) .answer
+        → cond {A = Stepped} b (record { answer = a; load = withWeek l w }) (cond {A = Stepped} c (record { answer = a; load = l }) (searchedAs l a (researched (l .stopped) (l .limit) (withWeek m w)))) .answer
+        ≡ cond {A = Stepped} b (record { answer = a; load = withWeek l (m .week) }) (cond {A = Stepped} c (record { answer = a; load = l }) (searchedAs l a (researched (l .stopped) (l .limit) m))) .answer
     go true c = refl
     go false true = refl
-    go false false = ap (λ (q : Stepped). searchedAs l a q .answer) (search-week m w) ∙ searched-week l a (searchSpec m) w
+    go false false = ap (λ (q : Stepped). searchedAs l a q .answer) (research-week (l .stopped) (l .limit) m w) ∙ searched-week l a (researched (l .stopped) (l .limit) m) w
 
-search-tests-week : (m : Load) (w : Week) → searchTests (withWeek m w) ≡ searchTests m
-unfolding timetableOf wouldFall
-search-tests-week m w = refl
+search-tests-week : (l m : Load) (w : Week) → searchTests l (withWeek m w) ≡ searchTests l m
+unfolding timetableOf wouldFall wouldFallWithin
+search-tests-week l m w = refl
 
 -- two tests more that fail
 insert-two : {a b c d e : Answer} {p q x y : Bool} {ts : List (Bool × Answer)} → x ≡ false → y ≡ false → First a ((p, b) ∷ (q, c) ∷ ts)
@@ -307,7 +308,7 @@ module _ (l : Load) (name : List ℕ) (i : CallInput) where
   runs = running (l .week) name (i .day)
 
   abbrev rest : Load → List (Bool × Answer)
-  rest m = againTests (l .«table_horizon») (a l i) (d l i) (r l i) m
+  rest m = againTests l (a l i) (d l i) (r l i) m
 
   abbrev Answers : Stepped → Type 0
   Answers x = First (addedTo l x .answer) (fieldTests false (l .«stop_count») i ++ runningTests runs ++ timeTests i ++ rest (x .load))
@@ -342,7 +343,7 @@ module _ (l : Load) (name : List ℕ) (i : CallInput) where
           week-rest m v y f = subst (λ (ts : List (Bool × Answer)). First y (fieldTests false (l .«stop_count») i ++ runningTests runs ++ timeTests i
               ++ ((outside (r l i .horizon) (a l i) (d l i) && not (ltb (r l i .horizon) (l .«table_horizon»)), Outside)
               ∷ (not (outside (r l i .horizon) (a l i) (d l i)) && noRoom (r l i), Refused NoRoom)
-              ∷ ts ++ ((outside (r l i .horizon) (a l i) (d l i), Outside) ∷ [])))) (sym (search-tests-week m v)) f
+              ∷ ts ++ ((outside (r l i .horizon) (a l i) (d l i), Outside) ∷ [])))) (sym (search-tests-week l m v)) f
 
   -- sent back or outside by its service
   gate-answers : (y : Answer) (w : Week) → gateAnswer false (l .«stop_count») runs i ≡ y → isTaken y ≡ false → Answers (record { answer = y; load = withWeek (u l i) w })

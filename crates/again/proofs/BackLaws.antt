@@ -27,7 +27,7 @@ use Rattle.again.proofs.SoundLaws.{there-goes}
 
 -- a sound unsearched load has its table's horizon and mark
 table-back : (l : Load) → Sound l → l .searched ≡ false → withTable l (tableOf l) ≡ l
-table-back l s u = λ j. withSeen l (tableOf l) (record { journeys = l .journeys; count = l .«journey_count»; horizon = sym (s .same-horizon u) j; limits = sym (s .same-limits u) j; searched = l .searched })
+table-back l s u = λ j. withSeen l (tableOf l) (record { journeys = l .journeys; count = l .«journey_count»; horizon = sym (s .same-horizon u) j; limits = sym (s .same-limits u) j; searched = l .searched; stopped = l .stopped; limit = l .limit })
 
 -- a call that is taken and cuts nothing is put into the table, and the services are closed
 pub record Put (l : Load) (name : List ℕ) (i : CallInput) : Type 0 where

@@ -19,12 +19,11 @@ use Rattle.load.specs.declared.Load.{Load}
 use Rattle.load.specs.Load.{tableOf, withTable}
 use Rattle.load.specs.Sound.{Sound}
 use Rattle.search.specs.Timetable.{timetableOf}
-use Rattle.search.specs.Search.{searchSpec}
 use Rattle.search.proofs.RunLaws.{sound-timed}
 use Rattle.withdrawal.specs.declared.CallKey.{CallKey}
 use Rattle.withdrawal.specs.Removal.{withoutLast, hasKey, withdrawn}
 use Rattle.withdrawal.proofs.LeftLaws.{withdrawn-leaves}
-use Rattle.again.specs.Again.{unsearchedOf, takenOut}
+use Rattle.again.specs.Again.{unsearchedOf, researched, takenOut}
 use Rattle.again.specs.Claims.{NeverClashes}
 use Rattle.again.proofs.SortLaws.{ordered-sort}
 use Rattle.again.proofs.SoundLaws.{out-cases}
@@ -90,7 +89,7 @@ clear-apart : (l : List Call) → AllApart l → clashes (inOrder l) ≡ false
 clear-apart l a = ap clashes (ordered-sort earlier l (apart-ordered l a)) ∙ apart-clear l a
 
 -- the calls of a searched load
-own-apart : (l : Load) → Sound l → searchSpec (unsearchedOf l) ≡ record { answer = Taken; load = l } → AllApart (tableCalls (tableOf l))
+own-apart : (l : Load) → Sound l → researched (l .stopped) (l .limit) (unsearchedOf l) ≡ record { answer = Taken; load = l } → AllApart (tableCalls (tableOf l))
 unfolding timetableOf
 own-apart l s e =
     let clear = own-clear l e in

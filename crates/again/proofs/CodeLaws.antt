@@ -1,10 +1,11 @@
 -- Each return of the code is a law at the tests on its way.
 use Prim.Native.Nat.{ℕ, _-_, _≤_}
 use mathlib.Core.Path.{_≡_, refl, sym, ap, _∙_}
-use mathlib.Core.Bool.{true, false, not}
+use mathlib.Core.Bool.{Bool, true, false, not, _&&_}
 use mathlib.Core.List.{List}
 use native.Mathlib.Omega.{arith}
 use borrow.Author.Tests.{eq-eqb, ne-eqb}
+use lib.Dec.{leb}
 use lib.ListN.{replicate}
 use Rattle.laws.specs.Lists.{anyb}
 use Rattle.laws.proofs.Bools.{cond-by, cond-not}
@@ -25,23 +26,40 @@ use Rattle.load.specs.declared.Load.{Load}
 use Rattle.load.specs.declared.Stepped.{Stepped}
 use Rattle.load.specs.Load.{tableOf, withSeen, withTable, withWeek}
 use Rattle.load.specs.Steps.{callSpec}
+use Rattle.search.specs.declared.Limited.{Limited}
 use Rattle.search.specs.Search.{searchSpec}
-use Rattle.again.specs.Again.{unsearchedOf, searchedAs, again, leavesTable, addedTo, addSpec, takenOut, withdrawSpec}
+use Rattle.search.specs.Within.{withinSpec, stepOf}
+use Rattle.again.specs.Again.{unsearchedOf, isLimited, researched, searchedAs, again, leavesTable, addedTo, addSpec, takenOut, withdrawSpec}
 
 pub unsearched-made : (l : Load) (j : Journey) → j ≡ noJourney
-    → withSeen l (tableOf l) (record { journeys = replicate 64 j; count = 0; horizon = l .«table_horizon»; limits = l .«table_limits»; searched = false }) ≡ unsearchedOf l
+    → withSeen l (tableOf l) (record { journeys = replicate 64 j; count = 0; horizon = l .«table_horizon»; limits = l .«table_limits»; searched = false; stopped = false; limit = 0 }) ≡ unsearchedOf l
 unfolding unsearchedOf
 unsearched-made l j e =
-    ap (λ (x : Journey). withSeen l (tableOf l) (record { journeys = replicate 64 x; count = 0; horizon = l .«table_horizon»; limits = l .«table_limits»; searched = false })) e
+    ap (λ (x : Journey). withSeen l (tableOf l) (record { journeys = replicate 64 x; count = 0; horizon = l .«table_horizon»; limits = l .«table_limits»; searched = false; stopped = false; limit = 0 })) e
 
 -- ---- searched again
+
+pub limited-no : (stopped : Bool) (most : ℕ) → stopped ≡ false → false ≡ (stopped && leb most 1)
+limited-no stopped most e = sym (ap (λ (b : Bool). b && leb most 1) e)
+
+pub limited-by : (stopped : Bool) (most : ℕ) → stopped ≡ true → leb most 1 ≡ (stopped && leb most 1)
+limited-by stopped most e = sym (ap (λ (b : Bool). b && leb most 1) e)
+
+module _ (stopped : Bool) (n : ℕ) (m : Load) (b : Bool) (is : b ≡ isLimited stopped m) where
+  pub as-within : (w : Limited) → w ≡ withinSpec m n → b ≡ true → _≡_ {A = Stepped} (record { answer = w .answer; load = w .load }) (researched stopped n m)
+  unfolding researched
+  as-within w q t = ap stepOf q ∙ sym (cond-by _ _ (sym is ∙ t))
+
+  pub as-full : (r : Stepped) → r ≡ searchSpec m → b ≡ false → r ≡ researched stopped n m
+  unfolding researched
+  as-full r q f = q ∙ sym (cond-not _ _ (sym is ∙ f))
 
 module _ (l : Load) (r : Stepped) where
   pub again-refused : isRefused (r .answer) ≡ true → _≡_ {A = Stepped} (record { answer = r .answer; load = l }) (again l r)
   unfolding again
   again-refused e = sym (cond-by _ _ e)
 
-  module _ (q : Stepped) (is : q ≡ searchSpec (r .load)) (e : isRefused (r .answer) ≡ false) where
+  module _ (q : Stepped) (is : q ≡ researched (l .stopped) (l .limit) (r .load)) (e : isRefused (r .answer) ≡ false) where
     went : searchedAs l (r .answer) q ≡ again l r
     unfolding again
     went = ap (searchedAs l (r .answer)) is ∙ sym (cond-not _ _ e)

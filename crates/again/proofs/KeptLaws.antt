@@ -2,18 +2,18 @@
 use Prim.Native.Nat.{ℕ, _≤_}
 use mathlib.Core.Path.{_≡_, refl, sym, ap, subst, _∙_}
 use mathlib.Core.Bool.{Bool, true, false, cond, true≢false}
-use mathlib.Core.List.{List}
+use mathlib.Core.List.{List, [], _∷_}
 use native.Mathlib.Omega.{arith}
 use Rattle.laws.specs.Lists.{anyb}
 use Rattle.laws.proofs.Bools.{not-true}
-use Rattle.refusal.specs.declared.Refusal.the-variants.{CallUnknown}
+use Rattle.refusal.specs.declared.Refusal.the-variants.{Neighbours, NoRoom, CallUnknown}
+use Rattle.refusal.specs.declared.Answer.{Answer}
 use Rattle.refusal.specs.declared.Answer.the-variants.{Taken, Refused}
-use Rattle.refusal.specs.First.{isRefused, isTaken, answerNumber}
+use Rattle.refusal.specs.First.{First, none, hit, miss, isRefused, isTaken, answerNumber}
 use Rattle.calls.specs.declared.CallInput.{CallInput}
 use Rattle.calls.specs.Shown.{tableCalls}
 use Rattle.withdrawal.specs.declared.CallKey.{CallKey}
 use Rattle.withdrawal.specs.Removal.{keyOf, hasKey, keyKnown, withdrawn}
-use Rattle.offers.specs.Search.{Outcome, clashing, falling, found, answerOf}
 use Rattle.load.specs.declared.Load.{Load}
 use Rattle.load.specs.declared.Stepped.{Stepped}
 use Rattle.load.specs.Load.{tableOf, withTable, withWeek}
@@ -22,15 +22,18 @@ use Rattle.load.specs.Filling.{call}
 use Rattle.load.specs.Sound.{Sound}
 use Rattle.load.proofs.SoundLaws.{fill-keeps-sound}
 use Rattle.load.proofs.TableLaws.{call-keeps, never-rises}
-use Rattle.search.specs.Search.{outcomeOf, searchSpec}
-use Rattle.search.proofs.RunLaws.{search-runs, taken-found, untaken-stays}
+use Rattle.search.specs.Search.{searchSpec}
+use Rattle.search.specs.Within.{withinSpec}
+use Rattle.search.proofs.RunLaws.{untaken-stays}
 use Rattle.search.proofs.SearchSound.{search-sound}
-use Rattle.again.specs.Again.{unsearchedOf, again, leavesTable, addedTo, addSpec, takenOut, withdrawSpec}
+use Rattle.search.proofs.WithinLaws.{untaken-within, within-sound}
+use Rattle.again.specs.Again.{unsearchedOf, researched, again, leavesTable, addedTo, addSpec, takenOut, withdrawSpec}
 use Rattle.again.specs.Causes.{UnknownExactly}
-use Rattle.again.specs.Claims.{Kept, SearchKept, AddKept, WithdrawKept, TakenBack, NeverWider}
+use Rattle.again.specs.Claims.{Kept, SearchKept, WithinKept, AddKept, WithdrawKept, TakenBack, NeverWider}
 use Rattle.again.proofs.SoundLaws.{unsearched-new, unsearched-sound, there-goes, none-stays, taken-out-sound, taken-out-searched, taken-out-horizon}
 use Rattle.again.proofs.WeekLaws.{week-kept}
-use Rattle.again.proofs.OwnLaws.{searched-own}
+use Rattle.again.proofs.OwnLaws.{found-own, within-own}
+use Rattle.again.proofs.ResearchLaws.{research-cases, research-first, researched-horizon}
 use Rattle.again.proofs.BackLaws.{taken-back-new}
 use Rattle.again.proofs.SearchedLaws.{searched-taken-back}
 
@@ -40,8 +43,18 @@ pub search-kept : SearchKept
 search-kept l w = go (isTaken (searchSpec l .answer)) refl
   where
     go : (b : Bool) → isTaken (searchSpec l .answer) ≡ b → Kept (searchSpec l .load)
-    go true t = record { sound = search-sound l (w .sound); own = searched-own l (w .sound) t }
+    go true t = record { sound = search-sound l (w .sound); own = found-own l (w .sound) t }
     go false t = subst Kept (sym (untaken-stays l t)) w
+
+pub within-kept : WithinKept
+within-kept l n w = go (isTaken (withinSpec l n .answer)) refl
+  where
+    go : (b : Bool) → isTaken (withinSpec l n .answer) ≡ b → Kept (withinSpec l n .load)
+    go true t = record { sound = within-sound l n (w .sound); own = within-own l n (w .sound) t }
+    go false t = subst Kept (sym (untaken-within l n t)) w
+
+research-kept : (b : Bool) (n : ℕ) (m : Load) → Kept m → Kept (researched b n m .load)
+research-kept b n m w = research-cases b n m (λ r. Kept (r .load)) (λ x. within-kept m n w) (search-kept m w)
 
 -- an unsearched load has no search to be
 pub new-kept : (l : Load) → Sound l → l .searched ≡ false → Kept l
@@ -50,12 +63,12 @@ new-kept l s n = record { sound = s; own = λ e. absurd (true≢false (sym e ∙
 -- of any step on the unsearched load
 pub again-kept : (l : Load) (r : Stepped) → Kept l → Kept (r .load) → Kept (again l r .load)
 unfolding again
-again-kept l r w n = go (isRefused (r .answer)) (isTaken (searchSpec (r .load) .answer))
+again-kept l r w n = go (isRefused (r .answer)) (isTaken (researched (l .stopped) (l .limit) (r .load) .answer))
   where
     go : (b c : Bool) → Kept (cond {A = Stepped} b (record { answer = r .answer; load = l })
-        (cond {A = Stepped} c (record { answer = r .answer; load = searchSpec (r .load) .load }) (record { answer = searchSpec (r .load) .answer; load = l })) .load)
+        (cond {A = Stepped} c (record { answer = r .answer; load = researched (l .stopped) (l .limit) (r .load) .load }) (record { answer = researched (l .stopped) (l .limit) (r .load) .answer; load = l })) .load)
     go true c = w
-    go false true = search-kept (r .load) n
+    go false true = research-kept (l .stopped) (l .limit) (r .load) n
     go false false = w
 
 either-searched : (m l : Load) (b : Bool) → m .searched ≡ l .searched → cond b l m .searched ≡ l .searched
@@ -108,13 +121,6 @@ taken-back l name i w q h = go (l .searched) refl
 
 -- ---- the table's horizon
 
-search-horizon : (l : Load) → searchSpec l .load .«table_horizon» ≡ l .«table_horizon»
-search-horizon l = go (isTaken (searchSpec l .answer)) refl
-  where
-    go : (b : Bool) → isTaken (searchSpec l .answer) ≡ b → searchSpec l .load .«table_horizon» ≡ l .«table_horizon»
-    go true t = ap (λ (r : Stepped). r .load .«table_horizon») (taken-found l t .is)
-    go false t = ap (λ (m : Load). m .«table_horizon») (untaken-stays l t)
-
 back-horizon : (l : Load) → unsearchedOf l .«table_horizon» ≡ l .«table_horizon»
 unfolding unsearchedOf
 back-horizon l = refl
@@ -122,12 +128,12 @@ back-horizon l = refl
 -- the load itself, or one with the horizon of what the step made of its unsearched load
 again-horizon : (P : ℕ → Type 0) (l : Load) (r : Stepped) → P (l .«table_horizon») → P (r .load .«table_horizon») → P (again l r .load .«table_horizon»)
 unfolding again
-again-horizon P l r p q = go (isRefused (r .answer)) (isTaken (searchSpec (r .load) .answer))
+again-horizon P l r p q = go (isRefused (r .answer)) (isTaken (researched (l .stopped) (l .limit) (r .load) .answer))
   where
     go : (b c : Bool) → P (cond {A = Stepped} b (record { answer = r .answer; load = l })
-        (cond {A = Stepped} c (record { answer = r .answer; load = searchSpec (r .load) .load }) (record { answer = searchSpec (r .load) .answer; load = l })) .load .«table_horizon»)
+        (cond {A = Stepped} c (record { answer = r .answer; load = researched (l .stopped) (l .limit) (r .load) .load }) (record { answer = researched (l .stopped) (l .limit) (r .load) .answer; load = l })) .load .«table_horizon»)
     go true c = p
-    go false true = subst P (sym (search-horizon (r .load))) q
+    go false true = subst P (sym (researched-horizon (l .stopped) (l .limit) (r .load))) q
     go false false = p
 
 add-lower : (l : Load) (name : List ℕ) (i : CallInput) → addSpec l name i .load .«table_horizon» ≤ l .«table_horizon»
@@ -157,22 +163,22 @@ never-wider l name i k = (add-lower l name i, withdraw-same l k)
 -- ---- 24
 
 -- no search is answered 24
-outcome-number : (o : Outcome) → answerOf o ≡ Refused CallUnknown → ⊥
-outcome-number clashing e = let n = ap answerNumber e in omega (arith, n)
-outcome-number falling e = let n = ap answerNumber e in omega (arith, n)
-outcome-number (found ks h m) e = let n = ap answerNumber e in omega (arith, n)
+first-number : (a : Answer) (x y : Bool) → First a ((x, Refused Neighbours) ∷ (y, Refused NoRoom) ∷ []) → a ≡ Refused CallUnknown → ⊥
+first-number _ x y (hit h) e = let n = ap answerNumber e in omega (arith, n)
+first-number _ x y (miss h (hit k)) e = let n = ap answerNumber e in omega (arith, n)
+first-number _ x y (miss h (miss k none)) e = let n = ap answerNumber e in omega (arith, n)
 
-search-number : (l : Load) → l .searched ≡ false → searchSpec l .answer ≡ Refused CallUnknown → ⊥
-search-number l n e = outcome-number (outcomeOf l) (sym (ap (λ (r : Stepped). r .answer) (search-runs l n)) ∙ e)
+search-number : (b : Bool) (n : ℕ) (m : Load) → m .searched ≡ false → researched b n m .answer ≡ Refused CallUnknown → ⊥
+search-number b n m new e = first-number _ _ _ (research-first b n m new) e
 
 -- nor is the search again of a step that is taken
 again-number : (l m : Load) → m .searched ≡ false → again l (record { answer = Taken; load = m }) .answer ≡ Refused CallUnknown → ⊥
 unfolding again
-again-number l m n q = go (isTaken (searchSpec m .answer)) q
+again-number l m n q = go (isTaken (researched (l .stopped) (l .limit) m .answer)) q
   where
-    go : (c : Bool) → cond {A = Stepped} c (record { answer = Taken; load = searchSpec m .load }) (record { answer = searchSpec m .answer; load = l }) .answer ≡ Refused CallUnknown → ⊥
+    go : (c : Bool) → cond {A = Stepped} c (record { answer = Taken; load = researched (l .stopped) (l .limit) m .load }) (record { answer = researched (l .stopped) (l .limit) m .answer; load = l }) .answer ≡ Refused CallUnknown → ⊥
     go true e = let z = ap answerNumber e in omega (arith, z)
-    go false e = search-number m n e
+    go false e = search-number (l .stopped) (l .limit) m n e
 
 module _ (l : Load) (k : CallKey) (known : keyKnown k ≡ true) where
   same-calls : tableCalls (tableOf (unsearchedOf l)) ≡ tableCalls (tableOf l)

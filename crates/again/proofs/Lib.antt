@@ -1,7 +1,9 @@
 pub mod CodeLaws
 pub mod SortLaws
 pub mod SoundLaws
+pub mod ResearchLaws
 pub mod OwnLaws
+pub mod MoreLaws
 pub mod WeekLaws
 pub mod BackLaws
 pub mod SearchedLaws

@@ -127,7 +127,7 @@ module _ (xs : List Call) (c : Call) (clear : clashes (inOrder (xs ++ (c ∷ [])
   pub put-sorted : inOrder (xs ++ (c ∷ [])) ≡ insertBy earlier c (inOrder xs)
   put-sorted = sort-same earlier strict-earlier (snoc-perm xs c) (accepted-keyed (xs ++ (c ∷ [])) clear)
 
-  rises : Rising (insertBy earlier c (inOrder xs))
+  pub rises : Rising (insertBy earlier c (inOrder xs))
   rises = rw (← put-sorted) (accepted-rising (xs ++ (c ∷ [])) clear)
 
   pub sorted-gone : (k : CallKey) → hasKey k c ≡ true → withoutLast (hasKey k) (inOrder (xs ++ (c ∷ []))) ≡ inOrder xs

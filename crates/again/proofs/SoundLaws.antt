@@ -1,6 +1,6 @@
 -- The unsearched load, and one without a call, are sound.
 use mathlib.Core.Path.{_≡_, refl, sym, subst}
-use mathlib.Core.Bool.{Bool, true, false}
+use mathlib.Core.Bool.{Bool, true, false, false≢true}
 use native.Mathlib.Omega.{arith}
 use Rattle.laws.specs.Lists.{anyb}
 use Rattle.refusal.specs.declared.Refusal.the-variants.{FieldRange, CallUnknown}
@@ -34,6 +34,9 @@ unsearched-sound l s = record {
   none-kept = λ e. refl;
   same-horizon = λ e. refl;
   same-limits = λ e. refl;
+  no-limit = λ e. refl;
+  stopped-search = λ e. absurd (false≢true e);
+  stopped-change = λ e. absurd (false≢true e);
   week = s .week;
 }
 
@@ -89,6 +92,9 @@ module _ (l : Load) (k : CallKey) where
         none-kept = s .none-kept;
         same-horizon = λ e. refl;
         same-limits = λ e. refl;
+        no-limit = s .no-limit;
+        stopped-search = s .stopped-search;
+        stopped-change = s .stopped-change;
         week = s .week;
       }
 

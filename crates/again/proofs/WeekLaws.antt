@@ -4,11 +4,13 @@ use mathlib.Core.Path.{_≡_, refl, sym, ap, _∙_}
 use mathlib.Core.Logic.{_⊎_, inl, inr}
 use mathlib.Core.Bool.{Bool, true, false, cond, true≢false, false≢true}
 use mathlib.Core.List.{List}
+use lib.Dec.{ltb}
 use Rattle.laws.proofs.Bools.{cond-not}
-use Rattle.refusal.specs.declared.Refusal.the-variants.{AlreadySearched}
+use Rattle.refusal.specs.declared.Refusal.the-variants.{SettingsRange, AlreadySearched}
 use Rattle.refusal.specs.declared.Answer.the-variants.{Taken, Refused}
 use Rattle.refusal.specs.First.{isRefused, isTaken}
 use Rattle.calls.specs.declared.CallInput.{CallInput}
+use Rattle.profile.specs.declared.Journey.{Journey}
 use Rattle.week.specs.declared.Week.{Week}
 use Rattle.week.specs.Weeks.{undatedWeek, closedWeek}
 use Rattle.week.specs.Sound.{WeekSound}
@@ -22,8 +24,9 @@ use Rattle.load.specs.Sound.{Sound}
 use Rattle.load.proofs.SoundLaws.{with-week-sound}
 use Rattle.load.proofs.StepLaws.{Called, without, goes-on, stays-out, sent-back, called}
 use Rattle.search.specs.Timetable.{timetableOf}
-use Rattle.search.specs.Search.{outcomeOf, settled, searchSpec}
-use Rattle.again.specs.Again.{unsearchedOf}
+use Rattle.search.specs.Search.{outcomeOf, withFound, withJourneys, settled, searchSpec}
+use Rattle.search.specs.Within.{outcomeWithin, finishesIn, sentBack, ranWithin, withinSpec, stepOf}
+use Rattle.again.specs.Again.{unsearchedOf, isLimited, researched}
 use Rattle.again.specs.Claims.{Own, Kept, ClosedSame}
 
 abbrev withWeekOf : Week → Stepped → Stepped
@@ -42,9 +45,35 @@ search-week m w = go (m .searched) (outcomeOf m)
     go false falling = refl
     go false (found ks h k) = refl
 
+found-week : (m : Load) (n : ℕ) (w : Week) (ks : List Journey) (h k : ℕ) (f : Bool)
+    → cond f (withJourneys (withWeek m w) ks h k) (withFound (withWeek m w) ks h k true n) ≡ withWeek (cond f (withJourneys m ks h k) (withFound m ks h k true n)) w
+found-week m n w ks h k true = refl
+found-week m n w ks h k false = refl
+
+pub within-week : (m : Load) (n : ℕ) (w : Week) → stepOf (withinSpec (withWeek m w) n) ≡ withWeekOf w (stepOf (withinSpec m n))
+unfolding withinSpec outcomeWithin finishesIn timetableOf
+within-week m n w = go (m .searched) (ltb 1 (m .settings .«max_transfers»)) (outcomeWithin m n)
+  where
+    go : (b c : Bool) (o : Outcome)
+        → stepOf (cond b (sentBack (withWeek m w) (Refused AlreadySearched)) (cond c (sentBack (withWeek m w) (Refused SettingsRange)) (ranWithin (withWeek m w) n o)))
+        ≡ withWeekOf w (stepOf (cond b (sentBack m (Refused AlreadySearched)) (cond c (sentBack m (Refused SettingsRange)) (ranWithin m n o))))
+    go true c o = refl
+    go false true o = refl
+    go false false clashing = refl
+    go false false falling = refl
+    go false false (found ks h k) = ap (λ (x : Load). record { answer = Taken; load = x }) (found-week m n w ks h k (finishesIn m n))
+
+pub research-week : (b : Bool) (n : ℕ) (m : Load) (w : Week) → researched b n (withWeek m w) ≡ record { answer = researched b n m .answer; load = withWeek (researched b n m .load) w }
+unfolding researched
+research-week b n m w = go (isLimited b m)
+  where
+    go : (c : Bool) → cond c (stepOf (withinSpec (withWeek m w) n)) (searchSpec (withWeek m w)) ≡ withWeekOf w (cond c (stepOf (withinSpec m n)) (searchSpec m))
+    go true = within-week m n w
+    go false = search-week m w
+
 pub own-week : (l : Load) (w : Week) → Own l → Own (withWeek l w)
 unfolding unsearchedOf
-own-week l w o d = search-week (unsearchedOf l) w ∙ ap (withWeekOf w) (o d)
+own-week l w o d = research-week (l .stopped) (l .limit) (unsearchedOf l) w ∙ ap (withWeekOf w) (o d)
 
 pub week-kept : (l : Load) (w : Week) → WeekSound w → Kept l → Kept (withWeek l w)
 week-kept l w v k = record { sound = with-week-sound l w (k .sound) v; own = own-week l w (k .own) }

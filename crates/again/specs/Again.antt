@@ -1,9 +1,10 @@
 -- A call added to a load, or withdrawn from it. On a searched load it goes back to the unsearched load, with the table's horizon and
--- mark, is done there, and the load is searched again; a refusal, also of that search, leaves the searched load.
+-- mark, is done there, and the load is searched again: "A call added to or withdrawn from a stopped load has it searched within the same
+-- limit, and any other searched load in full". A refusal, also of that search, leaves the searched load.
 use Prim.Native.Nat.{ℕ}
 use mathlib.Core.Bool.{Bool, false, cond, not, _&&_}
 use mathlib.Core.List.{List, [], _∷_}
-use lib.Dec.{eqb}
+use lib.Dec.{leb, eqb}
 use lib.ListN.{replicate}
 use Rattle.laws.specs.Lists.{anyb}
 use Rattle.refusal.specs.declared.Refusal.the-variants.{FieldRange, CallUnknown}
@@ -20,6 +21,7 @@ use Rattle.load.specs.declared.Stepped.{Stepped}
 use Rattle.load.specs.Load.{tableOf, withSeen, withTable, withWeek}
 use Rattle.load.specs.Steps.{callSpec}
 use Rattle.search.specs.Search.{searchSpec}
+use Rattle.search.specs.Within.{withinSpec, stepOf}
 
 -- the unsearched load: calls as they stand, no journey, the table's horizon and mark
 unfoldable pub unsearchedOf : Load → Load
@@ -30,9 +32,19 @@ unsearchedOf l =
       horizon = l .«table_horizon»;
       limits = l .«table_limits»;
       searched = false;
+      stopped = false;
+      limit = 0;
     })
 
 -- ---- searched again
+
+-- a search that was stopped is done within its limit; a load that steps stop has at most one change (`Sound`)
+abbrev pub isLimited : Bool → Load → Bool
+isLimited stopped m = stopped && leb (m .settings .«max_transfers») 1
+
+-- m searched: within the limit n where the search before it was stopped there, in full otherwise
+unfoldable pub researched : Bool → ℕ → Load → Stepped
+researched stopped n m = cond (isLimited stopped m) (stepOf (withinSpec m n)) (searchSpec m)
 
 -- the step's answer a with the load that the search q leaves; or why that search is sent back, and the searched load l
 abbrev pub searchedAs : Load → Answer → Stepped → Stepped
@@ -40,7 +52,7 @@ searchedAs l a q = cond (isTaken (q .answer)) (record { answer = a; load = q .lo
 
 -- r is what a step made of l's unsearched load
 unfoldable pub again : Load → Stepped → Stepped
-again l r = cond (isRefused (r .answer)) (record { answer = r .answer; load = l }) (searchedAs l (r .answer) (searchSpec (r .load)))
+again l r = cond (isRefused (r .answer)) (record { answer = r .answer; load = l }) (searchedAs l (r .answer) (researched (l .stopped) (l .limit) (r .load)))
 
 -- ---- call: 9, 21, not running, absent time, 10, outside, 11; on a searched load then 14, 11 of its search
 

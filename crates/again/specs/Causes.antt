@@ -30,24 +30,29 @@ use Rattle.load.specs.Steps.{runningTests, callSpec}
 use Rattle.week.specs.Weeks.{running}
 use Rattle.search.specs.Timetable.{timetableOf}
 use Rattle.search.specs.Search.{wouldFall}
-use Rattle.again.specs.Again.{unsearchedOf, addSpec, withdrawTests, takenOut, withdrawSpec}
+use Rattle.search.specs.Within.{wouldFallWithin}
+use Rattle.again.specs.Again.{unsearchedOf, isLimited, addSpec, withdrawTests, takenOut, withdrawSpec}
 
--- of a search of m: 14, 11
-abbrev pub searchTests : Load → List (Bool × Answer)
-searchTests m = (clashes (sorted (timetableOf m)), Refused Neighbours) ∷ (wouldFall m, Refused NoRoom) ∷ []
+-- the horizon would fall below 3600 in the search again, by the offers before the stop or by all of them
+abbrev pub fallsAgain : Bool → ℕ → Load → Bool
+fallsAgain stopped n m = cond (isLimited stopped m) (wouldFallWithin m n) (wouldFall m)
+
+-- of the search again of m, what a step made of l's unsearched load: 14, 11
+abbrev pub searchTests : Load → Load → List (Bool × Answer)
+searchTests l m = (clashes (sorted (timetableOf m)), Refused Neighbours) ∷ (fallsAgain (l .stopped) (l .limit) m, Refused NoRoom) ∷ []
 
 -- a full table whose horizon would fall below 3600
 abbrev pub noRoom : Table → Bool
 noRoom r = isFull r && ltb (less (r .horizon)) 3600
 
--- of a call with arrival a and departure d on a searched load: h is its table's horizon, r the table that the cuts reach, m what the
--- call leaves of the unsearched load. A call that is outside only after a cut has the load searched again, so 14 and 11 of that search
+-- of a call with arrival a and departure d on a searched load l: r is the table that the cuts reach, m what the call leaves of the
+-- unsearched load. A call that is outside only after a cut has the load searched again, so 14 and 11 of that search
 -- come before its outside
-abbrev pub againTests : ℕ → Offset → Offset → Table → Load → List (Bool × Answer)
-againTests h a d r m =
-    (outside (r .horizon) a d && not (ltb (r .horizon) h), Outside)
+abbrev pub againTests : Load → Offset → Offset → Table → Load → List (Bool × Answer)
+againTests l a d r m =
+    (outside (r .horizon) a d && not (ltb (r .horizon) (l .«table_horizon»)), Outside)
     ∷ (not (outside (r .horizon) a d) && noRoom r, Refused NoRoom)
-    ∷ searchTests m ++ ((outside (r .horizon) a d, Outside) ∷ [])
+    ∷ searchTests l m ++ ((outside (r .horizon) a d, Outside) ∷ [])
 
 -- after the tests that every call meets
 abbrev pub laterTests : Bool → Load → List ℕ → CallInput → List (Bool × Answer)
@@ -55,7 +60,7 @@ laterTests searched l name i =
     let a = callTime (l .settings) i (i .arrival) in
     let d = callTime (l .settings) i (i .departure) in
     let r = reached (tableOf l) a d in
-    cond searched (againTests (l .«table_horizon») a d r (callSpec (unsearchedOf l) name i .load)) (reachedTests r a d)
+    cond searched (againTests l a d r (callSpec (unsearchedOf l) name i .load)) (reachedTests r a d)
 
 -- 9, 21, not running, absent time, 10, and then those; 15 is no longer one
 abbrev pub addCauses : Load → List ℕ → CallInput → List (Bool × Answer)
@@ -66,7 +71,7 @@ addCauses l name i =
 -- 9, 24; on a searched load then 14, which no load that steps make meets, and 11
 abbrev pub withdrawCauses : Load → CallKey → List (Bool × Answer)
 withdrawCauses l k =
-    cond (l .searched) (withdrawTests (unsearchedOf l) k ++ searchTests (takenOut (unsearchedOf l) k .load)) (withdrawTests l k)
+    cond (l .searched) (withdrawTests (unsearchedOf l) k ++ searchTests l (takenOut (unsearchedOf l) k .load)) (withdrawTests l k)
 
 -- ---- what is claimed: the answer is that of the first test that holds, a taken step has none, and a refused load comes back unchanged
 

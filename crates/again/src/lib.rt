@@ -1,7 +1,9 @@
 // Calls added to and withdrawn from any load. On a searched load each goes back to the unsearched load, is done there, and the load
 // is searched again.
 ghost use mathlib.Core.Path.{_≡_};
-ghost use Rattle.again.specs.Again.{unsearchedOf, again, addedTo, addSpec, takenOut, withdrawSpec};
+ghost use mathlib.Core.Bool.{_&&_};
+ghost use lib.Dec.{leb};
+ghost use Rattle.again.specs.Again.{unsearchedOf, researched, again, addedTo, addSpec, takenOut, withdrawSpec};
 use calls::CallInput;
 use load::Load;
 use load::Stepped;
@@ -11,6 +13,7 @@ use refusal::Refusal;
 use refusal::is_refused;
 use refusal::is_taken;
 use search::search;
+use search::search_within;
 use withdrawal::CallKey;
 use withdrawal::is_known;
 use withdrawal::last_of;
@@ -28,10 +31,36 @@ pub fn unsearched(load: Load) -> Load
     back.horizon = load.table_horizon;
     back.limits = load.table_limits;
     back.searched = false;
+    back.stopped = false;
+    back.limit = 0;
     back
 }
 
-// What a step made of the unsearched load, searched; a refusal, also of the search, leaves the searched load.
+// Whether a load is searched within a limit: its search was stopped, and it has at most one change, as a stopped load has.
+fn is_limited(stopped: bool, most: u8) -> bool
+    ensures { λ r. ⌜ r ≡ (stopped && leb most 1) ⌝ }
+{
+    if stopped {
+        return most <= 1;
+    }
+    false
+}
+
+// The load searched: within the limit where the search before it was stopped there, in full otherwise.
+fn search_as(stopped: bool, limit: u64, load: Load) -> Stepped
+    ensures { λ r. ⌜ r ≡ researched stopped limit load ⌝ }
+{
+    let settings = load.settings;
+    if is_limited(stopped, settings.max_transfers) {
+        let found = search_within(load, limit);
+        let answer = found.answer;
+        let left = found.load;
+        return Stepped { answer, load: left };
+    }
+    search(load)
+}
+
+// What a step made of the unsearched load, searched as that load was; a refusal, also of the search, leaves the searched load.
 fn searched_again(load: Load, made: Stepped) -> Stepped
     ensures { λ r. ⌜ r ≡ again load made ⌝ }
 {
@@ -40,7 +69,7 @@ fn searched_again(load: Load, made: Stepped) -> Stepped
         return Stepped { answer, load };
     }
     let next = made.load;
-    let found = search(next);
+    let found = search_as(load.stopped, load.limit, next);
     let second = found.answer;
     if is_taken(second) {
         let after = found.load;

@@ -20,7 +20,7 @@ use Rattle.any_order.specs.AnyOrder.{InAnyOrder, ProvisoAlike, AnyOrder,
 use Rattle.any_order.proofs.PermLaws.{perm-length, perm-map, perm-concat, perm-any}
 use Rattle.any_order.proofs.FateLaws.{Fate, sent, out, goes, fate, said}
 use Rattle.any_order.proofs.RunLaws.{into, entering, answered, cramped-over, answered-alone, madeOf, Grown, grown}
-use Rattle.any_order.proofs.SearchLaws.{search-order-unread}
+use Rattle.any_order.proofs.SearchLaws.{search-order-unread, limited-order-unread}
 
 -- ---- two loads that grew alike
 
@@ -68,6 +68,7 @@ module _ (l : Load) (s : Sound l) (xs ys : List Named) (p : List·Permᴰ xs ys)
         each = subst (λ (z : List _). List·Permᴰ z (answers l ys)) (sym x) (subst (λ (z : List _). List·Permᴰ (map (answerFirst l) xs) z) (sym y) (perm-map (answerFirst l) p));
         before = o;
         searched = search-order-unread (called l xs) (called l ys) o;
+        limited = λ n. limited-order-unread n (called l xs) (called l ys) o;
       }
 
 -- ---- of every load that an opening and steps make

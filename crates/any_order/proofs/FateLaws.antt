@@ -154,7 +154,7 @@ module _ (l : Load) (i : CallInput) (s : Sound l) where
   as-seen : l .searched ≡ false → (cs : List Call) (n : ℕ)
       → (let t : Table = record { calls = cs; count = n; horizon = l .«table_horizon»; limits = l .«table_limits» } in withTable l t ≡ withSeen l t (seenOf l))
   as-seen u cs n = λ k. withSeen l (record { calls = cs; count = n; horizon = l .«table_horizon»; limits = l .«table_limits» })
-      (record { journeys = l .journeys; count = l .«journey_count»; horizon = sym (s .same-horizon u) k; limits = sym (s .same-limits u) k; searched = l .searched })
+      (record { journeys = l .journeys; count = l .«journey_count»; horizon = sym (s .same-horizon u) k; limits = sym (s .same-limits u) k; searched = l .searched; stopped = l .stopped; limit = l .limit })
 
   is-outside : l .searched ≡ false → uncutOn (l .settings) (l .searched) (l .«stop_count») (l .«call_count») (l .«table_horizon») i ≡ Beyond
       → plainCall l i ≡ record { answer = Outside; load = l }

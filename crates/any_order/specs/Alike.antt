@@ -1,4 +1,5 @@
 -- Two loads that differ in the stored order of calls alone, and a step that takes no notice of it.
+use Prim.Native.Nat.{ℕ}
 use mathlib.Core.Path.{_≡_}
 use mathlib.Core.Bool.{true, false}
 use mathlib.Core.List.{List, List·Permᴰ}
@@ -9,6 +10,7 @@ use Rattle.load.specs.declared.Load.{Load}
 use Rattle.load.specs.declared.Stepped.{Stepped}
 use Rattle.load.specs.Load.{seenOf, withSeen}
 use Rattle.search.specs.Search.{searchSpec}
+use Rattle.search.specs.Within.{withinSpec, stepOf}
 
 -- the load with this array of calls, every other field as it is
 abbrev pub withStored : Load → List Call → Load
@@ -30,6 +32,9 @@ pub record Alike (step : Load → Stepped) (a b : Load) : Type 0 where
 abbrev pub OrderUnread : (Load → Stepped) → Type 0
 OrderUnread step = (a b : Load) → OnlyOrder a b → Alike step a b
 
--- the search is such a step
+-- the search is such a step, in full or within any limit on joins
 abbrev pub SearchOrderUnread : Type 0
 SearchOrderUnread = OrderUnread searchSpec
+
+abbrev pub LimitedOrderUnread : Type 0
+LimitedOrderUnread = (n : ℕ) → OrderUnread (λ l. stepOf (withinSpec l n))

@@ -1,6 +1,6 @@
 -- **Request 14.** Loads opened alike and handed the same stops, services, exceptions and rules in one order, then the same calls in two. "The same
 -- calls" are a bag: refused and repeated ones are among them.
-use Prim.Native.Nat.{_+_, _≤_}
+use Prim.Native.Nat.{ℕ, _+_, _≤_}
 use mathlib.Core.Path.{_≡_}
 use mathlib.Core.Bool.{false}
 use mathlib.Core.List.{List, map, List·Permᴰ}
@@ -9,6 +9,7 @@ use Rattle.load.specs.declared.Load.{Load}
 use Rattle.load.specs.Steps.{Opening, opened}
 use Rattle.load.specs.Filling.{Filling, call, filledBy}
 use Rattle.search.specs.Search.{searchSpec}
+use Rattle.search.specs.Within.{withinSpec, stepOf}
 use Rattle.steps.specs.Steps.{filling, stepped}
 use Rattle.any_order.specs.Calls.{Named, calling, called, answers, answerFirst, cramped}
 use Rattle.any_order.specs.Alike.{OnlyOrder, Alike}
@@ -24,6 +25,8 @@ pub record InAnyOrder (l : Load) (xs ys : List Named) : Type 0 where
   pub before : OnlyOrder (called l xs) (called l ys)
   -- one refusal for both, or equal searched loads: list, horizon, mark and all else
   pub searched : Alike searchSpec (called l xs) (called l ys)
+  -- the same within any limit on joins
+  pub limited : (n : ℕ) → Alike (λ m. stepOf (withinSpec m n)) (called l xs) (called l ys)
 
 -- one order meets 11 or a cut exactly if the other does
 abbrev pub ProvisoAlike : Type 0

@@ -47,7 +47,7 @@ use Rattle.comparison.proofs.Deciding.{Decides, Matches, not-is, dec-as
 use Rattle.comparison.proofs.OneLaws.{one-fits}
 use Rattle.comparison.proofs.SettingLaws.{Opened}
 use Rattle.comparison.proofs.WeekLaws.{datesOf}
-use Rattle.comparison.proofs.StartLaws.{Start, stateAt}
+use Rattle.comparison.proofs.StartLaws.{Start, limitOf, stateAt}
 use Rattle.comparison.proofs.BagLaws.{fits-perm}
 use Rattle.comparison.proofs.AsideLaws.{Like, beside-back, like-more, apart, apart-like, week-beside}
 use Rattle.comparison.proofs.TakenLaws.{given}
@@ -93,10 +93,12 @@ past-six : (b1 b2 b3 b4 b5 b6 p q : Bool) (c1 c2 c3 c4 c5 c6 : Answer) → b1 �
 unfolding firstAnswer
 past-six b1 b2 b3 b4 b5 b6 p q c1 c2 c3 c4 c5 c6 e1 e2 e3 e4 e5 e6 = rw (e1, e2, e3, e4, e5, e6) refl
 
-module _ (s : Settings) (o : Opened s) (u : Load) (gs fs : List Filling) (w : Start s u gs) (like : Like gs fs) (name : List ℕ) (i : CallInput) where
-  -- the searched load's state
+-- l is the searched load
+module _ (s : Settings) (o : Opened s) (l u : Load) (gs fs : List Filling) (w : Start s u gs) (like : Like gs fs) (few : l .stopped ≡ true → s .«max_transfers» ≤ 1)
+    (name : List ℕ) (i : CallInput) where
+  -- its state
   abbrev T : State
-  T = done (stateAt u fs)
+  T = done (limitOf l) (stateAt u fs)
 
   abbrev ta : Offset
   ta = callTime (canonicalOf s) i (i .arrival)
@@ -129,6 +131,13 @@ module _ (s : Settings) (o : Opened s) (u : Load) (gs fs : List Filling) (w : St
 
   abbrev StartAt : Stepped → Type 0
   StartAt x = Start s (x .load) (gs ++ cond (isTaken (x .answer)) (call name i ∷ []) [])
+
+  -- the tests of a call, past those that every call meets
+  abbrev later : List (Bool × Answer)
+  later =
+      (outs && not (ltb (r .horizon) (u .«table_horizon»)), Outside)
+      ∷ (not outs && fulls, Refused NoRoom)
+      ∷ searchTests l (callSpec u name i .load) ++ ((outs, Outside) ∷ [])
 
   module _ (p : Passes (u .week) (u .«stop_count») name i) where
     day : i .day ≤ 2
@@ -185,7 +194,7 @@ module _ (s : Settings) (o : Opened s) (u : Load) (gs fs : List Filling) (w : St
 
     -- the search again of what the call brings, and an outside behind it
     abbrev Again : Load → Type 0
-    Again n = Matches (searchTests n ++ ((outs, Outside) ∷ [])) (againCauses s (Brings s T name i) ++ cause (Fitting s T i Outside) Outside ∷ [])
+    Again n = Matches (searchTests l n ++ ((outs, Outside) ∷ [])) (againCauses s (Brings s T name i) ++ cause (Fitting s T i Outside) Outside ∷ [])
 
     last-match : Matches ((outs, Outside) ∷ []) (cause (Fitting s T i Outside) Outside ∷ [])
     last-match = let f = dec-fit Outside in (refl, dec-as outs (f .0) (f .1) (two-out outs fulls), λ e. tt)
@@ -196,13 +205,13 @@ module _ (s : Settings) (o : Opened s) (u : Load) (gs fs : List Filling) (w : St
         entered : (n : Load) → Came s u gs name i Taken n → Start s n (gs ++ call name i ∷ []) → Again n
         entered n c v =
             let there : Brings s T name i (upTo (more T (call name i)) (n .«table_horizon») (n .«table_limits»)) = causes.taken (fits-perm s i (like .calls) (c .fits)) in
-            again-match s n (gs ++ call name i ∷ []) (fs ++ call name i ∷ []) v o (like-more gs fs (call name i ∷ []) like) T (Brings s T name i) there (λ x b. brings-one x _ b there)
+            again-match s n (gs ++ call name i ∷ []) (fs ++ call name i ∷ []) v o (like-more gs fs (call name i ∷ []) like) T l refl few (Brings s T name i) there (λ x b. brings-one x _ b there)
             ((outs, Outside) ∷ []) (cause (Fitting s T i Outside) Outside ∷ []) last-match
 
         only-cut : (n : Load) → Came s u gs name i Outside n → Start s n gs → Again n
         only-cut n c v =
             let there : Brings s T name i (upTo T (n .«table_horizon») (n .«table_limits»)) = causes.cut (fits-perm s i (like .calls) (c .fits)) in
-            again-match s n gs fs v o like T (Brings s T name i) there (λ x b. brings-one x _ b there)
+            again-match s n gs fs v o like T l refl few (Brings s T name i) there (λ x b. brings-one x _ b there)
             ((outs, Outside) ∷ []) (cause (Fitting s T i Outside) Outside ∷ []) last-match
 
         went : (x : Answer) (n : Load) → Came s u gs name i x n → StartAt (record { answer = x; load = n }) → Again n
@@ -215,29 +224,28 @@ module _ (s : Settings) (o : Opened s) (u : Load) (gs fs : List Filling) (w : St
         by _ e (rested v h) = absurd (true≢false (sym (ap isResting v) ∙ p .awake))
         by _ e back = absurd (true≢false (sym (ap (λ (x : Stepped). isRefused (x .answer)) e) ∙ ap isRefused answer-is ∙ two-answered outs fulls f))
 
-    window-again : Matches (againTests (u .«table_horizon») ta td r (callSpec u name i .load)) (windowCauses true s T name i)
+    window-again : Matches later (windowCauses true s T name i)
     window-again = let f = dec-fit (Refused NoRoom) in
         (refl, dec-unseen, λ e. (refl, dec-as (not outs && fulls) (f .0) (f .1) (two-room outs fulls), λ q. again-so q))
 
-  again-front : Matches ((not (known (u .«stop_count») i), Refused FieldRange) ∷ runningTests (running (u .week) name (i .day)) ++ timeTests i
-      ++ againTests (u .«table_horizon») ta td r (callSpec u name i .load)) (callCauses s T name i)
+  again-front : Matches ((not (known (u .«stop_count») i), Refused FieldRange) ∷ runningTests (running (u .week) name (i .day)) ++ timeTests i ++ later) (callCauses s T name i)
   again-front =
       front-match T (u .week) (u .«stop_count») (week-beside (u .week) fs gs (beside-back (like .beside)) (w .held .week)) refl (w .held .stops ∙ ap length (like .beside .stops)) name i
-      (againTests (u .«table_horizon») ta td r (callSpec u name i .load)) (windowCauses true s T name i) window-again
+      later (windowCauses true s T name i) window-again
 
 -- of the searched load itself
 module _ (s : Settings) (o : Opened s) (l : Load) (fs : List Filling) (e : l .searched ≡ true) (w : Start s (unsearchedOf l) (apart fs)) where
   -- what it was given is what its unsearched load was, and that a search was taken
-  pub state-done : stateAt l fs ≡ done (stateAt (unsearchedOf l) fs)
+  pub state-done : stateAt l fs ≡ done (limitOf l) (stateAt (unsearchedOf l) fs)
   unfolding unsearchedOf
-  state-done = λ k. record { taken = fs; horizon = l .«table_horizon»; limits = l .«table_limits»; searched = e k; dates = datesOf (l .week); closed = l .week .closed }
+  state-done = λ k. record { taken = fs; horizon = l .«table_horizon»; limits = l .«table_limits»; searched = e k; stopped = limitOf l; dates = datesOf (l .week); closed = l .week .closed }
 
-  pub added-match : (name : List ℕ) (i : CallInput) → Matches (addCauses l name i) (callCauses s (stateAt l fs) name i)
+  pub added-match : (l .stopped ≡ true → s .«max_transfers» ≤ 1) → (name : List ℕ) (i : CallInput) → Matches (addCauses l name i) (callCauses s (stateAt l fs) name i)
   unfolding unsearchedOf
-  added-match name i =
+  added-match few name i =
       subst (λ (t : State). Matches (addCauses l name i) (callCauses s t name i)) (sym state-done)
-      (subst (λ (b : Bool). Matches ((not (known (l .«stop_count») i), Refused FieldRange) ∷ runningTests (running (l .week) name (i .day)) ++ timeTests i ++ laterTests b l name i) (callCauses s (done (stateAt (unsearchedOf l) fs)) name i)) (sym e)
+      (subst (λ (b : Bool). Matches ((not (known (l .«stop_count») i), Refused FieldRange) ∷ runningTests (running (l .week) name (i .day)) ++ timeTests i ++ laterTests b l name i) (callCauses s (done (limitOf l) (stateAt (unsearchedOf l) fs)) name i)) (sym e)
       (subst (λ (x : Settings). Matches ((not (known (l .«stop_count») i), Refused FieldRange) ∷ runningTests (running (l .week) name (i .day)) ++ timeTests i
-      ++ againTests (l .«table_horizon») (callTime x i (i .arrival)) (callTime x i (i .departure)) (reached (tableOf l) (callTime x i (i .arrival)) (callTime x i (i .departure))) (callSpec (unsearchedOf l) name i .load))
-      (callCauses s (done (stateAt (unsearchedOf l) fs)) name i)) (sym (w .settings))
-      (again-front s o (unsearchedOf l) (apart fs) fs w (apart-like fs) name i)))
+      ++ againTests l (callTime x i (i .arrival)) (callTime x i (i .departure)) (reached (tableOf l) (callTime x i (i .arrival)) (callTime x i (i .departure))) (callSpec (unsearchedOf l) name i .load))
+      (callCauses s (done (limitOf l) (stateAt (unsearchedOf l) fs)) name i)) (sym (w .settings))
+      (again-front s o l (unsearchedOf l) (apart fs) fs w (apart-like fs) few name i)))

@@ -23,33 +23,30 @@ use Rattle.load.specs.Load.{withWeek}
 use Rattle.load.specs.Steps.{closedLoad, callSpec}
 use Rattle.load.specs.Filling.{Filling, call}
 use Rattle.load.proofs.SoundLaws.{with-week-sound}
-use Rattle.search.specs.Search.{searchSpec}
-use Rattle.again.specs.Again.{unsearchedOf, again, addedTo, addSpec}
+use Rattle.again.specs.Again.{unsearchedOf, researched, again, addedTo, addSpec}
 use Rattle.again.specs.Claims.{Kept}
 use Rattle.again.proofs.SoundLaws.{unsearched-sound}
 use Rattle.steps.specs.Steps.{filling}
-use Rattle.steps.proofs.StepLaws.{taken-searches}
 use Rattle.steps.proofs.ShownLaws.{rawEarlier, shown-more}
-use Rattle.steps.proofs.WeekLaws.{search-week}
-use Rattle.comparison.specs.Taken.{callsIn, State, shut, done}
+use Rattle.comparison.specs.Taken.{callsIn, State, keeping, upTo, shut, done}
 use Rattle.comparison.specs.Services.{Resting}
 use Rattle.comparison.specs.Horizon as fits
 use Rattle.comparison.specs.Horizon.{Fits}
-use Rattle.comparison.specs.Runs.{After, a-call, resting, outside}
+use Rattle.comparison.specs.Runs.{Again, After, a-call, resting, outside}
 use Rattle.comparison.proofs.NthLaws.{calls-append}
 use Rattle.comparison.proofs.SettingLaws.{Opened}
 use Rattle.comparison.proofs.WeekLaws.{WeekHeld, datesOf}
 use Rattle.comparison.proofs.TakenLaws.{week-closed}
-use Rattle.comparison.proofs.StartLaws.{Start, stateAt}
+use Rattle.comparison.proofs.StartLaws.{Start, limitOf, stateAt}
 use Rattle.comparison.proofs.BagLaws.{fits-perm}
 use Rattle.comparison.proofs.AsideLaws.{beside-back, beside-more, like-more, apart, apart-calls, apart-like, week-beside}
 use Rattle.comparison.proofs.ComesLaws.{awake-so, rests-so, Came, Comes, came, rested, back, comes, fill-start}
-use Rattle.comparison.proofs.SearchingLaws.{untaken-refused, search-height, search-mark}
+use Rattle.comparison.proofs.SearchingLaws.{untaken-refused, found-searched, found-state, again-so}
 use Rattle.comparison.proofs.SearchedLaws.{apart-again, searched-start, Leaves, stays-so, same-leaves}
 use Rattle.comparison.proofs.AddedLaws.{fits-unseen, state-done}
 
 module _ (s : Settings) (o : Opened s) (l : Load) (fs : List Filling) (d : l .searched ≡ true) (kept : Kept l) (w : Start s (unsearchedOf l) (apart fs))
-    (days : (j : CallInput) → List·Memᴰ j (callsIn fs) → j .day ≤ 2) (name : List ℕ) (i : CallInput) where
+    (days : (j : CallInput) → List·Memᴰ j (callsIn fs) → j .day ≤ 2) (few : l .stopped ≡ true → s .«max_transfers» ≤ 1) (name : List ℕ) (i : CallInput) where
   abbrev u : Load
   u = unsearchedOf l
 
@@ -60,7 +57,11 @@ module _ (s : Settings) (o : Opened s) (l : Load) (fs : List Filling) (d : l .se
   x = call name i
 
   abbrev T : State
-  T = done (stateAt u fs)
+  T = done (limitOf l) (stateAt u fs)
+
+  -- searched again
+  abbrev once : Load → Stepped
+  once n = researched (l .stopped) (l .limit) n
 
   -- the week holds what was taken, in the order taken too
   week-so : WeekHeld (u .week) fs
@@ -92,22 +93,23 @@ module _ (s : Settings) (o : Opened s) (l : Load) (fs : List Filling) (d : l .se
   stays : (r : Refusal) → LeftBy (record { answer = Refused r; load = l })
   stays r = same-leaves s l fs (filling x) (Refused r) l (stays-so s l fs (filling x) r d w)
 
-  refused-so : (n : Load) → isTaken (searchSpec n .answer) ≡ false → LeftBy (record { answer = searchSpec n .answer; load = l })
-  refused-so n t = untaken-refused n (λ a. LeftBy (record { answer = a; load = l })) stays t
+  refused-so : (n : Load) → n .searched ≡ false → isTaken (once n .answer) ≡ false → LeftBy (record { answer = once n .answer; load = l })
+  refused-so n new t = untaken-refused (l .stopped) (l .limit) n new (λ a. LeftBy (record { answer = a; load = l })) stays t
 
   -- n is searched again
-  module _ (n : Load) (t : isTaken (searchSpec n .answer) ≡ true) where
+  module _ (n : Load) (t : isTaken (once n .answer) ≡ true) where
     found-at : (hs : List Filling) → datesOf (n .week) ≡ datesOf (u .week) → n .week .closed ≡ true
-        → stateAt (searchSpec n .load) hs ≡ record { taken = hs; horizon = n .«table_horizon»; limits = n .«table_limits»; searched = true; dates = datesOf (u .week); closed = true }
+        → stateAt (once n .load) hs ≡ shut (done (limitOf (once n .load)) (upTo (keeping T hs) (n .«table_horizon») (n .«table_limits»)))
     found-at hs e c =
-        (λ j. record { taken = hs; horizon = search-height n j; limits = search-mark n j; searched = taken-searches n t .searched j; dates = datesOf (search-week n j); closed = search-week n j .closed })
-        ∙ (λ j. record { taken = hs; horizon = n .«table_horizon»; limits = n .«table_limits»; searched = true; dates = e j; closed = c j })
+        found-state (l .stopped) (l .limit) n t hs
+        ∙ (λ j. record { taken = hs; horizon = n .«table_horizon»; limits = n .«table_limits»; searched = true; stopped = limitOf (once n .load); dates = e j; closed = c j })
 
-  entered : (n : Load) → Came s u gs name i Taken n → Start s n (gs ++ x ∷ []) → isTaken (searchSpec n .answer) ≡ true → LeftBy (record { answer = Taken; load = searchSpec n .load })
+  entered : (n : Load) → Came s u gs name i Taken n → Start s n (gs ++ x ∷ []) → isTaken (once n .answer) ≡ true → LeftBy (record { answer = Taken; load = once n .load })
   entered n c v t = record {
-    after = from-done Taken _ (subst (After s T (filling x) Taken) (sym (found-at n t (fs ++ x ∷ []) (c .dates) (c .closed))) (a-call (fits-here c)));
-    searched = taken-searches n t .searched;
-    start = searched-start s n (gs ++ x ∷ []) (fs ++ x ∷ []) v (beside-more gs fs (x ∷ []) (apart-like fs .beside)) new-days same t;
+    after = from-done Taken _ (subst (After s T (filling x) Taken) (sym (found-at n t (fs ++ x ∷ []) (c .dates) (c .closed)))
+        (a-call (fits-here c) (again-so s n (gs ++ x ∷ []) (fs ++ x ∷ []) v o (like-more gs fs (x ∷ []) (apart-like fs)) (l .stopped) (l .limit) few t (stateAt u fs))));
+    searched = found-searched (l .stopped) (l .limit) n t;
+    start = searched-start s n (gs ++ x ∷ []) (fs ++ x ∷ []) v (beside-more gs fs (x ∷ []) (apart-like fs .beside)) new-days same (l .stopped) (l .limit) t;
   }
     where
       new-days : (j : CallInput) → List·Memᴰ j (callsIn (fs ++ x ∷ [])) → j .day ≤ 2
@@ -120,11 +122,12 @@ module _ (s : Settings) (o : Opened s) (l : Load) (fs : List Filling) (d : l .se
           ∙ ap (λ (is : List CallInput). inOrder (windowed (n .settings) (n .«table_horizon») is)) (sym (calls-append fs (x ∷ [])))
 
   -- outside after a cut
-  cut-so : (n : Load) → Came s u gs name i Outside n → Start s n gs → isTaken (searchSpec n .answer) ≡ true → LeftBy (record { answer = Outside; load = searchSpec n .load })
-  cut-so n c v t = same-leaves s l fs (filling x) Outside (searchSpec n .load) (record {
-    after = from-done Outside _ (subst (After s T (filling x) Outside) (sym (found-at n t fs (c .dates) (c .closed))) (outside (awake c) (fits-here c)));
-    searched = taken-searches n t .searched;
-    start = searched-start s n gs fs v (apart-like fs .beside) days (apart-again (n .settings) (n .«table_horizon») fs) t;
+  cut-so : (n : Load) → Came s u gs name i Outside n → Start s n gs → isTaken (once n .answer) ≡ true → LeftBy (record { answer = Outside; load = once n .load })
+  cut-so n c v t = same-leaves s l fs (filling x) Outside (once n .load) (record {
+    after = from-done Outside _ (subst (After s T (filling x) Outside) (sym (found-at n t fs (c .dates) (c .closed)))
+        (outside (awake c) (fits-here c) (again-so s n gs fs v o (apart-like fs) (l .stopped) (l .limit) few t (stateAt u fs))));
+    searched = found-searched (l .stopped) (l .limit) n t;
+    start = searched-start s n gs fs v (apart-like fs .beside) days (apart-again (n .settings) (n .«table_horizon») fs) (l .stopped) (l .limit) t;
   })
 
   -- outside with nothing cut: the load stays, its services closed
@@ -134,12 +137,19 @@ module _ (s : Settings) (o : Opened s) (l : Load) (fs : List Filling) (d : l .se
 
   week-at : (v : Week) → datesOf v ≡ datesOf (u .week) → v .closed ≡ true → stateAt (withWeek l v) fs ≡ shut T
   unfolding unsearchedOf
-  week-at v e c = λ j. record { taken = fs; horizon = l .«table_horizon»; limits = l .«table_limits»; searched = d j; dates = e j; closed = c j }
+  week-at v e c = λ j. record { taken = fs; horizon = l .«table_horizon»; limits = l .«table_limits»; searched = d j; stopped = limitOf l; dates = e j; closed = c j }
+
+  -- and is still the search of its own table, within its limit if it has one
+  own-again : Again s T T
+  own-again =
+      let q = kept .own d in
+      let t : isTaken (once u .answer) ≡ true = ap (λ (r : Stepped). isTaken (r .answer)) q in
+      subst (λ (r : Stepped). Again s T (done (limitOf (r .load)) T)) q (again-so s u gs fs w o (apart-like fs) (l .stopped) (l .limit) few t (stateAt u fs))
 
   uncut-so : (n : Load) → Came s u gs name i Outside n → Start s n gs → n .«table_horizon» ≡ l .«table_horizon» → LeftBy (record { answer = Outside; load = withWeek l (n .week) })
   uncut-so n c v e = same-leaves s l fs (filling x) Outside (withWeek l (n .week)) (record {
     after = from-done Outside _ (subst (After s T (filling x) Outside) (sym (week-at (n .week) (c .dates) (c .closed)))
-        (outside (awake c) (fits.outside (fits-unseen (fits-here c) refl (e ∙ sym same-height)))));
+        (outside (awake c) (fits.outside (fits-unseen (fits-here c) refl (e ∙ sym same-height))) own-again));
     searched = d;
     start = week-start (n .week) (v .sound .week) (v .held .week);
   })
@@ -162,21 +172,21 @@ module _ (s : Settings) (o : Opened s) (l : Load) (fs : List Filling) (d : l .se
 
   went : (a : Answer) (n : Load) → Came s u gs name i a n → StartAt (record { answer = a; load = n }) → LeftBy (addedTo l (record { answer = a; load = n }))
   unfolding addedTo again
-  went Taken n c v = go (isTaken (searchSpec n .answer)) refl
+  went Taken n c v = go (isTaken (once n .answer)) refl
     where
-      go : (b : Bool) → isTaken (searchSpec n .answer) ≡ b → LeftBy (cond {A = Stepped} b (record { answer = Taken; load = searchSpec n .load }) (record { answer = searchSpec n .answer; load = l }))
+      go : (b : Bool) → isTaken (once n .answer) ≡ b → LeftBy (cond {A = Stepped} b (record { answer = Taken; load = once n .load }) (record { answer = once n .answer; load = l }))
       go true t = entered n c v t
-      go false t = refused-so n t
-  went Outside n c v = go (eqb (n .«table_horizon») (l .«table_horizon»)) refl (isTaken (searchSpec n .answer)) refl
+      go false t = refused-so n (v .fresh) t
+  went Outside n c v = go (eqb (n .«table_horizon») (l .«table_horizon»)) refl (isTaken (once n .answer)) refl
     where
       at : Start s n gs
       at = subst (Start s n) (append-nil gs) v
 
-      go : (b : Bool) → eqb (n .«table_horizon») (l .«table_horizon») ≡ b → (e : Bool) → isTaken (searchSpec n .answer) ≡ e
-          → LeftBy (cond {A = Stepped} b (record { answer = Outside; load = withWeek l (n .week) }) (cond {A = Stepped} e (record { answer = Outside; load = searchSpec n .load }) (record { answer = searchSpec n .answer; load = l })))
+      go : (b : Bool) → eqb (n .«table_horizon») (l .«table_horizon») ≡ b → (e : Bool) → isTaken (once n .answer) ≡ e
+          → LeftBy (cond {A = Stepped} b (record { answer = Outside; load = withWeek l (n .week) }) (cond {A = Stepped} e (record { answer = Outside; load = once n .load }) (record { answer = once n .answer; load = l })))
       go true q e t = uncut-so n c at (eqb-true (n .«table_horizon») (l .«table_horizon») q)
       go false q true t = cut-so n c at t
-      go false q false t = refused-so n t
+      go false q false t = refused-so n (at .fresh) t
   went (Refused r) n c v = absurd (true≢false (c .answered))
 
   added-so : LeftBy (addedTo l (callSpec u name i))

@@ -154,23 +154,23 @@ module _ (s : Settings) (p : Load) (fs : List Filling) (w : Start s p fs) (o : O
   unfolding timetableOf canonicalOf
   transfers = ap (λ (z : Settings). z .«max_transfers») (w .settings)
 
-  origin-walk : (k : ℕ) → k < s .origins → t .origin-walk k ≡ getD (s .«origin_walks») k 0
+  pub origin-walk : (k : ℕ) → k < s .origins → t .origin-walk k ≡ getD (s .«origin_walks») k 0
   unfolding timetableOf canonicalOf
   origin-walk k l = ap (λ (z : Settings). getD (z .«origin_walks») k 0) (w .settings) ∙ walk-kept (s .origins) (s .«origin_walks») k l (o .origins)
 
-  target-walk : (k : ℕ) → k < s .targets → t .target-walk k ≡ getD (s .«target_walks») k 0
+  pub target-walk : (k : ℕ) → k < s .targets → t .target-walk k ≡ getD (s .«target_walks») k 0
   unfolding timetableOf canonicalOf
   target-walk k l = ap (λ (z : Settings). getD (z .«target_walks») k 0) (w .settings) ∙ walk-kept (s .targets) (s .«target_walks») k l (o .targets)
 
-  starts-in : (b : Call) (k : ℕ) → b .stop < p .«stop_count» → by-load.Starts t b k → (k < s .origins) × Member (stopsIn fs) (b .stop) k
+  pub starts-in : (b : Call) (k : ℕ) → b .stop < p .«stop_count» → by-load.Starts t b k → (k < s .origins) × Member (stopsIn fs) (b .stop) k
   unfolding timetableOf
   starts-in b k l v = (omega (arith, v .count, origins), member-in (b .stop) k 0 l (digit-set k (stopAt (p .stops) (b .stop) .members) (v .member)))
 
-  starts-out : (b : Call) (k : ℕ) → k < s .origins → Member (stopsIn fs) (b .stop) k → t .origin-walk k * 60 ≤ b .departure → by-load.Starts t b k
+  pub starts-out : (b : Call) (k : ℕ) → k < s .origins → Member (stopsIn fs) (b .stop) k → t .origin-walk k * 60 ≤ b .departure → by-load.Starts t b k
   unfolding timetableOf
   starts-out b k l m q = record { count = omega (arith, origins, o .origins); member = set-digit k (stopAt (p .stops) (b .stop) .members) (member-out (b .stop) k m); walked = q }
 
-  ends-in : (a : Call) (k : ℕ) → a .stop < p .«stop_count» → by-load.Ends t a k → (k < s .targets) × Member (stopsIn fs) (a .stop) (4 + k)
+  pub ends-in : (a : Call) (k : ℕ) → a .stop < p .«stop_count» → by-load.Ends t a k → (k < s .targets) × Member (stopsIn fs) (a .stop) (4 + k)
   unfolding timetableOf
   ends-in a k l v =
       (omega (arith, v .count, targets), member-in (a .stop) (4 + k) 0 l (ap (λ (n : ℕ). n % 2) (sym (upper k (stopAt (p .stops) (a .stop) .members))) ∙ digit-set k (stopAt (p .stops) (a .stop) .members / 16) (v .member)))

@@ -13,7 +13,7 @@ use Rattle.withdrawal.specs.declared.CallKey.{CallKey}
 use Rattle.withdrawal.specs.Removal.{withoutLast, namedIn}
 use Rattle.load.specs.declared.Load.{Load}
 use Rattle.load.specs.Filling.{Filling, stop, call, rule, service, exception}
-use Rattle.steps.specs.Steps.{Step, filling, withdraw, search, stepped}
+use Rattle.steps.specs.Steps.{Step, filling, withdraw, search, limited, stepped}
 use Rattle.comparison.specs.Taken.{callsIn}
 
 -- a call with the key that is in the table
@@ -28,6 +28,7 @@ abbrev pub takenAfter : Load → Step → List Filling → List Filling
 takenAfter l (filling x) fs = fs ++ cond (isTaken (stepped l (filling x) .answer)) (x ∷ []) []
 takenAfter l (withdraw k) fs = cond (isTaken (stepped l (withdraw k) .answer)) (withoutLast (namedFilling (l .settings) (l .«table_horizon») k) fs) fs
 takenAfter l search fs = fs
+takenAfter l (limited n) fs = fs
 
 abbrev pub nameIn : Filling → List ℕ
 nameIn (stop id name parent i) = []

@@ -176,7 +176,7 @@ week-beside w gs fs b v = record {
 }
 
 -- what is given to a search by gs is what fs gives, with the calls of gs
-feed-beside : (s : Settings) (t : State) (gs fs : List Filling) → Beside gs fs → feedOf s (keeping t gs) ≡ handing (feedOf s (keeping t fs)) (callsIn gs)
+pub feed-beside : (s : Settings) (t : State) (gs fs : List Filling) → Beside gs fs → feedOf s (keeping t gs) ≡ handing (feedOf s (keeping t fs)) (callsIn gs)
 feed-beside s t gs fs b = λ k. record { settings = s; stops = b .stops k; rules = b .rules k; calls = callsIn gs; horizon = t .horizon; Place = OnePlace (b .stops k) }
 
 pub admits-like : (s : Settings) (t : State) (gs fs : List Filling) → Like gs fs → (j : Journey) → Admits (feedOf s (keeping t gs)) j → Admits (feedOf s (keeping t fs)) j

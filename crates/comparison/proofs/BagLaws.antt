@@ -87,7 +87,7 @@ module _ (F : Feed) (is js : List CallInput) (p : List·Permᴰ is js) where
   joins-perm : (a c : Call) → Joins A a c → Joins B a c
   joins-perm a c w = record { differs = w .differs; seconds = w .seconds; change = change-perm (a .stop) (c .stop) (w .seconds) (w .change); in-time = w .in-time }
 
-  leg-perm : (b a : Call) → Leg A b a → Leg B b a
+  pub leg-perm : (b a : Call) → Leg A b a → Leg B b a
   leg-perm b a w = record {
     boards = w .boards;
     alights = w .alights;

@@ -192,16 +192,16 @@ module _ (s : Settings) (l : Load) (fs : List Filling) (w : Start s l fs) (o : O
     dec-full e = let f = dec-fitting (Refused NoRoom) in dec-as filled (f .0) (f .1) (two-full out filled e)
 
   windowed-so : l .searched ≡ false → (name : List ℕ) → unTimed i ≡ false → i .day ≤ 2 → (b : Bool) → l .searched ≡ b
-      → Matches (cond b (againTests (l .«table_horizon») a d (reached t a d) (callSpec (unsearchedOf l) name i .load)) (tests.callWindow z t i)) (windowCauses b s (stateAt l fs) name i)
+      → Matches (cond b (againTests l a d (reached t a d) (callSpec (unsearchedOf l) name i .load)) (tests.callWindow z t i)) (windowCauses b s (stateAt l fs) name i)
   windowed-so f name u day true e = absurd (true≢false (sym e ∙ f))
   windowed-so f name u day false e = (refl, dec-out u day, λ q. (refl, dec-full u day q, λ r. tt))
 
   pub call-match : (name : List ℕ) → Matches (addCauses l name i) (callCauses s (stateAt l fs) name i)
   call-match name =
       subst (λ (x : Settings). Matches ((not (known (l .«stop_count») i), Refused FieldRange) ∷ runningTests (running (l .week) name (i .day)) ++ timeTests i
-      ++ cond (l .searched) (againTests (l .«table_horizon») (callTime x i (i .arrival)) (callTime x i (i .departure)) (reached t (callTime x i (i .arrival)) (callTime x i (i .departure))) (callSpec (unsearchedOf l) name i .load)) (tests.callWindow x t i))
+      ++ cond (l .searched) (againTests l (callTime x i (i .arrival)) (callTime x i (i .departure)) (reached t (callTime x i (i .arrival)) (callTime x i (i .departure))) (callSpec (unsearchedOf l) name i .load)) (tests.callWindow x t i))
       (callCauses s (stateAt l fs) name i))
       (sym (w .settings))
       (front-match (stateAt l fs) (l .week) (l .«stop_count») (w .held .week) refl (w .held .stops) name i
-      (cond (l .searched) (againTests (l .«table_horizon») a d (reached t a d) (callSpec (unsearchedOf l) name i .load)) (tests.callWindow z t i)) (windowCauses (l .searched) s (stateAt l fs) name i)
+      (cond (l .searched) (againTests l a d (reached t a d) (callSpec (unsearchedOf l) name i .load)) (tests.callWindow z t i)) (windowCauses (l .searched) s (stateAt l fs) name i)
       (λ p. windowed-so (w .fresh) name (p .present) (day-known i (l .«stop_count») (p .right)) (l .searched) refl))

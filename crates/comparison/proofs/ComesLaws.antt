@@ -32,7 +32,7 @@ use Rattle.comparison.specs.Horizon.{Fits}
 use Rattle.comparison.proofs.SettingLaws.{Opened}
 use Rattle.comparison.proofs.WeekLaws.{WeekHeld, datesOf, dec-resting}
 use Rattle.comparison.proofs.TakenLaws.{given, fill-held}
-use Rattle.comparison.proofs.StartLaws.{Start}
+use Rattle.comparison.proofs.StartLaws.{Start, limitOf}
 use Rattle.comparison.proofs.HorizonLaws.{call-fits, showing}
 use Rattle.comparison.proofs.CallLaws.{day-known}
 
@@ -60,6 +60,7 @@ pub record Came (s : Settings) (l : Load) (fs : List Filling) (name : List ℕ) 
   pub dates : datesOf (n .week) ≡ datesOf (l .week)
   pub closed : n .week .closed ≡ true
   pub searched : n .searched ≡ l .searched
+  pub limit : limitOf n ≡ limitOf l
 
 pub data Comes (s : Settings) (l : Load) (fs : List Filling) (name : List ℕ) (i : CallInput) : Stepped → Type 0 where
   came : {a : Answer} {n : Load} → Came s l fs name i a n → Comes s l fs name i (record { answer = a; load = n })
@@ -86,14 +87,14 @@ module _ (s : Settings) (o : Opened s) (l : Load) (fs : List Filling) (w : Start
 
   plain : l .week .dated ≡ false → (a : Answer) → callFitted l i .answer ≡ a
       → Comes s l fs name i (record { answer = a; load = cond (isRefused a) l (withTable l (callFitted l i .table)) })
-  plain d Taken e = came (record { answered = refl; runs = sym (runs-undated (l .week) name (i .day) d); day = λ e. absurd (true≢false (sym e ∙ d)); fits = fits-as Taken e refl; dates = refl; closed = shut-so d; searched = refl })
-  plain d Outside e = came (record { answered = refl; runs = sym (runs-undated (l .week) name (i .day) d); day = λ e. absurd (true≢false (sym e ∙ d)); fits = fits-as Outside e refl; dates = refl; closed = shut-so d; searched = refl })
+  plain d Taken e = came (record { answered = refl; runs = sym (runs-undated (l .week) name (i .day) d); day = λ e. absurd (true≢false (sym e ∙ d)); fits = fits-as Taken e refl; dates = refl; closed = shut-so d; searched = refl; limit = refl })
+  plain d Outside e = came (record { answered = refl; runs = sym (runs-undated (l .week) name (i .day) d); day = λ e. absurd (true≢false (sym e ∙ d)); fits = fits-as Outside e refl; dates = refl; closed = shut-so d; searched = refl; limit = refl })
   plain d (Refused r) e = back
 
   passes : (known (l .«stop_count») i ≡ true) × (running (l .week) name (i .day) ≡ Runs·) → (a : Answer) → callFitted l i .answer ≡ a
       → Comes s l fs name i (record { answer = a; load = cond (isRefused a) l (withWeek (cond (isRefused a) l (withTable l (callFitted l i .table))) (closedWeek (l .week))) })
-  passes g Taken e = came (record { answered = refl; runs = g .1; day = λ e. day-known i (l .«stop_count») (ap not (g .0)); fits = fits-as Taken e refl; dates = refl; closed = refl; searched = refl })
-  passes g Outside e = came (record { answered = refl; runs = g .1; day = λ e. day-known i (l .«stop_count») (ap not (g .0)); fits = fits-as Outside e refl; dates = refl; closed = refl; searched = refl })
+  passes g Taken e = came (record { answered = refl; runs = g .1; day = λ e. day-known i (l .«stop_count») (ap not (g .0)); fits = fits-as Taken e refl; dates = refl; closed = refl; searched = refl; limit = refl })
+  passes g Outside e = came (record { answered = refl; runs = g .1; day = λ e. day-known i (l .«stop_count») (ap not (g .0)); fits = fits-as Outside e refl; dates = refl; closed = refl; searched = refl; limit = refl })
   passes g (Refused r) e = back
 
   pub comes : Comes s l fs name i (callSpec l name i)

@@ -2,20 +2,17 @@
 use mathlib.Core.Path.{_≡_, refl, sym, ap, subst, _∙_}
 use mathlib.Core.Logic.{_⊎_, inl, inr, _↔_}
 use mathlib.Core.Bool.{Bool, true, false, cond}
-use mathlib.Core.Option.{Option, none, some, Option·none-ne-some}
-use mathlib.Core.List.{List, [], _∷_, List·Memᴰ, Permᴰ·symm}
+use mathlib.Core.Option.{Option, none, some}
+use mathlib.Core.List.{List, [], _∷_}
 use Prim.Native.Nat.{ℕ, _+_, _≤_, min}
 use native.Mathlib.Omega.{arith}
 use lib.Dec.{ltb}
 use lib.IntN.{ℤ, pos, negsuc}
 use lib.Signed.{ltZ}
 use lib.ListN.{take}
-use Rattle.laws.proofs.Sort.{perm-mem}
 use borrow.Author.Tests.{ltb-true, ltb-false}
 use Rattle.refusal.specs.declared.Answer.{Answer}
 use Rattle.settings.specs.declared.Settings.{Settings}
-use Rattle.calls.specs.declared.CallInput.{CallInput}
-use Rattle.week.specs.declared.Week.{Week}
 use Rattle.calls.specs.Shown.{tableCalls}
 use Rattle.profile.specs.declared.Journey.{Journey}
 use Rattle.profile.specs.Best.{readBy}
@@ -33,8 +30,12 @@ use Rattle.load.specs.Sound.{Opens, Sound}
 use Rattle.best.specs.Best.{keptOf, afterOf, nextSpec}
 use Rattle.search.specs.Timetable.{timetableOf}
 use Rattle.again.specs.Again.{unsearchedOf}
+use Rattle.again.specs.Claims.{Kept}
 use Rattle.again.proofs.SearchedLaws.{own-sorted}
-use Rattle.steps.specs.Steps.{Step, filling, withdraw, search, numbers}
+use Rattle.again.proofs.OwnLaws.{own-unfinished}
+use Rattle.limited.specs.Limited.{joinsWithin, finishedWithin}
+use Rattle.search.specs.Within.{finishesIn}
+use Rattle.steps.specs.Steps.{Step, filling, withdraw, search, limited, numbers}
 use Rattle.steps.specs.Lists.{endOf}
 use Rattle.steps.specs.Lists as by-load
 use Rattle.steps.specs.Answered.{openNumbers}
@@ -42,19 +43,18 @@ use Rattle.steps.proofs.HeldLaws.{searched-holds, best-agrees}
 use Rattle.steps.proofs.AnsweredLaws.{step-answered, opening-answered}
 use Rattle.steps.proofs.StepLaws.{best-asks, best-none}
 use Rattle.steps.proofs.HandedLaws.{handed-sound}
-use Rattle.steps.proofs.ShownLaws.{rawEarlier}
 use Rattle.time.proofs.Times.{taken as text-taken, answered as text-answered}
 use Rattle.comparison.specs.Best.{BestAt}
 use Rattle.comparison.specs.Taken.{callsIn, State, fresh, keeping}
 use Rattle.comparison.specs.Admitted.{Feed, Admits}
-use Rattle.comparison.specs.Services.{Running}
 use Rattle.comparison.specs.Feeds.{feedOf}
 use Rattle.comparison.specs.Neighbours.{InOrder, Ordered}
 use Rattle.comparison.specs.OfferOrder.{Offered}
+use Rattle.comparison.specs.Events.{Within}
 use Rattle.comparison.specs.Falls.{Falls}
 use Rattle.comparison.specs.Causes.{First, numbersOf, dateCauses, openingCauses, windowCauses, callFront, leftCauses, causesOf}
-use Rattle.comparison.specs.Runs.{After, sent-back, a-stop, a-rule, a-call, resting, outside, a-service, an-exception, a-withdrawal, a-search, Runs, end, step, Admitted}
-use Rattle.comparison.specs.Demands.{answersFrom, LaterOf, Queried, answer, calls, Fills, Lists, Demand1, Demand2, OnlyRunning, Second, Alike, MatchedBy, Demand3}
+use Rattle.comparison.specs.Runs.{Runs, end, Admitted, Finished}
+use Rattle.comparison.specs.Demands.{answersFrom, LaterOf, Queried, answer, calls, Fills, ListOf, Lists, ListsWithin, Demand1, Demand2, Second, Alike, MatchedBy, Demand3}
 use Rattle.comparison.proofs.OrderLaws.{covers-in, covers-out}
 use Rattle.comparison.proofs.AlikeLaws.{alike-reads, reads-alike, second-in, in-second, earlier-is}
 use Rattle.comparison.proofs.KeptLaws.{front-holds}
@@ -63,18 +63,17 @@ use Rattle.comparison.proofs.Deciding.{first-matches}
 use Rattle.comparison.proofs.OneLaws.{one-runs}
 use Rattle.comparison.proofs.SettingLaws.{opens}
 use Rattle.comparison.proofs.CauseLaws.{opening-match}
-use Rattle.comparison.proofs.WeekLaws.{WeekHeld, datesOf, runs-by}
-use Rattle.comparison.proofs.AfterLaws.{call-in}
-use Rattle.comparison.proofs.RunningLaws.{CallsRun}
-use Rattle.comparison.proofs.StartLaws.{Start, stateAt}
+use Rattle.comparison.proofs.StartLaws.{Start, limitOf, limit-is, not-limited, stateAt}
 use Rattle.comparison.proofs.BagLaws.{shown-perm}
-use Rattle.comparison.proofs.AsideLaws.{beside-back, like-back, apart, apart-like, week-beside, admits-like, offered-like}
+use Rattle.comparison.proofs.AsideLaws.{like-back, apart, apart-like, admits-like, offered-like}
 use Rattle.comparison.proofs.AdmittedLaws.{admits}
 use Rattle.comparison.proofs.FallLaws.{fall-falls, endOf as ends-at}
 use Rattle.comparison.proofs.HorizonLaws.{table-shown, showing}
 use Rattle.comparison.proofs.NeighbourLaws.{order-in}
 use Rattle.comparison.proofs.OfferedLaws.{offered-is}
-use Rattle.comparison.proofs.OwnLaws.{ownOffers, OwnFound, own-found, own-admits}
+use Rattle.comparison.proofs.OwnLaws.{ownOffers, ownWithin, OwnFound, own-found, stopped-found, own-admits}
+use Rattle.comparison.proofs.WithinLaws.{within-like, stopped-count}
+use Rattle.comparison.proofs.SearchingLaws.{within-here}
 use Rattle.comparison.proofs.RunLaws.{Walked, walked, opened-state}
 
 -- ---- 1
@@ -122,6 +121,7 @@ in-order s t (withdraw k) = go (t .searched)
     go true = refl
     go false = refl
 in-order s t search = refl
+in-order s t (limited n) = refl
 
 module _ (s : Opening) (o : Opens s) (xs : List Step) where
   pub whole : Walked (s .settings) (opened s) xs []
@@ -152,6 +152,14 @@ demand-1 = record {
 
 -- ---- what the load admits is what is admitted of what was handed in
 
+same-few : (l : Load) → l .settings .«max_transfers» ≤ 1 → unsearchedOf l .settings .«max_transfers» ≤ 1
+unfolding unsearchedOf
+same-few l h = h
+
+unfinished-so : (l : Load) → Kept l → l .stopped ≡ true → finishedWithin (l .limit) (timetableOf (unsearchedOf l)) ≡ false
+unfolding finishesIn
+unfinished-so l k e = own-unfinished l (k .sound) (k .own (k .sound .stopped-search e)) e
+
 -- the searched load's own search is of what was taken
 module _ (s : Opening) (o : Opens s) (xs : List Step) (d : endOf s xs .searched ≡ true) where
   abbrev l : Load
@@ -178,13 +186,23 @@ module _ (s : Opening) (o : Opens s) (xs : List Step) (d : endOf s xs .searched 
         λ a. f .1 (admits-like (s .settings) (stateAt u gs) gs (apart gs) (like-back (apart-like gs)) j (subst (λ (G : Feed). Admits G j) (sym same-feeds) a)),
       )
 
-  own-so : OwnFound (endOf s xs)
-  own-so = own-found (endOf s xs) (whole s o xs .stands .kept .own) d
+  own-so : endOf s xs .stopped ≡ false → OwnFound (endOf s xs) (ownOffers (endOf s xs))
+  own-so e = own-found (endOf s xs) (whole s o xs .stands .kept) d e
 
-  offered-so : Offered (feedOf (s .settings) (ending s o xs)) (ownOffers (endOf s xs))
-  offered-so =
+  offered-so : endOf s xs .stopped ≡ false → Offered (feedOf (s .settings) (ending s o xs)) (ownOffers (endOf s xs))
+  offered-so e =
       subst (λ (G : Feed). Offered G (ownOffers l)) same-feeds
-      (offered-like (s .settings) (stateAt u gs) (apart gs) gs (ownOffers l) (apart-like gs) (offered-is (s .settings) u (apart gs) start (opens s o) (own-so .clear)))
+      (offered-like (s .settings) (stateAt u gs) (apart gs) gs (ownOffers l) (apart-like gs) (offered-is (s .settings) u (apart gs) start (opens s o) (own-so e .clear)))
+
+  -- of a stopped one
+  within-so : (e : endOf s xs .stopped ≡ true) → Within (feedOf (s .settings) (ending s o xs)) (endOf s xs .limit) (ownWithin (endOf s xs)) (endOf s xs .limit) false
+  within-so e =
+      let k = whole s o xs .stands .kept in
+      let w = within-here (s .settings) u (apart gs) start (opens s o) (l .limit) (stopped-found l k e .clear) (same-few l (k .sound .stopped-change e)) in
+      let v = subst (λ (b : Bool). Within (feedOf (s .settings) (stateAt u (apart gs))) (l .limit) (ownWithin l) (joinsWithin (l .limit) (timetableOf u)) b) (unfinished-so l k e) w in
+      stopped-count (feedOf (s .settings) (ending s o xs)) (l .limit) (ownWithin l) (joinsWithin (l .limit) (timetableOf u))
+      (subst (λ (G : Feed). Within G (l .limit) (ownWithin l) (joinsWithin (l .limit) (timetableOf u)) false) same-feeds
+      (within-like (s .settings) (stateAt u gs) (apart gs) gs (l .limit) (ownWithin l) (joinsWithin (l .limit) (timetableOf u)) false (apart-like gs) v))
 
   ordered-so : Ordered (s .settings) (endOf s xs .«table_horizon») (callsIn (whole s o xs .taken)) (calls s xs)
   unfolding unsearchedOf
@@ -227,82 +245,44 @@ module _ (s : Opening) (o : Opens s) (xs : List Step) where
         best = λ z. best-none (endOf s xs) d z;
       }
 
-  lists : endOf s xs .searched ≡ true → Lists s xs (ending s o xs)
-  lists d =
-      let w = searched-holds s xs o d in
-      let e = own-so s o xs d in
-      let p = endOf s xs in
-      let os = ownOffers (endOf s xs) in
+  -- by the offers, all or those before the stop
+  list-of : (d : endOf s xs .searched ≡ true) (os : List Journey) → OwnFound (endOf s xs) os → ListOf s xs (ending s o xs) os
+  list-of d os e = record {
+    ordered = ordered-so s o xs d;
+    holds = front-holds (endOf s xs .horizon) os (keptOf (endOf s xs)) (e .unbeaten);
+    falls = subst (Falls [] (endOf s xs .«table_horizon») (endOf s xs .«table_limits») os) (ap ends-at (e .fell)) (fall-falls [] os (endOf s xs .«table_horizon») (endOf s xs .«table_limits») (omega arith));
+    best = λ z. subst (BestAt (keptOf (endOf s xs)) (endOf s xs .horizon) z) (sym (best-asks (endOf s xs) (handed-sound s xs o .1) d z)) (best-at (keptOf (endOf s xs)) (endOf s xs .horizon) z);
+  }
+
+  lists : endOf s xs .searched ≡ true → endOf s xs .stopped ≡ false → Lists s xs (ending s o xs)
+  lists d f =
+      let w = searched-holds s xs o d f in
+      let e = own-so s o xs d f in
       record {
-        ordered = ordered-so s o xs d;
         offers = ownOffers (endOf s xs);
-        offered = offered-so s o xs d;
+        offered = offered-so s o xs d f;
         admitted = λ j.
-            let f = offers-admitted (timetableOf (unsearchedOf (endOf s xs))) (e .clear) j in
-            (λ m. same-admitted s xs o j .0 (d, own-admits s xs d j .1 (f .0 m)), λ x. f .1 (own-admits s xs d j .0 (same-admitted s xs o j .1 x .1)));
-        holds = front-holds (endOf s xs .horizon) (ownOffers (endOf s xs)) (keptOf (endOf s xs)) (e .unbeaten);
+            let g = offers-admitted (timetableOf (unsearchedOf (endOf s xs))) (e .clear) j in
+            (λ m. same-admitted s xs o j .0 (d, own-admits s xs d j .1 (g .0 m)), λ x. g .1 (own-admits s xs d j .0 (same-admitted s xs o j .1 x .1)));
+        list = list-of d (ownOffers (endOf s xs)) e;
         complete = λ j a l. let (k, b, e′) = w .complete j (same-admitted s xs o j .1 a) l in (k, b, covers-in k j e′);
-        falls = subst (Falls [] (endOf s xs .«table_horizon») (endOf s xs .«table_limits») (ownOffers (endOf s xs))) (ap ends-at (e .fell)) (fall-falls [] (ownOffers (endOf s xs)) (endOf s xs .«table_horizon») (endOf s xs .«table_limits») (omega arith));
-        best = λ z. subst (BestAt (keptOf (endOf s xs)) (endOf s xs .horizon) z) (sym (best-asks (endOf s xs) (handed-sound s xs o .1) d z)) (best-at (keptOf (endOf s xs)) (endOf s xs .horizon) z);
+      }
+
+  lists-within : (n : ℕ) → limitOf (endOf s xs) ≡ some n → ListsWithin s xs (ending s o xs) n
+  lists-within n e =
+      let (f, q) = limit-is (endOf s xs) n e in
+      let k = whole s o xs .stands .kept in
+      let d = k .sound .stopped-search f in
+      record {
+        offers = ownWithin (endOf s xs);
+        offered = subst (λ (x : ℕ). Within (feedOf (s .settings) (ending s o xs)) x (ownWithin (endOf s xs)) x false) q (within-so s o xs d f);
+        list = list-of d (ownWithin (endOf s xs)) (stopped-found (endOf s xs) k f);
       }
 
 pub demand-2 : Demand2
 demand-2 s xs rs v o w =
-    subst (λ (t : State). (t .searched ≡ false → Fills s xs t) × (t .searched ≡ true → Lists s xs t)) (ends-so s o xs rs v w)
-    (fills s o xs, lists s o xs)
-
--- ---- the calls of running services
-
--- the dates are those of the opening
-dates-after : (s : Settings) (t u : State) (x : Step) (a : Answer) → After s t x a u → u .dates ≡ t .dates
-dates-after s t _ _ _ sent-back = refl
-dates-after s t _ _ _ a-stop = refl
-dates-after s t _ _ _ a-rule = refl
-dates-after s t _ _ _ (a-call f) = refl
-dates-after s t _ _ _ (resting r) = refl
-dates-after s t _ _ _ (outside n f) = refl
-dates-after s t _ _ _ a-service = refl
-dates-after s t _ _ _ an-exception = refl
-dates-after s t _ _ _ (a-withdrawal w) = ap (λ (v : State). v .dates) (w .left)
-dates-after s t _ _ _ a-search = refl
-
-dates-kept : (s : Settings) (t v : State) (xs : List Step) (rs : List Answer) → Runs s t xs rs v → v .dates ≡ t .dates
-dates-kept s t _ _ _ end = refl
-dates-kept s t v _ _ (step {u = u} {x = x} {a = a} f g r) = dates-kept s u v _ _ r ∙ dates-after s t u x a g
-
-dated-so : (w : Week) (dates : List ℕ) → datesOf w ≡ some dates → w .dated ≡ true
-dated-so w dates e = go (w .dated) refl e
-  where
-    go : (b : Bool) → w .dated ≡ b → cond b (some (w .dates)) none ≡ some dates → w .dated ≡ true
-    go true d q = d
-    go false d q = absurd (Option·none-ne-some dates q)
-
--- of a load that holds what was taken
-stands-runs : (q : Load) (v : State) → WeekHeld (q .week) (v .taken) → ((j : CallInput) → List·Memᴰ j (callsIn (v .taken)) → j .day ≤ 2) → CallsRun q (v .taken) → v .dates ≡ datesOf (q .week)
-    → (dates : List ℕ) → v .dates ≡ some dates → (name : List ℕ) (i : CallInput) → List·Memᴰ (call name i) (v .taken) → Running v name (i .day)
-stands-runs q v w days r d dates e name i m =
-    let dt = dated-so (q .week) dates (sym d ∙ e) in
-    runs-by w v refl d name (i .day) dt (days i (call-in (v .taken) name i m)) (r dt name i m .1)
-
--- of a searched load, by its unsearched one
-apart-week : (s : Settings) (l : Load) (fs : List Filling) → Start s (unsearchedOf l) (apart fs) → WeekHeld (l .week) fs × ((j : CallInput) → List·Memᴰ j (callsIn fs) → j .day ≤ 2)
-unfolding unsearchedOf
-apart-week s l fs w = (week-beside (l .week) fs (apart fs) (beside-back (apart-like fs .beside)) (w .held .week), λ j m. w .held .days j (perm-mem rawEarlier (Permᴰ·symm (apart-like fs .calls)) m))
-
-pub only-running : OnlyRunning
-only-running s xs rs v o w dates e name i m =
-    let q = ends-so s o xs rs v w in
-    let so : ending s o xs .dates ≡ some dates = dates-kept (s .settings) (fresh (s .dates)) (ending s o xs) xs (answersFrom (opened s) xs) (run s o xs) ∙ e in
-    subst (λ (t : State). Running t name (i .day)) q
-    (go (endOf s xs .searched) refl so (subst (λ (t : State). List·Memᴰ (call name i) (t .taken)) (sym q) m))
-  where
-    go : (b : Bool) → endOf s xs .searched ≡ b → ending s o xs .dates ≡ some dates → List·Memᴰ (call name i) (ending s o xs .taken) → Running (ending s o xs) name (i .day)
-    go true d so k =
-        let (h, ds) = apart-week (s .settings) (endOf s xs) (whole s o xs .taken) (whole s o xs .stands .done d) in
-        stands-runs (endOf s xs) (ending s o xs) h ds (whole s o xs .stands .runs) refl dates so name i k
-    go false d so k =
-        let z = whole s o xs .stands .new d in
-        stands-runs (endOf s xs) (ending s o xs) (z .held .week) (z .held .days) (whole s o xs .stands .runs) refl dates so name i k
+    subst (λ (t : State). (t .searched ≡ false → Fills s xs t) × (t .searched ≡ true → t .stopped ≡ none → Lists s xs t) × ((n : ℕ) → t .stopped ≡ some n → ListsWithin s xs t n)) (ends-so s o xs rs v w)
+    (fills s o xs, λ d e. lists s o xs d (not-limited (endOf s xs) e), lists-within s o xs)
 
 -- ---- 3
 
@@ -314,15 +294,19 @@ matched g s s′ xs xs′ o o′ = (
 )
 
 at-earlier : (s s′ : Opening) (xs xs′ : List Step) (g : ℕ) → g ≡ min (endOf s xs .horizon) (endOf s′ xs′ .horizon) → s .settings .now ≡ s′ .settings .now → Opens s → Opens s′
-    → ((z : ℤ) → Second z → Alike g (answer s xs z) (answer s′ xs′ z)) ↔ (MatchedBy g s xs s′ xs′ × MatchedBy g s′ xs′ s xs)
-at-earlier s s′ xs xs′ g e n o o′ = (
+    → endOf s xs .stopped ≡ false → endOf s′ xs′ .stopped ≡ false → ((z : ℤ) → Second z → Alike g (answer s xs z) (answer s′ xs′ z)) ↔ (MatchedBy g s xs s′ xs′ × MatchedBy g s′ xs′ s xs)
+at-earlier s s′ xs xs′ g e n o o′ f f′ = (
   λ f. let (a, b) = whole .0 (λ z i. alike-reads g (answer s xs z) (answer s′ xs′ z) (f z (in-second z i))) in (matched g s s′ xs xs′ o o′ .0 a, matched g s′ s xs′ xs o′ o .0 b),
   λ (a, b) z i. reads-alike g (answer s xs z) (answer s′ xs′ z) (whole .1 (matched g s s′ xs xs′ o o′ .1 a, matched g s′ s xs′ xs o′ o .1 b) z (second-in z i)),
 )
   where
     whole : ((z : ℤ) → I64 z → readBy journeyFigures g (answer s xs z) ≡ readBy journeyFigures g (answer s′ xs′ z))
         ↔ (CoveredBy g (by-load.Admitted s xs) (by-load.Admitted s′ xs′) × CoveredBy g (by-load.Admitted s′ xs′) (by-load.Admitted s xs))
-    whole = subst (λ (k : ℕ). ((z : ℤ) → I64 z → readBy journeyFigures k (answer s xs z) ≡ readBy journeyFigures k (answer s′ xs′ z)) ↔ (CoveredBy k (by-load.Admitted s xs) (by-load.Admitted s′ xs′) × CoveredBy k (by-load.Admitted s′ xs′) (by-load.Admitted s xs))) (sym e) (best-agrees s s′ xs xs′ n o o′)
+    whole = subst (λ (k : ℕ). ((z : ℤ) → I64 z → readBy journeyFigures k (answer s xs z) ≡ readBy journeyFigures k (answer s′ xs′ z)) ↔ (CoveredBy k (by-load.Admitted s xs) (by-load.Admitted s′ xs′) × CoveredBy k (by-load.Admitted s′ xs′) (by-load.Admitted s xs))) (sym e) (best-agrees s s′ xs xs′ n o o′ f f′)
+
+-- no stopped search, by what was handed in and by the load
+pub finished-load : (s : Opening) (xs : List Step) → Opens s → Finished s xs → endOf s xs .stopped ≡ false
+finished-load s xs o f = not-limited (endOf s xs) (ap (λ (t : State). t .stopped) (ends-so s o xs (f .answers) (f .end) (f .runs)) ∙ f .finished)
 
 pub demand-3 : Demand3
-demand-3 s s′ xs xs′ g n o o′ e = at-earlier s s′ xs xs′ g (earlier-is g _ _ e) n o o′
+demand-3 s s′ xs xs′ g n o o′ f f′ e = at-earlier s s′ xs xs′ g (earlier-is g _ _ e) n o o′ (finished-load s xs o f) (finished-load s′ xs′ o′ f′)

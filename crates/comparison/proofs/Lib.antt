@@ -25,6 +25,10 @@ pub mod AsideLaws
 pub mod FallLaws
 pub mod OfferLaws
 pub mod OfferedLaws
+pub mod EventLaws
+pub mod WithinLaws
+pub mod StatedLaws
+pub mod MarginLaws
 pub mod HorizonLaws
 pub mod NeighbourLaws
 pub mod CauseLaws
@@ -33,6 +37,7 @@ pub mod CallLaws
 pub mod ComesLaws
 pub mod AddedLaws
 pub mod SearchedLaws
+pub mod SearchStepLaws
 pub mod AddedStepLaws
 pub mod WithdrawLaws
 pub mod SearchingLaws
@@ -40,7 +45,9 @@ pub mod RunLaws
 pub mod AlikeLaws
 pub mod OwnLaws
 pub mod DemandLaws
+pub mod OnlyRunningLaws
 pub mod AgainLaws
+pub mod LimitedLaws
 pub mod WitnessLaws
 pub mod ShownLaws
 pub mod DisplayLaws

@@ -97,10 +97,10 @@ same-offers t =
 
 -- ---- rides in order
 
-abbrev RideBefore : Leg Call → Leg Call → Type 0
+abbrev pub RideBefore : Leg Call → Leg Call → Type 0
 RideBefore r q = CallBefore (r .b) (q .b) ⊎ ((r .b ≡ q .b) × CallBefore (r .a) (q .a))
 
-abbrev FirstBefore : First Call → First Call → Type 0
+abbrev pub FirstBefore : First Call → First Call → Type 0
 FirstBefore f g =
     CallBefore (f .ride .b) (g .ride .b) ⊎ ((f .ride .b ≡ g .ride .b) × ((f .o < g .o) ⊎ ((f .o ≡ g .o) × CallBefore (f .ride .a) (g .ride .a))))
 
@@ -108,7 +108,7 @@ module _ (N : Network Call) (bits : (b : Call) → Pairs _<_ (N .origins b)) whe
   run-pairs : (b : Call) (later : List Call) → Pairs CallBefore later → Pairs CallBefore (alightings N b later)
   run-pairs b later p = pairs-filter CallBefore (N .alight) (takeWhile (N .same b) later) (pairs-while CallBefore (N .same b) later p)
 
-  rides-pairs : (s : List Call) → Pairs CallBefore s → Pairs RideBefore (rides N s)
+  pub rides-pairs : (s : List Call) → Pairs CallBefore s → Pairs RideBefore (rides N s)
   unfolding rides
   rides-pairs s p =
       pairs-tails RideBefore CallBefore (λ b later. cond (N .board b) (map (leg b) (alightings N b later)) []) s p
@@ -134,7 +134,7 @@ module _ (N : Network Call) (bits : (b : Call) → Pairs _<_ (N .origins b)) whe
       (λ o p l f g m n. let (a, e) = from-is b later o f m in let (c, d) = from-is b later p g n in
       subst (λ (x : First Call). FirstBefore x g) e (subst (FirstBefore (firstRide o b a)) d (inr (refl, inl l))))
 
-  firsts-pairs : (s : List Call) → Pairs CallBefore s → Pairs FirstBefore (firstRides N s)
+  pub firsts-pairs : (s : List Call) → Pairs CallBefore s → Pairs FirstBefore (firstRides N s)
   unfolding firstRides from
   firsts-pairs s p =
       pairs-tails FirstBefore CallBefore (λ b later. cond (N .board b) (concatMap (from b later) (N .origins b)) []) s p
@@ -157,7 +157,7 @@ Of f x = ((k : ℕ) × (byAlone f k ≡ x)) ⊎ ((l : Leg Call) × (k : ℕ) × 
 before-by : (x y e f : Offer) → e ≡ x → f ≡ y → Before e f → Before x y
 before-by x y e f p q w = subst (λ (z : Offer). Before z y) p (subst (λ (z : Offer). Before e z) q w)
 
-sooner : (f g : First Call) (Rest : Type 0) → FirstBefore f g → Sooner (f .ride .b) (f .o) (f .ride .a) (g .ride .b) (g .o) (g .ride .a) Rest
+pub sooner : (f g : First Call) (Rest : Type 0) → FirstBefore f g → Sooner (f .ride .b) (f .o) (f .ride .a) (g .ride .b) (g .o) (g .ride .a) Rest
 sooner f g Rest (inl l) = inl l
 sooner f g Rest (inr (e, inl l)) = inr (e, inl l)
 sooner f g Rest (inr (e, inr (q, l))) = inr (e, inr (q, inl l))
@@ -169,11 +169,11 @@ by-first f g w x y (inr (l, k, e)) (inl (k′, e′)) = before-by x y (byChangin
 by-first f g w x y (inr (l, k, e)) (inr (l′, k′, e′)) = before-by x y (byChanging f l k) (byChanging g l′ k′) e e′ (sooner f g _ w)
 
 module _ (t : Timetable) (s : List Call) (p : Pairs CallBefore s) where
-  bits : (b : Call) → Pairs _<_ (networkOf t .origins b)
+  pub bits : (b : Call) → Pairs _<_ (networkOf t .origins b)
   unfolding networkOf
   bits b = pairs-filter _<_ (λ o. leb (t .origin-walk o * 60) (b .departure)) (bitsFrom (min (t .origins) 4) 0 (t .members (b .stop))) (pairs-bits (min (t .origins) 4) 0 (t .members (b .stop)))
 
-  targets : (a : Call) → Pairs _<_ (networkOf t .targets a)
+  pub targets : (a : Call) → Pairs _<_ (networkOf t .targets a)
   unfolding networkOf
   targets a = pairs-bits (min (t .targets) 4) 0 (t .members (a .stop) / 16)
 
@@ -198,7 +198,7 @@ module _ (t : Timetable) (s : List Call) (p : Pairs CallBefore s) where
         let (k, e) = last-of l x n in
         (l, k, e)
 
-    alone-pairs : Pairs Before alones
+    pub alone-pairs : Pairs Before alones
     unfolding directs
     alone-pairs = pairs-map Before _<_ (byAlone f) (networkOf t .targets (f .ride .a)) (targets (f .ride .a)) (λ k k′ l. inr (refl, inr (refl, inr (refl, l))))
 
@@ -272,7 +272,7 @@ module _ (t : Timetable) (s : List Call) (p : Pairs CallBefore s) where
       let (l, k, e) = middle-is f m x n in
       (m, l, k, e)
 
-  ride-sooner : (l l′ : Leg Call) {Rest : Type 0} → RideBefore l l′ → RideSooner (l .b) (l .a) (l′ .b) (l′ .a) Rest
+  pub ride-sooner : (l l′ : Leg Call) {Rest : Type 0} → RideBefore l l′ → RideSooner (l .b) (l .a) (l′ .b) (l′ .a) Rest
   ride-sooner l l′ (inl h) = inl h
   ride-sooner l l′ (inr (q, h)) = inr (q, inl h)
 
@@ -337,7 +337,7 @@ module _ (t : Timetable) (s : List Call) (p : Pairs CallBefore s) where
       ∙ concatMap-cong (λ f. map keyBy (concatMap (λ n. map (routeOf f) (onward N n s (f .ride))) (2 ∷ []))) throughs
       (λ f. ap (map keyBy) (append-nil (map (routeOf f) (onward N 2 s (f .ride)))) ∙ map-map keyBy (routeOf f) (onward N 2 s (f .ride)) ∙ two-on f) (firstRides N s)
 
-  few-keys : (depth : ℕ) → depth ≤ 1 → map keyBy (routes (networkOf t) depth s) ≡ journeys (networkOf t) byAlone byChanging depth s
+  pub few-keys : (depth : ℕ) → depth ≤ 1 → map keyBy (routes (networkOf t) depth s) ≡ journeys (networkOf t) byAlone byChanging depth s
   few-keys depth h = up-to-one (networkOf t) depth s byAlone byChanging keyBy h (λ f k. refl) (λ f l k. refl)
 
   all-keys : (depth : ℕ) → 2 ≤ depth → map keyBy (routes (networkOf t) depth s) ≡ journeys (networkOf t) byAlone byChanging 1 s ++ concatMap throughs (firstRides (networkOf t) s)

@@ -32,14 +32,14 @@ use Rattle.comparison.proofs.OfferLaws.{keyBy, keys, toJ, pairs-offers,
 
 -- ---- the calls of an offer
 
-abbrev KeyOf : Timetable → Offer → Type 0
+abbrev pub KeyOf : Timetable → Offer → Type 0
 KeyOf t (alone b o a k) = Rides (t .calls) b a × Starts t b o × Ends t a k
 KeyOf t (changing b o a c d k) = (1 ≤ t .max-transfers) × Rides (t .calls) b a × Rides (t .calls) c d × Starts t b o × Ends t d k × (t .joins (rideOf b a) c ≡ true)
 KeyOf t (through b o a c d e g k) =
     (2 ≤ t .max-transfers) × Rides (t .calls) b a × Rides (t .calls) c d × Rides (t .calls) e g × Starts t b o × Ends t g k × (t .joins (rideOf b a) c ≡ true) × (t .joins (rideOf c d) e ≡ true)
 
 module _ (t : Timetable) (clear : Clear t) where
-  p : Pairs CallBefore (sorted t)
+  pub p : Pairs CallBefore (sorted t)
   p = rises (sorted t) (clear-rising t clear)
 
   by-route : (r : Route Call) → AdmittedRoute t r → KeyOf t (keyBy r)
@@ -52,10 +52,10 @@ module _ (t : Timetable) (clear : Clear t) where
       subst (λ (v : Way Call). KeyOf t (keyBy (routeOf (r .first) v))) (sym (d ∙ ap (rideThen m) (e ∙ ap (rideThen l) q))) (w .may, w .ride, middle, last, w .starts, en, joined, joins)
   by-route r (suc (suc (suc n)), h, w) = absurd (omega arith)
 
-  key-in : (x : Offer) → List·Memᴰ x (keys t (sorted t)) → KeyOf t x
+  pub key-in : (x : Offer) → List·Memᴰ x (keys t (sorted t)) → KeyOf t x
   key-in x m = let (r, i, e) = Memᴰ·of-map keyBy (routesOf t) m in subst (KeyOf t) e (by-route r (routes-admitted t clear r .0 i))
 
-  key-mem : (x : Offer) → KeyOf t x → List·Memᴰ x (keys t (sorted t))
+  pub key-mem : (x : Offer) → KeyOf t x → List·Memᴰ x (keys t (sorted t))
   key-mem (alone b o a k) (r, st, en) =
       Memᴰ·map keyBy (routes-admitted t clear (routeOf (firstRide o b a) (here k)) .1 (0, omega arith, record { may = omega arith; ride = r; starts = st; on = (k, en, refl) }))
   key-mem (changing b o a c d k) (e, r, r′, st, en, j) =
@@ -74,17 +74,17 @@ module _ (s : Settings) (l : Load) (fs : List Filling) (w : Start s l fs) (o : O
   abbrev t : Timetable
   t = timetableOf l
 
-  gives : (x : Offer) → KeyOf t x → Gives F x (toJ t x)
+  pub gives : (x : Offer) → KeyOf t x → Gives F x (toJ t x)
   unfolding timetableOf direct-in change-in three-in
   gives (alone b i a k) (r, st, en) = (direct-in s l fs w o b a i k r st en, refl, refl, refl, refl)
   gives (changing b i a c d k) (e, r, r′, st, en, j) = (change-in s l fs w o b a c d i k e r r′ j st en, refl, refl, refl, refl, refl, refl)
   gives (through b i a c d x y k) (e, r, r′, r″, st, en, j, j′) = (three-in s l fs w o b a c d x y i k e r r′ r″ j j′ st en, refl, refl, refl, refl, refl, refl, refl, refl)
 
-  each-gives : (es : List Offer) → ((x : Offer) → List·Memᴰ x es → KeyOf t x) → Each F es (map (toJ t) es)
+  pub each-gives : (es : List Offer) → ((x : Offer) → List·Memᴰ x es → KeyOf t x) → Each F es (map (toJ t) es)
   each-gives [] f = tt
   each-gives (e ∷ es) f = (gives e (f e (List·Memᴰ·head refl)), each-gives es (λ x m. f x (List·Memᴰ·tail m)))
 
-  given : (x : Offer) (j : Journey) → Gives F x j → KeyOf t x
+  pub given : (x : Offer) (j : Journey) → Gives F x j → KeyOf t x
   unfolding timetableOf direct-out change-out three-out
   given (alone b i a k) j (v, eb, ea, ei, ek) =
       let u = direct-out s l fs w o j v in
@@ -123,19 +123,19 @@ call-asym b c (inr (q, inl l)) (inr (q′, inr (r, l′))) = omega arith
 call-asym b c (inr (q, inr (r, l))) (inr (q′, inl l′)) = omega arith
 call-asym b c (inr (q, inr (r, l))) (inr (q′, inr (r′, l′))) = omega arith
 
-by-call : (b c : Call) {R Q : Type 0} → (R → Q → ⊥) → (CallBefore b c ⊎ ((b ≡ c) × R)) → (CallBefore c b ⊎ ((c ≡ b) × Q)) → ⊥
+pub by-call : (b c : Call) {R Q : Type 0} → (R → Q → ⊥) → (CallBefore b c ⊎ ((b ≡ c) × R)) → (CallBefore c b ⊎ ((c ≡ b) × Q)) → ⊥
 by-call b c f (inl l) (inl l′) = call-asym b c l l′
 by-call b c f (inl l) (inr (e, q)) = irr b c (sym e) l
 by-call b c f (inr (e, r)) (inl l) = irr c b (sym e) l
 by-call b c f (inr (e, r)) (inr (e′, q)) = f r q
 
-by-number : (m n : ℕ) {R Q : Type 0} → (R → Q → ⊥) → ((m < n) ⊎ ((m ≡ n) × R)) → ((n < m) ⊎ ((n ≡ m) × Q)) → ⊥
+pub by-number : (m n : ℕ) {R Q : Type 0} → (R → Q → ⊥) → ((m < n) ⊎ ((m ≡ n) × R)) → ((n < m) ⊎ ((n ≡ m) × Q)) → ⊥
 by-number m n f (inl l) (inl l′) = omega arith
 by-number m n f (inl l) (inr (e, q)) = omega arith
 by-number m n f (inr (e, r)) (inl l) = omega arith
 by-number m n f (inr (e, r)) (inr (e′, q)) = f r q
 
-before-asym : (e f : Offer) → Before e f → Before f e → ⊥
+pub before-asym : (e f : Offer) → Before e f → Before f e → ⊥
 before-asym (alone b o a k) (alone b′ o′ a′ k′) v w = by-call b b′ (by-number o o′ (by-call a a′ (λ l l′. omega arith))) v w
 before-asym (alone b o a k) (changing b′ o′ a′ c′ d′ k′) v w = by-call b b′ (by-number o o′ (by-call a a′ (λ u x. x))) v w
 before-asym (changing b o a c d k) (alone b′ o′ a′ k′) v w = by-call b b′ (by-number o o′ (by-call a a′ (λ x u. x))) v w
@@ -182,7 +182,7 @@ module _ (F : Feed) where
       (one-ride (v .c) (v .d) (w .c) (w .d) (j .middle) (k .middle) (ec ∙ sym fc) (ed ∙ sym fd) (v .middle) (w .middle))
       (one-ride (v .e) (v .g) (w .e) (w .g) (j .last) (k .last) (ex ∙ sym fx) (ey ∙ sym fy) (v .last) (w .last))
 
-  each-mem : (es : List Offer) (js : List Journey) → Each F es js → (e : Offer) → List·Memᴰ e es → (j : Journey) × Gives F e j
+  pub each-mem : (es : List Offer) (js : List Journey) → Each F es js → (e : Offer) → List·Memᴰ e es → (j : Journey) × Gives F e j
   each-mem [] [] w e m = absurd (List·Memᴰ·not-nil m)
   each-mem [] (j ∷ js) w e m = absurd w
   each-mem (x ∷ es) [] w e m = absurd w
@@ -192,7 +192,7 @@ module _ (F : Feed) where
       go (inl q) ih = (j, subst (λ (y : Offer). Gives F y j) (sym q) (w .0))
       go (inr n) ih = ih n
 
-  each-one : (es : List Offer) (js ks : List Journey) → Each F es js → Each F es ks → js ≡ ks
+  pub each-one : (es : List Offer) (js ks : List Journey) → Each F es js → Each F es ks → js ≡ ks
   each-one [] [] [] v w = refl
   each-one [] [] (k ∷ ks) v w = absurd w
   each-one [] (j ∷ js) ks v w = absurd v

@@ -32,19 +32,20 @@ use Rattle.laws.proofs.Sort.{perm-mem}
 use Rattle.services.specs.Exceptions.{daysOn, exceptedOf}
 use Rattle.week.specs.Weeks.{undatedWeek, datedWeek, serviceOf, withServices, serviceTests, serviceAnswer, serviceOn, exceptionTests, exceptionAnswer, placeIn, serviceIn, exceptionOn}
 use Rattle.search.specs.Search.{searchSpec}
-use Rattle.search.proofs.RunLaws.{untaken-stays}
+use Rattle.search.specs.declared.Limited.{Limited}
+use Rattle.search.specs.Within.{withinSpec}
+use Rattle.search.proofs.WithinLaws.{within-again}
 use Rattle.again.specs.Again.{unsearchedOf, addSpec, takenOut, withdrawSpec}
 use Rattle.again.specs.Claims.{Kept}
-use Rattle.steps.specs.Steps.{Step, filling, withdraw, search, stepped, causes}
+use Rattle.steps.specs.Steps.{Step, filling, withdraw, search, limited, stepped, causes}
 use Rattle.steps.specs.Lists.{next, handed}
-use Rattle.steps.proofs.StepLaws.{first-holds, filled-stays, search-stays, filled-searched, taken-searches}
+use Rattle.steps.proofs.StepLaws.{first-holds, filled-stays, search-stays, filled-searched}
 use Rattle.steps.proofs.AnsweredLaws.{step-answered}
 use Rattle.steps.proofs.ShownLaws.{rawEarlier}
-use Rattle.steps.proofs.WeekLaws.{search-week}
 use Rattle.steps.proofs.WithdrawnLaws.{step-kept, end-kept}
-use Rattle.comparison.specs.Taken.{callsIn, State, fresh, done}
+use Rattle.comparison.specs.Taken.{callsIn, State, fresh}
 use Rattle.comparison.specs.Causes.{First, causesOf}
-use Rattle.comparison.specs.Runs.{After, sent-back, a-stop, a-rule, a-call, resting, outside, a-service, an-exception, a-search, Runs, end, step}
+use Rattle.comparison.specs.Runs.{in-full, After, sent-back, a-stop, a-rule, a-call, resting, outside, a-service, an-exception, Runs, end, step}
 use Rattle.comparison.specs.Demands.{answersFrom}
 use Rattle.comparison.proofs.Deciding.{Matches, first-matches}
 use Rattle.comparison.proofs.TakenLaws.{given}
@@ -52,15 +53,16 @@ use Rattle.comparison.proofs.SettingLaws.{Opened, opens}
 use Rattle.comparison.proofs.WeekLaws.{datesOf}
 use Rattle.comparison.proofs.AfterLaws.{namedFilling, takenAfter}
 use Rattle.comparison.proofs.RunningLaws.{CallsRun, step-runs}
-use Rattle.comparison.proofs.StartLaws.{Start, opened-fresh, opened-start, stateAt}
-use Rattle.comparison.proofs.AsideLaws.{beside-same, apart, apart-like}
+use Rattle.comparison.proofs.StartLaws.{Start, opened-fresh, opened-start, limitOf, no-limit, stateAt}
+use Rattle.comparison.proofs.AsideLaws.{apart, apart-like}
 use Rattle.comparison.proofs.CauseLaws.{stop-match, rule-match}
 use Rattle.comparison.proofs.ServiceLaws.{service-match, exception-match}
 use Rattle.comparison.proofs.CallLaws.{call-match}
 use Rattle.comparison.proofs.ComesLaws.{awake-so, rests-so, Came, Comes, came, rested, back, comes, fill-start}
 use Rattle.comparison.proofs.AddedLaws.{added-match}
-use Rattle.comparison.proofs.SearchingLaws.{search-match, search-outside, search-height, search-mark}
-use Rattle.comparison.proofs.SearchedLaws.{searched-start, Leaves, stays-so, same-leaves}
+use Rattle.comparison.proofs.SearchingLaws.{search-match, limited-match}
+use Rattle.comparison.proofs.SearchedLaws.{Leaves, stays-so, same-leaves, few-changes}
+use Rattle.comparison.proofs.SearchStepLaws.{search-so, limited-so}
 use Rattle.comparison.proofs.AddedStepLaws.{added-leaves}
 use Rattle.comparison.proofs.WithdrawLaws.{withdraw-match, withdrawn-so, withdrawn-match, withdrawn-leaves-so}
 
@@ -128,22 +130,27 @@ module _ (s : Settings) (o : Opened s) (l : Load) (fs : List Filling) (w : Start
   matches (filling (exception name date kind)) = exception-match s l fs w name date kind
   matches (withdraw k) = withdraw-match s o l fs w k
   matches search = search-match s l fs w o
+  matches (limited n) = limited-match s l fs w o n
 
   -- nothing more is taken
   same : (x : Step) (a : Answer) (m : Load) → After s t x a (stateAt m fs) → After s t x a (stateAt m (fs ++ []))
   same x a m v = subst (λ (gs : List Filling). After s t x a (stateAt m gs)) (sym (append-nil fs)) v
 
+  -- an unsearched load has no limit
+  unlimited : limitOf l ≡ none
+  unlimited = no-limit l (w .sound) (w .fresh)
+
   call-after : (name : List ℕ) (i : CallInput) (r : Stepped) → Comes s l fs name i r → After s t (filling (call name i)) (r .answer) (stateAt (r .load) (fs ++ cond (isTaken (r .answer)) (call name i ∷ []) []))
   call-after name i _ (came {a = a} {n = n} c) = go a c
     where
       -- an answered call closes the services
-      at : (a : Answer) (gs : List Filling) → Came s l fs name i a n → stateAt n gs ≡ record { taken = gs; horizon = n .«table_horizon»; limits = n .«table_limits»; searched = l .searched; dates = datesOf (l .week); closed = true }
-      at a gs v = λ k. record { taken = gs; horizon = n .«table_horizon»; limits = n .«table_limits»; searched = v .searched k; dates = v .dates k; closed = v .closed k }
+      at : (a : Answer) (gs : List Filling) → Came s l fs name i a n → stateAt n gs ≡ record { taken = gs; horizon = n .«table_horizon»; limits = n .«table_limits»; searched = l .searched; stopped = limitOf l; dates = datesOf (l .week); closed = true }
+      at a gs v = λ k. record { taken = gs; horizon = n .«table_horizon»; limits = n .«table_limits»; searched = v .searched k; stopped = v .limit k; dates = v .dates k; closed = v .closed k }
 
       go : (a : Answer) → Came s l fs name i a n → After s (stateAt l fs) (filling (call name i)) a (stateAt n (fs ++ cond (isTaken a) (call name i ∷ []) []))
-      go Taken v = subst (After s (stateAt l fs) (filling (call name i)) Taken) (sym (at Taken (fs ++ call name i ∷ []) v)) (a-call (v .fits))
+      go Taken v = subst (After s (stateAt l fs) (filling (call name i)) Taken) (sym (at Taken (fs ++ call name i ∷ []) v)) (a-call (v .fits) (in-full unlimited))
       go Outside v = same (filling (call name i)) Outside n (subst (After s (stateAt l fs) (filling (call name i)) Outside) (sym (at Outside fs v))
-          (outside (awake-so (l .week) fs (w .held .week) (stateAt l fs) refl refl name i (v .runs) (v .day)) (v .fits)))
+          (outside (awake-so (l .week) fs (w .held .week) (stateAt l fs) refl refl name i (v .runs) (v .day)) (v .fits) (in-full unlimited)))
       go (Refused r) v = absurd (true≢false (v .answered))
   call-after name i _ (rested v h) = same (filling (call name i)) Outside (closedLoad l) (resting (rests-so (l .week) fs (w .held .week) (stateAt l fs) refl refl name i v h))
   call-after name i _ (back {r = r}) = same (filling (call name i)) (Refused r) l sent-back
@@ -179,16 +186,6 @@ module _ (s : Settings) (o : Opened s) (l : Load) (fs : List Filling) (w : Start
       go Taken e = an-exception
       go Outside e = absurd (exception-outside l name date kind e)
       go (Refused r) e = same (filling (exception name date kind)) (Refused r) l sent-back
-
-  search-after : After s t search (searchSpec l .answer) (stateAt (searchSpec l .load) fs)
-  search-after = go (searchSpec l .answer) refl
-    where
-      go : (a : Answer) → searchSpec l .answer ≡ a → After s (stateAt l fs) search a (stateAt (searchSpec l .load) fs)
-      go Taken e =
-          let q : stateAt (searchSpec l .load) fs ≡ done (stateAt l fs) = λ k. record { taken = fs; horizon = search-height l k; limits = search-mark l k; searched = taken-searches l (ap isTaken e) .searched k; dates = datesOf (search-week l k); closed = search-week l k .closed } in
-          subst (After s (stateAt l fs) search Taken) (sym q) a-search
-      go Outside e = absurd (search-outside l e)
-      go (Refused r) e = subst (λ (m : Load). After s (stateAt l fs) search (Refused r) (stateAt m fs)) (sym (untaken-stays l (ap isTaken e))) sent-back
 
   -- a call is what it is before a search
   call-same : (name : List ℕ) (i : CallInput) → addSpec l name i ≡ callSpec l name i
@@ -227,20 +224,8 @@ module _ (s : Settings) (o : Opened s) (l : Load) (fs : List Filling) (w : Start
         new = λ d. v .1;
         done = λ d. absurd (true≢false (sym d ∙ v .1 .fresh));
       }
-  new-step search = record {
-    first = by-matches s l fs search (matches search);
-    after = search-after;
-    new = λ d. go d (isTaken (searchSpec l .answer)) refl;
-    done = λ d. found d (isTaken (searchSpec l .answer)) refl;
-  }
-    where
-      go : searchSpec l .load .searched ≡ false → (b : Bool) → isTaken (searchSpec l .answer) ≡ b → Start s (searchSpec l .load) fs
-      go d true q = absurd (true≢false (sym (taken-searches l q .searched) ∙ d))
-      go d false q = subst (λ (m : Load). Start s m fs) (sym (untaken-stays l q)) w
-
-      found : searchSpec l .load .searched ≡ true → (b : Bool) → isTaken (searchSpec l .answer) ≡ b → Start s (unsearchedOf (searchSpec l .load)) (apart fs)
-      found d true q = searched-start s l fs fs w (beside-same fs) (w .held .days) refl q
-      found d false q = absurd (true≢false (sym d ∙ ap (λ (m : Load). m .searched) (untaken-stays l q) ∙ w .fresh))
+  new-step search = let v = search-so s o l fs w in record { first = by-matches s l fs search (matches search); after = v .after; new = v .new; done = v .done }
+  new-step (limited n) = let v = limited-so s o l fs w n in record { first = by-matches s l fs (limited n) (matches (limited n)); after = v .after; new = v .new; done = v .done }
 
 -- ---- a load that is searched: a call and a withdrawal have it searched again, and every other step is sent back with 15
 
@@ -255,6 +240,10 @@ answered-15 l (exception name date kind) e f = first-holds (step-answered l (fil
 module _ (s : Settings) (o : Opened s) (l : Load) (fs : List Filling) (v : Stands s l fs) (e : l .searched ≡ true) where
   w : Start s (unsearchedOf l) (apart fs)
   w = v .done e
+
+  -- a stopped load has at most one change
+  few : l .stopped ≡ true → s .«max_transfers» ≤ 1
+  few = few-changes s l fs w (v .kept .sound)
 
   days : (j : CallInput) → List·Memᴰ j (callsIn fs) → j .day ≤ 2
   days j m = w .held .days j (perm-mem rawEarlier (Permᴰ·symm (apart-like fs .calls)) m)
@@ -274,18 +263,23 @@ module _ (s : Settings) (o : Opened s) (l : Load) (fs : List Filling) (v : Stand
   done-step : (x : Step) → Stepping s l fs x
   done-step (filling (stop id name parent i)) = back-step (stop id name parent i) (inl (e, refl)) refl (answered-15 l (stop id name parent i) e (λ n j q. let z : _≡_ {A = ℕ} 0 1 = cc in omega arith))
   done-step (filling (call name i)) =
-      left-step (filling (call name i)) (by-matches s l fs (filling (call name i)) (added-match s o l fs e w name i)) (added-leaves s o l fs e (v .kept) w days name i)
+      left-step (filling (call name i)) (by-matches s l fs (filling (call name i)) (added-match s o l fs e w few name i)) (added-leaves s o l fs e (v .kept) w days few name i)
   done-step (filling (rule i)) = back-step (rule i) (inl (e, refl)) refl (answered-15 l (rule i) e (λ n j q. let z : _≡_ {A = ℕ} 0 1 = cc in omega arith))
   done-step (filling (service name weekdays start to)) =
       back-step (service name weekdays start to) (inl (inl e, refl)) refl (answered-15 l (service name weekdays start to) e (λ n j q. let z : _≡_ {A = ℕ} 0 1 = cc in omega arith))
   done-step (filling (exception name date kind)) =
       back-step (exception name date kind) (inl (inl e, refl)) refl (answered-15 l (exception name date kind) e (λ n j q. let z : _≡_ {A = ℕ} 0 1 = cc in omega arith))
-  done-step (withdraw k) = left-step (withdraw k) (by-matches s l fs (withdraw k) (withdrawn-match s o l fs e (v .kept) w days k)) (withdrawn-leaves-so s o l fs e (v .kept) w days k)
+  done-step (withdraw k) = left-step (withdraw k) (by-matches s l fs (withdraw k) (withdrawn-match s o l fs e (v .kept) w days few k)) (withdrawn-leaves-so s o l fs e (v .kept) w days few k)
   done-step search =
       let a : searchSpec l .answer ≡ Refused AlreadySearched = first-holds (step-answered l search .first) e in
       left-step search (inl (e, a))
       (subst (λ (m : Load). Leaves s l fs search (searchSpec l .answer) m fs) (sym (search-stays l e))
       (subst (λ (y : Answer). Leaves s l fs search y l fs) (sym a) (stays-so s l fs search AlreadySearched e w)))
+  done-step (limited n) =
+      let a : withinSpec l n .answer ≡ Refused AlreadySearched = first-holds (step-answered l (limited n) .first) e in
+      left-step (limited n) (inl (e, a))
+      (subst (λ (m : Load). Leaves s l fs (limited n) (withinSpec l n .answer) m fs) (sym (ap (λ (r : Limited). r .load) (within-again l n e)))
+      (subst (λ (y : Answer). Leaves s l fs (limited n) y l fs) (sym a) (stays-so s l fs (limited n) AlreadySearched e w)))
 
 -- ---- the whole list
 

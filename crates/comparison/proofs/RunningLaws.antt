@@ -20,10 +20,10 @@ use Rattle.load.specs.Steps.{isUnknown, isResting, serviceSpec, exceptionSpec}
 use Rattle.load.specs.Filling.{Filling, stop, call, rule, service, exception, filled}
 use Rattle.withdrawal.specs.Removal.{withoutLast}
 use Rattle.again.specs.Again.{addSpec, withdrawSpec}
-use Rattle.steps.specs.Steps.{Step, filling, withdraw, search}
+use Rattle.steps.specs.Steps.{Step, filling, withdraw, search, limited}
 use Rattle.steps.specs.Lists.{next}
 use Rattle.steps.proofs.AnsweredLaws.{step-answered}
-use Rattle.steps.proofs.WeekLaws.{search-week, stop-week, rule-week, withdraw-week, add-week, add-closes, step-dated}
+use Rattle.steps.proofs.WeekLaws.{search-week, within-week, stop-week, rule-week, withdraw-week, add-week, add-closes, step-dated}
 use Rattle.comparison.proofs.AfterLaws.{namedFilling, takenAfter, nameIn, inputIn, without-mem}
 
 -- the week is closed, and the service runs
@@ -102,3 +102,4 @@ step-runs l (withdraw k) fs w d name i m = run-less l (next l (withdraw k)) fs (
     go true x m = without-mem (namedFilling (l .settings) (l .«table_horizon») k) fs x m
     go false x m = m
 step-runs l search fs w d name i m = run-less l (next l search) fs fs (search-week l) (λ x k. k) w d name i m
+step-runs l (limited n) fs w d name i m = run-less l (next l (limited n)) fs fs (within-week l n) (λ x k. k) w d name i m

@@ -1,7 +1,7 @@
 -- A search that is taken: its unsearched load holds what was taken, with the calls in order. And what a step on a searched load must leave.
 use Prim.Native.Nat.{ℕ, _≤_}
 use mathlib.Core.Path.{_≡_, refl, sym, ap, subst, _∙_}
-use mathlib.Core.Bool.{true}
+use mathlib.Core.Bool.{Bool, true}
 use mathlib.Core.List.{List, [], _++_, map, append-nil, List·Memᴰ}
 use lib.ListN.{length}
 use Rattle.laws.proofs.Sort.{sort-mem}
@@ -10,6 +10,7 @@ use Rattle.refusal.specs.declared.Answer.the-variants.{Refused}
 use Rattle.refusal.specs.declared.Refusal.{Refusal}
 use Rattle.refusal.specs.First.{isTaken}
 use Rattle.settings.specs.declared.Settings.{Settings}
+use Rattle.settings.specs.Settings.{canonicalOf}
 use Rattle.calls.specs.declared.CallInput.{CallInput}
 use Rattle.calls.specs.Shown.{windowed}
 use Rattle.rules.specs.Rules.{ruleOf}
@@ -21,10 +22,9 @@ use Rattle.load.specs.declared.Load.{Load}
 use Rattle.load.specs.declared.Stepped.{Stepped}
 use Rattle.load.specs.Filling.{Filling}
 use Rattle.load.specs.Sound.{Sound}
-use Rattle.search.specs.Search.{withJourneys, searchSpec}
-use Rattle.search.proofs.RunLaws.{taken-found}
-use Rattle.search.proofs.SearchSound.{search-sound}
-use Rattle.again.specs.Again.{unsearchedOf}
+use Rattle.search.specs.Search.{withFound}
+use Rattle.again.specs.Again.{unsearchedOf, researched}
+use Rattle.again.proofs.ResearchLaws.{taken-researched, researched-sound}
 use Rattle.again.proofs.SortLaws.{in-order-again}
 use Rattle.again.proofs.SoundLaws.{unsearched-sound}
 use Rattle.steps.specs.Steps.{Step}
@@ -52,10 +52,10 @@ module _ (s : Settings) (p : Load) (gs fs : List Filling) (w : Start s p gs) (b 
   both : Beside (apart fs) gs
   both = beside-on (apart-like fs .beside) (beside-back b)
 
-  start-so : (ks : List Journey) (h m : ℕ) → Sound (withJourneys p ks h m) → Start s (unsearchedOf (withJourneys p ks h m)) (apart fs)
+  start-so : (ks : List Journey) (h m : ℕ) (stop : Bool) (n : ℕ) → Sound (withFound p ks h m stop n) → Start s (unsearchedOf (withFound p ks h m stop n)) (apart fs)
   unfolding unsearchedOf
-  start-so ks h m v = record {
-    sound = unsearched-sound (withJourneys p ks h m) v;
+  start-so ks h m stop n v = record {
+    sound = unsearched-sound (withFound p ks h m stop n) v;
     settings = w .settings;
     held = record {
       calls = sorted-front (p .«call_count») (p .calls) ∙ ap inOrder (w .held .calls) ∙ same ∙ sym (shown-apart (p .settings) (p .«table_horizon») fs);
@@ -68,11 +68,16 @@ module _ (s : Settings) (p : Load) (gs fs : List Filling) (w : Start s p gs) (b 
     fresh = refl;
   }
 
-  pub searched-start : isTaken (searchSpec p .answer) ≡ true → Start s (unsearchedOf (searchSpec p .load)) (apart fs)
-  searched-start t =
-      let f = taken-found p t in
-      let is : searchSpec p .load ≡ withJourneys p (f .kept) (f .to) (f .mark) = ap (λ (r : Stepped). r .load) (f .is) in
-      subst (λ (n : Load). Start s (unsearchedOf n) (apart fs)) (sym is) (start-so (f .kept) (f .to) (f .mark) (subst Sound is (search-sound p (w .sound))))
+  pub searched-start : (limited : Bool) (n : ℕ) → isTaken (researched limited n p .answer) ≡ true → Start s (unsearchedOf (researched limited n p .load)) (apart fs)
+  searched-start limited n t =
+      let f = taken-researched limited n p t in
+      let is : researched limited n p .load ≡ withFound p (f .kept) (f .to) (f .mark) (f .stop) (f .at) = ap (λ (r : Stepped). r .load) (f .is) in
+      subst (λ (m : Load). Start s (unsearchedOf m) (apart fs)) (sym is) (start-so (f .kept) (f .to) (f .mark) (f .stop) (f .at) (subst Sound is (researched-sound limited n p (w .sound))))
+
+-- a stopped load has at most one change, so what was handed in says so
+pub few-changes : (s : Settings) (l : Load) (fs : List Filling) → Start s (unsearchedOf l) (apart fs) → Sound l → l .stopped ≡ true → s .«max_transfers» ≤ 1
+unfolding unsearchedOf canonicalOf
+few-changes s l fs w v e = subst (λ (k : ℕ). k ≤ 1) (ap (λ (z : Settings). z .«max_transfers») (w .settings)) (v .stopped-change e)
 
 -- ---- a step x on the searched load l, answered a, leaves n, and hs taken
 

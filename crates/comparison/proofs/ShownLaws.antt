@@ -1,8 +1,8 @@
 -- The premises of what is claimed of displays can be met: a display of one group, whose load a list of steps leaves.
 use mathlib.Core.Path.{_≡_, refl, sym, ap, _∙_}
 use mathlib.Core.Bool.{Bool, true, false, not, true≢false, false≢true, _||_}
-use mathlib.Core.List.{List, [], _∷_, map, List·Memᴰ·head}
-use Prim.Native.Nat.{ℕ, _≤_}
+use mathlib.Core.List.{[], _∷_, map, List·Memᴰ·head}
+use Prim.Native.Nat.{_≤_}
 use native.Mathlib.Omega.{arith}
 use lib.IntN.{ℤ, pos, negsuc}
 use lib.ListN.{length, length-map}
@@ -14,7 +14,6 @@ use Rattle.profile.specs.Figures.{Figures}
 use Rattle.profile.specs.Journeys.{journeyFigures}
 use Rattle.load.specs.declared.Load.{Load}
 use Rattle.best.specs.Best.{keptOf}
-use Rattle.groups.specs.declared.Group.{Group}
 use Rattle.groups.specs.Groups.{slotOf, groupOf, groupAt, startOr, lowestStart}
 use Rattle.groups.specs.Refused.{unlike, isWrong, twice, turnedAway}
 use Rattle.display.specs.Parts.{countIn}

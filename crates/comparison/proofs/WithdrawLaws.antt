@@ -25,8 +25,7 @@ use Rattle.withdrawal.specs.declared.CallKey.{CallKey}
 use Rattle.withdrawal.specs.Removal.{withoutLast, hasKey, keyKnown, withdrawn, namedIn}
 use Rattle.withdrawal.proofs.LeftLaws.{withdrawn-leaves}
 use Rattle.withdrawal.proofs.ShownLaws.{any-shown, shown-without}
-use Rattle.search.specs.Search.{searchSpec}
-use Rattle.again.specs.Again.{unsearchedOf, again, withdrawTests, takenOut, withdrawSpec}
+use Rattle.again.specs.Again.{unsearchedOf, researched, again, withdrawTests, takenOut, withdrawSpec}
 use Rattle.again.specs.Causes as tests
 use Rattle.again.specs.Causes.{searchTests}
 use Rattle.again.specs.Claims.{Kept}
@@ -34,22 +33,20 @@ use Rattle.again.proofs.SortLaws.{in-order-again, sorted-without, any-sorted}
 use Rattle.again.proofs.SoundLaws.{Goes, there-goes, out-cases, taken-out-sound}
 use Rattle.again.proofs.SearchedLaws.{own-clear}
 use Rattle.steps.specs.Steps.{withdraw}
-use Rattle.steps.proofs.StepLaws.{taken-searches}
 use Rattle.steps.proofs.ShownLaws.{rawEarlier}
-use Rattle.steps.proofs.WeekLaws.{search-week}
 use Rattle.comparison.specs.Taken.{StopGiven, callsIn, State, keeping, done}
 use Rattle.comparison.specs.Withdrawal.{NoneSuch, Withdrawn}
 use Rattle.comparison.specs.Causes.{againCauses, withdrawCauses}
-use Rattle.comparison.specs.Runs.{After, sent-back, a-withdrawal}
+use Rattle.comparison.specs.Runs.{in-full, After, sent-back, a-withdrawal}
 use Rattle.comparison.proofs.Deciding.{Decides, Matches, dec-as}
 use Rattle.comparison.proofs.SettingLaws.{Opened}
 use Rattle.comparison.proofs.TakenLaws.{HeldAs}
 use Rattle.comparison.proofs.WeekLaws.{datesOf}
-use Rattle.comparison.proofs.StartLaws.{Start, stateAt}
+use Rattle.comparison.proofs.StartLaws.{Start, limitOf, no-limit, stateAt}
 use Rattle.comparison.proofs.AfterLaws.{namedFilling, without-mem}
 use Rattle.comparison.proofs.GoneLaws.{dec-key, any-calls, calls-without, dec-none, gone-is, one-withdrawn}
 use Rattle.comparison.proofs.AsideLaws.{Beside, beside-on, beside-back, beside-less, apart, apart-like, week-beside}
-use Rattle.comparison.proofs.SearchingLaws.{again-match, untaken-refused, search-height, search-mark}
+use Rattle.comparison.proofs.SearchingLaws.{again-match, untaken-refused, found-searched, found-state, again-so}
 use Rattle.comparison.proofs.SearchedLaws.{shown-apart, apart-again, apart-days, searched-start, Leaves, stays-so}
 use Rattle.comparison.proofs.AddedLaws.{state-done}
 
@@ -105,7 +102,7 @@ module _ (s : Settings) (o : Opened s) (l : Load) (fs : List Filling) (w : Start
   withdraw-match = go (l .searched) refl
     where
       go : (b : Bool) → l .searched ≡ b
-          → Matches (cond b (withdrawTests (unsearchedOf l) k ++ searchTests (takenOut (unsearchedOf l) k .load)) (withdrawTests l k)) (withdrawCauses s (record { taken = fs; horizon = h; limits = l .«table_limits»; searched = b; dates = datesOf (l .week); closed = l .week .closed }) k)
+          → Matches (cond b (withdrawTests (unsearchedOf l) k ++ searchTests l (takenOut (unsearchedOf l) k .load)) (withdrawTests l k)) (withdrawCauses s (record { taken = fs; horizon = h; limits = l .«table_limits»; searched = b; stopped = limitOf l; dates = datesOf (l .week); closed = l .week .closed }) k)
       go true e = absurd (true≢false (sym e ∙ w .fresh))
       go false e = (refl, dec-key k, λ p. (refl, dec-24, λ q. tt))
 
@@ -137,21 +134,25 @@ module _ (s : Settings) (o : Opened s) (l : Load) (fs : List Filling) (w : Start
   ))
     where
       goes : (g : Goes l k) → After s (stateAt l fs) (withdraw k) Taken (stateAt (outOf l k) (left (g .there)))
-      goes g = a-withdrawal (gone-so (g .there))
+      goes g = a-withdrawal (gone-so (g .there)) (in-full (no-limit l (w .sound) (w .fresh)))
 
 -- ---- on a searched load
 
 module _ (s : Settings) (o : Opened s) (l : Load) (fs : List Filling) (d : l .searched ≡ true) (kept : Kept l) (w : Start s (unsearchedOf l) (apart fs))
-    (days : Days (callsIn fs)) (k : CallKey) where
+    (days : Days (callsIn fs)) (few : l .stopped ≡ true → s .«max_transfers» ≤ 1) (k : CallKey) where
   abbrev u : Load
   u = unsearchedOf l
+
+  -- searched again
+  abbrev once : Load → Stepped
+  once n = researched (l .stopped) (l .limit) n
 
   abbrev seen : List Call
   seen = windowed (u .settings) (u .«table_horizon») (callsIn fs)
 
   -- the state of the searched load
   abbrev T : State
-  T = done (stateAt u fs)
+  T = done (limitOf l) (stateAt u fs)
 
   calls-so : tableCalls (tableOf u) ≡ inOrder seen
   calls-so = w .held .calls ∙ shown-apart (u .settings) (u .«table_horizon») fs
@@ -197,52 +198,52 @@ module _ (s : Settings) (o : Opened s) (l : Load) (fs : List Filling) (d : l .se
         left-start s u k (apart fs) (apart rest) w known there
         (beside-on (apart-like rest .beside) (beside-on (left-beside s T k rest gone-again) (beside-back (apart-like fs .beside)))) (apart-days rest rest-days) rest-calls
 
-    rest-again : Matches (searchTests (outOf u k)) (againCauses s (Withdrawn s T k))
+    rest-again : Matches (searchTests l (outOf u k)) (againCauses s (Withdrawn s T k))
     unfolding withdrawn
-    rest-again = again-match s (outOf u k) (apart rest) rest rest-start o (apart-like rest) T (Withdrawn s T k) gone-again (λ x b. one-withdrawn s T k x (keeping T rest) b gone-again) [] [] tt
+    rest-again = again-match s (outOf u k) (apart rest) rest rest-start o (apart-like rest) T l refl few (Withdrawn s T k) gone-again (λ x b. one-withdrawn s T k x (keeping T rest) b gone-again) [] [] tt
 
     -- searched again
-    rest-searched : isTaken (searchSpec (outOf u k) .answer) ≡ true → Leaves s l fs (withdraw k) Taken (searchSpec (outOf u k) .load) rest
+    rest-searched : isTaken (once (outOf u k) .answer) ≡ true → Leaves s l fs (withdraw k) Taken (once (outOf u k) .load) rest
     unfolding withdrawn
     rest-searched t =
-        let n : Load = outOf u k in
-        let at : stateAt (searchSpec (outOf u k) .load) rest ≡ keeping T rest = λ j. record { taken = rest; horizon = search-height (outOf u k) j; limits = search-mark (outOf u k) j; searched = taken-searches (outOf u k) t .searched j; dates = datesOf (search-week (outOf u k) j); closed = search-week (outOf u k) j .closed } in
+        let at : stateAt (once (outOf u k) .load) rest ≡ done (limitOf (once (outOf u k) .load)) (keeping T rest) = found-state (l .stopped) (l .limit) (outOf u k) t rest in
         record {
-          after = subst (λ (x : State). After s x (withdraw k) Taken (stateAt (searchSpec (outOf u k) .load) rest)) (sym (state-done s o l fs d w))
-              (subst (After s T (withdraw k) Taken) (sym at) (a-withdrawal gone-again));
-          searched = taken-searches (outOf u k) t .searched;
-          start = searched-start s (outOf u k) (apart rest) rest rest-start (apart-like rest .beside) rest-days (apart-again (u .settings) (u .«table_horizon») rest) t;
+          after = subst (λ (x : State). After s x (withdraw k) Taken (stateAt (once (outOf u k) .load) rest)) (sym (state-done s o l fs d w))
+              (subst (After s T (withdraw k) Taken) (sym at) (a-withdrawal gone-again
+              (again-so s (outOf u k) (apart rest) rest rest-start o (apart-like rest) (l .stopped) (l .limit) few t (stateAt u fs))));
+          searched = found-searched (l .stopped) (l .limit) (outOf u k) t;
+          start = searched-start s (outOf u k) (apart rest) rest rest-start (apart-like rest .beside) rest-days (apart-again (u .settings) (u .«table_horizon») rest) (l .stopped) (l .limit) t;
         }
 
-  withdraw-front : Matches (withdrawTests u k ++ searchTests (takenOut u k .load)) (withdrawCauses s T k)
+  withdraw-front : Matches (withdrawTests u k ++ searchTests l (takenOut u k .load)) (withdrawCauses s T k)
   withdraw-front = (refl, dec-key k, λ e. (refl, dec-gone, λ f. go e f))
     where
-      go : not (keyKnown k) ≡ false → not (anyb (hasKey k) (tableCalls (tableOf u))) ≡ false → Matches (searchTests (takenOut u k .load)) (againCauses s (Withdrawn s T k))
+      go : not (keyKnown k) ≡ false → not (anyb (hasKey k) (tableCalls (tableOf u))) ≡ false → Matches (searchTests l (takenOut u k .load)) (againCauses s (Withdrawn s T k))
       go e f =
           let known = is-not (keyKnown k) e in
           let there = is-not (anyb (hasKey k) (tableCalls (tableOf u))) f in
-          subst (λ (r : Stepped). Matches (searchTests (r .load)) (againCauses s (Withdrawn s T k))) (sym (there-goes u k known there)) (rest-again known there)
+          subst (λ (r : Stepped). Matches (searchTests l (r .load)) (againCauses s (Withdrawn s T k))) (sym (there-goes u k known there)) (rest-again known there)
 
   pub withdrawn-match : Matches (tests.withdrawCauses l k) (withdrawCauses s (stateAt l fs) k)
   withdrawn-match =
       subst (λ (t : State). Matches (tests.withdrawCauses l k) (withdrawCauses s t k)) (sym (state-done s o l fs d w))
-      (subst (λ (b : Bool). Matches (cond b (withdrawTests u k ++ searchTests (takenOut u k .load)) (withdrawTests l k)) (withdrawCauses s T k)) (sym d) withdraw-front)
+      (subst (λ (b : Bool). Matches (cond b (withdrawTests u k ++ searchTests l (takenOut u k .load)) (withdrawTests l k)) (withdrawCauses s T k)) (sym d) withdraw-front)
 
   abbrev LeftBy : Stepped → Type 0
   LeftBy r = Leaves s l fs (withdraw k) (r .answer) (r .load) (cond (isTaken (r .answer)) (withoutLast (namedFilling (u .settings) (u .«table_horizon») k) fs) fs)
 
-  refused-so : (n : Load) → isTaken (searchSpec n .answer) ≡ false → LeftBy (record { answer = searchSpec n .answer; load = l })
-  refused-so n t = untaken-refused n (λ a. LeftBy (record { answer = a; load = l })) (λ r. stays-so s l fs (withdraw k) r d w) t
+  refused-so : (n : Load) → n .searched ≡ false → isTaken (once n .answer) ≡ false → LeftBy (record { answer = once n .answer; load = l })
+  refused-so n new t = untaken-refused (l .stopped) (l .limit) n new (λ a. LeftBy (record { answer = a; load = l })) (λ r. stays-so s l fs (withdraw k) r d w) t
 
   withdrawn-again : LeftBy (again l (takenOut u k))
   unfolding again
   withdrawn-again = out-cases u k (λ r. LeftBy (again l r)) (λ e. stays-so s l fs (withdraw k) _ d w) (λ e f. stays-so s l fs (withdraw k) _ d w)
-      (λ g. go g (isTaken (searchSpec (outOf u k) .answer)) refl)
+      (λ g. go g (isTaken (once (outOf u k) .answer)) refl)
     where
-      go : (g : Goes u k) → (b : Bool) → isTaken (searchSpec (outOf u k) .answer) ≡ b
-          → LeftBy (cond {A = Stepped} b (record { answer = Taken; load = searchSpec (outOf u k) .load }) (record { answer = searchSpec (outOf u k) .answer; load = l }))
+      go : (g : Goes u k) → (b : Bool) → isTaken (once (outOf u k) .answer) ≡ b
+          → LeftBy (cond {A = Stepped} b (record { answer = Taken; load = once (outOf u k) .load }) (record { answer = once (outOf u k) .answer; load = l }))
       go g true t = rest-searched (g .known) (g .there) t
-      go g false t = refused-so (outOf u k) t
+      go g false t = refused-so (outOf u k) (w .fresh) t
 
   pub withdrawn-leaves-so : Leaves s l fs (withdraw k) (withdrawSpec l k .answer) (withdrawSpec l k .load) (cond (isTaken (withdrawSpec l k .answer)) (withoutLast (namedFilling (l .settings) (l .«table_horizon») k) fs) fs)
   unfolding withdrawSpec unsearchedOf

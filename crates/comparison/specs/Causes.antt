@@ -1,7 +1,8 @@
 -- "Why a call is sent back", as propositions over what was taken before and what is handed in, in 01's order: "Settings 1, 2. Stop 15, 3,
 -- 5, 6, 7, 8, 4. Call 15, 9, absent time, 10, outside, 11. Rule 15, 9, 12, 13, 11. Search 15, 14, 11." With request 03: settings with dates 1,
 -- 2, 20; service 15, 3, 5, 20, 22; exception 15, 20, 21; of a call 21 and a day when the service doesn't run, after 9. With request 11: "15 no
--- longer meets a call"; withdrawal 9, 24; on a searched load then, of both, 14 and 11 of the search again.
+-- longer meets a call"; withdrawal 9, 24; on a searched load then, of both, 14 and 11 of the search again. With request 12: limited search 15, 1,
+-- 14, 11.
 use mathlib.Core.Path.{_≡_}
 use mathlib.Core.Logic.{_⊎_}
 use mathlib.Core.Bool.{Bool, true, false, cond}
@@ -30,7 +31,7 @@ use Rattle.rules.specs.declared.MinTime.the-variants as min-time
 use Rattle.profile.specs.declared.Journey.{Journey}
 use Rattle.load.specs.Steps.{Opening}
 use Rattle.load.specs.Filling.{stop, call, rule, service, exception}
-use Rattle.steps.specs.Steps.{Step, filling, withdraw, search}
+use Rattle.steps.specs.Steps.{Step, filling, withdraw, search, limited}
 use Rattle.comparison.specs.Taken.{StopGiven, stopsIn, callsIn, rulesIn, servicesIn, State, more, upTo}
 use Rattle.comparison.specs.Services.{NoDate, Named, Unknown, Resting}
 use Rattle.comparison.specs.Feeds.{feedOf}
@@ -39,6 +40,7 @@ use Rattle.comparison.specs.Withdrawal.{NoneSuch, Withdrawn}
 use Rattle.comparison.specs.Horizon.{Fits}
 use Rattle.comparison.specs.Neighbours.{Clashing}
 use Rattle.comparison.specs.OfferOrder.{Offered}
+use Rattle.comparison.specs.Events.{Within}
 use Rattle.comparison.specs.Falls.{Falls, below}
 
 -- a cause, with its answer
@@ -109,6 +111,14 @@ pub record Sinks (s : Settings) (t : State) : Type 0 where
   pub offered : Offered (feedOf s t) offers
   pub falls : Falls [] (t .horizon) (t .limits) offers below
 
+-- request 12: by what is offered before a search within the limit n stops
+pub record SinksWithin (s : Settings) (t : State) (n : ℕ) : Type 0 where
+  pub offers : List Journey
+  pub tested : ℕ
+  pub finishes : Bool
+  pub offered : Within (feedOf s t) n offers tested finishes
+  pub falls : Falls [] (t .horizon) (t .limits) offers below
+
 abbrev pub searchCauses : Settings → State → List Cause
 searchCauses s t =
     cause (t .searched ≡ true) (Refused AlreadySearched)
@@ -116,11 +126,25 @@ searchCauses s t =
     ∷ cause (Sinks s t) (Refused NoRoom)
     ∷ []
 
+-- "With `max_transfers` 2 a limited search meets 1, after 15"
+abbrev pub limitedCauses : Settings → State → ℕ → List Cause
+limitedCauses s t n =
+    cause (t .searched ≡ true) (Refused AlreadySearched)
+    ∷ cause (1 < s .«max_transfers») (Refused SettingsRange)
+    ∷ cause (Clashing s (t .horizon) (callsIn (t .taken))) (Refused Neighbours)
+    ∷ cause (SinksWithin s t n) (Refused NoRoom)
+    ∷ []
+
+-- "A call added to or withdrawn from a stopped load has it searched within the same limit, and any other searched load in full"
+abbrev pub SinksAs : Option ℕ → Settings → State → Type 0
+SinksAs none s t = Sinks s t
+SinksAs (some n) s t = SinksWithin s t n
+
 -- of the search again of what a step on a searched load brings: 14, 11. "A refusal of that search leaves the searched load"
 abbrev pub againCauses : Settings → (State → Type 0) → List Cause
 againCauses s Brought =
     cause ((u : State) × Brought u × Clashing s (u .horizon) (callsIn (u .taken))) (Refused Neighbours)
-    ∷ cause ((u : State) × Brought u × Sinks s u) (Refused NoRoom)
+    ∷ cause ((u : State) × Brought u × SinksAs (u .stopped) s u) (Refused NoRoom)
     ∷ []
 
 -- ---- call
@@ -229,3 +253,4 @@ causesOf s t (filling (service name weekdays start end)) = serviceCauses t name 
 causesOf s t (filling (exception name date kind)) = exceptionCauses t name date kind
 causesOf s t (withdraw k) = withdrawCauses s t k
 causesOf s t search = searchCauses s t
+causesOf s t (limited n) = limitedCauses s t n

@@ -32,9 +32,10 @@ use Rattle.comparison.specs.Services.{Running}
 use Rattle.comparison.specs.Feeds.{feedOf}
 use Rattle.comparison.specs.Neighbours.{Ordered}
 use Rattle.comparison.specs.OfferOrder.{Offered}
+use Rattle.comparison.specs.Events.{Within}
 use Rattle.comparison.specs.Falls.{Falls, at}
 use Rattle.comparison.specs.Causes.{First, numbersOf, openingCauses, causesOf}
-use Rattle.comparison.specs.Runs.{Runs, Admitted}
+use Rattle.comparison.specs.Runs.{Runs, Admitted, Finished}
 
 -- ---- 1: a result, or one of the refusals for its stated cause alone; a refused load comes back unchanged
 
@@ -92,28 +93,38 @@ pub record Fills (s : Opening) (xs : List Step) (v : State) : Type 0 where
   pub limits : endOf s xs .limits ≡ v .limits
   pub best : (z : ℤ) → answer s xs z ≡ none
 
--- after it, "the search is the last accepted one" (request 11): the list is of what stands taken at the end
-pub record Lists (s : Opening) (xs : List Step) (v : State) : Type 0 where
+-- after it, by the journeys offered, in the paper's order: it says which of equals is the older
+pub record ListOf (s : Opening) (xs : List Step) (v : State) (offers : List Journey) : Type 0 where
   -- the calls taken and not withdrawn, as they are seen up to the table's horizon, put in order
   pub ordered : Ordered (s .settings) (v .horizon) (callsIn (v .taken)) (calls s xs)
-  -- what is offered, in the paper's order: it says which of equals is the older. "An admitted journey is one so offered"
-  pub offers : List Journey
-  pub offered : Offered (feedOf (s .settings) v) offers
-  pub admitted : (j : Journey) → List·Memᴰ j offers ↔ Admitted s xs j
   -- "the list holds exactly the journeys due by its horizon that none other beats, the older of equals"
   pub holds : Holds (endOf s xs .horizon) offers (keptOf (endOf s xs))
-  -- so each admitted journey due by the horizon is equalled or beaten by one of the list
-  pub complete : (j : Journey) → Admitted s xs j → j .arrival ≤ endOf s xs .horizon
-      → (k : Journey) × List·Memᴰ k (keptOf (endOf s xs)) × EqualsOrBeats k j
   -- "the horizon falling only by 01's rule": from the window's, and its mark, as the cuts left them, while journeys are offered
   pub falls : Falls [] (v .horizon) (v .limits) offers (at (endOf s xs .horizon) (endOf s xs .limits))
   -- best of that list, at every second
   pub best : (z : ℤ) → BestAt (keptOf (endOf s xs)) (endOf s xs .horizon) z (answer s xs z)
 
--- of any list of steps, which leaves v taken
+-- "the search is the last accepted one" (request 11): the list is of what stands taken at the end
+pub record Lists (s : Opening) (xs : List Step) (v : State) : Type 0 where
+  -- "An admitted journey is one so offered"
+  pub offers : List Journey
+  pub offered : Offered (feedOf (s .settings) v) offers
+  pub admitted : (j : Journey) → List·Memᴰ j offers ↔ Admitted s xs j
+  pub list : ListOf s xs v offers
+  -- so each admitted journey due by the horizon is equalled or beaten by one of the list
+  pub complete : (j : Journey) → Admitted s xs j → j .arrival ≤ endOf s xs .horizon
+      → (k : Journey) × List·Memᴰ k (keptOf (endOf s xs)) × EqualsOrBeats k j
+
+-- request 12: a search that was stopped at the limit n tested n joins, and its list is of what was offered until then
+pub record ListsWithin (s : Opening) (xs : List Step) (v : State) (n : ℕ) : Type 0 where
+  pub offers : List Journey
+  pub offered : Within (feedOf (s .settings) v) n offers n false
+  pub list : ListOf s xs v offers
+
+-- of any list of steps, which leaves v taken. "A stopped load counts as searched, but the full list .. [is] claimed for finished ones only"
 abbrev pub Demand2 : Type 0
 Demand2 = (s : Opening) (xs : List Step) (rs : List Answer) (v : State) → Opens s → Runs (s .settings) (fresh (s .dates)) xs rs v
-    → (v .searched ≡ false → Fills s xs v) × (v .searched ≡ true → Lists s xs v)
+    → (v .searched ≡ false → Fills s xs v) × (v .searched ≡ true → v .stopped ≡ none → Lists s xs v) × ((n : ℕ) → v .stopped ≡ some n → ListsWithin s xs v n)
 
 -- "What the list must hold is read over the calls of running services": on a load with dates each call that was taken names a service that
 -- was taken and runs on the date of the call's day, by all exceptions that were taken
@@ -153,8 +164,9 @@ MatchedBy g s xs s′ xs′ = (j : Journey) → Admitted s xs j → j .arrival �
 abbrev pub Earlier : ℕ → ℕ → ℕ → Type 0
 Earlier g h h′ = (g ≤ h) × (g ≤ h′) × ((g ≡ h) ⊎ (g ≡ h′))
 
--- of any two lists, searched or not: a list with no search taken admits none. The horizons are the loads', which demand 2 says from the list
+-- of any two lists, searched or not, that leave no stopped search: a list with no search taken admits none. The horizons are the loads', which
+-- demand 2 says from the list. "The comparison of two searches [is] claimed for finished ones only" (request 12)
 abbrev pub Demand3 : Type 0
-Demand3 = (s s′ : Opening) (xs xs′ : List Step) (g : ℕ) → s .settings .now ≡ s′ .settings .now → Opens s → Opens s′
+Demand3 = (s s′ : Opening) (xs xs′ : List Step) (g : ℕ) → s .settings .now ≡ s′ .settings .now → Opens s → Opens s′ → Finished s xs → Finished s′ xs′
     → Earlier g (endOf s xs .horizon) (endOf s′ xs′ .horizon)
     → ((z : ℤ) → Second z → Alike g (answer s xs z) (answer s′ xs′ z)) ↔ (MatchedBy g s xs s′ xs′ × MatchedBy g s′ xs′ s xs)

@@ -3,7 +3,7 @@
 use mathlib.Core.Path.{_≡_}
 use mathlib.Core.Logic.{_↔_}
 use mathlib.Core.Bool.{true}
-use mathlib.Core.Option.{Option, none, some}
+use mathlib.Core.Option.{Option}
 use mathlib.Core.List.{List, [], _∷_, List·Memᴰ}
 use Prim.Native.Nat.{ℕ, _≤_}
 use lib.IntN.{ℤ}
@@ -18,6 +18,7 @@ use Rattle.display.specs.Queries.{bestOfGroup}
 use Rattle.display.specs.Promises.{readNone}
 use Rattle.steps.specs.Steps.{Step}
 use Rattle.steps.specs.Lists.{endOf}
+use Rattle.comparison.specs.Runs.{Finished}
 use Rattle.comparison.specs.Witness.{someOpening, oneTrip}
 use Rattle.comparison.specs.Demands.{answer, Second, Alike, MatchedBy, Earlier}
 
@@ -33,10 +34,10 @@ windowIn gs n = partOf (displayOf gs) n .window
 abbrev pub answerIn : List Group → ℕ → Opening → List Step → ℤ → Option Journey
 answerIn gs n s xs z = answerOf (bestOfGroup (groupOf n (endOf s xs)) (partOf (displayOf gs) n) z)
 
--- demand 3, with the windows as horizons
+-- demand 3, with the windows as horizons; of groups whose searches were not stopped
 abbrev pub DisplaysAgree : Type 0
 DisplaysAgree = (gs gs′ : List Group) (n n′ : ℕ) (s s′ : Opening) (xs xs′ : List Step) (g : ℕ) → s .settings .now ≡ s′ .settings .now → Opens s → Opens s′
-    → Displayed gs n s xs → Displayed gs′ n′ s′ xs′ → Earlier g (windowIn gs n) (windowIn gs′ n′)
+    → Finished s xs → Finished s′ xs′ → Displayed gs n s xs → Displayed gs′ n′ s′ xs′ → Earlier g (windowIn gs n) (windowIn gs′ n′)
     → ((z : ℤ) → Second z → Alike g (answerIn gs n s xs z) (answerIn gs′ n′ s′ xs′ z)) ↔ (MatchedBy g s xs s′ xs′ × MatchedBy g s′ xs′ s xs)
 
 pub record Displays : Type 0 where

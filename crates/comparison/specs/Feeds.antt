@@ -22,4 +22,4 @@ feedOf s t = record {
 
 -- the same with the horizon of a load's table, for the proofs
 abbrev pub feedFrom : Settings → Load → List Filling → Feed
-feedFrom s l fs = feedOf s (record { taken = fs; horizon = l .«table_horizon»; limits = l .«table_limits»; searched = l .searched; dates = none; closed = true })
+feedFrom s l fs = feedOf s (record { taken = fs; horizon = l .«table_horizon»; limits = l .«table_limits»; searched = l .searched; stopped = none; dates = none; closed = true })

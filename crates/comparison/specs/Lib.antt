@@ -12,10 +12,12 @@ pub mod Horizon
 pub mod Neighbours
 pub mod OfferOrder
 pub mod Falls
+pub mod Events
 pub mod Causes
 pub mod Runs
 pub mod Demands
 pub mod Again
+pub mod Limited
 pub mod Witness
 pub mod Displays
 pub mod Marked

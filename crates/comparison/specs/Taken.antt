@@ -56,13 +56,14 @@ servicesIn (service name weekdays start end ∷ xs) = record { name = name; week
 servicesIn (exception name date kind ∷ xs) = servicesIn xs
 
 -- what was taken and not withdrawn, in order, of calls those answered taken; the horizon of the window and the mark, as the cuts leave them
--- (the table's, also once a search was taken: the list's own are not held here); whether a search was taken; the dates of the three days,
--- where the load was opened with dates; whether services are closed
+-- (the table's, also once a search was taken: the list's own are not held here); whether a search was taken, and its limit where the last one
+-- was stopped at one; the dates of the three days, where the load was opened with dates; whether services are closed
 pub record State : Type 0 where
   pub taken : List Filling
   pub horizon : ℕ
   pub limits : ℕ
   pub searched : Bool
+  pub stopped : Option ℕ
   pub dates : Option (List ℕ)
   pub closed : Bool
 
@@ -73,23 +74,29 @@ without (some dates) = false
 
 -- "Opening gives an empty load with horizon 21600 and limits 0"
 abbrev pub fresh : Option (List ℕ) → State
-fresh dates = record { taken = []; horizon = 21600; limits = 0; searched = false; dates = dates; closed = without dates }
+fresh dates = record { taken = []; horizon = 21600; limits = 0; searched = false; stopped = none; dates = dates; closed = without dates }
 
 -- with one more taken
 abbrev pub more : State → Filling → State
-more t x = record { taken = t .taken ++ x ∷ []; horizon = t .horizon; limits = t .limits; searched = t .searched; dates = t .dates; closed = t .closed }
+more t x = record { taken = t .taken ++ x ∷ []; horizon = t .horizon; limits = t .limits; searched = t .searched; stopped = t .stopped; dates = t .dates; closed = t .closed }
 
 -- with these taken instead
 abbrev pub keeping : State → List Filling → State
-keeping t fs = record { taken = fs; horizon = t .horizon; limits = t .limits; searched = t .searched; dates = t .dates; closed = t .closed }
+keeping t fs = record { taken = fs; horizon = t .horizon; limits = t .limits; searched = t .searched; stopped = t .stopped; dates = t .dates; closed = t .closed }
 
 -- with another horizon and mark
 abbrev pub upTo : State → ℕ → ℕ → State
-upTo t h m = record { taken = t .taken; horizon = h; limits = m; searched = t .searched; dates = t .dates; closed = t .closed }
+upTo t h m = record { taken = t .taken; horizon = h; limits = m; searched = t .searched; stopped = t .stopped; dates = t .dates; closed = t .closed }
 
-abbrev pub done : State → State
-done t = record { taken = t .taken; horizon = t .horizon; limits = t .limits; searched = true; dates = t .dates; closed = t .closed }
+-- searched, and stopped at the limit or, with none, finished: "a limited search that finished" holds no limit
+abbrev pub done : Option ℕ → State → State
+done limit t = record { taken = t .taken; horizon = t .horizon; limits = t .limits; searched = true; stopped = limit; dates = t .dates; closed = t .closed }
+
+-- what a search within the limit n leaves, finished or not
+abbrev pub limitedTo : ℕ → Bool → State → State
+limitedTo n true t = done none t
+limitedTo n false t = done (some n) t
 
 -- "Services and exceptions come before the search and the first answered call"
 abbrev pub shut : State → State
-shut t = record { taken = t .taken; horizon = t .horizon; limits = t .limits; searched = t .searched; dates = t .dates; closed = true }
+shut t = record { taken = t .taken; horizon = t .horizon; limits = t .limits; searched = t .searched; stopped = t .stopped; dates = t .dates; closed = true }

@@ -1,12 +1,13 @@
 -- The premises of the demands can be met, by lists that keep a journey: of one ride, of two that a rule joins, of three, of a service with
--- dates, of one that is added after the search and withdrawn again. Each by computation.
+-- dates, of one that is added after the search and withdrawn again, of searches that a limit stops and not. Each by computation.
 use mathlib.Core.Path.{_≡_}
 use mathlib.Core.Bool.{true, false}
-use mathlib.Core.Option.{none}
+use mathlib.Core.Option.{none, some}
 use mathlib.Core.List.{List, [], _∷_, _++_, map}
 use Prim.Native.Nat.{ℕ}
 use lib.IntN.{pos}
 use lib.Ieee.{binary64, ofBits}
+use Rattle.refusal.specs.declared.Answer.{Answer}
 use Rattle.refusal.specs.declared.Answer.the-variants.{Taken}
 use Rattle.settings.specs.declared.Settings.{Settings}
 use Rattle.stops.specs.declared.StopInput.{StopInput}
@@ -21,10 +22,10 @@ use Rattle.rules.specs.declared.MinTime.the-variants as min-time
 use Rattle.load.specs.Steps.{Opening, undated, dated}
 use Rattle.load.specs.Filling.{stop, call, rule, service, exception}
 use Rattle.best.specs.Best.{keptOf}
-use Rattle.steps.specs.Steps.{Step, filling, withdraw, search}
+use Rattle.steps.specs.Steps.{Step, filling, withdraw, search, limited}
 use Rattle.steps.specs.Lists.{endOf}
 use Rattle.comparison.specs.Taken.{State, fresh}
-use Rattle.comparison.specs.Runs.{Runs, Admitted}
+use Rattle.comparison.specs.Runs.{Runs, Admitted, Finished}
 
 -- walk 5, target walk 2, a change time of 3 minutes, so many changes
 abbrev pub settingsWith : ℕ → Settings
@@ -125,6 +126,23 @@ threeTrips departs =
     ∷ search
     ∷ []
 
+-- request 12: trips 1 and 2 of `addedTrip`, in a search within a limit: two first rides and two rides, so four joins; a rule forbids the change
+abbrev pub limitedTrips : ℕ → List Step
+limitedTrips n =
+    filling (stop (65 ∷ []) [] [] (someStop 1))
+    ∷ filling (stop (66 ∷ []) [] [] (someStop 16))
+    ∷ filling (rule (record { from = 1; to = 0; «transfer_type» = 3; seconds = min-time.Absent }))
+    ∷ filling (call [] (callOf 1 1 0 600))
+    ∷ filling (call [] (callOf 1 2 1 1200))
+    ∷ filling (call [] (callOf 2 1 0 700))
+    ∷ filling (call [] (callOf 2 2 1 1100))
+    ∷ limited n
+    ∷ []
+
+-- and the call where trip 2 departs is withdrawn: one join is left
+abbrev pub limitedLess : ℕ → List Step
+limitedLess n = limitedTrips n ++ withdraw (record { trip = 2; day = 0; sequence = 1 }) ∷ []
+
 -- the same trip on a dated load, whose three days are Monday 2 to Wednesday 4 January 2023: a service of Mondays that year, which an exception
 -- may remove on the second; the calls name it
 abbrev pub mondays : List ℕ
@@ -163,6 +181,13 @@ pub record OneAdmitted (s : Opening) (xs : List Step) (f : Figures) : Type 0 whe
   pub figures : journeyFigures j ≡ f
   pub admitted : Admitted s xs j
 
+-- the search was stopped at the limit
+pub record StoppedAt (o : Opening) (xs : List Step) (n : ℕ) : Type 0 where
+  pub answers : List Answer
+  pub end : State
+  pub runs : Runs (o .settings) (fresh (o .dates)) xs answers end
+  pub limit : end .stopped ≡ some n
+
 pub record Met : Type 0 where
   pub opens : Opens someOpening
   pub taken : AllTaken (oneTrip 600 1200)
@@ -189,3 +214,11 @@ pub record Met : Type 0 where
   pub kept-added : keptFigures addedTrip ≡ figuresOf 400 1220 1 5 ∷ []
   pub admitted-withdrawn : OneAdmitted someOpening withdrawnTrip (figuresOf 300 1320 1 5)
   pub kept-withdrawn : keptFigures withdrawnTrip ≡ figuresOf 300 1320 1 5 ∷ []
+  -- request 12: before any join is tested trip 1 is offered; trip 2, which beats it, after its two; all four are tested within 4. Searched again
+  -- without trip 2, within 0 it is stopped again, and within 1 finished
+  pub kept-none : keptBy (undated (settingsWith 1)) (limitedTrips 0) ≡ figuresOf 300 1320 1 5 ∷ []
+  pub kept-two : keptBy (undated (settingsWith 1)) (limitedTrips 2) ≡ figuresOf 400 1220 1 5 ∷ []
+  pub stopped-three : StoppedAt (undated (settingsWith 1)) (limitedTrips 3) 3
+  pub finished-four : Finished (undated (settingsWith 1)) (limitedTrips 4)
+  pub stopped-less : StoppedAt (undated (settingsWith 1)) (limitedLess 0) 0
+  pub finished-less : Finished (undated (settingsWith 1)) (limitedLess 1)

@@ -3,6 +3,7 @@
 // the buffer, or is not there whole, ends the run; one step file that fills the buffer is malformed.
 mod call_records;
 mod display_records;
+mod limit_records;
 mod numbers;
 mod records;
 mod run;

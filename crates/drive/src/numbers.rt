@@ -40,6 +40,12 @@ pub fn u32_at(b: &[u8], at: usize) -> u32
     (number_at(b, at, 4) % 4294967296) as u32
 }
 
+pub fn u64_at(b: &[u8], at: usize) -> u64
+    requires { ⌜ at ≤ 4096 ⌝ }
+{
+    number_at(b, at, 8)
+}
+
 // Two's complement.
 fn signed(n: u64) -> i64 {
     if n < 9223372036854775808 {
@@ -52,5 +58,5 @@ fn signed(n: u64) -> i64 {
 pub fn i64_at(b: &[u8], at: usize) -> i64
     requires { ⌜ at ≤ 4096 ⌝ }
 {
-    signed(number_at(b, at, 8))
+    signed(u64_at(b, at))
 }

@@ -1,6 +1,8 @@
 // The records of a step file, one by one: each is handed to the load, or asks it, and a line says what came of it.
 ghost use Prim.Native.Nat.{_≤_};
 use crate::call_records;
+use crate::limit_records;
+use crate::limit_records::best_record;
 use crate::numbers::i64_at;
 use crate::numbers::u16_at;
 use crate::settings_record;
@@ -15,6 +17,7 @@ use load::Stepped;
 use profile::Journey;
 use refusal::Answer;
 use refusal::Refusal;
+use search::Limited;
 use stdio::load_lines::figures;
 use stdio::out;
 
@@ -146,6 +149,24 @@ fn stepped(out: &mut [u8; 65536], at: usize, s: Stepped) -> Turned
     }
 }
 
+// A search within a limit.
+fn searched_within(out: &mut [u8; 65536], at: usize, w: Limited) -> Turned
+    ensures { λ r. ⌜ r .to ≤ 65536 ⌝ }
+{
+    let answer = w.answer;
+    let to = limit_records::told(out, at, answer, w.joins, w.finished);
+    let load = w.load;
+    Turned {
+        going: true,
+        to,
+        reader: Reader {
+            opened: true,
+            second: false,
+            load,
+        },
+    }
+}
+
 pub fn found(out: &mut [u8; 65536], at: usize, f: Found) -> usize
     ensures { λ r. ⌜ r ≤ 65536 ⌝ }
 {
@@ -161,13 +182,6 @@ fn journey(out: &mut [u8; 65536], at: usize, j: Journey) -> usize
     let a = out::text(out, at, b"journey");
     let b = figures(out, a, j);
     out::line(out, b)
-}
-
-// Best at the second.
-fn best_record(out: &mut [u8; 65536], at: usize, load: Load, b: &[u8]) -> usize
-    ensures { λ r. ⌜ r ≤ 65536 ⌝ }
-{
-    found(out, at, best::best(load, i64_at(b, 1)))
 }
 
 // Next after the leave, at the second. Of a journey missed only its leave counts.
@@ -212,6 +226,7 @@ enum Way {
     Filling,
     OfWeek,
     Calling,
+    Limited,
     Query,
     Malformed,
 }
@@ -239,6 +254,9 @@ fn way_of(opened: bool, b: &[u8]) -> Way {
         if kind == 14 {
             return way_if(b.len() == 5, Way::Query);
         }
+        if kind == 9 {
+            return way_if(limit_records::filled(b), Way::Limited);
+        }
         if week_records::is_kind(kind) {
             return way_if(week_records::filled(b), Way::OfWeek);
         }
@@ -248,6 +266,11 @@ fn way_of(opened: bool, b: &[u8]) -> Way {
         return way_if(kind <= 5, Way::Filling);
     }
     Way::Malformed
+}
+
+fn limit_step(reader: Reader, b: &[u8]) -> Limited {
+    let load = reader.load;
+    limit_records::step(load, b)
 }
 
 // The record, without its length.
@@ -260,6 +283,7 @@ pub fn step(out: &mut [u8; 65536], at: usize, reader: Reader, b: &[u8]) -> Turne
         Way::Filling => filling(out, at, reader, b),
         Way::OfWeek => stepped(out, at, week_records::step(reader, b)),
         Way::Calling => stepped(out, at, call_records::step(reader, b)),
+        Way::Limited => searched_within(out, at, limit_step(reader, b)),
         Way::Query => asked(out, at, reader, b),
         Way::Malformed => stopped(out, at, reader),
     }

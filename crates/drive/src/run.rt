@@ -17,7 +17,7 @@ use stdio::load_lines::journeys;
 use stdio::load_lines::table;
 use stdio::out;
 
-// A load at the end. No search stops before its end until request 12.
+// A load at the end.
 fn load_lines(out: &mut [u8; 65536], at: usize, load: Load) -> usize {
     let calls = load.calls;
     let kept = load.journeys;
@@ -26,8 +26,9 @@ fn load_lines(out: &mut [u8; 65536], at: usize, load: Load) -> usize {
     let c = horizon(out, b, load.horizon, load.limits);
     let d = out::text(out, c, b"searched");
     let e = out::flag(out, d, load.searched);
-    let f = out::text(out, e, b" stopped 0");
-    out::line(out, f)
+    let f = out::text(out, e, b" stopped");
+    let g = out::flag(out, f, load.stopped);
+    out::line(out, g)
 }
 
 fn last_lines(out: &mut [u8; 65536], at: usize, reader: Reader) -> usize {

@@ -102,3 +102,8 @@ pub within-arrays : (f g : List ℕ) (n depth : ℕ) {l k l′ k′ : List ℕ} 
 within-arrays f g n depth h ek em w told =
     let q : min n 512 ≡ n = omega arith in
     rw (events-by-loops f g n depth, q) (within ek em w told)
+
+-- over the first n calls, of which there are at most 512
+pub within-least : (f g : List ℕ) (n m depth : ℕ) {l l′ : List ℕ} {limit : ℕ} {r : Tested} → m ≡ min n 512 → Within l l′ limit (eventsAt f g m depth) r → Within l l′ limit (eventsAt f g n depth) r
+unfolding eventsAt
+within-least f g n m depth e w = let q : min n 512 ≡ min m 512 = omega arith in rw q w

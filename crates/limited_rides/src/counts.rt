@@ -2,11 +2,11 @@
 ghost use mathlib.Core.Path.{_≡_};
 ghost use mathlib.Core.Bool.{cond};
 ghost use Prim.Native.Nat.{_+_, _≤_, _<_};
-ghost use lib.ListN.{length};
+ghost use lib.ListN.{length, getD};
 ghost use Rattle.feed.specs.Feed.{callAt};
 ghost use Rattle.limited_rides.specs.Counts.{alightsFrom, Counts};
-use crate::reads::call_at;
 use feed::same_run;
+use rides::reads::call_at;
 
 fn known(a: [u32; 513])
     ensures { λ _. ⌜ length a ≡ 513 ⌝ }
@@ -68,4 +68,18 @@ pub fn counts_of(feed: &[u16; 3208], n: usize) -> [u32; 513]
     let mut counts = [0u32; 513];
     put_counts(&mut counts, feed, n);
     counts
+}
+
+fn wide(x: u32) -> u64
+    ensures { λ r. ⌜ r ≡ x ⌝ }
+{
+    x as u64
+}
+
+// How many rides board at j; at 512, how many there are.
+pub fn count_at(counts: &[u32; 513], j: usize) -> u64
+    requires { ⌜ j < 513 ⌝ }
+    ensures { λ r. ⌜ r ≡ getD (now (counts .entry)) j 0 ⌝ }
+{
+    wide(counts[j])
 }

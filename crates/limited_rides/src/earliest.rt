@@ -4,13 +4,14 @@ ghost use mathlib.Core.Bool.{cond};
 ghost use Prim.Native.Nat.{_+_, _≤_, _<_, min};
 ghost use Rattle.feed.specs.Feed.{callAt};
 ghost use Rattle.limited_rides.specs.Earliest.{soonest, targetDue, alightDue, laterDue, rideDue};
-use crate::bits::clear_lowest;
-use crate::bits::lowest;
-use crate::reads::call_at;
-use crate::reads::target_walk;
 use feed::arrival_of;
+use feed::at_most_512;
 use feed::same_run;
 use feed::targets_of;
+use rides::bits::clear_lowest;
+use rides::bits::lowest;
+use rides::reads::call_at;
+use rides::reads::target_walk;
 
 fn earlier(a: u32, b: u32) -> u32
     ensures { λ r. ⌜ r ≡ min a b ⌝ }
@@ -74,8 +75,7 @@ fn at_boarding(feed: &[u16; 3208], j: usize, t: u32) -> u32
     4294967295
 }
 
-// The earliest of every ride; 4294967295 where none alights at a target.
-fn earliest_of(feed: &[u16; 3208], n: usize) -> u32
+fn least_of(feed: &[u16; 3208], n: usize) -> u32
     requires { ⌜ n ≤ 512 ⌝ }
     ensures { λ r. ⌜ r ≡ soonest (rideDue (now (feed .entry)) n) ⌝ }
 {
@@ -89,4 +89,11 @@ fn earliest_of(feed: &[u16; 3208], n: usize) -> u32
         least = earlier(least, t);
     }
     least
+}
+
+// The earliest of every ride over the first n calls; 4294967295 where none alights at a target.
+pub fn earliest_of(feed: &[u16; 3208], n: usize) -> u32
+    ensures { λ r. ⌜ r ≡ soonest (rideDue (now (feed .entry)) (min n 512)) ⌝ }
+{
+    least_of(feed, at_most_512(n))
 }

@@ -1,69 +1,26 @@
 // Last rides within a limit on joins: what is offered after a first ride, with a change. A block of rides that is not walked is its count.
 ghost use mathlib.Core.Path.{_≡_};
 ghost use Prim.Native.Nat.{_+_, _≤_, _<_};
-ghost use Rattle.rides.specs.Loops.{overBits, lastAt};
 ghost use Rattle.feed.specs.Feed.{callAt};
 ghost use Rattle.rides.specs.Sheets.{joinsOf, sheetOf};
 ghost use Rattle.rides.specs.Bounds.{Bounds};
-ghost use Rattle.rides.specs.Offered.{Offered};
 ghost use Rattle.limited_rides.specs.Runs.{Met};
 ghost use Rattle.limited_rides.specs.RowEvents.{runEvents, callEvents, lastJoined, boardEvents, changeEvents};
 ghost use Rattle.limited_rides.specs.Counts.{Counts};
-use crate::bits::clear_lowest;
-use crate::bits::lowest;
-use crate::bounds::bound_at;
-use crate::bounds::bucket_of;
-use crate::bounds::count_at;
-use crate::reads::call_at;
-use crate::reads::target_walk;
+use crate::counts::count_at;
 use crate::tally::is_over;
 use crate::tally::spend;
-use candidate::candidate;
 use candidate::passes_over;
 use feed::FirstRide;
-use feed::arrival_of;
 use feed::change_at;
 use feed::join;
 use feed::same_run;
 use feed::targets_of;
+use rides::bounds::bound_at;
+use rides::bounds::bucket_of;
+use rides::last::last_targets;
+use rides::reads::call_at;
 use state::layout::State;
-
-// Offers the first ride and then the ride from j to m, to target x.
-fn last_at(st: &mut State, feed: &[u16; 3208], f: FirstRide, j: usize, m: usize, x: u8)
-    requires { ⌜ (j < 512) × (m < 512) × (x < 4) ⌝ }
-    ensures { λ _. ⌜ Offered (now (st .entry)) (now (st .exit)) (lastAt (sheetOf (now (feed .entry))) f j m x) ⌝ }
-{
-    let a = call_at(feed, m);
-    let walk = target_walk(feed, x);
-    candidate(
-        st,
-        f.leave,
-        arrival_of(walk, a.arrival),
-        2,
-        f.walk,
-        f.origin,
-        x as u16,
-        f.board,
-        f.alight,
-        j as u16,
-        m as u16,
-        0,
-        0,
-    );
-}
-
-// The targets of a mask.
-fn last_targets(st: &mut State, feed: &[u16; 3208], f: FirstRide, j: usize, m: usize, mask: u8)
-    requires { ⌜ (j < 512) × (m < 512) × (mask < 16) ⌝ }
-    ensures { λ _. ⌜ Offered (now (st .entry)) (now (st .exit)) (overBits (lastAt (sheetOf (now (feed .entry))) f j m) mask) ⌝ }
-{
-    let mut left = mask;
-    while left != 0 {
-        let x = lowest(left);
-        last_at(st, feed, f, j, m, x);
-        left = clear_lowest(left);
-    }
-}
 
 // The join with the ride from j to m, and its offers unless the search is over.
 fn last_alight(

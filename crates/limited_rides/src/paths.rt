@@ -1,65 +1,24 @@
 // First rides, and the whole search within a limit on joins.
 ghost use mathlib.Core.Path.{_≡_};
 ghost use Prim.Native.Nat.{_+_, _≤_, _<_};
-ghost use Rattle.rides.specs.Loops.{directAt, directRows};
 ghost use Rattle.feed.specs.Feed.{callAt};
 ghost use Rattle.rides.specs.Sheets.{joinsOf, sheetOf};
 ghost use Rattle.rides.specs.Bounds.{Bounds};
-ghost use Rattle.rides.specs.Offered.{Offered};
 ghost use Rattle.limited_rides.specs.Runs.{Met};
 ghost use Rattle.limited_rides.specs.RowEvents.{runEvents, bitsEvents, alightEvents, originEvents, boardingEvents, rowEvents};
 ghost use Rattle.limited_rides.specs.Counts.{Counts};
-use crate::bits::clear_lowest;
-use crate::bits::lowest;
 use crate::last::change_rides;
-use crate::reads::call_at;
-use crate::reads::first_of;
-use crate::reads::origin_walk;
-use crate::reads::target_walk;
 use crate::tally::is_over;
-use candidate::candidate;
-use feed::FirstRide;
-use feed::arrival_of;
 use feed::can_walk;
 use feed::origins_of;
 use feed::same_run;
-use feed::targets_of;
+use rides::bits::clear_lowest;
+use rides::bits::lowest;
+use rides::paths::directs;
+use rides::reads::call_at;
+use rides::reads::first_of;
+use rides::reads::origin_walk;
 use state::layout::State;
-
-// Offers the ride alone, to target x.
-fn direct_at(st: &mut State, feed: &[u16; 3208], f: FirstRide, x: u8)
-    requires { ⌜ x < 4 ⌝ }
-    ensures { λ _. ⌜ Offered (now (st .entry)) (now (st .exit)) (directAt (sheetOf (now (feed .entry))) f x) ⌝ }
-{
-    let walk = target_walk(feed, x);
-    candidate(
-        st,
-        f.leave,
-        arrival_of(walk, f.arrival),
-        1,
-        f.walk,
-        f.origin,
-        x as u16,
-        f.board,
-        f.alight,
-        0,
-        0,
-        0,
-        0,
-    );
-}
-
-// The targets of the stop where the ride ends.
-fn directs(st: &mut State, feed: &[u16; 3208], f: FirstRide)
-    ensures { λ _. ⌜ Offered (now (st .entry)) (now (st .exit)) (directRows (sheetOf (now (feed .entry))) f) ⌝ }
-{
-    let mut left = targets_of(feed, f.stop);
-    while left != 0 {
-        let x = lowest(left);
-        direct_at(st, feed, f, x);
-        left = clear_lowest(left);
-    }
-}
 
 fn alight_at(
     st: &mut State,

@@ -8,7 +8,10 @@ ghost use Rattle.limited_rides.specs.Counts.{Counts};
 ghost use Rattle.limited_rides.specs.RowEvents.{eventsAt};
 ghost use Rattle.limited_rides.specs.Within.{Within};
 use crate::Tested;
+use crate::counts::counts_of;
 use crate::paths::limited_paths;
+use feed::at_most_512;
+use rides::bounds::bounds_of;
 use state::layout::State;
 
 // What a limit loses where so much of it is left.
@@ -36,7 +39,7 @@ fn tested(limit: u64, left: u64, stopped: u64) -> Tested
     }
 }
 
-pub fn search_within(
+fn run_within(
     st: &mut State,
     feed: &[u16; 3208],
     changes: &[u32; 16384],
@@ -53,4 +56,21 @@ pub fn search_within(
     tally[0] = limit;
     limited_paths(st, &mut tally, feed, changes, n, depth, bounds, counts);
     tested(limit, tally[0], tally[1])
+}
+
+// The state after the offers before the first join past the limit, of a search over the first n calls, and how many joins it tested.
+pub fn paths_within(
+    st: &mut State,
+    feed: &[u16; 3208],
+    changes: &[u32; 16384],
+    n: usize,
+    depth: u16,
+    limit: u64,
+) -> Tested
+    ensures { λ r. ⌜ Within (now (st .entry)) (now (st .exit)) limit (eventsAt (now (feed .entry)) (now (changes .entry)) n depth) r ⌝ }
+{
+    let count = at_most_512(n);
+    let bounds = bounds_of(feed, count, depth);
+    let counts = counts_of(feed, count);
+    run_within(st, feed, changes, count, depth, &bounds, &counts, limit)
 }

@@ -1,7 +1,7 @@
 -- An opened load is sound, and the steps that fill it keep it sound.
 use Prim.Native.Nat.{ℕ, _+_}
 use mathlib.Core.Path.{_≡_, refl}
-use mathlib.Core.Bool.{Bool, true, false, cond}
+use mathlib.Core.Bool.{Bool, true, false, cond, false≢true}
 use mathlib.Core.Option.{Option, none, some}
 use mathlib.Core.List.{List}
 use native.Mathlib.Omega.{arith}
@@ -45,6 +45,9 @@ open-sound o = record {
   none-kept = λ e. refl;
   same-horizon = λ e. refl;
   same-limits = λ e. refl;
+  no-limit = λ e. refl;
+  stopped-search = λ e. absurd (false≢true e);
+  stopped-change = λ e. absurd (false≢true e);
   week = week-sound (o .dates);
 }
 
@@ -65,6 +68,9 @@ stop-sound l id name parent i s = go (isTaken (stopAnswer l id name parent i)) r
       none-kept = s .none-kept;
       same-horizon = s .same-horizon;
       same-limits = s .same-limits;
+      no-limit = s .no-limit;
+      stopped-search = s .stopped-search;
+      stopped-change = s .stopped-change;
       week = s .week;
     })
     go false e = rw e s
@@ -87,6 +93,9 @@ plain-sound l i s = go (isRefused (callFitted l i .answer)) refl
       none-kept = s .none-kept;
       same-horizon = λ x. refl;
       same-limits = λ x. refl;
+      no-limit = s .no-limit;
+      stopped-search = s .stopped-search;
+      stopped-change = s .stopped-change;
       week = s .week;
     }
 
@@ -104,6 +113,9 @@ with-week-sound l w s v = record {
   none-kept = s .none-kept;
   same-horizon = s .same-horizon;
   same-limits = s .same-limits;
+  no-limit = s .no-limit;
+  stopped-search = s .stopped-search;
+  stopped-change = s .stopped-change;
   week = v;
 }
 
@@ -148,6 +160,9 @@ rule-sound l i s = go (isTaken (ruleAnswer l i)) refl
       none-kept = s .none-kept;
       same-horizon = s .same-horizon;
       same-limits = s .same-limits;
+      no-limit = s .no-limit;
+      stopped-search = s .stopped-search;
+      stopped-change = s .stopped-change;
       week = s .week;
     })
     go false e = rw e s

@@ -70,15 +70,15 @@ call-left f l name i k = go _ (called l name i)
     go _ (sent-back d r e) = inr (refl, refl)
 
 -- the load with one stop or rule more
-abbrev stopped : Load → List ℕ → List ℕ → List ℕ → StopInput → Load
-stopped l id name parent i = withStops l (set (l .stops) (l .«stop_count») (stopOf id name (stationIn l parent i) i)) (l .«stop_count» + 1)
+abbrev withStop : Load → List ℕ → List ℕ → List ℕ → StopInput → Load
+withStop l id name parent i = withStops l (set (l .stops) (l .«stop_count») (stopOf id name (stationIn l parent i) i)) (l .«stop_count» + 1)
 
 abbrev ruled : Load → RuleInput → Load
 ruled l i = withRules l (set (l .rules) (l .«rule_count») (ruleOf i)) (l .«rule_count» + 1)
 
 stop-table : (l : Load) (id name parent : List ℕ) (i : StopInput) → tableOf (stopSpec l id name parent i .load) ≡ tableOf l
 unfolding stopSpec
-stop-table l id name parent i = either-same tableOf (stopped l id name parent i) l (isTaken (stopAnswer l id name parent i)) refl
+stop-table l id name parent i = either-same tableOf (withStop l id name parent i) l (isTaken (stopAnswer l id name parent i)) refl
 
 rule-table : (l : Load) (i : RuleInput) → tableOf (ruleSpec l i .load) ≡ tableOf l
 unfolding ruleSpec
@@ -106,7 +106,7 @@ call-keeps f l name i k e = ⊎-elim (λ q. q ∙ e) (λ q. q .0) (call-left f l
 -- a step keeps the settings
 pub fill-settings : (l : Load) (x : Filling) → filled l x .load .settings ≡ l .settings
 unfolding stopSpec ruleSpec serviceSpec exceptionSpec
-fill-settings l (stop id name parent i) = either-same settingsOf (stopped l id name parent i) l (isTaken (stopAnswer l id name parent i)) refl
+fill-settings l (stop id name parent i) = either-same settingsOf (withStop l id name parent i) l (isTaken (stopAnswer l id name parent i)) refl
 fill-settings l (call name i) = call-keeps settingsOf l name i (λ m w. refl) (plain-settings l i)
 fill-settings l (rule i) = either-same settingsOf (ruled l i) l (isTaken (ruleAnswer l i)) refl
 fill-settings l (service name weekdays start end) = refl
@@ -232,6 +232,8 @@ same-table l h m = λ k. record {
   horizon = sym h k;
   limits = sym m k;
   searched = l .searched;
+  stopped = l .stopped;
+  limit = l .limit;
   week = l .week;
 }
 

@@ -36,6 +36,8 @@ emptyWith s a b r j w = record {
   horizon = 21600;
   limits = 0;
   searched = false;
+  stopped = false;
+  limit = 0;
   week = w;
 }
 
@@ -63,16 +65,20 @@ blankSettings = record {
 abbrev pub tableOf : Load → Table
 tableOf l = record { calls = l .calls; count = l .«call_count»; horizon = l .«table_horizon»; limits = l .«table_limits» }
 
--- what a query sees: the journeys, of which so many are kept, the horizon, the mark, and whether the load is searched
+-- what a query sees: the journeys, of which so many are kept, the horizon, the mark, whether the load is searched, and whether that search was
+-- stopped at a limit, and which
 pub record Seen : Type 0 where
   pub journeys : List Journey
   pub count : ℕ
   pub horizon : ℕ
   pub limits : ℕ
   pub searched : Bool
+  pub stopped : Bool
+  pub limit : ℕ
 
 abbrev pub seenOf : Load → Seen
-seenOf l = record { journeys = l .journeys; count = l .«journey_count»; horizon = l .horizon; limits = l .limits; searched = l .searched }
+seenOf l =
+    record { journeys = l .journeys; count = l .«journey_count»; horizon = l .horizon; limits = l .limits; searched = l .searched; stopped = l .stopped; limit = l .limit }
 
 -- the load with these stops, of which n are taken, this table, these rules, of which m are taken, this to be seen and this week; the settings are l's
 abbrev pub remade : Load → List Stop → ℕ → Table → List Rule → ℕ → Seen → Week → Load
@@ -91,6 +97,8 @@ remade l ss n t rs m k w = record {
   horizon = k .horizon;
   limits = k .limits;
   searched = k .searched;
+  stopped = k .stopped;
+  limit = k .limit;
   week = w;
 }
 
@@ -101,7 +109,7 @@ withSeen l t k = remade l (l .stops) (l .«stop_count») t (l .rules) (l .«rule
 -- the load with this table; until the search its horizon and limits are the table's
 abbrev pub withTable : Load → Table → Load
 withTable l t =
-    withSeen l t (record { journeys = l .journeys; count = l .«journey_count»; horizon = t .horizon; limits = t .limits; searched = l .searched })
+    withSeen l t (record { journeys = l .journeys; count = l .«journey_count»; horizon = t .horizon; limits = t .limits; searched = l .searched; stopped = l .stopped; limit = l .limit })
 
 -- the load with these stops, of which n are taken
 abbrev pub withStops : Load → List Stop → ℕ → Load

@@ -1,8 +1,8 @@
--- A load that the steps make: sound stops, calls, rules and week, every call at one of its stops, journeys in order, none before the search, and
--- one horizon until then.
+-- A load that the steps make: sound stops, calls, rules and week, every call at one of its stops, journeys in order, none before the search, one
+-- horizon until then, and a limit only where a search was stopped at it.
 use Prim.Native.Nat.{ℕ, _-_, _≤_}
 use mathlib.Core.Path.{_≡_}
-use mathlib.Core.Bool.{false}
+use mathlib.Core.Bool.{true, false}
 use mathlib.Core.Option.{Option, none, some}
 use mathlib.Core.List.{List}
 use lib.ListN.{length, take, drop, replicate}
@@ -41,6 +41,10 @@ pub record Sound (l : Load) : Type 0 where
   pub none-kept : l .searched ≡ false → l .«journey_count» ≡ 0
   pub same-horizon : l .searched ≡ false → l .horizon ≡ l .«table_horizon»
   pub same-limits : l .searched ≡ false → l .limits ≡ l .«table_limits»
+  -- a search that was stopped, and of what load; any other load holds no limit
+  pub no-limit : l .stopped ≡ false → l .limit ≡ 0
+  pub stopped-search : l .stopped ≡ true → l .searched ≡ true
+  pub stopped-change : l .stopped ≡ true → l .settings .«max_transfers» ≤ 1
   pub week : WeekSound (l .week)
 
 abbrev pub OpenSound : Type 0

@@ -32,7 +32,8 @@ use week::dated;
 use week::undated;
 
 // A slot past its count holds the blank record. `table_horizon` and `table_limits` are the call table's; `horizon` and
-// `limits` are what a query sees, and differ from them only after the search.
+// `limits` are what a query sees, and differ from them only after the search. A load whose search was stopped holds its limit on joins; any
+// other holds 0.
 pub struct Load {
     pub settings: Settings,
     pub stops: [Stop; 128],
@@ -48,6 +49,8 @@ pub struct Load {
     pub horizon: u16,
     pub limits: u8,
     pub searched: bool,
+    pub stopped: bool,
+    pub limit: u64,
     pub week: Week,
 }
 
@@ -98,6 +101,8 @@ fn empty(settings: Settings, week: Week) -> Load
         horizon: 21600,
         limits: 0,
         searched: false,
+        stopped: false,
+        limit: 0,
         week,
     }
 }

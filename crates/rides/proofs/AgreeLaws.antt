@@ -57,7 +57,7 @@ module _ (s t : Sheet) (joins joins′ : Joins) (depth n : ℕ) (a : Agree s t j
           rw (← a .origins i li)
           (filterb-cong _ _ (bitsOf (s .origins (s .at i .stop))) (λ o m. sym (walked i o li (bits-set 4 (s .origins (s .at i .stop)) m .0))))
 
-  same-rows : Stand (networkOf s joins) (λ i. i) depth (span 0 n) (λ (r : Row). r) (directBy s) (changeBy s) (directBy t) (changeBy t)
+  pub same-rows : Stand (networkOf s joins) (λ i. i) depth (span 0 n) (λ (r : Row). r) (directBy s) (changeBy s) (directBy t) (changeBy t)
   unfolding directRow changeRow rowOf firstOf leaveOf arrivalOf
   same-rows =
       record {

@@ -48,7 +48,7 @@ fn last_at(st: &mut State, feed: &[u16; 3208], f: FirstRide, j: usize, m: usize,
 }
 
 // The targets of a mask.
-fn last_targets(st: &mut State, feed: &[u16; 3208], f: FirstRide, j: usize, m: usize, mask: u8)
+pub fn last_targets(st: &mut State, feed: &[u16; 3208], f: FirstRide, j: usize, m: usize, mask: u8)
     requires { ⌜ (j < 512) × (m < 512) × (mask < 16) ⌝ }
     ensures { λ _. ⌜ Offered (now (st .entry)) (now (st .exit)) (overBits (lastAt (sheetOf (now (feed .entry))) f j m) mask) ⌝ }
 {

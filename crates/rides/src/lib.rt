@@ -1,8 +1,8 @@
 // The nested loops of a search over lent arrays of numbers: each journey by one ride or two is offered to the running state, in order.
-mod bits;
-mod bounds;
-mod last;
+pub mod bits;
+pub mod bounds;
+pub mod last;
 mod onward;
 pub mod paths;
 pub mod reach;
-mod reads;
+pub mod reads;

@@ -54,7 +54,7 @@ fn direct_at(st: &mut State, feed: &[u16; 3208], f: FirstRide, x: u8)
 }
 
 // The targets of the stop where the ride ends.
-fn directs(st: &mut State, feed: &[u16; 3208], f: FirstRide)
+pub fn directs(st: &mut State, feed: &[u16; 3208], f: FirstRide)
     ensures { λ _. ⌜ Offered (now (st .entry)) (now (st .exit)) (directRows (sheetOf (now (feed .entry))) f) ⌝ }
 {
     let mut left = targets_of(feed, f.stop);

@@ -1,7 +1,7 @@
 -- A load that 25 does not meet can be written, and so the load at the end of any list of steps is read as it was.
 use Prim.Native.Nat.{ℕ, _≤_}
 use mathlib.Core.Path.{_≡_}
-use mathlib.Core.Bool.{Bool, true, false}
+use mathlib.Core.Bool.{Bool, true, false, _||_}
 use native.Mathlib.Omega.{arith}
 use lib.Dec.{ltb}
 use borrow.Author.Tests.{ltb-false}
@@ -19,19 +19,24 @@ use Rattle.saved.proofs.SearchedLaws.{reads-back}
 no-higher : (h : ℕ) → oneOf h horizons ≡ true → h ≤ 21600
 no-higher h e = one-of h (λ (n : ℕ). n ≤ 21600) horizons e (omega arith, (omega arith, (omega arith, (omega arith, (omega arith, (omega arith, (omega arith, tt)))))))
 
-never-cut : (dated : Bool) (h : ℕ) → unwritable dated h ≡ false → oneOf h horizons ≡ true → h ≡ 21600
+never-cut : (dated stopped : Bool) (h : ℕ) → unwritable dated stopped h ≡ false → oneOf h horizons ≡ true → h ≡ 21600
 unfolding unwritable
-never-cut dated h e k = omega (arith, no-higher h k, ltb-false h 21600 (or-false-right dated (ltb h 21600) e))
+never-cut dated stopped h e k = omega (arith, no-higher h k, ltb-false h 21600 (or-false-right stopped (ltb h 21600) (or-false-right dated (stopped || ltb h 21600) e)))
 
-no-dates : (dated : Bool) (h : ℕ) → unwritable dated h ≡ false → dated ≡ false
+no-dates : (dated stopped : Bool) (h : ℕ) → unwritable dated stopped h ≡ false → dated ≡ false
 unfolding unwritable
-no-dates dated h e = or-false-left dated (ltb h 21600) e
+no-dates dated stopped h e = or-false-left dated (stopped || ltb h 21600) e
+
+not-stopped : (dated stopped : Bool) (h : ℕ) → unwritable dated stopped h ≡ false → stopped ≡ false
+unfolding unwritable
+not-stopped dated stopped h e = or-false-left stopped (ltb h 21600) (or-false-right dated (stopped || ltb h 21600) e)
 
 pub passes-writable : PassesWritable
 passes-writable l w p = record {
   whole = w;
-  dateless = no-dates (l .week .dated) (l .«table_horizon») p;
-  uncut = never-cut (l .week .dated) (l .«table_horizon») p (w .own .sound .table .known);
+  dateless = no-dates (l .week .dated) (l .stopped) (l .«table_horizon») p;
+  unstopped = not-stopped (l .week .dated) (l .stopped) (l .«table_horizon») p;
+  uncut = never-cut (l .week .dated) (l .stopped) (l .«table_horizon») p (w .own .sound .table .known);
 }
 
 pub end-reads-back : EndReadsBack

@@ -219,6 +219,8 @@ module _ (l : Load) (w : Writable l) (unsearched : l .searched ≡ false) where
     horizon = sym (w .whole .own .sound .same-horizon unsearched ∙ w .uncut) t;
     limits = sym (w .whole .own .sound .same-limits unsearched ∙ no-limits) t;
     searched = sym unsearched t;
+    stopped = sym (w .unstopped) t;
+    limit = sym (w .whole .own .sound .no-limit (w .unstopped)) t;
     week = sym (w .whole .own .sound .week .undated (w .dateless)) t;
   }
 

@@ -16,6 +16,7 @@ use Rattle.search.specs.Timetable.{timetableOf}
 use Rattle.search.specs.Search.{outcomeOf, settled, searchSpec}
 use Rattle.search.proofs.RunLaws.{search-runs}
 use Rattle.again.specs.Again.{unsearchedOf}
+use Rattle.again.proofs.OwnLaws.{own-finished}
 use Rattle.again.proofs.SoundLaws.{unsearched-new, unsearched-sound}
 use Rattle.again.proofs.KeptLaws.{new-kept}
 use Rattle.file.specs.declared.Took.{Took}
@@ -69,6 +70,7 @@ back-writable l w = record {
     kept = let k = w .whole .kept in record { settings = k .settings; stops = k .stops; rules = k .rules; calls = k .calls };
   };
   dateless = w .dateless;
+  unstopped = refl;
   uncut = w .uncut;
 }
 
@@ -97,7 +99,7 @@ searched-fed l w e =
     subst (λ (bs : List (List ℕ)). Feeds (emptyLoad (atStart (l .settings))) bs (loadAtStart l)) (records-are l e)
     (feeds-append
     (subst (λ (s : Settings). Feeds (emptyLoad (atStart s)) (recordsOf (unsearchedOf l)) (loadAtStart (unsearchedOf l))) (same-settings l) (all-fed (unsearchedOf l) (back-writable l w) (unsearched-new l)))
-    (more (search-takes (loadAtStart (unsearchedOf l)) (loadAtStart l) (search-at (unsearchedOf l) l (unsearched-new l) (w .whole .own .own e)) (same-horizon l)) none))
+    (more (search-takes (loadAtStart (unsearchedOf l)) (loadAtStart l) (search-at (unsearchedOf l) l (unsearched-new l) (own-finished l (w .whole .own) e (w .unstopped))) (same-horizon l)) none))
 
 pub records-taken : RecordsTaken
 records-taken l w = go (l .searched) refl

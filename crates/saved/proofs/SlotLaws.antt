@@ -62,5 +62,7 @@ loadOf s stops stopCount rules ruleCount calls callCount = record {
   horizon = 21600;
   limits = 0;
   searched = false;
+  stopped = false;
+  limit = 0;
   week = undatedWeek;
 }

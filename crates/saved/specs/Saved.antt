@@ -46,22 +46,25 @@ loadAtStart l = record {
   horizon = l .horizon;
   limits = l .limits;
   searched = l .searched;
+  stopped = l .stopped;
+  limit = l .limit;
   week = l .week;
 }
 
 abbrev pub readAs : Load → Took
 readAs l = record { answer = Taken; reader = openReader l }
 
--- ---- what may be written: a load that steps made, without dates, of a table that was never cut
+-- ---- what may be written: a load that steps made, without dates, whose search was not stopped, of a table that was never cut
 
 pub record Writable (l : Load) : Type 0 where
   pub whole : Whole l
   pub dateless : l .week .dated ≡ false
+  pub unstopped : l .stopped ≡ false
   pub uncut : l .«table_horizon» ≡ 21600
 
 -- which 25 does not meet
 abbrev pub Passes : Load → Type 0
-Passes l = unwritable (l .week .dated) (l .«table_horizon») ≡ false
+Passes l = unwritable (l .week .dated) (l .stopped) (l .«table_horizon») ≡ false
 
 abbrev pub PassesWritable : Type 0
 PassesWritable = (l : Load) → Whole l → Passes l → Writable l

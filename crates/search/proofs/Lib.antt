@@ -1,10 +1,15 @@
 pub mod RowsLaws
+pub mod EventsLaws
 pub mod AnswerLaws
 pub mod OfferedLaws
 pub mod SmallLaws
+pub mod FoundLaws
+pub mod EarliestLaws
 pub mod SearchLaws
+pub mod LimitedLaws
 pub mod Known
 pub mod MarkedLaws
 pub mod JoinLaws
 pub mod RunLaws
 pub mod SearchSound
+pub mod WithinLaws

@@ -34,13 +34,19 @@ use Rattle.rides.specs.Sheets.{joinsOf, sheetOf}
 use Rattle.rides.specs.Routes.{routeRows, rowsOf}
 use Rattle.rides.specs.Offered.{offerAll}
 use Rattle.rides.specs.Rows.{firstOf}
+use Rattle.rides.specs.Agree.{Agree}
+use Rattle.limited_rides.specs.declared.Tested.{Tested}
+use Rattle.limited_rides.specs.RowEvents.{eventsAt}
+use Rattle.limited_rides.specs.Within.{Within}
 use Rattle.feed_array.specs.Feeds.{Feeds}
 use Rattle.change_array.specs.Named.{stopIn, HoldsChanges}
 use Rattle.load.specs.declared.Load.{Load}
 use Rattle.search.specs.Timetable.{changeIn, joinsIn, timetableOf}
 use Rattle.search.specs.Offered.{placed, offeredOf}
 use Rattle.search.specs.Rows.{feedCall, sheetFrom, joinsFrom, rowOffers, Agrees}
+use Rattle.search.specs.Events.{sheetEvents, placeEvents}
 use Rattle.search.proofs.RowsLaws.{same-rows}
+use Rattle.search.proofs.EventsLaws.{same-events}
 
 -- an empty array
 pub none-below : (a : List ℕ) (i b : ℕ) → length a ≤ 0 → 0 < b → getD a i 0 < b
@@ -115,7 +121,7 @@ module _ (g : List ℕ) (p q r s : ℕ) (er : r ≡ cond (ltb p 128) p 65535) (e
 -- ---- the arrays hold the timetable
 
 module _ (l : Load) (calls : List Call) (f g : List ℕ) (w : Feeds f calls (l .stops) (l .settings)) (small : (i : ℕ) → getD f i 0 < 65536) (long : length (l .stops) ≡ 128)
-    (n : ℕ) (few : n ≤ 512) (here : HoldsChanges g f n (l .settings .«max_transfers») (λ p q. changeNumber (changeIn l p q))) where
+    (n depth : ℕ) (few : n ≤ 512) (here : HoldsChanges g f n depth (λ p q. changeNumber (changeIn l p q))) where
   below : (j : ℕ) → j < 512 → placed calls j .departure < 65536
   below j h = omega (arith, small (j * 6 + 4), w .departure j h)
 
@@ -130,7 +136,7 @@ module _ (l : Load) (calls : List Call) (f g : List ℕ) (w : Feeds f calls (l .
       λ p. not (eqb (w .trip i hi p) (w .trip j hj p) && eqb (w .day i hi p) (w .day j hj p))
       && leb (w .arrival k hk p + changeAt g (getD f (k * 6 + 2) 0) (getD f (j * 6 + 2) 0)) (w .departure j hj p)
 
-  joins-right : 1 ≤ l .settings .«max_transfers» → (i k j : ℕ) → k < n → j < n
+  joins-right : 1 ≤ depth → (i k j : ℕ) → k < n → j < n
       → (not (runs i j) && leb (placed calls k .arrival + changeAt g (stopIn f k) (stopIn f j)) (placed calls j .departure))
       ≡ joinsIn l (rideOf (placed calls i) (placed calls k)) (placed calls j)
   joins-right one i k j hk hj = go (ltb (placed calls k .stop) 128) refl (ltb (placed calls j .stop) 128) refl
@@ -163,7 +169,7 @@ module _ (l : Load) (calls : List Call) (f g : List ℕ) (w : Feeds f calls (l .
       go true e false q = far (change-far-to g (placed calls k .stop) (placed calls j .stop) (stopIn f k) (stopIn f j) (stop-of k hk) (stop-of j hj) q)
       go false e c q = far (change-far-from g (placed calls k .stop) (placed calls j .stop) (stopIn f k) (stopIn f j) (stop-of k hk) (stop-of j hj) e)
 
-  pub agrees : Agrees (sheetOf f) (joinsOf f g) (timetableOf l) (placed calls) n
+  pub agrees : Agree (sheetOf f) (sheetFrom (timetableOf l) (placed calls)) (joinsOf f g) (joinsFrom (timetableOf l) (placed calls)) depth n
   unfolding sheetOf callAt originMask targetMask originWalk targetWalk timetableOf by.originMask by.targetMask by.maskOf feedCall sheetFrom joinsFrom firstOf
   agrees = record {
     trip = λ i k. w .trip i (omega arith);
@@ -191,20 +197,39 @@ unfolding entryOf
 entry-number l rules p q e =
     ap (λ (rs : List Rule). changeNumber (transferOf rs (parentsOf (l .stops)) (placesOf (take (l .«stop_count») (l .stops))) p q (l .settings .«transfer_seconds»))) e
 
-module _ (l : Load) (calls : List Call) (f g flat parents places st st′ : List ℕ) (change depth : ℕ) where
-  pub offered-is : Feeds f calls (l .stops) (l .settings) → ((i : ℕ) → getD f i 0 < 65536) → length (l .stops) ≡ 128 → length (l .rules) ≡ 128
-      → ((n : ℕ) → n ≤ 128 → rulesOf flat n ≡ take n (l .rules)) → parents ≡ parentsOf (l .stops) → places ≡ placesOf (take (l .«stop_count») (l .stops))
-      → change ≡ l .settings .«transfer_seconds»
-      → HoldsChanges g f (l .«call_count») depth (λ p q. entryOf (rulesOf flat (least (l .«rule_count») 128)) parents places p change q)
-      → depth ≡ l .settings .«max_transfers» → view st ≡ going [] (l .«table_horizon») (l .«table_limits») → view st′ ≡ offerAll (view st) (rowsOf f g (l .«call_count») depth)
+-- the changes by the rules, parents and places as they are copied
+pub changes-are : (l : Load) (f g flat parents places : List ℕ) (change depth : ℕ) → length (l .rules) ≡ 128
+    → ((n : ℕ) → n ≤ 128 → rulesOf flat n ≡ take n (l .rules)) → parents ≡ parentsOf (l .stops) → places ≡ placesOf (take (l .«stop_count») (l .stops))
+    → change ≡ l .settings .«transfer_seconds» → depth ≡ l .settings .«max_transfers»
+    → HoldsChanges g f (l .«call_count») depth (λ p q. entryOf (rulesOf flat (least (l .«rule_count») 128)) parents places p change q)
+    → HoldsChanges g f (l .«call_count») (l .settings .«max_transfers») (λ p q. changeNumber (changeIn l p q))
+changes-are l f g flat parents places change depth rules-long er ep el ec ed here =
+    let rs : rulesOf flat (least (l .«rule_count») 128) ≡ take (l .«rule_count») (l .rules) =
+    er (least (l .«rule_count») 128) (least-under (l .«rule_count») 128) ∙ take-least (l .rules) (l .«rule_count») 128 (least (l .«rule_count») 128) refl rules-long in
+    λ one k q hk few near hq. here (omega (arith, ed, one)) k q hk few near hq
+    ∙ (λ i. entryOf (rulesOf flat (least (l .«rule_count») 128)) (ep i) (el i) (stopIn f k) (ec i) q) ∙ entry-number l (rulesOf flat (least (l .«rule_count») 128)) (stopIn f k) q rs
+
+module _ (l : Load) (calls : List Call) (f g : List ℕ) (depth : ℕ) (w : Feeds f calls (l .stops) (l .settings)) (small : (i : ℕ) → getD f i 0 < 65536) (long : length (l .stops) ≡ 128)
+    (here : HoldsChanges g f (l .«call_count») (l .settings .«max_transfers») (λ p q. changeNumber (changeIn l p q))) (ed : depth ≡ l .settings .«max_transfers») where
+  abbrev first : ℕ
+  first = min (l .«call_count») 512
+
+  held : Agrees (sheetOf f) (joinsOf f g) (timetableOf l) (placed calls) first
+  unfolding timetableOf
+  held = agrees l calls f g w small long first (l .settings .«max_transfers») (omega arith) (λ one k q hk few near hq. here one k q (omega arith) few near hq)
+
+  pub offered-is : (st st′ : List ℕ) → view st ≡ going [] (l .«table_horizon») (l .«table_limits») → view st′ ≡ offerAll (view st) (rowsOf f g (l .«call_count») depth)
       → view st′ ≡ offeredOf l calls
   unfolding offeredOf offerAll rowsOf
-  offered-is w small long rules-long er ep el ec here ed e0 e1 =
-      let rs : rulesOf flat (least (l .«rule_count») 128) ≡ take (l .«rule_count») (l .rules) =
-      er (least (l .«rule_count») 128) (least-under (l .«rule_count») 128) ∙ take-least (l .rules) (l .«rule_count») 128 (least (l .«rule_count») 128) refl rules-long in
-      let numbered : HoldsChanges g f (min (l .«call_count») 512) (l .settings .«max_transfers») (λ p q. changeNumber (changeIn l p q)) =
-      λ one k q hk few near hq. here (omega (arith, ed, one)) k q (omega arith) few near hq
-      ∙ (λ i. entryOf (rulesOf flat (least (l .«rule_count») 128)) (ep i) (el i) (stopIn f k) (ec i) q) ∙ entry-number l (rulesOf flat (least (l .«rule_count») 128)) (stopIn f k) q rs in
-      let same : routeRows (sheetOf f) (joinsOf f g) depth (min (l .«call_count») 512) ≡ rowOffers (timetableOf l) (placed calls) (min (l .«call_count») 512) =
-      same-rows (sheetOf f) (joinsOf f g) (timetableOf l) (placed calls) (min (l .«call_count») 512) depth (agrees l calls f g w small long (min (l .«call_count») 512) (omega arith) numbered) (ed ∙ max-is l) in
-      e1 ∙ (λ i. foldl offerTo (e0 i) (same i)) ∙ offers-search (l .«table_horizon») (l .«table_limits») (rowOffers (timetableOf l) (placed calls) (min (l .«call_count») 512))
+  offered-is st st′ e0 e1 =
+      let same : routeRows (sheetOf f) (joinsOf f g) depth first ≡ rowOffers (timetableOf l) (placed calls) first =
+      same-rows (sheetOf f) (joinsOf f g) (timetableOf l) (placed calls) first depth held (ed ∙ max-is l) in
+      e1 ∙ (λ i. foldl offerTo (e0 i) (same i)) ∙ offers-search (l .«table_horizon») (l .«table_limits») (rowOffers (timetableOf l) (placed calls) first)
+
+  -- the events that the loops come to within a limit are those of the timetable
+  events-are : eventsAt f g (l .«call_count») depth ≡ placeEvents (timetableOf l) (placed calls) first
+  unfolding eventsAt sheetEvents
+  events-are = same-events (sheetOf f) (joinsOf f g) (timetableOf l) (placed calls) first depth held (ed ∙ max-is l)
+
+  pub within-is : {st st′ : List ℕ} {limit : ℕ} {r : Tested} → Within st st′ limit (eventsAt f g (l .«call_count») depth) r → Within st st′ limit (placeEvents (timetableOf l) (placed calls) first) r
+  within-is w = rw (← events-are) w

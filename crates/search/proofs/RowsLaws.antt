@@ -25,9 +25,9 @@ use Rattle.search.specs.Rows.{feedCall, sheetFrom, joinsFrom, rowOffers,
 
 module _ (t : Timetable) (at : ℕ → Call) (n : ℕ) where
   -- the call at a place is read as the place is
-  places : Images (by.networkOf (sheetFrom t at) (joinsFrom t at)) (networkOf t) at 1 (span 0 n)
+  pub places : (depth : ℕ) → Images (by.networkOf (sheetFrom t at) (joinsFrom t at)) (networkOf t) at depth (span 0 n)
   unfolding networkOf by.networkOf sheetFrom joinsFrom firstOf feedCall feed.sameRun originMask targetMask
-  places =
+  places depth =
       record {
         same = λ i k mi mk. refl;
         board = λ i m. refl;
@@ -55,7 +55,7 @@ module _ (t : Timetable) (at : ℕ → Call) (n : ℕ) where
   unfolding rowOffers routeRows
   by-places =
       let rs = routes (by.networkOf (sheetFrom t at) (joinsFrom t at)) (t .max-transfers) (span 0 n) in
-      ap (map (journeyBy t)) (routes-of-images (by.networkOf (sheetFrom t at) (joinsFrom t at)) (networkOf t) at (t .max-transfers) (span 0 n) places)
+      ap (map (journeyBy t)) (routes-of-images (by.networkOf (sheetFrom t at) (joinsFrom t at)) (networkOf t) at (t .max-transfers) (span 0 n) (places 1))
       ∙ map-map (journeyBy t) (routeBy at) rs
       ∙ map-agree (λ r. journeyBy t (routeBy at r)) (λ r. journeyAt at (rowBy (sheetFrom t at) r)) rs (λ r m. to-journey (r .first) (r .way .target) (r .way .rides))
       ∙ sym (map-map (journeyAt at) (rowBy (sheetFrom t at)) rs)

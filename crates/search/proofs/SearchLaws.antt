@@ -38,7 +38,8 @@ use Rattle.search.specs.Rows.{sheetFrom, joinsFrom, rowOffers}
 use Rattle.search.specs.Offered.{placed, offeredOf}
 use Rattle.search.specs.Search.{outcomeOf, settled, searchSpec}
 use Rattle.search.proofs.RowsLaws.{search-by-rows}
-use Rattle.search.proofs.SmallLaws.{rows-small}
+use Rattle.search.proofs.SmallLaws.{AllSmall, rows-small}
+use Rattle.search.proofs.FoundLaws.{in-front, in-places, kept-small, holding, holds-found}
 
 -- ---- what is returned, by the outcome
 
@@ -56,27 +57,10 @@ returned : (l : Load) (o : Outcome) → l .searched ≡ false → outcomeOf l �
 unfolding searchSpec
 returned l o u e = ap (ran l) (sym e) ∙ sym (cond-not (again l) (ran l (outcomeOf l)) u)
 
--- ---- the calls in order
-
-sorted-long : (n : ℕ) (l : List Call) → length (sortFirst n l) ≡ length l
-sorted-long n l =
-    length-append (sort earlier (take n l)) (drop n l) ∙ ap (λ (k : ℕ). k + length (drop n l)) (length-sort earlier (take n l))
-    ∙ sym (length-append (take n l) (drop n l)) ∙ ap length (take-append-drop n l)
-
 module _ (l : Load) (cs : List Call) (order : cs ≡ sortFirst (l .«call_count») (l .calls)) (long : length (l .calls) ≡ 512) (u : l .searched ≡ false) where
-  in-front : take (l .«call_count») cs ≡ sorted (timetableOf l)
-  unfolding timetableOf
-  in-front = ap (take (l .«call_count»)) order ∙ sorted-front (l .«call_count») (l .calls)
-
-  cs-long : length cs ≡ 512
-  cs-long = ap length order ∙ sorted-long (l .«call_count») (l .calls) ∙ long
-
-  in-places : InPlaces (timetableOf l) (placed cs) (min (l .«call_count») 512)
-  in-places = array-in-places (timetableOf l) cs (min (l .«call_count») 512) blankCall (omega (arith, cs-long)) (take-min cs (l .«call_count») 512 cs-long ∙ in-front)
-
   clash-outcome : clashes (take (l .«call_count») cs) ≡ true → outcomeOf l ≡ clashing
   unfolding outcomeOf searchOf
-  clash-outcome e = cond-by _ _ (ap clashes (sym in-front) ∙ e)
+  clash-outcome e = cond-by _ _ (ap clashes (sym (in-front l cs order long)) ∙ e)
 
   -- 14
   pub returned-clash : (b : Bool) → b ≡ clashes (take (l .«call_count») cs) → b ≡ true → _≡_ {A = Stepped} (record { answer = Refused Neighbours; load = l }) (searchSpec l)
@@ -87,45 +71,33 @@ module _ (l : Load) (cs : List Call) (order : cs ≡ sortFirst (l .«call_count�
     outcome-by : outcomeOf l ≡ foundBy (mapSt (journeyAt (placed cs)) (offeredOf l cs))
     unfolding outcomeOf searchOf offeredOf
     outcome-by =
-        cond-not _ _ (ap clashes (sym in-front) ∙ sym e ∙ q)
-        ∙ ap foundBy (search-by-rows (timetableOf l) (placed cs) (min (l .«call_count») 512) (l .«table_horizon») (l .«table_limits») in-places)
+        cond-not _ _ (ap clashes (sym (in-front l cs order long)) ∙ sym e ∙ q)
+        ∙ ap foundBy (search-by-rows (timetableOf l) (placed cs) (min (l .«call_count») 512) (l .«table_horizon») (l .«table_limits») (in-places l cs order long))
 
     -- 11
     pub returned-falling : (st : List ℕ) (r : Bool) → view st ≡ offeredOf l cs → r ≡ not (openOf st) → r ≡ true → _≡_ {A = Stepped} (record { answer = Refused NoRoom; load = l }) (searchSpec l)
     returned-falling st r v er tr =
         returned l falling u (outcome-by ∙ ap (λ (s : St Row). foundBy (mapSt (journeyAt (placed cs)) s)) (sym v ∙ view-is-refused st .1 (of-not (openOf st) (sym er ∙ tr))))
 
-    -- the rows kept are rows offered, so their journeys hold their numbers as they are
-    kept-small : ((o : ℕ) → getD (l .settings .«origin_walks») o 0 < 256) → (ks : List Row) (h m : ℕ) → offeredOf l cs ≡ going ks h m → (r : Row) → List·Memᴰ r ks → Small r
-    unfolding offeredOf rowOffers sheetFrom timetableOf
-    kept-small walks ks h m v r i =
-        rows-small (sheetFrom (timetableOf l) (placed cs)) (joinsFrom (timetableOf l) (placed cs)) (l .settings .«max_transfers») (min (l .«call_count») 512) (λ o lo. walks o) r
-        (front-unbeaten rowFigures h (rowOffers (timetableOf l) (placed cs) (min (l .«call_count») 512)) r
-        (subst (List·Memᴰ r) (kept-is-front rowFigures (l .«table_horizon») (l .«table_limits») (rowOffers (timetableOf l) (placed cs) (min (l .«call_count») 512)) ks h m v .0) i) .0)
-
     module _ (walks : (o : ℕ) → getD (l .settings .«origin_walks») o 0 < 256) (st : List ℕ) (js : List Journey) (n h′ m′ : ℕ) (v : view st ≡ offeredOf l cs)
         (ej : js ≡ padded noJourney 64 (map (journeyOf cs) (ordered rowFigures (keptOf st)))) (en : n ≡ countOf st) (eh : h′ ≡ horizonOf st) (em : m′ ≡ limitsOf st) where
-      abbrev kept : List Call → List Journey → ℕ → ℕ → ℕ → Load
-      kept c j k h m =
-          withSeen l (record { calls = c; count = l .«call_count»; horizon = l .«table_horizon»; limits = l .«table_limits» }) (record { journeys = j; count = k; horizon = h; limits = m; searched = true })
+      abbrev next : Load
+      next = holding l cs js n h′ m′ false 0
 
-      -- the journeys of the rows kept, in list order
-      going-returned : (ks : List Row) (h m : ℕ) → view st ≡ going ks h m → _≡_ {A = Stepped} (record { answer = Taken; load = kept cs js n h′ m′ }) (searchSpec l)
+      small : (ks : List Row) (h m : ℕ) → view st ≡ going ks h m → AllSmall ks
+      unfolding offeredOf rowOffers sheetFrom timetableOf
+      small ks h m g =
+          kept-small (rowOffers (timetableOf l) (placed cs) (min (l .«call_count») 512)) ks (l .«table_horizon») (l .«table_limits») h m
+          (rows-small (sheetFrom (timetableOf l) (placed cs)) (joinsFrom (timetableOf l) (placed cs)) (l .settings .«max_transfers») (min (l .«call_count») 512) (λ o lo. walks o)) (sym v ∙ g)
+
+      going-returned : (ks : List Row) (h m : ℕ) → view st ≡ going ks h m → _≡_ {A = Stepped} (record { answer = Taken; load = next }) (searchSpec l)
       going-returned ks h m g =
-          let (o, c, k, eh′, em′) = view-parts st ks h m g in
-          let small = kept-small walks ks h m (sym v ∙ g) in
-          let right : map (journeyOf cs) (ordered rowFigures (keptOf st)) ≡ ordered journeyFigures (map (journeyAt (placed cs)) ks) =
-          ap (λ (rs : List Row). map (journeyOf cs) (ordered rowFigures rs)) k ∙ journeys-right cs (ordered rowFigures ks) (λ r i. small r (sort-mem (sooner rowFigures) ks i))
-          ∙ ordered-maps (journeyAt (placed cs)) rowFigures journeyFigures ks (λ r i. row-figures (placed cs) r) in
-          let ej′ : js ≡ padded noJourney 64 (ordered journeyFigures (map (journeyAt (placed cs)) ks)) = ej ∙ ap (padded noJourney 64) right in
-          let en′ : n ≡ length (ordered journeyFigures (map (journeyAt (placed cs)) ks)) =
-          en ∙ c ∙ sym (length-map ks (journeyAt (placed cs))) ∙ sym (length-sort (sooner journeyFigures) (map (journeyAt (placed cs)) ks)) in
-          (λ i. record { answer = Taken; load = kept (order i) (ej′ i) (en′ i) ((eh ∙ eh′) i) ((em ∙ em′) i) })
+          ap {B = Stepped} (λ (x : Load). record { answer = Taken; load = x }) (holds-found l cs order st js n h′ m′ ej en eh em ks h m g (small ks h m g) false 0)
           ∙ returned l (found (ordered journeyFigures (map (journeyAt (placed cs)) ks)) h m) u (outcome-by ∙ ap (λ (s : St Row). foundBy (mapSt (journeyAt (placed cs)) s)) (sym v ∙ g))
 
-      pub returned-found : (r : Bool) → r ≡ not (openOf st) → r ≡ false → _≡_ {A = Stepped} (record { answer = Taken; load = kept cs js n h′ m′ }) (searchSpec l)
+      pub returned-found : (r : Bool) → r ≡ not (openOf st) → r ≡ false → _≡_ {A = Stepped} (record { answer = Taken; load = next }) (searchSpec l)
       returned-found r er fr = go (view st) refl
         where
-          go : (s : St Row) → view st ≡ s → _≡_ {A = Stepped} (record { answer = Taken; load = kept cs js n h′ m′ }) (searchSpec l)
+          go : (s : St Row) → view st ≡ s → _≡_ {A = Stepped} (record { answer = Taken; load = next }) (searchSpec l)
           go refused e = absurd (true≢false (sym (ap not (view-is-refused st .0 e)) ∙ sym er ∙ fr))
           go (going ks h m) e = going-returned ks h m e

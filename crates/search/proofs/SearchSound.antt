@@ -1,7 +1,7 @@
 -- A search keeps a load sound: its calls are the same calls in order, and at most 64 journeys are kept, in order.
 use Prim.Native.Nat.{ℕ, _+_, _-_, _≤_}
 use mathlib.Core.Path.{_≡_, refl, sym, ap, subst, _∙_}
-use mathlib.Core.Bool.{Bool, true, false, cond, true≢false}
+use mathlib.Core.Bool.{Bool, true, false, cond, true≢false, false≢true}
 use mathlib.Core.List.{List, List·Memᴰ}
 use native.Mathlib.Omega.{arith}
 use lib.ListN.{length, take, drop, replicate, length-append, length-replicate, length-take, length-drop}
@@ -26,7 +26,7 @@ use Rattle.load.specs.declared.Load.{Load}
 use Rattle.load.specs.declared.Stepped.{Stepped}
 use Rattle.load.specs.Sound.{Sound}
 use Rattle.search.specs.Timetable.{timetableOf}
-use Rattle.search.specs.Search.{outcomeOf, withJourneys, settled, searchSpec}
+use Rattle.search.specs.Search.{outcomeOf, withFound, withJourneys, settled, searchSpec}
 
 -- ---- the table in order
 
@@ -62,8 +62,10 @@ kept-ordered l ks h m e =
 fill-up : (n : ℕ) → n ≤ 64 → n + (64 - n) ≡ 64
 fill-up n h = omega arith
 
-searched-sound : (l : Load) (ks : List Journey) (h m : ℕ) → outcomeOf l ≡ found ks h m → Sound l → Sound (withJourneys l ks h m)
-searched-sound l ks h m e s =
+-- at most 64 journeys, in order; a limit only where the search was stopped, and then of a load with at most one change
+pub found-sound : (l : Load) (ks : List Journey) (h m : ℕ) (b : Bool) (n : ℕ) → length ks ≤ 64 → Ordered journeyFigures ks → (b ≡ false → n ≡ 0)
+    → (b ≡ true → l .settings .«max_transfers» ≤ 1) → Sound l → Sound (withFound l ks h m b n)
+found-sound l ks h m b n fit ord none one s =
     let few = s .table .few in
     let long = s .table .long in
     record {
@@ -78,15 +80,21 @@ searched-sound l ks h m e s =
       };
       calls-known = sorted-each (l .«call_count») (l .calls) few long (AtStop (l .«stop_count»)) (s .calls-known);
       rules = s .rules;
-      few = kept-few l ks h m e;
-      long = length-append ks (replicate (64 - length ks) noJourney) ∙ rw length-replicate (fill-up (length ks) (kept-few l ks h m e));
+      few = fit;
+      long = length-append ks (replicate (64 - length ks) noJourney) ∙ rw length-replicate (fill-up (length ks) fit);
       blank = drop-append-seam ks (replicate (64 - length ks) noJourney);
-      in-order = subst (Ordered journeyFigures) (sym (take-append-seam ks (replicate (64 - length ks) noJourney))) (kept-ordered l ks h m e);
+      in-order = subst (Ordered journeyFigures) (sym (take-append-seam ks (replicate (64 - length ks) noJourney))) ord;
       none-kept = λ x. absurd (true≢false x);
       same-horizon = λ x. absurd (true≢false x);
       same-limits = λ x. absurd (true≢false x);
+      no-limit = none;
+      stopped-search = λ x. refl;
+      stopped-change = one;
       week = s .week;
     }
+
+searched-sound : (l : Load) (ks : List Journey) (h m : ℕ) → outcomeOf l ≡ found ks h m → Sound l → Sound (withJourneys l ks h m)
+searched-sound l ks h m e = found-sound l ks h m false 0 (kept-few l ks h m e) (kept-ordered l ks h m e) (λ x. refl) (λ x. absurd (false≢true x))
 
 pub search-sound : (l : Load) → Sound l → Sound (searchSpec l .load)
 unfolding searchSpec

@@ -30,10 +30,15 @@ outcomeOf l = searchOf (timetableOf l) (l .«table_horizon») (l .«table_limits
 abbrev pub sortedTable : Load → Table
 sortedTable l = record { calls = sortFirst (l .«call_count») (l .calls); count = l .«call_count»; horizon = l .«table_horizon»; limits = l .«table_limits» }
 
--- the load, searched: its calls in order, these journeys, this horizon and mark
+-- the load, searched: its calls in order, these journeys, this horizon and mark; and whether the search was stopped, and at which limit
+abbrev pub withFound : Load → List Journey → ℕ → ℕ → Bool → ℕ → Load
+withFound l ks h m b n =
+    withSeen l (sortedTable l)
+    (record { journeys = padded noJourney 64 ks; count = length ks; horizon = h; limits = m; searched = true; stopped = b; limit = n })
+
+-- searched in full
 abbrev pub withJourneys : Load → List Journey → ℕ → ℕ → Load
-withJourneys l ks h m =
-    withSeen l (sortedTable l) (record { journeys = padded noJourney 64 ks; count = length ks; horizon = h; limits = m; searched = true })
+withJourneys l ks h m = withFound l ks h m false 0
 
 -- refused: the load as it was, unsorted
 abbrev pub settled : Load → Outcome → Load

@@ -1,9 +1,12 @@
-// The search step: the calls put in order, every offer made, and what is kept.
+// The search step: the calls put in order, every offer made, and what is kept; and the same within a limit on joins.
 ghost use mathlib.Core.Path.{_≡_};
 ghost use Prim.Native.Nat.{ℕ, _<_};
 ghost use lib.ListN.{getD};
 ghost use Rattle.state.specs.View.{view};
 ghost use Rattle.search.specs.Search.{searchSpec};
+ghost use Rattle.transfer.specs.Changes.{changeNumber};
+ghost use Rattle.change_array.specs.Named.{HoldsChanges};
+ghost use Rattle.search.specs.Timetable.{changeIn};
 ghost use Rattle.search.specs.Offered.{offeredOf};
 use calls::Call;
 use change_array::changes_of;
@@ -26,6 +29,20 @@ use state::limits;
 use transfer::copied::flat_rules;
 use transfer::copied::parents_of;
 
+pub mod earliest;
+mod within;
+
+pub use within::search_within;
+
+// What a search within a limit on joins answers, and the load that it returns; how many joins it tested, and whether none is left. 0 and
+// false where it is sent back.
+pub struct Limited {
+    pub answer: Answer,
+    pub load: Load,
+    pub joins: u64,
+    pub finished: bool,
+}
+
 // What a lent array tells: each of its numbers is below 65536.
 fn numbers(a: &[u16])
     ensures { λ _. ⌜ ((i : ℕ) → getD (now (a .entry)) i 0 < 65536) ⌝ }
@@ -44,28 +61,37 @@ fn bytes(a: &[u8])
     }
 }
 
+// The changes that a search of the load reads, from the stops that the feed names.
+fn changes_for(load: Load, feed: &[u16; 3208]) -> [u32; 16384]
+    ensures { λ r. ⌜ HoldsChanges r (now (feed .entry)) (load .«call_count») (load .settings .«max_transfers») (λ p q. changeNumber (changeIn load p q)) ⌝ }
+{
+    let settings = load.settings;
+    let stops = load.stops;
+    let rules = load.rules;
+    let flat = flat_rules(rules);
+    let parents = parents_of(stops);
+    let places = group_places(stops, load.stop_count);
+    changes_of(
+        feed,
+        load.call_count,
+        settings.max_transfers as u16,
+        &flat,
+        load.rule_count,
+        &parents,
+        &places,
+        settings.transfer_seconds,
+    )
+}
+
 // The state of a search of the load over these calls, every offer made.
 fn offered(load: Load, calls: [Call; 512]) -> State
     ensures { λ r. ⌜ view r ≡ offeredOf load calls ⌝ }
 {
     let settings = load.settings;
     let stops = load.stops;
-    let rules = load.rules;
     let feed = feed_of(calls, stops, settings);
-    let flat = flat_rules(rules);
-    let parents = parents_of(stops);
-    let places = group_places(stops, load.stop_count);
+    let changes = changes_for(load, &feed);
     let depth = settings.max_transfers as u16;
-    let changes = changes_of(
-        &feed,
-        load.call_count,
-        depth,
-        &flat,
-        load.rule_count,
-        &parents,
-        &places,
-        settings.transfer_seconds,
-    );
     let mut st = fresh(load.table_horizon, load.table_limits);
     numbers(&feed);
     endpoint_paths(&mut st, &feed, &changes, load.call_count, depth);
@@ -108,6 +134,8 @@ pub fn search(load: Load) -> Stepped
     next.horizon = horizon(&st);
     next.limits = limits(&st);
     next.searched = true;
+    next.stopped = false;
+    next.limit = 0;
     Stepped {
         answer: Answer::Taken,
         load: next,

@@ -28,11 +28,12 @@ use Rattle.load.specs.Filling.{stop, call, rule, service, exception}
 use Rattle.load.proofs.ClockLaws.{opening-tests}
 use Rattle.load.proofs.AnswerLaws.{step-answered as fill-answered}
 use Rattle.search.proofs.AnswerLaws.{search-answered}
+use Rattle.search.proofs.WithinLaws.{within-answered}
 use Rattle.withdrawal.specs.declared.CallKey.{CallKey}
 use Rattle.again.specs.Again.{unsearchedOf, addSpec, withdrawTests, takenOut}
 use Rattle.again.specs.Causes.{searchTests, laterTests, addCauses, withdrawCauses}
 use Rattle.again.proofs.AnswerLaws.{add-answered, withdraw-answered}
-use Rattle.steps.specs.Steps.{Step, filling, withdraw, search, stepped, causes, numbers}
+use Rattle.steps.specs.Steps.{Step, filling, withdraw, search, limited, stepped, causes, numbers}
 use Rattle.steps.specs.Answered.{Answered, openNumbers, OpeningAnswered, number}
 
 -- the numbers of the answers of a list of tests
@@ -76,7 +77,7 @@ call-order l name i = go (l .searched)
 withdraw-order : (l : Load) (k : CallKey) → map number (withdrawCauses l k) ≡ numbers (l .searched) (withdraw k)
 withdraw-order l k = go (l .searched)
   where
-    go : (b : Bool) → map number (cond b (withdrawTests (unsearchedOf l) k ++ searchTests (takenOut (unsearchedOf l) k .load)) (withdrawTests l k)) ≡ numbers b (withdraw k)
+    go : (b : Bool) → map number (cond b (withdrawTests (unsearchedOf l) k ++ searchTests l (takenOut (unsearchedOf l) k .load)) (withdrawTests l k)) ≡ numbers b (withdraw k)
     go true = refl
     go false = refl
 
@@ -89,6 +90,7 @@ step-order l (filling (service name weekdays start end)) = refl
 step-order l (filling (exception name date kind)) = refl
 step-order l (withdraw k) = withdraw-order l k
 step-order l search = refl
+step-order l (limited n) = refl
 
 -- the numbers of an opening's tests
 open-numbered : (o : Opening) → numbered (openTests o) ≡ openNumbers (o .dates)
@@ -131,6 +133,7 @@ step-met l (filling (service name weekdays start end)) = let w = fill-answered l
 step-met l (filling (exception name date kind)) = let w = fill-answered l (exception name date kind) in record { first = w .first; taken = w .taken; unchanged = w .unchanged }
 step-met l (withdraw k) = let w = withdraw-answered l k in record { first = w .first; taken = w .taken; unchanged = w .unchanged }
 step-met l search = let w = search-answered l in record { first = w .first; taken = w .taken; unchanged = w .unchanged }
+step-met l (limited n) = let w = within-answered l n in record { first = w .first; taken = w .taken; unchanged = w .unchanged }
 
 pub step-answered : (l : Load) (x : Step) → Answered l x
 step-answered l x =

@@ -23,8 +23,9 @@ use Rattle.load.proofs.StepLaws.{Called, without, goes-on, stays-out, sent-back
 use Rattle.load.proofs.TableLaws.{closing-same}
 use Rattle.load.proofs.WeekLaws.{call-runs, call-rests}
 use Rattle.search.specs.Search.{searchSpec}
-use Rattle.again.specs.Again.{unsearchedOf, again, searchedAs, leavesTable, addedTo, addSpec, withdrawAnswer, takenOut, withdrawSpec}
-use Rattle.again.proofs.WeekLaws.{search-week as with-week}
+use Rattle.search.specs.Within.{withinSpec, stepOf}
+use Rattle.again.specs.Again.{unsearchedOf, researched, again, searchedAs, leavesTable, addedTo, addSpec, withdrawAnswer, takenOut, withdrawSpec}
+use Rattle.again.proofs.WeekLaws.{search-week, within-week, research-week}
 
 undated-not : undatedWeek .dated ≡ false
 unfolding undatedWeek
@@ -70,7 +71,10 @@ bare-plain l i = go (isRefused (callFitted l i .answer))
     go false = refl
 
 pub bare-search : (l : Load) → searchSpec (bare l) ≡ bared (searchSpec l)
-bare-search l = with-week l undatedWeek
+bare-search l = search-week l undatedWeek
+
+pub bare-limited : (l : Load) (n : ℕ) → stepOf (withinSpec (bare l) n) ≡ bared (stepOf (withinSpec l n))
+bare-limited l n = within-week l n undatedWeek
 
 -- ---- a step on the unsearched load, and a search
 
@@ -81,13 +85,13 @@ bare-unsearched l = refl
 bare-again : (l : Load) (r : Stepped) → again (bare l) (bared r) ≡ bared (again l r)
 unfolding again
 bare-again l r =
-    ap (λ (q : Stepped). cond (isRefused (r .answer)) (record { answer = r .answer; load = bare l }) (searchedAs (bare l) (r .answer) q)) (bare-search (r .load))
-    ∙ go (isRefused (r .answer)) (isTaken (searchSpec (r .load) .answer))
+    ap (λ (q : Stepped). cond (isRefused (r .answer)) (record { answer = r .answer; load = bare l }) (searchedAs (bare l) (r .answer) q)) (research-week (l .stopped) (l .limit) (r .load) undatedWeek)
+    ∙ go (isRefused (r .answer)) (isTaken (researched (l .stopped) (l .limit) (r .load) .answer))
   where
     go : (b c : Bool) → cond {A = Stepped} b (record { answer = r .answer; load = bare l })
-        (cond {A = Stepped} c (record { answer = r .answer; load = bare (searchSpec (r .load) .load) }) (record { answer = searchSpec (r .load) .answer; load = bare l }))
+        (cond {A = Stepped} c (record { answer = r .answer; load = bare (researched (l .stopped) (l .limit) (r .load) .load) }) (record { answer = researched (l .stopped) (l .limit) (r .load) .answer; load = bare l }))
         ≡ bared (cond {A = Stepped} b (record { answer = r .answer; load = l })
-        (cond {A = Stepped} c (record { answer = r .answer; load = searchSpec (r .load) .load }) (record { answer = searchSpec (r .load) .answer; load = l })))
+        (cond {A = Stepped} c (record { answer = r .answer; load = researched (l .stopped) (l .limit) (r .load) .load }) (record { answer = researched (l .stopped) (l .limit) (r .load) .answer; load = l })))
     go true c = refl
     go false true = refl
     go false false = refl

@@ -23,10 +23,10 @@ use Rattle.load.specs.Filling.{stop, call, rule, service, exception}
 use Rattle.load.proofs.StepLaws.{call-undated}
 use Rattle.again.specs.Again.{unsearchedOf, addedTo, addSpec}
 use Rattle.best.specs.Best.{keptOf}
-use Rattle.steps.specs.Steps.{Step, filling, withdraw, search, stepped}
+use Rattle.steps.specs.Steps.{Step, filling, withdraw, search, limited, stepped}
 use Rattle.steps.specs.Lists.{next, handed}
 use Rattle.steps.specs.Dated.{ifRuns, passed, passedOf, answersTo, sameFor, passedAnswers, DatedSame, LateServices, NameUnread}
-use Rattle.steps.proofs.BareLaws.{bare, bared, bare-stop, bare-rule, bare-search, bare-withdraw, bare-add, bare-rests}
+use Rattle.steps.proofs.BareLaws.{bare, bared, bare-stop, bare-rule, bare-search, bare-limited, bare-withdraw, bare-add, bare-rests}
 use Rattle.steps.proofs.WeekLaws.{back-week, add-closes, step-dated, step-closed}
 
 not-unknown : Unknown ≡ Runs → ⊥
@@ -68,6 +68,7 @@ follows l (filling (service name weekdays start end)) d = none-passed l _ refl r
 follows l (filling (exception name date kind)) d = none-passed l _ refl refl
 follows l (withdraw k) d = one-passed l _ _ refl (bare-withdraw l k)
 follows l search d = one-passed l _ _ refl (bare-search l)
+follows l (limited n) d = one-passed l _ _ refl (bare-limited l n)
 
 -- ---- a list
 

@@ -2,7 +2,7 @@
 use mathlib.Core.Path.{_≡_, refl, ap, _∙_}
 use mathlib.Core.Bool.{Bool, true, false, cond}
 use mathlib.Core.List.{List, [], _∷_}
-use Prim.Native.Nat.{_≤_}
+use Prim.Native.Nat.{ℕ, _≤_}
 use native.Mathlib.Omega.{arith}
 use lib.Dec.{ltb}
 use borrow.Author.Tests.{ltb-false}
@@ -22,10 +22,13 @@ use Rattle.load.proofs.ClockLaws.{open-fails}
 use Rattle.load.proofs.TableLaws.{fill-settings, opened-settings}
 use Rattle.withdrawal.specs.declared.CallKey.{CallKey}
 use Rattle.search.specs.Search.{outcomeOf, settled, searchSpec}
+use Rattle.search.specs.Within.{withinSpec}
 use Rattle.search.proofs.RunLaws.{search-runs}
-use Rattle.again.specs.Again.{unsearchedOf, again, leavesTable, addedTo, addSpec, takenOut, withdrawSpec}
+use Rattle.search.proofs.WithinLaws.{within-keeps}
+use Rattle.again.specs.Again.{unsearchedOf, researched, again, leavesTable, addedTo, addSpec, takenOut, withdrawSpec}
 use Rattle.again.proofs.SoundLaws.{out-cases}
-use Rattle.steps.specs.Steps.{Step, filling, withdraw, search, stepped}
+use Rattle.again.proofs.ResearchLaws.{researched-keeps}
+use Rattle.steps.specs.Steps.{Step, filling, withdraw, search, limited, stepped}
 use Rattle.steps.specs.Lists.{next, handed, endOf}
 use Rattle.steps.specs.Sound.{HandedSound, ChangeInRange}
 use Rattle.steps.proofs.HeldLaws.{step-sound}
@@ -45,14 +48,20 @@ search-settings l = go (l .searched) refl
     go true e = ap (λ (m : Load). m .settings) (search-stays l e)
     go false e = ap (λ (r : Stepped). r .load .settings) (search-runs l e) ∙ settled-settings l (outcomeOf l)
 
+within-settings : (l : Load) (n : ℕ) → withinSpec l n .load .settings ≡ l .settings
+within-settings l n = within-keeps (λ m. m .settings) l n (λ ks h m b k. refl)
+
+research-settings : (b : Bool) (n : ℕ) (m : Load) → researched b n m .load .settings ≡ m .settings
+research-settings b n m = researched-keeps b n m (λ x. x .settings) (λ ks h k c j. refl)
+
 again-settings : (l : Load) (r : Stepped) → r .load .settings ≡ l .settings → again l r .load .settings ≡ l .settings
 unfolding again
-again-settings l r e = go (isRefused (r .answer)) (isTaken (searchSpec (r .load) .answer))
+again-settings l r e = go (isRefused (r .answer)) (isTaken (researched (l .stopped) (l .limit) (r .load) .answer))
   where
     go : (b c : Bool) → cond {A = Stepped} b (record { answer = r .answer; load = l })
-        (cond {A = Stepped} c (record { answer = r .answer; load = searchSpec (r .load) .load }) (record { answer = searchSpec (r .load) .answer; load = l })) .load .settings ≡ l .settings
+        (cond {A = Stepped} c (record { answer = r .answer; load = researched (l .stopped) (l .limit) (r .load) .load }) (record { answer = researched (l .stopped) (l .limit) (r .load) .answer; load = l })) .load .settings ≡ l .settings
     go true c = refl
-    go false true = search-settings (r .load) ∙ e
+    go false true = research-settings (l .stopped) (l .limit) (r .load) ∙ e
     go false false = refl
 
 added-settings : (l : Load) (r : Stepped) → r .load .settings ≡ l .settings → addedTo l r .load .settings ≡ l .settings
@@ -77,6 +86,7 @@ step-settings l (filling (rule i)) = fill-settings l (rule i)
 step-settings l (filling (service name weekdays start end)) = fill-settings l (service name weekdays start end)
 step-settings l (filling (exception name date kind)) = fill-settings l (exception name date kind)
 step-settings l search = search-settings l
+step-settings l (limited n) = within-settings l n
 step-settings l (filling (call name i)) = go (l .searched)
   where
     go : (b : Bool) → cond b (addedTo l (callSpec (unsearchedOf l) name i)) (callSpec l name i) .load .settings ≡ l .settings

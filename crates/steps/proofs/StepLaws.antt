@@ -39,7 +39,7 @@ use Rattle.load.specs.Sound.{Sound}
 use Rattle.load.proofs.AnswerLaws.{step-answered}
 use Rattle.load.proofs.TableLaws.{call-keeps}
 use Rattle.search.specs.Timetable.{changeIn, oneRun, timetableOf}
-use Rattle.search.specs.Search.{outcomeOf, withJourneys, searchSpec}
+use Rattle.search.specs.Search.{outcomeOf, withFound, withJourneys, searchSpec}
 use Rattle.search.proofs.RunLaws.{search-again, taken-found}
 use Rattle.again.specs.Again.{addSpec}
 use Rattle.best.specs.Best as best
@@ -146,6 +146,10 @@ pub record Finds (l m : Load) : Type 0 where
 
 kept-back : (ks : List Journey) → take (length ks) (padded noJourney 64 ks) ≡ ks
 kept-back ks = take-append-seam ks (replicate (64 - length ks) noJourney)
+
+-- what is kept of the journeys found
+pub found-kept : (l : Load) (ks : List Journey) (h m : ℕ) (b : Bool) (n : ℕ) → best.keptOf (withFound l ks h m b n) ≡ ks
+found-kept l ks h m b n = kept-back ks
 
 -- a search that is answered taken ran on a load not searched before, and leaves it searched
 pub record Searches (l : Load) : Type 0 where

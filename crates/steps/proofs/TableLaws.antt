@@ -32,15 +32,20 @@ use Rattle.withdrawal.specs.Removal.{withoutLast, hasKey, withdrawn, namedIn}
 use Rattle.withdrawal.proofs.LeftLaws.{withdrawn-leaves}
 use Rattle.withdrawal.proofs.ShownLaws.{shown-without}
 use Rattle.search.specs.Timetable.{timetableOf}
-use Rattle.search.specs.Search.{searchSpec}
+use Rattle.profile.specs.declared.Journey.{Journey}
+use Rattle.search.specs.declared.Limited.{Limited}
+use Rattle.search.specs.Search.{withFound, withJourneys, searchSpec}
+use Rattle.search.specs.Within.{finishesIn, withinSpec}
 use Rattle.search.proofs.RunLaws.{taken-found, untaken-stays}
-use Rattle.again.specs.Again.{unsearchedOf, again, leavesTable, addedTo, addSpec, takenOut, withdrawSpec}
+use Rattle.search.proofs.WithinLaws.{taken-within, untaken-within}
+use Rattle.again.specs.Again.{unsearchedOf, researched, again, leavesTable, addedTo, addSpec, takenOut, withdrawSpec}
+use Rattle.again.proofs.ResearchLaws.{taken-researched}
 use Rattle.again.specs.Claims.{Kept}
 use Rattle.again.proofs.SortLaws.{in-order-again, sorted-without, any-sorted}
 use Rattle.again.proofs.SoundLaws.{unsearched-sound, out-cases, Goes}
 use Rattle.again.proofs.SearchedLaws.{addedBy, own-clear}
 use Rattle.again.proofs.AnswerLaws.{refused-not-taken}
-use Rattle.steps.specs.Steps.{Step, filling, withdraw, search}
+use Rattle.steps.specs.Steps.{Step, filling, withdraw, search, limited}
 use Rattle.steps.specs.Lists.{next, handed, endOf, startOf}
 use Rattle.steps.specs.Table.{heldAfter, heldBy, ordered, shownAt, TableHeld, AdmittedHeld}
 use Rattle.steps.proofs.StepLaws.{filled-stays, filled-searched}
@@ -62,12 +67,17 @@ from-plain l is e h = h ∙ sym (ap (λ (b : Bool). ordered b (windowed (l .sett
 in-order : (l : Load) (is : List CallInput) → l .searched ≡ true → Holds l is → tableCalls (tableOf l) ≡ inOrder (windowed (l .settings) (l .«table_horizon») is)
 in-order l is e h = h ∙ ap (λ (b : Bool). ordered b (windowed (l .settings) (l .«table_horizon») is)) e
 
--- an accepted search of m
-search-holds : (m : Load) (is : List CallInput) → isTaken (searchSpec m .answer) ≡ true
-    → inOrder (tableCalls (tableOf m)) ≡ inOrder (windowed (m .settings) (m .«table_horizon») is) → Holds (searchSpec m .load) is
-search-holds m is t e =
-    let w = taken-found m t in
-    subst (λ (n : Load). Holds n is) (sym (ap (λ (r : Stepped). r .load) (w .is))) (sorted-front (m .«call_count») (m .calls) ∙ e)
+-- m with what a search of it found
+found-holds : (m : Load) (is : List CallInput) (ks : List Journey) (h k : ℕ) (b : Bool) (n : ℕ)
+    → inOrder (tableCalls (tableOf m)) ≡ inOrder (windowed (m .settings) (m .«table_horizon») is) → Holds (withFound m ks h k b n) is
+found-holds m is ks h k b n e = sorted-front (m .«call_count») (m .calls) ∙ e
+
+-- an accepted search of m, in full or within a limit
+search-holds : (b : Bool) (n : ℕ) (m : Load) (is : List CallInput) → isTaken (researched b n m .answer) ≡ true
+    → inOrder (tableCalls (tableOf m)) ≡ inOrder (windowed (m .settings) (m .«table_horizon») is) → Holds (researched b n m .load) is
+search-holds b n m is t e =
+    let w = taken-researched b n m t in
+    subst (λ (x : Load). Holds x is) (sym (ap (λ (r : Stepped). r .load) (w .is))) (found-holds m is (w .kept) (w .to) (w .mark) (w .stop) (w .at) e)
 
 -- ---- all but calls and withdrawals
 
@@ -80,12 +90,28 @@ filled-holds l x is s n h = go (l .searched) refl
         from-plain (filled l x .load) is (filled-searched l x ∙ e)
         (subst (ShowsIn (filled l x .load)) (ap (λ (r : List CallInput). is ++ r) n ∙ append-nil is) (fill-shows l x is s (plain l is e h)))
 
+either-holds : (l : Load) (n : ℕ) (is : List CallInput) (ks : List Journey) (h k : ℕ) (c : Bool)
+    → inOrder (tableCalls (tableOf l)) ≡ inOrder (windowed (l .settings) (l .«table_horizon») is) → Holds (cond c (withJourneys l ks h k) (withFound l ks h k true n)) is
+either-holds l n is ks h k true e = found-holds l is ks h k false 0 e
+either-holds l n is ks h k false e = found-holds l is ks h k true n e
+
 searched-holds : (l : Load) (is : List CallInput) → Holds l is → Holds (searchSpec l .load) is
 searched-holds l is h = go (isTaken (searchSpec l .answer)) refl
   where
     go : (b : Bool) → isTaken (searchSpec l .answer) ≡ b → Holds (searchSpec l .load) is
-    go true t = search-holds l is t (ap inOrder (plain l is (taken-found l t .new) h))
+    go true t =
+        let w = taken-found l t in
+        subst (λ (x : Load). Holds x is) (sym (ap (λ (r : Stepped). r .load) (w .is))) (found-holds l is (w .kept) (w .to) (w .mark) false 0 (ap inOrder (plain l is (w .new) h)))
     go false t = subst (λ (m : Load). Holds m is) (sym (untaken-stays l t)) h
+
+limited-holds : (l : Load) (n : ℕ) (is : List CallInput) → Holds l is → Holds (withinSpec l n .load) is
+limited-holds l n is h = go (isTaken (withinSpec l n .answer)) refl
+  where
+    go : (b : Bool) → isTaken (withinSpec l n .answer) ≡ b → Holds (withinSpec l n .load) is
+    go true t =
+        let w = taken-within l n t in
+        subst (λ (x : Load). Holds x is) (sym (ap (λ (r : Limited). r .load) (w .is))) (either-holds l n is (w .kept) (w .to) (w .mark) (finishesIn l n) (ap inOrder (plain l is (w .new) h)))
+    go false t = subst (λ (m : Load). Holds m is) (sym (untaken-within l n t)) h
 
 -- ---- call
 
@@ -133,13 +159,13 @@ module _ (l : Load) (name : List ℕ) (i : CallInput) (is : List CallInput) (s :
 
   added-holds : HeldBy (addedTo l r)
   unfolding addedTo again
-  added-holds = go (leavesTable l r) (isRefused (r .answer)) (isTaken (searchSpec m .answer)) refl refl refl
+  added-holds = go (leavesTable l r) (isRefused (r .answer)) (isTaken (researched (l .stopped) (l .limit) m .answer)) refl refl refl
     where
-      go : (b c e : Bool) → leavesTable l r ≡ b → isRefused (r .answer) ≡ c → isTaken (searchSpec m .answer) ≡ e → HeldBy (addedBy l r b c e)
+      go : (b c e : Bool) → leavesTable l r ≡ b → isRefused (r .answer) ≡ c → isTaken (researched (l .stopped) (l .limit) m .answer) ≡ e → HeldBy (addedBy l r b c e)
       go true c e x y z = stays (r .answer) (withWeek l (r .load .week)) (not-true (isTaken (r .answer)) (and-true-left (not (isTaken (r .answer))) (eqb (m .«table_horizon») (l .«table_horizon»)) x)) h
       go false true e x y z = stays (r .answer) l (refused-not-taken (r .answer) y) h
-      go false false true x y z = search-holds m (cond (isTaken (r .answer)) (is ++ (i ∷ [])) is) z more
-      go false false false x y z = stays (searchSpec m .answer) l z h
+      go false false true x y z = search-holds (l .stopped) (l .limit) m (cond (isTaken (r .answer)) (is ++ (i ∷ [])) is) z more
+      go false false false x y z = stays (researched (l .stopped) (l .limit) m .answer) l z h
 
 add-holds : (l : Load) (name : List ℕ) (i : CallInput) (is : List CallInput) → Sound l → Holds l is
     → Holds (addSpec l name i .load) (cond (isTaken (addSpec l name i .answer)) (is ++ (i ∷ [])) is)
@@ -187,20 +213,20 @@ module _ (l : Load) (k : CallKey) (is : List CallInput) (w : Kept l) (h : Holds 
         ∙ sorted-without seen k clear-seen (any-sorted (hasKey k) seen (sym (ap (anyb (hasKey k)) (in-order l is d h)) ∙ e))
         ∙ ap inOrder (shown-without (l .settings) (l .«table_horizon») k is)
 
-    searched-left : Goes v k → isTaken (searchSpec (withTable v (withdrawn (tableOf v) k)) .answer) ≡ true
-        → Holds (searchSpec (withTable v (withdrawn (tableOf v) k)) .load) left
+    searched-left : Goes v k → isTaken (researched (l .stopped) (l .limit) (withTable v (withdrawn (tableOf v) k)) .answer) ≡ true
+        → Holds (researched (l .stopped) (l .limit) (withTable v (withdrawn (tableOf v) k)) .load) left
     unfolding unsearchedOf withdrawn
     searched-left g z =
-        search-holds (withTable v (withdrawn (tableOf v) k)) left z
+        search-holds (l .stopped) (l .limit) (withTable v (withdrawn (tableOf v) k)) left z
         (ap inOrder (withdrawn-leaves (tableOf l) k (w .sound .table) (g .there) .calls ∙ left-sorted (g .there))
         ∙ in-order-again (windowed (l .settings) (l .«table_horizon») left))
 
     again-holds : LeftBy (again l (takenOut v k))
     unfolding again
-    again-holds = out-cases v k (λ q. LeftBy (again l q)) (λ q. h) (λ q f. h) (λ g. go g (isTaken (searchSpec (withTable v (withdrawn (tableOf v) k)) .answer)) refl)
+    again-holds = out-cases v k (λ q. LeftBy (again l q)) (λ q. h) (λ q f. h) (λ g. go g (isTaken (researched (l .stopped) (l .limit) (withTable v (withdrawn (tableOf v) k)) .answer)) refl)
       where
-        go : Goes v k → (b : Bool) → isTaken (searchSpec (withTable v (withdrawn (tableOf v) k)) .answer) ≡ b
-            → LeftBy (cond {A = Stepped} b (record { answer = Taken; load = searchSpec (withTable v (withdrawn (tableOf v) k)) .load }) (record { answer = searchSpec (withTable v (withdrawn (tableOf v) k)) .answer; load = l }))
+        go : Goes v k → (b : Bool) → isTaken (researched (l .stopped) (l .limit) (withTable v (withdrawn (tableOf v) k)) .answer) ≡ b
+            → LeftBy (cond {A = Stepped} b (record { answer = Taken; load = researched (l .stopped) (l .limit) (withTable v (withdrawn (tableOf v) k)) .load }) (record { answer = researched (l .stopped) (l .limit) (withTable v (withdrawn (tableOf v) k)) .answer; load = l }))
         go g true z = searched-left g z
         go g false z = subst (Holds l) (sym (cond-not _ _ z)) h
 
@@ -225,6 +251,7 @@ step-holds l (filling (service name weekdays start end)) is w h = filled-holds l
 step-holds l (filling (exception name date kind)) is w h = filled-holds l (exception name date kind) is (w .sound) refl h
 step-holds l (withdraw k) is w h = withdraw-holds l k is w h
 step-holds l search is w h = searched-holds l is h
+step-holds l (limited n) is w h = limited-holds l n is h
 
 handed-holds : (xs : List Step) (l : Load) (is : List CallInput) → Kept l → Holds l is → Holds (handed l xs) (heldBy is l xs)
 handed-holds [] l is w h = h

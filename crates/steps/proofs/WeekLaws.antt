@@ -22,10 +22,13 @@ use Rattle.load.specs.Steps.{stopAnswer, stopSpec, callSpec, ruleAnswer, ruleSp
 use Rattle.load.specs.Filling.{stop, call, rule, service, exception}
 use Rattle.load.proofs.WeekLaws.{call-closes, call-week}
 use Rattle.search.specs.Search.{outcomeOf, settled, searchSpec}
-use Rattle.again.specs.Again.{unsearchedOf, again, leavesTable, addedTo, addSpec, takenOut, withdrawSpec}
+use Rattle.search.specs.Within.{ranWithin, withinSpec}
+use Rattle.search.proofs.WithinLaws.{within-cases, within-keeps}
+use Rattle.again.specs.Again.{unsearchedOf, researched, again, leavesTable, addedTo, addSpec, takenOut, withdrawSpec}
+use Rattle.again.proofs.ResearchLaws.{research-cases, researched-keeps}
 use Rattle.again.proofs.SoundLaws.{out-cases}
 use Rattle.again.proofs.SearchedLaws.{addedBy}
-use Rattle.steps.specs.Steps.{Step, filling, withdraw, search}
+use Rattle.steps.specs.Steps.{Step, filling, withdraw, search, limited}
 use Rattle.steps.specs.Lists.{next}
 
 week-kept : (l : Load) (o : Outcome) → settled l o .week ≡ l .week
@@ -41,6 +44,12 @@ search-week l = go (l .searched)
     go : (b : Bool) → cond {A = Stepped} b (record { answer = Refused AlreadySearched; load = l }) (record { answer = answerOf (outcomeOf l); load = settled l (outcomeOf l) }) .load .week ≡ l .week
     go true = refl
     go false = week-kept l (outcomeOf l)
+
+pub within-week : (l : Load) (n : ℕ) → withinSpec l n .load .week ≡ l .week
+within-week l n = within-keeps (λ m. m .week) l n (λ ks h m b k. refl)
+
+research-week : (b : Bool) (n : ℕ) (m : Load) → researched b n m .load .week ≡ m .week
+research-week b n m = researched-keeps b n m (λ x. x .week) (λ ks h k c j. refl)
 
 either-week : (l m : Load) (b : Bool) → m .week ≡ l .week → cond b m l .week ≡ l .week
 either-week l m true e = e
@@ -59,12 +68,12 @@ rule-week l i = either-week l _ (isTaken (ruleAnswer l i)) refl
 -- the load itself, or the week of what the step made of its unsearched load
 again-week : (P : Week → Type 0) (l : Load) (r : Stepped) → P (l .week) → P (r .load .week) → P (again l r .load .week)
 unfolding again
-again-week P l r p q = go (isRefused (r .answer)) (isTaken (searchSpec (r .load) .answer))
+again-week P l r p q = go (isRefused (r .answer)) (isTaken (researched (l .stopped) (l .limit) (r .load) .answer))
   where
     go : (b c : Bool) → P (cond {A = Stepped} b (record { answer = r .answer; load = l })
-        (cond {A = Stepped} c (record { answer = r .answer; load = searchSpec (r .load) .load }) (record { answer = searchSpec (r .load) .answer; load = l })) .load .week)
+        (cond {A = Stepped} c (record { answer = r .answer; load = researched (l .stopped) (l .limit) (r .load) .load }) (record { answer = researched (l .stopped) (l .limit) (r .load) .answer; load = l })) .load .week)
     go true c = p
-    go false true = subst P (sym (search-week (r .load))) q
+    go false true = subst P (sym (research-week (l .stopped) (l .limit) (r .load))) q
     go false false = p
 
 pub back-week : (l : Load) → unsearchedOf l .week ≡ l .week
@@ -108,16 +117,27 @@ search-told m e = go (m .searched) (outcomeOf m) e
     go false falling e = refl
     go false (found ks h k) e = absurd (true≢false e)
 
+within-told : (m : Load) (n : ℕ) → isTaken (withinSpec m n .answer) ≡ false → isRefused (withinSpec m n .answer) ≡ true
+within-told m n = within-cases m n (λ w. isTaken (w .answer) ≡ false → isRefused (w .answer) ≡ true) (λ e q. refl) (λ e f q. refl) (λ e f o w q. go o q)
+  where
+    go : (o : Outcome) → isTaken (ranWithin m n o .answer) ≡ false → isRefused (ranWithin m n o .answer) ≡ true
+    go clashing e = refl
+    go falling e = refl
+    go (found ks h k) e = absurd (true≢false e)
+
+research-told : (b : Bool) (n : ℕ) (m : Load) → isTaken (researched b n m .answer) ≡ false → isRefused (researched b n m .answer) ≡ true
+research-told b n m = research-cases b n m (λ r. isTaken (r .answer) ≡ false → isRefused (r .answer) ≡ true) (λ w. within-told m n) (search-told m)
+
 -- an answered call closes the services
 added-closes : (l : Load) (r : Stepped) → (isRefused (r .answer) ≡ false → r .load .week .closed ≡ true) → isRefused (addedTo l r .answer) ≡ false → addedTo l r .load .week .closed ≡ true
 unfolding addedTo again
-added-closes l r h e = go (leavesTable l r) (isRefused (r .answer)) (isTaken (searchSpec (r .load) .answer)) refl refl e
+added-closes l r h e = go (leavesTable l r) (isRefused (r .answer)) (isTaken (researched (l .stopped) (l .limit) (r .load) .answer)) refl refl e
   where
-    go : (b c d : Bool) → isRefused (r .answer) ≡ c → isTaken (searchSpec (r .load) .answer) ≡ d → isRefused (addedBy l r b c d .answer) ≡ false → addedBy l r b c d .load .week .closed ≡ true
+    go : (b c d : Bool) → isRefused (r .answer) ≡ c → isTaken (researched (l .stopped) (l .limit) (r .load) .answer) ≡ d → isRefused (addedBy l r b c d .answer) ≡ false → addedBy l r b c d .load .week .closed ≡ true
     go true c d x y e = h e
     go false true d x y e = absurd (true≢false (sym x ∙ e))
-    go false false true x y e = ap (λ (w : Week). w .closed) (search-week (r .load)) ∙ h e
-    go false false false x y e = absurd (true≢false (sym (search-told (r .load) y) ∙ e))
+    go false false true x y e = ap (λ (w : Week). w .closed) (research-week (l .stopped) (l .limit) (r .load)) ∙ h e
+    go false false false x y e = absurd (true≢false (sym (research-told (l .stopped) (l .limit) (r .load) y) ∙ e))
 
 pub add-closes : (l : Load) (name : List ℕ) (i : CallInput) → l .week .dated ≡ true → isRefused (addSpec l name i .answer) ≡ false → addSpec l name i .load .week .closed ≡ true
 unfolding addSpec
@@ -144,6 +164,7 @@ step-week P l (filling (service name weekdays start end)) p q f g = f name weekd
 step-week P l (filling (exception name date kind)) p q f g = g name date kind
 step-week P l (withdraw k) p q f g = subst P (sym (withdraw-week l k)) p
 step-week P l search p q f g = subst P (sym (search-week l)) p
+step-week P l (limited n) p q f g = subst P (sym (within-week l n)) p
 
 either-dated : (w v : Week) (b : Bool) → v .dated ≡ w .dated → cond b v w .dated ≡ w .dated
 either-dated w v true e = e

@@ -13,10 +13,11 @@ use Rattle.load.proofs.SoundLaws.{open-sound}
 use Rattle.search.specs.Timetable.{timetableOf}
 use Rattle.again.specs.Claims.{Kept}
 use Rattle.again.proofs.ClashLaws.{never-clashes}
+use Rattle.again.proofs.OwnLaws.{own-stopped}
 use Rattle.again.proofs.KeptLaws.{new-kept, taken-back}
 use Rattle.steps.specs.Steps.{Step}
 use Rattle.steps.specs.Lists.{next, ran, handed, start, endOf, startOf}
-use Rattle.steps.specs.Withdrawn.{EndKept, EndFound, EndTakenBack, EndClear}
+use Rattle.steps.specs.Withdrawn.{EndKept, EndStopped, EndFound, EndTakenBack, EndClear}
 use Rattle.steps.specs.Machine.{machine}
 use Rattle.steps.proofs.HeldLaws.{From, right, opened-new, steps}
 
@@ -29,6 +30,9 @@ handed-kept (x ∷ xs) l w = handed-kept xs (next l x) (step-kept l x w)
 
 pub end-kept : EndKept
 end-kept o xs = handed-kept xs (opened o) (new-kept (opened o) (open-sound o) (opened-new o))
+
+pub end-stopped : EndStopped
+end-stopped o xs e = own-stopped (endOf o xs) (end-kept o xs) e
 
 pub end-found : EndFound
 end-found = last-found machine steps

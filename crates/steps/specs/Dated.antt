@@ -17,7 +17,7 @@ use Rattle.load.specs.Load.{withWeek}
 use Rattle.load.specs.Steps.{undated, dated, opened}
 use Rattle.load.specs.Filling.{stop, call, rule, service, exception}
 use Rattle.best.specs.Best.{keptOf}
-use Rattle.steps.specs.Steps.{Step, filling, withdraw, search, stepped}
+use Rattle.steps.specs.Steps.{Step, filling, withdraw, search, limited, stepped}
 use Rattle.steps.specs.Lists.{next, handed, endOf}
 
 abbrev pub ifRuns : Running → Step → List Step
@@ -35,6 +35,7 @@ passed l (filling (service name weekdays start end)) = []
 passed l (filling (exception name date kind)) = []
 passed l (withdraw k) = withdraw k ∷ []
 passed l search = search ∷ []
+passed l (limited n) = limited n ∷ []
 
 -- of a list
 abbrev pub passedOf : Load → List Step → List Step

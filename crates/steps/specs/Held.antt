@@ -1,8 +1,8 @@
--- Demands 2 and 3 through the load: what a searched load holds, and when best agrees of two. The lemmas behind the demands of crate `comparison`,
+-- Demands 2 and 3 through the load: what a searched load holds, and when best agrees of two; of searches that were not stopped. The lemmas behind the demands of crate `comparison`,
 -- which speak of what was handed in.
 use mathlib.Core.Path.{_≡_}
 use mathlib.Core.Logic.{_↔_}
-use mathlib.Core.Bool.{true}
+use mathlib.Core.Bool.{true, false}
 use mathlib.Core.Option.{Option}
 use mathlib.Core.List.{List, [], List·Memᴰ}
 use Prim.Native.Nat.{ℕ, min}
@@ -32,17 +32,18 @@ pub record Holds (s : Opening) (xs : List Step) : Type 0 where
   pub fell : fall (covᶠ journeyFigures) (dueᶠ journeyFigures) 64 3600 (startOf s xs .«table_horizon») (startOf s xs .«table_limits») [] (offersOf s xs)
       ≡ upTo (endOf s xs .horizon) (endOf s xs .limits)
 
--- a searched load holds this
+-- a searched load that was not stopped holds this
 abbrev pub SearchedHolds : Type 0
-SearchedHolds = (s : Opening) (xs : List Step) → Opens s → endOf s xs .searched ≡ true → Holds s xs
+SearchedHolds = (s : Opening) (xs : List Step) → Opens s → endOf s xs .searched ≡ true → endOf s xs .stopped ≡ false → Holds s xs
 
 -- best's answer, read as none if it is due after g, by its leave, arrival, rides and walk
 abbrev pub read : ℕ → Load → ℤ → Option Figures
 read g l z = readBy journeyFigures g (answerOf (bestSpec l z))
 
--- best agrees at every second exactly if each admits what equals or beats the other's; of any two lists, searched or not
+-- best agrees at every second exactly if each admits what equals or beats the other's; of any two lists, searched or not, of which none was stopped
 abbrev pub BestAgrees : Type 0
 BestAgrees = (s s′ : Opening) (xs xs′ : List Step) → s .settings .now ≡ s′ .settings .now → Opens s → Opens s′
+    → endOf s xs .stopped ≡ false → endOf s′ xs′ .stopped ≡ false
     → let g = min (endOf s xs .horizon) (endOf s′ xs′ .horizon) in
     ((z : ℤ) → I64 z → read g (endOf s xs) z ≡ read g (endOf s′ xs′) z)
     ↔ (CoveredBy g (Admitted s xs) (Admitted s′ xs′) × CoveredBy g (Admitted s′ xs′) (Admitted s xs))

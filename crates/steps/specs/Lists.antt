@@ -14,8 +14,9 @@ use Rattle.load.specs.Steps.{Opening, opened, callSpec}
 use Rattle.load.specs.Filling.{stop, call, rule, service, exception}
 use Rattle.search.specs.Timetable.{timetableOf}
 use Rattle.search.specs.Search.{searchSpec}
-use Rattle.again.specs.Again.{unsearchedOf, leavesTable, takenOut}
-use Rattle.steps.specs.Steps.{Step, filling, withdraw, search, stepped}
+use Rattle.search.specs.Within.{withinSpec}
+use Rattle.again.specs.Again.{unsearchedOf, researched, leavesTable, takenOut}
+use Rattle.steps.specs.Steps.{Step, filling, withdraw, search, limited, stepped}
 
 -- the load that a step returns
 abbrev pub next : Load → Step → Load
@@ -23,13 +24,14 @@ next l x = stepped l x .load
 
 -- ---- the unsearched load that the step's accepted search started from; none if it searched nothing, or its search is sent back
 
--- r is what a step made of the unsearched load
-abbrev pub ranAgain : Stepped → Option Load
-ranAgain r = cond (isRefused (r .answer)) none (cond (isTaken (searchSpec (r .load) .answer)) (some (r .load)) none)
+-- r is what a step made of l's unsearched load
+abbrev pub ranAgain : Load → Stepped → Option Load
+ranAgain l r =
+    cond (isRefused (r .answer)) none (cond (isTaken (researched (l .stopped) (l .limit) (r .load) .answer)) (some (r .load)) none)
 
 -- a call that leaves the table has nothing searched again
 abbrev pub ranAdded : Load → Stepped → Option Load
-ranAdded l r = cond (leavesTable l r) none (ranAgain r)
+ranAdded l r = cond (leavesTable l r) none (ranAgain l r)
 
 abbrev pub ran : Load → Step → Option Load
 ran l (filling (stop id name parent i)) = none
@@ -37,8 +39,9 @@ ran l (filling (call name i)) = cond (l .searched) (ranAdded l (callSpec (unsear
 ran l (filling (rule i)) = none
 ran l (filling (service name weekdays start end)) = none
 ran l (filling (exception name date kind)) = none
-ran l (withdraw k) = cond (l .searched) (ranAgain (takenOut (unsearchedOf l) k)) none
+ran l (withdraw k) = cond (l .searched) (ranAgain l (takenOut (unsearchedOf l) k)) none
 ran l search = cond (isTaken (searchSpec l .answer)) (some l) none
+ran l (limited n) = cond (isTaken (withinSpec l n .answer)) (some l) none
 
 -- ---- a list
 

@@ -1,4 +1,5 @@
 -- The load and its steps as a machine of crate `offers`, over which demands 2 and 3 are proved.
+use mathlib.Core.Bool.{not, _&&_}
 use Rattle.offers.specs.Machine.{Machine}
 use Rattle.load.specs.declared.Load.{Load}
 use Rattle.load.specs.Steps.{Opening, opened}
@@ -19,8 +20,7 @@ machine = record {
   step = next;
   ran = ran;
   done = λ l. l .searched;
-  -- no search stops short
-  finished = λ l. l .searched;
+  finished = λ l. l .searched && not (l .stopped);
   timetable = timetableOf;
   table-horizon = λ l. l .«table_horizon»;
   table-limits = λ l. l .«table_limits»;

@@ -20,7 +20,7 @@ use Rattle.load.specs.Filling.{stop, call, rule, service, exception}
 use Rattle.withdrawal.specs.Removal.{withoutLast, namedIn}
 use Rattle.search.specs.Timetable.{timetableOf}
 use Rattle.again.specs.Again.{addSpec, withdrawSpec}
-use Rattle.steps.specs.Steps.{Step, filling, withdraw, search}
+use Rattle.steps.specs.Steps.{Step, filling, withdraw, search, limited}
 use Rattle.steps.specs.Lists.{next, endOf, Admitted}
 
 -- the calls held, after one more step; of several with the key in the table the last goes
@@ -32,6 +32,7 @@ heldAfter is l (filling (service name weekdays start end)) = is
 heldAfter is l (filling (exception name date kind)) = is
 heldAfter is l (withdraw k) = cond (isTaken (withdrawSpec l k .answer)) (withoutLast (namedIn (l .settings) (l .«table_horizon») k) is) is
 heldAfter is l search = is
+heldAfter is l (limited n) = is
 
 abbrev pub heldBy : List CallInput → Load → List Step → List CallInput
 heldBy is l [] = is

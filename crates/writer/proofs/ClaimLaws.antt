@@ -1,7 +1,7 @@
 -- 25 and 26 exactly by their causes; the buffer after writing.
 use Prim.Native.Nat.{ℕ, _≤_}
 use mathlib.Core.Path.{_≡_, refl, sym, ap, _∙_}
-use mathlib.Core.Bool.{Bool, true, false, cond, true≢false, false≢true}
+use mathlib.Core.Bool.{Bool, true, false, cond, _||_, true≢false, false≢true}
 use mathlib.Core.Logic.{⊎-elim}
 use mathlib.Core.List.{List, _++_}
 use native.Mathlib.Omega.{arith}
@@ -18,14 +18,14 @@ use Rattle.refusal.proofs.FirstLaws.{takesNone, answer-is-first, first-taken}
 use Rattle.load.specs.declared.Load.{Load}
 use Rattle.writer.specs.File.{writeSpec}
 use Rattle.writer.specs.Wrote.{unwritable, writeTests, wroteSpec, bufferAfter}
-use Rattle.writer.specs.Claims.{Unwritten, dated, cut, UnwritableExactly, ShortExactly, WriteAnswered, Left, BufferLeft}
+use Rattle.writer.specs.Claims.{Unwritten, dated, stopped, cut, UnwritableExactly, ShortExactly, WriteAnswered, Left, BufferLeft}
 
 -- the answer, by its two tests
 abbrev byTests : Bool → Bool → Answer
 byTests x y = cond x (Refused LoadUnwritable) (cond y (Refused BufferShort) Taken)
 
 abbrev barred : Load → Bool
-barred l = unwritable (l .week .dated) (l .«table_horizon»)
+barred l = unwritable (l .week .dated) (l .stopped) (l .«table_horizon»)
 
 answer-is : (l : Load) (room : ℕ) → wroteSpec l room .answer ≡ byTests (barred l) (ltb room (length (writeSpec l)))
 unfolding wroteSpec writeTests firstAnswer
@@ -34,12 +34,16 @@ answer-is l room = refl
 -- 25's test is its causes
 barred-cause : (l : Load) → barred l ≡ true → Unwritten l
 unfolding unwritable
-barred-cause l e = ⊎-elim (λ d. dated d) (λ h. cut (ltb-true (l .«table_horizon») 21600 h)) (or-true-cases (l .week .dated) (ltb (l .«table_horizon») 21600) e)
+barred-cause l e =
+    ⊎-elim (λ d. dated d)
+    (λ h. ⊎-elim (λ d. stopped d) (λ k. cut (ltb-true (l .«table_horizon») 21600 k)) (or-true-cases (l .stopped) (ltb (l .«table_horizon») 21600) h))
+    (or-true-cases (l .week .dated) (l .stopped || ltb (l .«table_horizon») 21600) e)
 
 cause-barred : (l : Load) → Unwritten l → barred l ≡ true
 unfolding unwritable
 cause-barred l (dated d) = or-true-left (l .week .dated) _ d
-cause-barred l (cut h) = or-true-right (l .week .dated) _ (lt-ltb (l .«table_horizon») 21600 h)
+cause-barred l (stopped d) = or-true-right (l .week .dated) _ (or-true-left (l .stopped) _ d)
+cause-barred l (cut h) = or-true-right (l .week .dated) _ (or-true-right (l .stopped) _ (lt-ltb (l .«table_horizon») 21600 h))
 
 -- each answer by its tests
 is-25 : (x y : Bool) → byTests x y ≡ Refused LoadUnwritable → x ≡ true

@@ -141,16 +141,16 @@ module _ (l : Load) (before : List ℕ) where
   abbrev room : ℕ
   room = length before
 
-  pub wrote-barred : unwritable (l .week .dated) (l .«table_horizon») ≡ true → (_≡_ {A = Wrote} (record { answer = Refused LoadUnwritable; length = 0 }) (wroteSpec l room)) × (before ≡ bufferAfter l before)
+  pub wrote-barred : unwritable (l .week .dated) (l .stopped) (l .«table_horizon») ≡ true → (_≡_ {A = Wrote} (record { answer = Refused LoadUnwritable; length = 0 }) (wroteSpec l room)) × (before ≡ bufferAfter l before)
   unfolding wroteSpec bufferAfter writeTests firstAnswer
   wrote-barred e = (rw e refl, rw e refl)
 
-  pub wrote-short : unwritable (l .week .dated) (l .«table_horizon») ≡ false → room < length (writeSpec l)
+  pub wrote-short : unwritable (l .week .dated) (l .stopped) (l .«table_horizon») ≡ false → room < length (writeSpec l)
       → (_≡_ {A = Wrote} (record { answer = Refused BufferShort; length = 0 }) (wroteSpec l room)) × (before ≡ bufferAfter l before)
   unfolding wroteSpec bufferAfter writeTests firstAnswer
   wrote-short e h = let k = lt-ltb room (length (writeSpec l)) h in (rw (e, k) refl, rw (e, k) refl)
 
-  pub wrote-all : {m r : ℕ} {after : List ℕ} → unwritable (l .week .dated) (l .«table_horizon») ≡ false → length (writeSpec l) ≤ room → Put m (writeSpec l) 0 before r after
+  pub wrote-all : {m r : ℕ} {after : List ℕ} → unwritable (l .week .dated) (l .stopped) (l .«table_horizon») ≡ false → length (writeSpec l) ≤ room → Put m (writeSpec l) 0 before r after
       → (_≡_ {A = Wrote} (record { answer = Taken; length = length (writeSpec l) }) (wroteSpec l room)) × (after ≡ bufferAfter l before)
   unfolding wroteSpec bufferAfter writeTests firstAnswer
   wrote-all e h p =

@@ -11,9 +11,10 @@ use Rattle.load.specs.declared.Load.{Load}
 use Rattle.writer.specs.File.{writeSpec}
 use Rattle.writer.specs.Wrote.{writeTests, wroteSpec, bufferAfter}
 
--- a load that is not of the kind that is written: one with dates, or one whose table was cut
+-- a load that is not of the kind that is written: one with dates, one whose search was stopped, or one whose table was cut
 pub data Unwritten (l : Load) : Type 0 where
   dated : l .week .dated ≡ true → Unwritten l
+  stopped : l .stopped ≡ true → Unwritten l
   cut : l .«table_horizon» < 21600 → Unwritten l
 
 -- 25 exactly there, also with no room

@@ -12,14 +12,14 @@ use Rattle.load.specs.declared.Load.{Load}
 use Rattle.writer.specs.declared.Wrote.{Wrote}
 use Rattle.writer.specs.File.{writeSpec}
 
--- "Only loads without dates, not stopped, and with horizon 21600 before any search are written": the table's horizon. No load is stopped yet.
-unfoldable pub unwritable : Bool → ℕ → Bool
-unwritable dated horizon = dated || ltb horizon 21600
+-- "Only loads without dates, not stopped, and with horizon 21600 before any search are written": the table's horizon
+unfoldable pub unwritable : Bool → Bool → ℕ → Bool
+unwritable dated stopped horizon = dated || (stopped || ltb horizon 21600)
 
 -- why a load is not written, in request 13's order: 25, then 26 for a buffer with room for less than the file
 unfoldable pub writeTests : Load → ℕ → List (Bool × Answer)
 writeTests l room =
-    (unwritable (l .week .dated) (l .«table_horizon»), Refused LoadUnwritable)
+    (unwritable (l .week .dated) (l .stopped) (l .«table_horizon»), Refused LoadUnwritable)
     ∷ (ltb room (length (writeSpec l)), Refused BufferShort)
     ∷ []
 

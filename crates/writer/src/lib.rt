@@ -18,10 +18,13 @@ pub struct Wrote {
     pub length: usize,
 }
 
-fn is_unwritable(dated: bool, horizon: u16) -> bool
-    ensures { λ r. ⌜ r ≡ unwritable dated horizon ⌝ }
+fn is_unwritable(dated: bool, stopped: bool, horizon: u16) -> bool
+    ensures { λ r. ⌜ r ≡ unwritable dated stopped horizon ⌝ }
 {
     if dated {
+        return true;
+    }
+    if stopped {
         return true;
     }
     horizon < 21600
@@ -41,7 +44,7 @@ pub fn write(load: Load, out: &mut [u8]) -> Wrote
     ensures { λ r. ⌜ r ≡ wroteSpec load (length (now (out .entry))) ⌝ }
     ensures { λ _. ⌜ now (out .exit) ≡ bufferAfter load (now (out .entry)) ⌝ }
 {
-    if is_unwritable(load.week.dated, load.table_horizon) {
+    if is_unwritable(load.week.dated, load.stopped, load.table_horizon) {
         return refused(Refusal::LoadUnwritable);
     }
     let n = file_length(load);

@@ -21,21 +21,25 @@ use Rattle.load.specs.Sound.{Sound}
 use Rattle.withdrawal.specs.declared.CallKey.{CallKey}
 use Rattle.withdrawal.specs.Removal.{withoutLast, hasKey, withdrawn}
 use Rattle.withdrawal.proofs.LeftLaws.{withdrawn-leaves}
-use Rattle.search.specs.Search.{withJourneys, searchSpec}
+use Rattle.search.specs.declared.Limited.{Limited}
+use Rattle.search.specs.Search.{withFound, withJourneys, searchSpec}
+use Rattle.search.specs.Within.{finishesIn, withinSpec}
 use Rattle.search.proofs.RunLaws.{taken-found, untaken-stays}
-use Rattle.again.specs.Again.{unsearchedOf, again, leavesTable, addedTo, addSpec, takenOut, withdrawSpec}
+use Rattle.search.proofs.WithinLaws.{taken-within, untaken-within}
+use Rattle.again.specs.Again.{unsearchedOf, researched, again, leavesTable, addedTo, addSpec, takenOut, withdrawSpec}
+use Rattle.again.proofs.ResearchLaws.{research-cases}
 use Rattle.again.proofs.SoundLaws.{unsearched-sound, out-cases}
-use Rattle.steps.specs.Steps.{Step, filling, withdraw, search}
+use Rattle.steps.specs.Steps.{Step, filling, withdraw, search, limited}
 use Rattle.steps.specs.Lists.{next, handed}
 use Rattle.steps.proofs.WithdrawnLaws.{step-kept, end-kept}
 use Rattle.written.specs.Kept.{CallKept, Kept, Whole}
-use Rattle.written.specs.Keeps.{GivesHeld, AllGive, SearchKeeps, AddKeeps, WithdrawKeeps, EndWhole}
+use Rattle.written.specs.Keeps.{GivesHeld, AllGive, SearchKeeps, WithinKeeps, AddKeeps, WithdrawKeeps, EndWhole}
 use Rattle.written.proofs.FillLaws.{open-kept, week-kept, fill-keeps}
 
 -- ---- the search
 
-sorted-kept : (l : Load) (ks : List Journey) (h m : ℕ) → Kept l → Kept (withJourneys l ks h m)
-sorted-kept l ks h m w = record {
+sorted-kept : (l : Load) (ks : List Journey) (h m : ℕ) (b : Bool) (n : ℕ) → Kept l → Kept (withFound l ks h m b n)
+sorted-kept l ks h m b n w = record {
   settings = w .settings;
   stops = w .stops;
   rules = w .rules;
@@ -49,19 +53,30 @@ pub search-keeps : SearchKeeps
 search-keeps l w = go (isTaken (searchSpec l .answer)) refl
   where
     go : (b : Bool) → isTaken (searchSpec l .answer) ≡ b → Kept (searchSpec l .load)
-    go true t = let f = taken-found l t in subst Kept (sym (ap (λ (r : Stepped). r .load) (f .is))) (sorted-kept l (f .kept) (f .to) (f .mark) w)
+    go true t = let f = taken-found l t in subst Kept (sym (ap (λ (r : Stepped). r .load) (f .is))) (sorted-kept l (f .kept) (f .to) (f .mark) false 0 w)
     go false t = subst Kept (sym (untaken-stays l t)) w
+
+pub within-keeps : WithinKeeps
+within-keeps l n w = go (isTaken (withinSpec l n .answer)) refl
+  where
+    left : (ks : List Journey) (h m : ℕ) (c : Bool) → Kept (cond c (withJourneys l ks h m) (withFound l ks h m true n))
+    left ks h m true = sorted-kept l ks h m false 0 w
+    left ks h m false = sorted-kept l ks h m true n w
+
+    go : (b : Bool) → isTaken (withinSpec l n .answer) ≡ b → Kept (withinSpec l n .load)
+    go true t = let f = taken-within l n t in subst Kept (sym (ap (λ (r : Limited). r .load) (f .is))) (left (f .kept) (f .to) (f .mark) (finishesIn l n))
+    go false t = subst Kept (sym (untaken-within l n t)) w
 
 -- ---- a call on any load, and a withdrawal
 
 again-keeps : (l : Load) (r : Stepped) → Kept l → Kept (r .load) → Kept (again l r .load)
 unfolding again
-again-keeps l r w n = go (isRefused (r .answer)) (isTaken (searchSpec (r .load) .answer))
+again-keeps l r w n = go (isRefused (r .answer)) (isTaken (researched (l .stopped) (l .limit) (r .load) .answer))
   where
     go : (b c : Bool) → Kept (cond {A = Stepped} b (record { answer = r .answer; load = l })
-        (cond {A = Stepped} c (record { answer = r .answer; load = searchSpec (r .load) .load }) (record { answer = searchSpec (r .load) .answer; load = l })) .load)
+        (cond {A = Stepped} c (record { answer = r .answer; load = researched (l .stopped) (l .limit) (r .load) .load }) (record { answer = researched (l .stopped) (l .limit) (r .load) .answer; load = l })) .load)
     go true c = w
-    go false true = search-keeps (r .load) n
+    go false true = research-cases (l .stopped) (l .limit) (r .load) (λ q. Kept (q .load)) (λ x. within-keeps (r .load) (l .limit) n) (search-keeps (r .load) n)
     go false false = w
 
 back-keeps : (l : Load) → Kept l → Kept (unsearchedOf l)
@@ -125,6 +140,7 @@ reached l (filling x ∷ xs) r g =
 reached l (withdraw k ∷ xs) r g =
     reached (next l (withdraw k)) xs (record { own = step-kept l (withdraw k) (r .own); kept = withdraw-keeps l k (r .own .sound) (r .kept) }) g
 reached l (search ∷ xs) r g = reached (next l search) xs (record { own = step-kept l search (r .own); kept = search-keeps l (r .kept) }) g
+reached l (limited n ∷ xs) r g = reached (next l (limited n)) xs (record { own = step-kept l (limited n) (r .own); kept = within-keeps l n (r .kept) }) g
 
 pub end-whole : EndWhole
 end-whole o xs w g = reached (opened o) xs (record { own = end-kept o []; kept = open-kept o w }) g

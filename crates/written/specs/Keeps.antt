@@ -8,8 +8,9 @@ use Rattle.load.specs.Steps.{Opening, opened}
 use Rattle.load.specs.Filling.{Filling, stop, call, rule, service, exception, filled}
 use Rattle.load.specs.Sound.{Sound, Opens}
 use Rattle.search.specs.Search.{searchSpec}
+use Rattle.search.specs.Within.{withinSpec}
 use Rattle.again.specs.Again.{addSpec, withdrawSpec}
-use Rattle.steps.specs.Steps.{Step, filling, withdraw, search}
+use Rattle.steps.specs.Steps.{Step, filling, withdraw, search, limited}
 use Rattle.steps.specs.Lists.{endOf}
 use Rattle.codec.specs.Kinds.{DegreesFit}
 use Rattle.written.specs.Kept.{Kept, Whole}
@@ -27,6 +28,7 @@ AllGive [] = Unit {0}
 AllGive (filling x ∷ xs) = GivesHeld x × AllGive xs
 AllGive (withdraw k ∷ xs) = AllGive xs
 AllGive (search ∷ xs) = AllGive xs
+AllGive (limited n ∷ xs) = AllGive xs
 
 abbrev pub OpenKept : Type 0
 OpenKept = (o : Opening) → Opens o → Kept (opened o)
@@ -36,6 +38,9 @@ FillKeeps = (l : Load) (x : Filling) → Sound l → Kept l → GivesHeld x → 
 
 abbrev pub SearchKeeps : Type 0
 SearchKeeps = (l : Load) → Kept l → Kept (searchSpec l .load)
+
+abbrev pub WithinKeeps : Type 0
+WithinKeeps = (l : Load) (n : ℕ) → Kept l → Kept (withinSpec l n .load)
 
 abbrev pub AddKeeps : Type 0
 AddKeeps = (l : Load) (name : List ℕ) (i : CallInput) → Sound l → Kept l → Kept (addSpec l name i .load)

@@ -11,8 +11,8 @@ is-refused-requires c κs = search needs
 returns : tie.Need-returns
 returns c = again-refused (c .before .before .args .load) (c .before .before .args .made) (sym (c .before .is-refused .ensures) ∙ c .if1 .taken)
 
-search-requires : tie.Need-search-requires
-search-requires c κs = search needs
+search-as-requires : tie.Need-search-as-requires
+search-as-requires c κs = search needs
 
 is-taken-requires : tie.Need-is-taken-requires
 is-taken-requires c κs = search needs
@@ -20,14 +20,14 @@ is-taken-requires c κs = search needs
 returns-2 : tie.Need-returns-2
 returns-2 c =
     let a = c .before .before .before .before .before .before .before .args in
-    again-found (a .load) (a .made) _ (c .before .before .before .search .ensures) (sym (c .before .before .before .before .before .before .is-refused .ensures) ∙ c .before .before .before .before .before .if1 .left) (sym (c .before .before .is-taken .ensures) ∙ c .before .if2 .taken)
+    again-found (a .load) (a .made) _ (c .before .before .before .search-as .ensures) (sym (c .before .before .before .before .before .before .is-refused .ensures) ∙ c .before .before .before .before .before .if1 .left) (sym (c .before .before .is-taken .ensures) ∙ c .before .if2 .taken)
 
 returns-3 : tie.Need-returns-3
 returns-3 c =
     let a = c .before .before .before .before .before .before .args in
-    again-turned (a .load) (a .made) _ (c .before .before .search .ensures) (sym (c .before .before .before .before .before .is-refused .ensures) ∙ c .before .before .before .before .if1 .left) (sym (c .before .is-taken .ensures) ∙ c .if2 .left)
+    again-turned (a .load) (a .made) _ (c .before .before .search-as .ensures) (sym (c .before .before .before .before .before .is-refused .ensures) ∙ c .before .before .before .before .if1 .left) (sym (c .before .is-taken .ensures) ∙ c .if2 .left)
 
 pub searched-again-spec : {M : Type 1} → statement M
 searched-again-spec =
     tie.close
-    (tie.spec is-refused-requires returns search-requires is-taken-requires returns-2 returns-3)
+    (tie.spec is-refused-requires returns search-as-requires is-taken-requires returns-2 returns-3)
