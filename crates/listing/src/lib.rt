@@ -121,10 +121,8 @@ pub fn judged(
     middle: Ride,
     last: Ride,
 ) -> Verdict
-    ensures {
-        λ r. ⌜ r ≡ judgedIn (take count journeys) horizon
-        (record { leave = leave; arrival = due; rides = rides; walk = walk; origin = origin; target = target; first = first; middle = middle; last = last }) ⌝
-    }
+    ensures { λ r. ⌜ r ≡ judgedIn (take count journeys) horizon
+        (record { leave = leave; arrival = due; rides = rides; walk = walk; origin = origin; target = target; first = first; middle = middle; last = last }) ⌝ }
 {
     if (horizon as u32) < due {
         return Verdict::Late;

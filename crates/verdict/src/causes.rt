@@ -3,6 +3,7 @@ ghost use mathlib.Core.Path.{_≡_};
 ghost use lib.ListN.{take};
 ghost use Rattle.connection.specs.Tests.{firstOf, firstThen};
 ghost use Rattle.verdict.specs.Verdicts.{endsAsked, changesAsked, causesBy};
+use crate::figures::last_leg;
 use connection::Connection;
 use connection::Told;
 use connection::Way;
@@ -13,7 +14,6 @@ use connection::ends::members_at;
 use connection::ends::walk_at;
 use connection::legs::legs_told;
 use connection::legs::rides_told;
-use crate::figures::last_leg;
 use places::group::group_places;
 use rules::Rule;
 use settings::Settings;
@@ -64,7 +64,13 @@ fn changes_told(
     )
 }
 
-fn start_told(settings: Settings, stops: [Stop; 128], connection: Connection, way: Way, rest: Told) -> Told
+fn start_told(
+    settings: Settings,
+    stops: [Stop; 128],
+    connection: Connection,
+    way: Way,
+    rest: Told,
+) -> Told
     ensures { λ r. ⌜ r ≡ firstThen (endsAsked settings stops connection way) rest ⌝ }
 {
     let walks = settings.origin_walks;

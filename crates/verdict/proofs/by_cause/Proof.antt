@@ -1,22 +1,22 @@
+-- A cause, or none.
+use mathlib.Core.Path.{sym, ap}
+use Rattle.connection.specs.declared.Told.{Told}
+use Rattle.verdict.specs.Verdicts.{judgedBy}
 use borrow.Author.Needs.{needs}
 use Rattle.verdict.proofs.by_cause.Statement.{statement}
 use Rattle.verdict.proofs.by_cause.Tie as tie
-use Rattle.verdict.proofs.by_cause.Reads as reads
-use Rattle.verdict.proofs.by_cause.Lts as lts
 
--- src/lib.rt:72:23
 enum-known-told : tie.Need-enum-known-told
 enum-known-told c = search needs
 
--- src/lib.rt:73:23
 enum-told : tie.Need-enum-told
 enum-told c = search needs
 
--- src/lib.rt:68:1
 returns : tie.Need-returns
-returns c = ?
+returns c =
+    let a = c .before .before .before .args in
+    sym (ap (λ (t : Told). judgedBy t (a .listed)) (c .before .told .given .1))
 
--- src/lib.rt:68:1
 returns-2 : tie.Need-returns-2
 returns-2 c = search needs
 

@@ -1,37 +1,29 @@
+-- The parts in order.
+use lib.ListN.{take}
+use Rattle.verdict.proofs.CauseLaws.{cause-chain}
 use borrow.Author.Needs.{needs}
 use Rattle.verdict.proofs.causes.cause_of.Statement.{statement}
 use Rattle.verdict.proofs.causes.cause_of.Tie as tie
-use Rattle.verdict.proofs.causes.cause_of.Reads as reads
-use Rattle.verdict.proofs.causes.cause_of.Lts as lts
-use Rattle.connection.proofs.ends.count_told.Reads as count-told-reads
-use Rattle.connection.proofs.legs.legs_told.Reads as legs-told-reads
-use Rattle.connection.proofs.legs.rides_told.Reads as rides-told-reads
-use Rattle.verdict.proofs.causes.changes_told.Reads as changes-told-reads
-use Rattle.verdict.proofs.causes.start_told.Reads as start-told-reads
 
--- src/causes.rt:103:9
 changes-told-requires : tie.Need-changes-told-requires
 changes-told-requires c κs = search needs
 
--- src/causes.rt:112:9
 count-told-requires : tie.Need-count-told-requires
 count-told-requires c κs = search needs
 
--- src/causes.rt:113:9
 start-told-requires : tie.Need-start-told-requires
 start-told-requires c κs = search needs
 
--- src/causes.rt:114:9
 legs-told-requires : tie.Need-legs-told-requires
 legs-told-requires c κs = search needs
 
--- src/causes.rt:115:5
 rides-told-requires : tie.Need-rides-told-requires
 rides-told-requires c κs = search needs
 
--- src/causes.rt:90:1
 returns : tie.Need-returns
-returns c = ?
+returns c =
+    let a = c .before .before .before .before .before .before .args in
+    cause-chain (a .settings) (a .stops) (a .stop-count) (take (a .rule-count) (a .rules)) (a .connection) (a .way) _ _ _ _ _ (c .before .before .before .before .changes-told .ensures) (c .before .before .before .count-told .ensures) (c .before .before .start-told .ensures) (c .before .legs-told .ensures) (c .rides-told .ensures)
 
 pub cause-of-spec : {M : Type 1} → statement M
 cause-of-spec =

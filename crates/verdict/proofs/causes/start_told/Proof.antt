@@ -1,36 +1,28 @@
+-- The ends.
+use Rattle.verdict.proofs.CauseLaws.{ends-chain}
 use borrow.Author.Needs.{needs}
 use Rattle.verdict.proofs.causes.start_told.Statement.{statement}
 use Rattle.verdict.proofs.causes.start_told.Tie as tie
-use Rattle.verdict.proofs.causes.start_told.Reads as reads
-use Rattle.verdict.proofs.causes.start_told.Lts as lts
-use Rattle.connection.proofs.ends.ends_told.Reads as ends-told-reads
-use Rattle.connection.proofs.ends.members_at.Reads as members-at-reads
-use Rattle.connection.proofs.ends.walk_at.Reads as walk-at-reads
-use Rattle.verdict.proofs.figures.last_leg.Reads as last-leg-reads
 
--- src/causes.rt:71:9
 walk-at-requires : tie.Need-walk-at-requires
 walk-at-requires c κs = search needs
 
--- src/causes.rt:73:9
 last-leg-requires : tie.Need-last-leg-requires
 last-leg-requires c κs = search needs
 
--- src/causes.rt:74:9
 members-at-requires : tie.Need-members-at-requires
 members-at-requires c κs = search needs
 
--- src/causes.rt:75:9
 members-at-requires-2 : tie.Need-members-at-requires-2
 members-at-requires-2 c κs = search needs
 
--- src/causes.rt:76:5
 ends-told-requires : tie.Need-ends-told-requires
 ends-told-requires c κs = search needs
 
--- src/causes.rt:67:1
 returns : tie.Need-returns
-returns c = ?
+returns c =
+    let a = c .before .before .before .before .before .before .before .args in
+    ends-chain (a .settings) (a .stops) (a .connection) (a .way) (a .rest) _ _ _ _ _ (c .before .before .before .before .before .walk-at .ensures) (c .before .before .before .last-leg .ensures) (c .before .before .members-at .ensures) (c .before .members-at2 .ensures) (c .ends-told .ensures)
 
 pub start-told-spec : {M : Type 1} → statement M
 start-told-spec =
