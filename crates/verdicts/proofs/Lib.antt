@@ -1,0 +1,5 @@
+pub mod FailLaws
+pub mod SaysLaws
+pub mod FoundLaws
+pub mod JoinLaws
+pub mod MakesLaws
