@@ -121,22 +121,24 @@ module _ (cs : List Call) (g : Leg) where
   leg-ride i f =
       let b = found-there cs (boardKey g) (not-false _ (f .0)) in
       let a = found-there cs (alightKey g) (not-false _ (f .1 .0)) in
-      let less : g .board < g .alight = leb-false (g .alight) (g .board) (f .1 .1 .1 .1 .0) in
-      (record {
-        from = b .there;
-        to = a .there;
-        run = record { trip = b .key .trip ∙ sym (a .key .trip); day = b .key .day ∙ sym (a .key .day) };
-        later = omega (arith, b .key .sequence, a .key .sequence);
-        board = not-false _ (f .1 .1 .0);
-        alight = not-false _ (f .1 .1 .1 .0);
-      }, record {
-        board-trip = b .key .trip;
-        board-day = b .key .day;
-        board-at = b .key .sequence;
-        alight-trip = a .key .trip;
-        alight-day = a .key .day;
-        alight-at = a .key .sequence;
-      })
+      let less : g .board < g .alight = leb-false (g .alight) (g .board) (f .1 .1 .1 .1 .0) in (
+        record {
+          from = b .there;
+          to = a .there;
+          run = record { trip = b .key .trip ∙ sym (a .key .trip); day = b .key .day ∙ sym (a .key .day) };
+          later = omega (arith, b .key .sequence, a .key .sequence);
+          board = not-false _ (f .1 .1 .0);
+          alight = not-false _ (f .1 .1 .1 .0);
+        },
+        record {
+          board-trip = b .key .trip;
+          board-day = b .key .day;
+          board-at = b .key .sequence;
+          alight-trip = a .key .trip;
+          alight-day = a .key .day;
+          alight-at = a .key .sequence;
+        },
+      )
 
   -- and of calls with distinct keys a ride of the calls that it names is found, and has no cause
   module _ (d : Keyed earlier cs) (b a : Call) (r : Rides cs b a) (n : Names g b a) where

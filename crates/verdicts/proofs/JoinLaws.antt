@@ -60,9 +60,10 @@ module _ (l : Load) (b a : Call) (o k : ℕ) where
 
   pub right-ends : Starts (timetableOf l) b o → Ends (timetableOf l) a k → AllFail asked
   unfolding timetableOf
-  right-ends s e =
-      (ap not (is-member (l .settings .origins) o _ (s .count) (s .member)),
-      (ap not (is-member (l .settings .targets) k _ (e .count) (e .member)), (ap not (le-leb _ _ (s .walked)), tt)))
+  right-ends s e = (
+    ap not (is-member (l .settings .origins) o _ (s .count) (s .member)),
+    (ap not (is-member (l .settings .targets) k _ (e .count) (e .member)), (ap not (le-leb _ _ (s .walked)), tt)),
+  )
 
 -- ---- changes
 

@@ -3,3 +3,4 @@ pub mod SaysLaws
 pub mod FoundLaws
 pub mod JoinLaws
 pub mod MakesLaws
+pub mod EndLaws

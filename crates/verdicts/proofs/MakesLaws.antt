@@ -320,9 +320,10 @@ module _ (l : Load) (c : Connection) where
           count = omega (arith, m .rides);
           change-0 = λ h. absurd (omega (arith, m .rides));
           change-1 = λ h. absurd (omega (arith, m .rides));
-        } in
-        (fails-free (causes l c) (clear-all 0 (last-1 (m .rides)) (right-is (c .rides) (omega (arith, m .rides)) (omega (arith, m .rides))) clear),
-        w .is ∙ (λ t. directOf (timetableOf l) (rideOf (one .from t) (one .to t)) (m .origin t) (m .target t)) ∙ sym (journey-1 (m .rides)))
+        } in (
+          fails-free (causes l c) (clear-all 0 (last-1 (m .rides)) (right-is (c .rides) (omega (arith, m .rides)) (omega (arith, m .rides))) clear),
+          w .is ∙ (λ t. directOf (timetableOf l) (rideOf (one .from t) (one .to t)) (m .origin t) (m .target t)) ∙ sym (journey-1 (m .rides)),
+        )
 
     made-2 : (j : Journey) → ByTwo (timetableOf l) c j → Judged j
     unfolding timetableOf
@@ -338,9 +339,10 @@ module _ (l : Load) (c : Connection) where
           count = omega (arith, m .rides, w .may);
           change-0 = λ h. change-free 0 0 1 (one .from) (one .to) (two .from) (w .joined);
           change-1 = λ h. absurd (omega (arith, m .rides));
-        } in
-        (fails-free (causes l c) (clear-all 1 (last-2 (m .rides)) (right-is (c .rides) (omega (arith, m .rides)) (omega (arith, m .rides))) clear),
-        w .is ∙ (λ t. changeOf (timetableOf l) (rideOf (one .from t) (one .to t)) (rideOf (two .from t) (two .to t)) (m .origin t) (m .target t)) ∙ sym (journey-2 (m .rides)))
+        } in (
+          fails-free (causes l c) (clear-all 1 (last-2 (m .rides)) (right-is (c .rides) (omega (arith, m .rides)) (omega (arith, m .rides))) clear),
+          w .is ∙ (λ t. changeOf (timetableOf l) (rideOf (one .from t) (one .to t)) (rideOf (two .from t) (two .to t)) (m .origin t) (m .target t)) ∙ sym (journey-2 (m .rides)),
+        )
 
     made-3 : (j : Journey) → ByThree (timetableOf l) c j → Judged j
     unfolding timetableOf
@@ -357,11 +359,12 @@ module _ (l : Load) (c : Connection) where
           count = omega (arith, m .rides, w .may);
           change-0 = λ h. change-free 0 0 1 (one .from) (one .to) (two .from) (w .joined);
           change-1 = λ h. change-free 1 1 2 (two .from) (two .to) (three .from) (w .joins);
-        } in
-        (fails-free (causes l c) (clear-all 2 (last-3 (m .rides)) (right-is (c .rides) (omega (arith, m .rides)) (omega (arith, m .rides))) clear),
-        w .is
-        ∙ (λ t. threeOf (timetableOf l) (rideOf (one .from t) (one .to t)) (rideOf (two .from t) (two .to t)) (rideOf (three .from t) (three .to t)) (m .origin t) (m .target t))
-        ∙ sym (journey-3 (m .rides)))
+        } in (
+          fails-free (causes l c) (clear-all 2 (last-3 (m .rides)) (right-is (c .rides) (omega (arith, m .rides)) (omega (arith, m .rides))) clear),
+          w .is
+              ∙ (λ t. threeOf (timetableOf l) (rideOf (one .from t) (one .to t)) (rideOf (two .from t) (two .to t)) (rideOf (three .from t) (three .to t)) (m .origin t) (m .target t))
+              ∙ sym (journey-3 (m .rides)),
+        )
 
     pub makes-free : (j : Journey) → Makes (timetableOf l) c j → Judged j
     makes-free j (inl m) = made-1 j m
