@@ -4,3 +4,4 @@ pub mod FoundLaws
 pub mod JoinLaws
 pub mod MakesLaws
 pub mod EndLaws
+pub mod InstanceLaws
