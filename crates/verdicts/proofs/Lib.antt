@@ -5,3 +5,4 @@ pub mod JoinLaws
 pub mod MakesLaws
 pub mod EndLaws
 pub mod InstanceLaws
+pub mod RuleLaws

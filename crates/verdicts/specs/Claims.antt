@@ -8,6 +8,11 @@ use lib.ListN.{length, getD}
 use Rattle.profile.specs.declared.Journey.{Journey}
 use Rattle.profile.specs.Figures.{covers}
 use Rattle.profile.specs.Journeys.{noJourney, journeyFigures}
+use Rattle.rules.specs.declared.Rule.{Rule}
+use Rattle.rules.specs.Rules.{blankRule}
+use Rattle.transfer.specs.declared.Ends.{Ends}
+use Rattle.transfer.specs.declared.Chosen.the-variants.{By}
+use Rattle.transfer.specs.Choice.{chosen}
 use Rattle.load.specs.declared.Load.{Load}
 use Rattle.load.specs.Steps.{Opening}
 use Rattle.load.specs.Sound.{Opens}
@@ -18,6 +23,7 @@ use Rattle.steps.specs.Lists.{endOf, Admitted}
 use Rattle.connection.specs.declared.Connection.{Connection}
 use Rattle.connection.specs.declared.Cause.{Cause}
 use Rattle.connection.specs.declared.Told.the-variants.{Because, Free}
+use Rattle.connection.specs.Changes.{numberIn}
 use Rattle.listing.specs.declared.Verdict.{Verdict}
 use Rattle.listing.specs.declared.Verdict.the-variants.{NotFinished, Late, Listed, AsGood, Beaten, Impossible}
 use Rattle.verdict.specs.Verdicts.{isFinished, journeyIn, causes, causeOf, verdictOf}
@@ -68,3 +74,7 @@ pub data Says (ks : List Journey) (j : Journey) : Verdict → Type 0 where
 abbrev pub DueIsCovered : Type 0
 DueIsCovered = (o : Opening) (xs : List Step) (c : Connection) → Opens o → isFinished (endOf o xs) ≡ true → causeOf (endOf o xs) c ≡ Free
     → journeyIn (endOf o xs) c .arrival ≤ endOf o xs .horizon → Says (keptOf (endOf o xs)) (journeyIn (endOf o xs) c) (verdictOf (endOf o xs) c)
+
+-- the number of the rule that holds is its place among the rules
+abbrev pub RuleNumbered : Type 0
+RuleNumbered = (e : Ends) (rs : List Rule) (r : Rule) → chosen e rs ≡ By r → (numberIn rs (By r) < length rs) × (getD rs (numberIn rs (By r)) blankRule ≡ r)
