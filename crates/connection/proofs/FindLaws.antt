@@ -1,10 +1,9 @@
 -- A call by its key, and the place of a rule.
-use mathlib.Core.Path.{_≡_, refl, sym, ap, _∙_}
+use mathlib.Core.Path.{_≡_, sym, ap, _∙_}
 use mathlib.Core.Bool.{true, false}
 use mathlib.Core.List.{List}
 use Prim.Native.Nat.{ℕ, _-_, _≤_, _<_, min}
 use native.Mathlib.Omega.{arith}
-use lib.Dec.{eqb}
 use lib.ListN.{length, getD, take}
 use lib.Seq.{getD-take}
 use borrow.Author.Tests.{eq-eqb, ne-eqb}
@@ -15,7 +14,7 @@ use Rattle.withdrawal.specs.declared.CallKey.{CallKey}
 use Rattle.withdrawal.specs.Removal.{lastOf, hasKey}
 use Rattle.withdrawal.proofs.RemovalLaws.{last-start, last-counted}
 use Rattle.connection.specs.declared.FoundCall.{FoundCall}
-use Rattle.connection.specs.Find.{noCall, findIn}
+use Rattle.connection.specs.Find.{findIn}
 
 module _ (calls : List Call) (count : ℕ) (k : CallKey) (long : length calls ≡ 512) where
   pub place-within : lastOf (hasKey k) (take count calls) ≤ 512

@@ -1,5 +1,5 @@
--- What is asked of the ends, and of the number of changes. "Membership byte (bits 0 to 3 origins, bits 4 to 7 targets; bits past the counts are
--- ignored)"; "boarding needs departure at or above walk × 60".
+-- What is asked of the ends, and of the number of changes. "Membership byte (bits 0 to 3 origins, bits 4 to 7 targets; bits past the
+-- counts are ignored)"; "boarding needs departure at or above walk × 60".
 use mathlib.Core.Bool.{Bool, not, _&&_}
 use mathlib.Core.List.{List, [], _∷_}
 use Prim.Native.Nat.{ℕ, _+_, _*_, _/_}

@@ -31,4 +31,6 @@ legTests i g f =
 -- of the first n legs
 abbrev pub legsTests : ℕ → List Leg → Way → List (Bool × Cause)
 legsTests n legs w =
-    legTests 0 (legAt legs 0) (w .first) ++ asking (leb 2 n) (legTests 1 (legAt legs 1) (w .second)) ++ asking (leb 3 n) (legTests 2 (legAt legs 2) (w .third))
+    legTests 0 (legAt legs 0) (w .first)
+    ++ asking (leb 2 n) (legTests 1 (legAt legs 1) (w .second))
+    ++ asking (leb 3 n) (legTests 2 (legAt legs 2) (w .third))

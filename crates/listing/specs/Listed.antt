@@ -30,7 +30,8 @@ byPlace said n other = cond (eqb n 0) other (said (n - 1))
 -- j itself; else one that is as good; else the first that equals or beats it
 unfoldable pub listedIn : List Journey → Journey → Verdict
 listedIn ks j =
-    byPlace Listed (placeFrom (meetsAs 0 j) 0 ks) (byPlace AsGood (placeFrom (meetsAs 1 j) 0 ks) (byPlace Beaten (placeFrom (meetsAs 2 j) 0 ks) Uncovered))
+    byPlace Listed (placeFrom (meetsAs 0 j) 0 ks)
+    (byPlace AsGood (placeFrom (meetsAs 1 j) 0 ks) (byPlace Beaten (placeFrom (meetsAs 2 j) 0 ks) Uncovered))
 
 -- up to the horizon h
 unfoldable pub judgedIn : List Journey → ℕ → Journey → Verdict

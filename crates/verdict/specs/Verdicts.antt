@@ -1,5 +1,5 @@
--- The verdict on a connection, by a load: there is none before a search is finished; else the first cause against it; else, if it is due by the
--- horizon, where the list has it, one as good, or one that beats it.
+-- The verdict on a connection, by a load: there is none before a search is finished; else the first cause against it; else, if it is due
+-- by the horizon, where the list has it, one as good, or one that beats it.
 use mathlib.Core.Bool.{Bool, cond}
 use mathlib.Core.List.{List, _++_}
 use Prim.Native.Nat.{ℕ, _+_, _-_, _*_}
@@ -66,16 +66,19 @@ journeyOn s c w = record {
 -- the first stop is of the origin, the last of the target, and there is time to walk
 unfoldable pub endsAsked : Settings → List Stop → Connection → Way → List (Bool × Cause)
 endsAsked s stops c w =
-    endTests (s .origins) (s .targets) (c .origin) (c .target) (stopAt stops (w .first .board .call .stop) .members) (stopAt stops (lastLeg (c .rides) w .alight .call .stop) .members)
+    endTests (s .origins) (s .targets) (c .origin) (c .target)
+    (stopAt stops (w .first .board .call .stop) .members) (stopAt stops (lastLeg (c .rides) w .alight .call .stop) .members)
     (getD (s .«origin_walks») (c .origin) 0) (w .first .board .call .departure)
 
 -- each of the n − 1 changes can be made, by the rules and the change time
 unfoldable pub changesAsked : List Stop → ℕ → List Rule → ℕ → ℕ → Way → List (Bool × Cause)
 changesAsked stops count rules seconds n w =
     asking (leb 2 n)
-    (changeTests 0 rules (parentsOf stops) (placesOf (take count stops)) seconds (w .first .board .call) (w .first .alight .call) (w .second .board .call))
+    (changeTests 0 rules (parentsOf stops) (placesOf (take count stops)) seconds
+    (w .first .board .call) (w .first .alight .call) (w .second .board .call))
     ++ asking (leb 3 n)
-    (changeTests 1 rules (parentsOf stops) (placesOf (take count stops)) seconds (w .second .board .call) (w .second .alight .call) (w .third .board .call))
+    (changeTests 1 rules (parentsOf stops) (placesOf (take count stops)) seconds
+    (w .second .board .call) (w .second .alight .call) (w .third .board .call))
 
 -- how many rides; leg by leg; the ends; how many changes; change by change
 unfoldable pub causesBy : Settings → List Stop → ℕ → List Rule → Connection → Way → List (Bool × Cause)

@@ -1,7 +1,7 @@
 -- What verdicts say after any list of steps with a finished search.
 use mathlib.Core.Path.{_≡_, sym, ap, subst, _∙_}
 use mathlib.Core.Logic.{inl, inr}
-use mathlib.Core.Bool.{true, false}
+use mathlib.Core.Bool.{true}
 use mathlib.Core.List.{List, Permᴰ·symm}
 use Prim.Native.Nat.{_≤_}
 use lib.ListN.{take}
@@ -12,7 +12,7 @@ use Rattle.laws.proofs.Sort.{sort-perm}
 use Rattle.refusal.specs.First.{isTaken}
 use Rattle.profile.specs.declared.Journey.{Journey}
 use Rattle.offers.specs.Order.{earlier, inOrder}
-use Rattle.offers.specs.Offers.{Timetable, withCalls}
+use Rattle.offers.specs.Offers.{Timetable}
 use Rattle.offers.specs.Admitted as by
 use Rattle.offers.proofs.OrderLaws.{accepted-keyed}
 use Rattle.offers.proofs.AnyOrder.{admitted-in-any-order}
@@ -21,7 +21,7 @@ use Rattle.load.specs.declared.Load.{Load}
 use Rattle.load.specs.declared.Stepped.{Stepped}
 use Rattle.load.specs.Steps.{Opening}
 use Rattle.search.specs.Timetable.{timetableOf}
-use Rattle.search.specs.Search.{outcomeOf, searchSpec}
+use Rattle.search.specs.Search.{outcomeOf}
 use Rattle.search.proofs.RunLaws.{taken-found}
 use Rattle.again.specs.Again.{unsearchedOf}
 use Rattle.again.specs.Claims.{Own}

@@ -9,9 +9,7 @@ use lib.Dec.{ltb, eqb}
 use borrow.Author.Tests.{ltb-true, lt-ltb}
 use Rattle.laws.proofs.Bools.{cond-by, cond-not}
 use Rattle.profile.specs.declared.Journey.{Journey}
-use Rattle.load.specs.declared.Load.{Load}
 use Rattle.best.specs.Best.{keptOf}
-use Rattle.connection.specs.declared.Connection.{Connection}
 use Rattle.connection.specs.declared.Cause.{Cause}
 use Rattle.connection.specs.declared.Told.{Told}
 use Rattle.connection.specs.declared.Told.the-variants.{Because, Free}

@@ -1,15 +1,14 @@
 -- The ends and the changes: no cause against them exactly if the timetable starts, ends and joins there.
-use mathlib.Core.Path.{_≡_, refl, sym, ap, subst, _∙_}
+use mathlib.Core.Path.{_≡_, refl, sym, ap, _∙_}
 use mathlib.Core.Bool.{Bool, true, false, not, cond, _&&_, true≢false, false≢true}
 use mathlib.Core.List.{List}
-use Prim.Native.Nat.{ℕ, _+_, _*_, _/_, _≤_, _<_, min}
+use Prim.Native.Nat.{ℕ, _+_, _<_, min}
 use native.Mathlib.Omega.{arith}
-use lib.Dec.{eqb, ltb, leb}
+use lib.Dec.{ltb, leb}
 use lib.ListN.{take, getD}
-use borrow.Author.Tests.{ltb-true, lt-ltb, leb-true, le-leb, not-false, not-true}
+use borrow.Author.Tests.{ltb-true, lt-ltb, leb-true, le-leb, not-false}
 use Rattle.laws.specs.Bits.{digit}
 use Rattle.laws.proofs.Bools.{cond-by, cond-not, and-true, and-true-left, and-true-right}
-use Rattle.settings.specs.declared.Settings.{Settings}
 use Rattle.stops.specs.Sound.{stopAt}
 use Rattle.calls.specs.declared.Call.{Call}
 use Rattle.places.specs.Places.{placesOf}
@@ -22,13 +21,13 @@ use Rattle.transfer.specs.declared.Change.the-variants.{Takes, Never}
 use Rattle.transfer.specs.Choice.{chosen}
 use Rattle.transfer.specs.Copied.{parentsOf}
 use Rattle.transfer.specs.Changes.{endsOf, near, changeOf, transferOf, joinsBy, joinOf}
-use Rattle.offers.specs.Offers.{Timetable, rideOf, sameRun}
+use Rattle.offers.specs.Offers.{rideOf, sameRun}
 use Rattle.offers.specs.Admitted.{Starts, Ends}
 use Rattle.load.specs.declared.Load.{Load}
 use Rattle.search.specs.Timetable.{changeIn, joinsIn, timetableOf}
 use Rattle.connection.specs.declared.Cause.{Cause}
 use Rattle.connection.specs.Ends.{lowDigit, isMember, endTests}
-use Rattle.connection.specs.Changes.{inReach, forbids, isNever, needed, ruleAt, numberIn, pairTests, changeTests}
+use Rattle.connection.specs.Changes.{inReach, forbids, isNever, needed, changeTests}
 use Rattle.verdicts.specs.Claims.{AllFail}
 
 -- ---- members

@@ -2,6 +2,7 @@ pub mod FailLaws
 pub mod SaysLaws
 pub mod FoundLaws
 pub mod JoinLaws
+pub mod PartLaws
 pub mod MakesLaws
 pub mod EndLaws
 pub mod InstanceLaws

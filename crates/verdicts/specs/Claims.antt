@@ -1,4 +1,5 @@
--- What is claimed of verdicts: of every load which of them is given when; of every list of steps with a finished search, what they say is so.
+-- What is claimed of verdicts: of every load which of them is given when; of every list of steps with a finished search, that what they
+-- say is so.
 use mathlib.Core.Path.{_≡_}
 use mathlib.Core.Logic.{_↔_}
 use mathlib.Core.Bool.{Bool, true, false}
@@ -62,8 +63,8 @@ CausesAdmitted = (o : Opening) (xs : List Step) (c : Connection) → isFinished 
 abbrev pub placed : List Journey → ℕ → Journey
 placed ks i = getD ks i noJourney
 
--- what a verdict by the list says of j: the journey at that place is j; it has j's figures, and j is not in the list; or it equals or beats j, and none
--- of the list has j's figures
+-- what a verdict by the list says of j: the journey at that place is j; it has j's figures, and j is not in the list; or it equals or
+-- beats j, and none of the list has j's figures
 pub data Says (ks : List Journey) (j : Journey) : Verdict → Type 0 where
   listed : (i : ℕ) → i < length ks → placed ks i ≡ j → Says ks j (Listed i)
   as-good : (i : ℕ) → i < length ks → journeyFigures (placed ks i) ≡ journeyFigures j → (List·Memᴰ j ks → ⊥) → Says ks j (AsGood i)
@@ -77,4 +78,5 @@ DueIsCovered = (o : Opening) (xs : List Step) (c : Connection) → Opens o → i
 
 -- the number of the rule that holds is its place among the rules
 abbrev pub RuleNumbered : Type 0
-RuleNumbered = (e : Ends) (rs : List Rule) (r : Rule) → chosen e rs ≡ By r → (numberIn rs (By r) < length rs) × (getD rs (numberIn rs (By r)) blankRule ≡ r)
+RuleNumbered = (e : Ends) (rs : List Rule) (r : Rule) → chosen e rs ≡ By r
+    → (numberIn rs (By r) < length rs) × (getD rs (numberIn rs (By r)) blankRule ≡ r)

@@ -1,5 +1,5 @@
--- A small paper, and a connection for each verdict and each cause: what `verdictOf` says of them after its steps, by computation. So the premises of
--- the claims can be met.
+-- A small paper, and a connection for each verdict and each cause: what `verdictOf` says of them after its steps, by computation. So the
+-- premises of the claims can be met.
 use mathlib.Core.Path.{_≡_}
 use mathlib.Core.Bool.{true, false}
 use mathlib.Core.List.{List, [], _∷_, map}
@@ -7,8 +7,6 @@ use Prim.Native.Nat.{ℕ}
 use lib.IntN.{pos}
 use lib.Ieee.{binary64, ofBits}
 use Rattle.settings.specs.declared.Settings.{Settings}
-use Rattle.stops.specs.declared.StopInput.{StopInput}
-use Rattle.calls.specs.declared.CallInput.{CallInput}
 use Rattle.calls.specs.declared.Seconds.the-variants.{Given}
 use Rattle.rules.specs.declared.MinTime.the-variants as min-time
 use Rattle.load.specs.declared.Load.{Load}

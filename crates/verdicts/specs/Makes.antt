@@ -1,4 +1,5 @@
--- Which journey a connection makes: one that the timetable admits, of the very calls that the connection names, from its origin to its target.
+-- Which journey a connection makes: one that the timetable admits, of the very calls that the connection names, from its origin to its
+-- target.
 use mathlib.Core.Path.{_≡_}
 use mathlib.Core.Logic.{_⊎_}
 use Rattle.calls.specs.declared.Call.{Call}

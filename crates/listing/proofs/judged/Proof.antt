@@ -1,5 +1,4 @@
 -- After the horizon, or by the list.
-use lib.ListN.{take}
 use Rattle.listing.proofs.ListedLaws.{said-late, said-due}
 use borrow.Author.Needs.{needs}
 use Rattle.listing.proofs.judged.Statement.{statement}

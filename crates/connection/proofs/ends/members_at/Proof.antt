@@ -1,5 +1,5 @@
 -- A stop of the array, and none past it.
-use mathlib.Core.Path.{_≡_, refl, sym, ap}
+use mathlib.Core.Path.{_≡_, sym, ap}
 use native.Mathlib.Omega.{arith}
 use lib.ListN.{length, List·getD-eq-default}
 use Rattle.stops.specs.declared.Stop.{Stop}

@@ -1,7 +1,5 @@
 -- The place of the last call with the key, and the call there.
-use mathlib.Core.Path.{_≡_}
 use native.Mathlib.Omega.{arith}
-use lib.ListN.{length}
 use Rattle.connection.proofs.FindLaws.{place-within, find-none, find-some}
 use borrow.Author.Needs.{needs}
 use Rattle.connection.proofs.find.find.Statement.{statement}

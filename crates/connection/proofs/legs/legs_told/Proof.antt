@@ -1,11 +1,4 @@
 -- Leg by leg.
-use mathlib.Core.Path.{ap, _∙_}
-use mathlib.Core.List.{_++_}
-use lib.Dec.{leb}
-use Rattle.connection.specs.declared.Told.{Told}
-use Rattle.connection.specs.Tests.{firstThen, asking}
-use Rattle.connection.specs.Find.{legAt}
-use Rattle.connection.specs.Legs.{legTests}
 use Rattle.connection.proofs.TestLaws.{legs-chain}
 use borrow.Author.Needs.{needs}
 use Rattle.connection.proofs.legs.legs_told.Statement.{statement}
