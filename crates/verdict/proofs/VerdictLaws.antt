@@ -1,6 +1,6 @@
 -- The rides of a connection, its journey, and what is said of it.
-use mathlib.Core.Path.{_≡_, sym, ap, _∙_}
-use mathlib.Core.Bool.{true, false}
+use mathlib.Core.Path.{_≡_, refl, sym, ap, _∙_}
+use mathlib.Core.Bool.{Bool, true, false, not, _&&_, false≢true}
 use mathlib.Core.List.{List}
 use Prim.Native.Nat.{ℕ}
 use lib.ListN.{take, getD}
@@ -22,7 +22,7 @@ use Rattle.connection.specs.Find.{wayOf}
 use Rattle.listing.specs.declared.Verdict.{Verdict}
 use Rattle.listing.specs.declared.Verdict.the-variants.{NotFinished}
 use Rattle.listing.specs.Listed.{judgedIn}
-use Rattle.verdict.specs.Verdicts.{rideFound, lastLeg, middleRide, lastRide, journeyOn, causesBy, judgedBy, verdictOf}
+use Rattle.verdict.specs.Verdicts.{rideFound, lastLeg, middleRide, lastRide, journeyOn, causesBy, judgedBy, finishedBy, isFinished, verdictOf}
 
 module _ (n : ℕ) (w : Way) where
   pub leg-one : n ≡ 1 → w .first ≡ lastLeg n w
@@ -66,15 +66,32 @@ journey-by s c w ks h r walk egress due leave end first middle last ew eg ee ed 
     e ∙ (λ i. judgedIn ks h (record { leave = leave-is i; arrival = due-is i; rides = c .rides; walk = ew i; origin = c .origin; target = c .target; first = ef i; middle = em i; last = ez i }))
 
 module _ (l : Load) (c : Connection) where
-  pub said-by : (w : Way) (t : Told) (v r : Verdict) → l .searched ≡ true → w ≡ wayOf (take (l .«call_count») (l .calls)) (c .legs)
+  pub said-by : (w : Way) (t : Told) (v r : Verdict) (b : Bool) → b ≡ isFinished l → b ≡ true → w ≡ wayOf (take (l .«call_count») (l .calls)) (c .legs)
       → t ≡ firstOf (causesBy (l .settings) (l .stops) (l .«stop_count») (take (l .«rule_count») (l .rules)) c w)
       → v ≡ judgedIn (keptOf l) (l .horizon) (journeyOn (l .settings) c w) → r ≡ judgedBy t v → r ≡ verdictOf l c
   unfolding verdictOf
-  said-by w t v r s ew et ev e =
+  said-by w t v r b is s ew et ev e =
       e ∙ (λ i. judgedBy (et i) (ev i))
       ∙ (λ i. judgedBy (firstOf (causesBy (l .settings) (l .stops) (l .«stop_count») (take (l .«rule_count») (l .rules)) c (ew i))) (judgedIn (keptOf l) (l .horizon) (journeyOn (l .settings) c (ew i))))
-      ∙ sym (cond-by _ _ s)
+      ∙ sym (cond-by _ _ (sym is ∙ s))
 
-  pub said-nothing : l .searched ≡ false → NotFinished ≡ verdictOf l c
+  pub said-nothing : (b : Bool) → b ≡ isFinished l → b ≡ false → NotFinished ≡ verdictOf l c
   unfolding verdictOf
-  said-nothing s = sym (cond-not _ _ s)
+  said-nothing b is s = sym (cond-not _ _ (sym is ∙ s))
+
+-- whether a search is finished
+pub stopped-not : (searched stopped : Bool) → stopped ≡ true → false ≡ finishedBy searched stopped
+unfolding finishedBy
+stopped-not true stopped e = sym (ap not e)
+stopped-not false stopped e = refl
+
+pub not-stopped : (searched stopped : Bool) → stopped ≡ false → searched ≡ finishedBy searched stopped
+unfolding finishedBy
+not-stopped true stopped e = sym (ap not e)
+not-stopped false stopped e = refl
+
+pub finished-parts : (searched stopped : Bool) → finishedBy searched stopped ≡ true → (searched ≡ true) × (stopped ≡ false)
+unfolding finishedBy
+finished-parts true true e = absurd (false≢true e)
+finished-parts true false e = (refl, refl)
+finished-parts false stopped e = absurd (false≢true e)

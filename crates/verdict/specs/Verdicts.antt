@@ -1,6 +1,6 @@
 -- The verdict on a connection, by a load: there is none before a search is finished; else the first cause against it; else, if it is due
 -- by the horizon, where the list has it, one as good, or one that beats it.
-use mathlib.Core.Bool.{Bool, cond}
+use mathlib.Core.Bool.{Bool, cond, not, _&&_}
 use mathlib.Core.List.{List, _++_}
 use Prim.Native.Nat.{ℕ, _+_, _-_, _*_}
 use lib.Dec.{eqb, leb}
@@ -92,8 +92,12 @@ causesBy s stops count rules c w =
 -- ---- of a load
 
 -- its list can be marked by
+unfoldable pub finishedBy : Bool → Bool → Bool
+finishedBy searched stopped = searched && not stopped
+
+-- a search within a limit that was stopped is not finished (request 12)
 abbrev pub isFinished : Load → Bool
-isFinished l = l .searched
+isFinished l = finishedBy (l .searched) (l .stopped)
 
 -- the calls that the connection names
 abbrev pub wayIn : Load → Connection → Way

@@ -6,7 +6,7 @@ pub mod figures;
 ghost use mathlib.Core.Path.{_≡_};
 ghost use lib.ListN.{take};
 ghost use Rattle.listing.specs.Listed.{judgedIn};
-ghost use Rattle.verdict.specs.Verdicts.{journeyOn, judgedBy, verdictOf};
+ghost use Rattle.verdict.specs.Verdicts.{finishedBy, journeyOn, judgedBy, verdictOf};
 use causes::cause_of;
 use connection::Connection;
 use connection::Told;
@@ -74,11 +74,21 @@ fn by_cause(told: Told, listed: Verdict) -> Verdict
     }
 }
 
+// A search that was stopped is not finished.
+fn is_finished(searched: bool, stopped: bool) -> bool
+    ensures { λ r. ⌜ r ≡ finishedBy searched stopped ⌝ }
+{
+    if stopped {
+        return false;
+    }
+    searched
+}
+
 // The verdict on a connection.
 pub fn verdict(load: Load, connection: Connection) -> Verdict
     ensures { λ r. ⌜ r ≡ verdictOf load connection ⌝ }
 {
-    if load.searched {
+    if is_finished(load.searched, load.stopped) {
         let calls = load.calls;
         let legs = connection.legs;
         let settings = load.settings;

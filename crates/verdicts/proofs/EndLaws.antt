@@ -1,7 +1,7 @@
 -- What verdicts say after any list of steps with a finished search.
 use mathlib.Core.Path.{_≡_, sym, ap, subst, _∙_}
 use mathlib.Core.Logic.{inl, inr}
-use mathlib.Core.Bool.{true}
+use mathlib.Core.Bool.{true, false}
 use mathlib.Core.List.{List, Permᴰ·symm}
 use Prim.Native.Nat.{_≤_}
 use lib.ListN.{take}
@@ -24,7 +24,9 @@ use Rattle.search.specs.Timetable.{timetableOf}
 use Rattle.search.specs.Search.{outcomeOf}
 use Rattle.search.proofs.RunLaws.{taken-found}
 use Rattle.again.specs.Again.{unsearchedOf}
-use Rattle.again.specs.Claims.{Own}
+use Rattle.again.specs.Claims.{Kept}
+use Rattle.again.proofs.OwnLaws.{own-finished}
+use Rattle.verdict.proofs.VerdictLaws.{finished-parts}
 use Rattle.best.specs.Best.{keptOf}
 use Rattle.steps.specs.Steps.{Step}
 use Rattle.steps.specs.Lists.{endOf, startOf}
@@ -40,12 +42,12 @@ use Rattle.verdicts.specs.Claims.{Says, CausesAdmitted, DueIsCovered}
 use Rattle.verdicts.proofs.SaysLaws.{says}
 use Rattle.verdicts.proofs.MakesLaws.{free-makes, makes-free}
 
--- the calls of a load that is the search of its own table have distinct keys
-own-keyed : (l : Load) → Own l → l .searched ≡ true → Keyed earlier (take (l .«call_count») (l .calls))
+-- the calls of a load that is the finished search of its own table have distinct keys
+own-keyed : (l : Load) → Kept l → l .searched ≡ true → l .stopped ≡ false → Keyed earlier (take (l .«call_count») (l .calls))
 unfolding outcomeOf timetableOf unsearchedOf
-own-keyed l w d =
+own-keyed l k d e =
     let u = unsearchedOf l in
-    let f = taken-found u (ap (λ (r : Stepped). isTaken (r .answer)) (w d)) in
+    let f = taken-found u (ap (λ (r : Stepped). isTaken (r .answer)) (own-finished l k d e)) in
     let s = search-found (timetableOf u) (u .«table_horizon») (u .«table_limits») (f .to) (f .mark) (f .kept) (f .outcome) in
     accepted-keyed (take (l .«call_count») (l .calls)) (s .0)
 
@@ -61,9 +63,10 @@ start-admits o xs d j a =
     admitted-in-any-order t (inOrder (t .calls)) (Permᴰ·symm (sort-perm earlier (t .calls))) j .1 (subst (λ (u : Timetable). by.Admitted u j) (end-from o xs d) a)
 
 pub causes-admitted : CausesAdmitted
-causes-admitted o xs c d =
+causes-admitted o xs c f =
     let l = endOf o xs in
-    let keyed = own-keyed l (end-kept o xs .own) d in
+    let (d, e) = finished-parts (l .searched) (l .stopped) f in
+    let keyed = own-keyed l (end-kept o xs) d e in
     record {
       makes = free-makes l c;
       free = λ j m. makes-free l c keyed j m .0;
@@ -81,5 +84,6 @@ pub due-is-covered : DueIsCovered
 due-is-covered o xs c op d f h =
     let l = endOf o xs in
     let right = causes-admitted o xs c d in
-    let (k, m, e) = searched-holds o xs op d .complete (journeyIn l c) (right .admitted (journeyIn l c) (right .makes f)) h in
+    let (p, q) = finished-parts (l .searched) (l .stopped) d in
+    let (k, m, e) = searched-holds o xs op p q .complete (journeyIn l c) (right .admitted (journeyIn l c) (right .makes f)) h in
     subst (Says (keptOf l) (journeyIn l c)) (sym (by-list l c d f h)) (says (keptOf l) (journeyIn l c) k m e)

@@ -33,9 +33,9 @@ use Rattle.connection.specs.Ends.{lowDigit, isMember}
 use Rattle.connection.specs.Changes.{inReach, changeTests}
 use Rattle.listing.specs.Same.{sameRide, sameFigures, sameJourney}
 use Rattle.listing.specs.Listed.{meetsAs, placeFrom, listedIn, judgedIn}
-use Rattle.verdict.specs.Verdicts.{rideFound, lastLeg, middleRide, lastRide, journeyOn, endsAsked, changesAsked, causesBy, verdictOf}
+use Rattle.verdict.specs.Verdicts.{rideFound, lastLeg, middleRide, lastRide, journeyOn, endsAsked, changesAsked, causesBy, finishedBy, verdictOf}
 use Rattle.verdicts.specs.Instances.{Instances}
 
 pub instances : Instances
-unfolding firstAnswer overCounts near allNear settingsTests walksOf canonicalOf stationOf idWrong isKnown typeWrong nameNeeded nameWrong stopTests stopAt stopOf heldText known callTests callFit callOn cut fitted timeAfter seenCall seen openAnswer emptyOf undatedWeek stopSpec plainCall callSpec addSpec ruleTests ruleSpec table parentsOf keyed idLess idOrder groupsOf placesOf endsOf transferOf lexb clash rides firstRides joinedRides networkOf offers searchOf timetableOf outcomeOf searchSpec onward pass routes hasKey findIn findLeg wayOf rideRight lowDigit isMember inReach changeTests sameRide sameFigures sameJourney meetsAs placeFrom listedIn judgedIn rideFound lastLeg middleRide lastRide journeyOn endsAsked changesAsked causesBy verdictOf
+unfolding firstAnswer overCounts near allNear settingsTests walksOf canonicalOf stationOf idWrong isKnown typeWrong nameNeeded nameWrong stopTests stopAt stopOf heldText known callTests callFit callOn cut fitted timeAfter seenCall seen openAnswer emptyOf undatedWeek stopSpec plainCall callSpec addSpec ruleTests ruleSpec table parentsOf keyed idLess idOrder groupsOf placesOf endsOf transferOf lexb clash rides firstRides joinedRides networkOf offers searchOf timetableOf outcomeOf searchSpec onward pass routes hasKey findIn findLeg wayOf rideRight lowDigit isMember inReach changeTests sameRide sameFigures sameJourney meetsAs placeFrom listedIn judgedIn rideFound lastLeg middleRide lastRide journeyOn endsAsked changesAsked causesBy verdictOf finishedBy
 instances = record { opens = (refl, tt); finished = refl; each = refl; none = refl }

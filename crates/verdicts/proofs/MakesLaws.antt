@@ -97,8 +97,8 @@ module _ (l : Load) (c : Connection) where
               last = three .0;
               starts = ends .0;
               ends = ends .1;
-              joined = joins-right l 0 (boards l c 0) (alights l c 0) (boards l c 1) (w .change-0 (omega arith));
-              joins = joins-right l 1 (boards l c 1) (alights l c 1) (boards l c 2) (w .change-1 (omega arith));
+              joins-middle = joins-right l 0 (boards l c 0) (alights l c 0) (boards l c 1) (w .change-0 (omega arith));
+              joins-last = joins-right l 1 (boards l c 1) (alights l c 1) (boards l c 2) (w .change-1 (omega arith));
               is = journey-3 l c n;
             };
             origin = refl;
@@ -188,8 +188,8 @@ module _ (l : Load) (c : Connection) where
           leg-2 = λ h. three .free 2;
           ends = ends-free 2 (one .from) (three .to) (m .origin) (m .target) (w .starts) (w .ends);
           count = omega (arith, m .rides, w .may);
-          change-0 = λ h. change-free 0 0 1 (one .from) (one .to) (two .from) (w .joined);
-          change-1 = λ h. change-free 1 1 2 (two .from) (two .to) (three .from) (w .joins);
+          change-0 = λ h. change-free 0 0 1 (one .from) (one .to) (two .from) (w .joins-middle);
+          change-1 = λ h. change-free 1 1 2 (two .from) (two .to) (three .from) (w .joins-last);
         } in (
           fails-free (causes l c) (clear-all l c 2 (last-3 l c (m .rides)) (right-is (c .rides) (omega (arith, m .rides)) (omega (arith, m .rides))) clear),
           w .is
