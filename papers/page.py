@@ -13,11 +13,11 @@ table { border-collapse: collapse; width: 100% } th, td { border-bottom: 0.5pt s
 td.n, th.n { text-align: right; white-space: nowrap } tr, article, figure { break-inside: avoid } thead { display: table-header-group }
 table.steps td { border: 0 } table.steps td:first-child { width: 18mm; text-align: right; white-space: nowrap }
 figure { margin: 3mm 0 } figcaption { font-size: 9.5pt } svg { width: 100%; height: auto; display: block }
-svg text { font: 11px sans-serif; fill: #000 } svg line { stroke: #000 } line.row { stroke-width: 0.4 } line.grid { stroke-width: 0.3 }
+svg text { font: 11px sans-serif; fill: #000; stroke: #fff; stroke-width: 3px; paint-order: stroke } svg line { stroke: #000 } line.row { stroke-width: 0.4 } line.grid { stroke: #888; stroke-width: 0.5 }
 line.ride { stroke-width: 2.2 } line.walk { stroke-width: 1.1; stroke-dasharray: 5 3 } line.wait { stroke-width: 1.1; stroke-dasharray: 1 3 }
 .note { border: 1pt solid #000; padding: 1mm 3mm; margin: 3mm 0 } footer { margin-top: 8mm; border-top: 0.5pt solid #000; font-size: 9pt }
 code { font-size: 9pt } .blank td { height: 9mm }
-@media print { body { margin: 0; padding: 0; max-width: none } }
+@media print { body { margin: 0; padding: 0 1mm; max-width: none } }
 """
 
 
@@ -71,7 +71,7 @@ def listed(paper, journeys):
 def pictures(paper, journeys):
     for first, last, svg in diagrams(paper, journeys):
         which = f"Journey {first}" if first == last else f"Journeys {first} to {last}"
-        words = f"{which}, by their numbers at leave and arrival: thick a ride, dashed on foot, dotted a change. Stops are not to scale."
+        words = f"{which}, numbered at leave and arrival: thick a ride, dashed on foot, dotted a change. Stops are not to scale."
         yield tag("figure", svg + tag("figcaption", words))
 
 
