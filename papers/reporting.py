@@ -1,19 +1,12 @@
 """What is said of a paper or a load file: refusals and warnings with file, line and field."""
 import re
-from fields import KINDS
 from judging import judged
-from packing import Wrong, packed, words
+from packing import Packed, Wrong
 from refusing import GENERAL
 
 
 def printable(text):
     return "".join(c if c.isprintable() else f"\\x{ord(c):02x}" for c in text)
-
-
-def record_lines(text):
-    """The line of each record."""
-    lines = text.removeprefix(b"\xef\xbb\xbf").decode("latin-1").split("\n")
-    return [number for number, line in enumerate(lines, 1) if next(words(line), (None, ""))[1] in KINDS.values()]
 
 
 def unreadable(name, wrong):
@@ -35,21 +28,21 @@ def placed(name, places, record):
 
 def report(name, data, as_text=None):
     """The lines for one file, and whether it is taken; whether it is a text is seen from its name and bytes unless said."""
-    places = None
+    places, rest = None, []
     if is_text(name, data) if as_text is None else as_text:
-        text = data
         try:
-            data = packed(text)
+            paper = Packed(data)
         except Wrong as wrong:
             return [unreadable(name, wrong)], False
-        places = record_lines(text)
+        data, places = paper.data, paper.lines
+        rest = [f"{name}:{line}: warning: {said}" for line, rests, said in paper.week.notes() if rests]
     place = lambda record: placed(name, places, record)
     verdict = judged(data)
     short = lambda text: re.sub("^unreadable from byte [0-9]+ on: ", "", text) if places is not None else text
     lines = [f"{place(record)}: {short(said)}" for record, said in verdict.words]
     if verdict.number is not None:
         return [f"{lines[0]} (refused {verdict.number})", *lines[1:]], False
-    lines = [f"{place(record)}: warning: {said}" for record, said in verdict.warnings]
+    lines = rest + [f"{place(record)}: warning: {said}" for record, said in verdict.warnings]
     return [*lines, f"{name}: not refused, {len(lines)} warning{'s' * (len(lines) != 1)}"], True
 
 
@@ -60,5 +53,6 @@ def refusal(name, data, number, as_text):
 
 def warned(name, data, as_text, warnings):
     """Warnings, each as the number of a record and words, with their places."""
-    places = record_lines(data) if as_text else None
-    return [f"{placed(name, places, record)}: {said}" for record, said in warnings]
+    paper = Packed(data) if as_text else None
+    services = [f"{name}:{line}: {said}" for line, _, said in paper.week.notes()] if paper else []
+    return services + [f"{placed(name, paper and paper.lines, record)}: {said}" for record, said in warnings]
