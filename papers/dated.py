@@ -1,6 +1,7 @@
 """Dates, services and exceptions of a paper (request 03). Load files carry none, so packing leaves out the calls of services that rest.
 
-Which services run, and what is wrong with one, is the slow reader's (slow.py); its numbers are said in words, and such a paper isn't packed.
+Which services run, and what is wrong with one, is the slow reader's (slow.py); its numbers are said in words, and such a paper isn't
+packed.
 """
 import re
 import slow

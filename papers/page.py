@@ -7,15 +7,21 @@ from unpacking import ALIGHTING, BOARDING, CHANGES
 
 STYLE = """
 @page { size: A4; margin: 16mm 15mm }
-body { font: 11pt/1.4 serif; color: #000; background: #fff; max-width: 180mm; margin: 8mm auto; padding: 0 4mm; overflow-wrap: anywhere }
-h1 { font-size: 17pt; margin: 0 0 2mm } h2 { font-size: 13pt; margin: 7mm 0 2mm; break-after: avoid } h3 { font-size: 11pt; margin: 5mm 0 1mm; break-after: avoid }
-table { border-collapse: collapse; width: 100% } th, td { border-bottom: 0.5pt solid #000; padding: 1pt 5pt; text-align: left; vertical-align: top }
+body { font: 11pt/1.4 serif; color: #000; background: #fff; max-width: 180mm; margin: 8mm auto; padding: 0 4mm;
+  overflow-wrap: anywhere }
+h1 { font-size: 17pt; margin: 0 0 2mm } h2 { font-size: 13pt; margin: 7mm 0 2mm; break-after: avoid }
+h3 { font-size: 11pt; margin: 5mm 0 1mm; break-after: avoid }
+table { border-collapse: collapse; width: 100% }
+th, td { border-bottom: 0.5pt solid #000; padding: 1pt 5pt; text-align: left; vertical-align: top }
 td.n, th.n { text-align: right; white-space: nowrap } tr, article, figure { break-inside: avoid } thead { display: table-header-group }
 table.steps td { border: 0 } table.steps td:first-child { width: 18mm; text-align: right; white-space: nowrap }
 figure { margin: 3mm 0 } figcaption { font-size: 9.5pt } svg { width: 100%; height: auto; display: block }
-svg text { font: 11px sans-serif; fill: #000; stroke: #fff; stroke-width: 3px; paint-order: stroke } svg line { stroke: #000 } line.row { stroke-width: 0.4 } line.grid { stroke: #888; stroke-width: 0.5 }
-line.ride { stroke-width: 2.2 } line.walk { stroke-width: 1.1; stroke-dasharray: 5 3 } line.wait { stroke-width: 1.1; stroke-dasharray: 1 3 }
-.note { border: 1pt solid #000; padding: 1mm 3mm; margin: 3mm 0 } footer { margin-top: 8mm; border-top: 0.5pt solid #000; font-size: 9pt }
+svg text { font: 11px sans-serif; fill: #000; stroke: #fff; stroke-width: 3px; paint-order: stroke }
+svg line { stroke: #000 } line.row { stroke-width: 0.4 } line.grid { stroke: #888; stroke-width: 0.5 }
+line.ride { stroke-width: 2.2 } line.walk { stroke-width: 1.1; stroke-dasharray: 5 3 }
+line.wait { stroke-width: 1.1; stroke-dasharray: 1 3 }
+.note { border: 1pt solid #000; padding: 1mm 3mm; margin: 3mm 0 }
+footer { margin-top: 8mm; border-top: 0.5pt solid #000; font-size: 9pt }
 code { font-size: 9pt } .blank td { height: 9mm }
 @media print { body { margin: 0; padding: 0 1mm; max-width: none } }
 """
@@ -55,15 +61,17 @@ def setting(paper):
 
 
 def figures(paper, journeys):
-    rows = [row([f"#{n}", f"#{paper.clock(j.leave)}", f"#{paper.clock(j.arrival)}", f"#{j.rides}", f"#{j.walk}", f"#{j.origin}", f"#{j.target}",
-                 f"#{j.leave}", f"#{j.arrival}"]) for n, j in enumerate(journeys, 1)]
-    return table(["#no.", "#leave", "#arrival", "#rides", "#walk, min", "#origin", "#target", "#leave, s", "#arrival, s"], rows, ' class="figures"') \
+    cells = lambda n, j: (n, paper.clock(j.leave), paper.clock(j.arrival), j.rides, j.walk, j.origin, j.target, j.leave, j.arrival)
+    rows = [row([f"#{cell}" for cell in cells(n, j)]) for n, j in enumerate(journeys, 1)]
+    heads = ["#no.", "#leave", "#arrival", "#rides", "#walk, min", "#origin", "#target", "#leave, s", "#arrival, s"]
+    return table(heads, rows, ' class="figures"') \
         + tag("p", "Seconds count from the start; the walk is the one to the first stop.")
 
 
 def listed(paper, journeys):
     for number, j in enumerate(journeys, 1):
-        head = f"{number}. Leave {paper.clock(j.leave)}, arrive {paper.clock(j.arrival)}: {j.rides} ride{'s' * (j.rides != 1)}, {j.walk} min on foot to the first stop"
+        head = f"{number}. Leave {paper.clock(j.leave)}, arrive {paper.clock(j.arrival)}: {j.rides} ride{'s' * (j.rides != 1)}, " \
+            f"{j.walk} min on foot to the first stop"
         rows = [tag("tr", tag("td", paper.clock(second)) + tag("td", said(words))) for second, words in steps(paper, j)]
         yield tag("article", tag("h3", head) + tag("table", "".join(rows), ' class="steps"'))
 
@@ -78,13 +86,14 @@ def pictures(paper, journeys):
 def horizon(paper, shown):
     until = f"{paper.clock(shown.horizon)} ({shown.horizon} s after the start, limits {shown.limits})"
     return tag("p", f"Horizon: {tag('strong', until)}", ' class="horizon"') + tag(
-        "p", "Of every connection that the paper admits and that arrives by the horizon, the list has one that is as good or better: it leaves "
-        "no earlier, and of arrival, rides and walk, compared in that order, it is no worse. A connection due by the horizon that no listed "
-        "one equals or beats is wrong. Nothing is said of what arrives later.")
+        "p", "Of every connection that the paper admits and that arrives by the horizon, the list has one that is as good or better: it "
+        "leaves no earlier, and of arrival, rides and walk, compared in that order, it is no worse. A connection due by the horizon that "
+        "no listed one equals or beats is wrong. Nothing is said of what arrives later.")
 
 
 def warned(lines):
-    return tag("div", tag("strong", "Note") + tag("ul", "".join(tag("li", html.escape(line)) for line in lines)), ' class="note"') if lines else ""
+    items = tag("ul", "".join(tag("li", html.escape(line)) for line in lines))
+    return tag("div", tag("strong", "Note") + items, ' class="note"') if lines else ""
 
 
 def timetable(paper):
@@ -96,7 +105,8 @@ def timetable(paper):
     for (trip, day), calls in sorted(trips.items()):
         notes = lambda c: ", ".join(filter(None, (BOARDING.get(c.pickup), ALIGHTING.get(c.drop_off))))
         rows = [row([tag("bdi", html.escape(paper.name(c.stop))), time(c.arrival), time(c.departure), notes(c)]) for c in calls]
-        yield tag("article", tag("h3", f"Trip {trip}" + (f", by the clock of day {day}" if day else "")) + table(["stop", "#arrives", "#departs", ""], rows))
+        head = tag("h3", f"Trip {trip}" + (f", by the clock of day {day}" if day else ""))
+        yield tag("article", head + table(["stop", "#arrives", "#departs", ""], rows))
 
 
 def rules(paper):
@@ -121,6 +131,8 @@ def answers(paper, shown, warnings):
 
 def page(title, body, foot):
     """The whole page; `foot` has pairs of a word and a value."""
-    head = f'<meta charset="utf-8"><meta name="viewport" content="width=device-width">{tag("title", html.escape(title))}{tag("style", STYLE)}'
+    head = '<meta charset="utf-8"><meta name="viewport" content="width=device-width">'
+    head += tag("title", html.escape(title)) + tag("style", STYLE)
     end = tag("footer", "".join(tag("div", f"{html.escape(word)}: {tag('code', html.escape(value))}") for word, value in foot))
-    return f"<!DOCTYPE html>\n" + tag("html", tag("head", head) + "\n" + tag("body", "\n".join([tag("h1", html.escape(title)), *body, end])), ' lang="en"') + "\n"
+    inside = tag("body", "\n".join([tag("h1", html.escape(title)), *body, end]))
+    return "<!DOCTYPE html>\n" + tag("html", tag("head", head) + "\n" + inside, ' lang="en"') + "\n"
