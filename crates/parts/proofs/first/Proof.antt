@@ -2,8 +2,8 @@
 use mathlib.Core.Path.{sym}
 use lib.Seq.{length-take-le}
 use borrow.Author.Needs.{needs}
-use Rattle.show.proofs.part.first.Statement.{statement}
-use Rattle.show.proofs.part.first.Tie as tie
+use Rattle.parts.proofs.first.Statement.{statement}
+use Rattle.parts.proofs.first.Tie as tie
 
 fill-requires : tie.Need-fill-requires
 fill-requires c κs = search needs
@@ -17,8 +17,8 @@ slice-aggregate-begun c = sym (length-take-le _ _ (c .before .before .before .fi
 begun-requires : tie.Need-begun-requires
 begun-requires c κs = search needs
 
-is-refused-requires : tie.Need-is-refused-requires
-is-refused-requires c κs = search needs
+is-over-requires : tie.Need-is-over-requires
+is-over-requires c κs = search needs
 
 same-length : tie.Need-same-length
 same-length c = search needs
@@ -34,6 +34,6 @@ first-spec =
     slice-reshare-prefix-begun
     slice-aggregate-begun
     begun-requires
-    is-refused-requires
+    is-over-requires
     same-length
     returns)

@@ -4,8 +4,8 @@ use Prim.Native.Nat.{_-_, _≤_}
 use native.Mathlib.Omega.{arith}
 use lib.ListN.{length, length-set}
 use borrow.Author.Needs.{needs}
-use Rattle.show.proofs.part.move_down.Statement.{statement}
-use Rattle.show.proofs.part.move_down.Tie as tie
+use Rattle.parts.proofs.move_down.Statement.{statement}
+use Rattle.parts.proofs.move_down.Tie as tie
 
 abbrev Inv-loop : tie.InvT-loop
 Inv-loop buf₀ from end k₀ i₀ buf k i = (length buf ≡ length buf₀) × (k ≤ i) × (k ≤ end) × (end ≤ length buf₀)

@@ -2,14 +2,14 @@
 use mathlib.Core.Path.{_≡_}
 use lib.ListN.{length}
 use borrow.Author.Needs.{needs}
-use Rattle.show.proofs.main.Statement.{statement}
-use Rattle.show.proofs.main.Tie as tie
+use Rattle.parts.proofs.read_input.Statement.{statement}
+use Rattle.parts.proofs.read_input.Tie as tie
 
 abbrev Inv-loop : tie.InvT-loop
-Inv-loop buf₀ reading₀ turns₀ buf reading turns = length buf ≡ 131072
+Inv-loop buf₀ part₀ turns₀ buf part turns = length buf ≡ 131072
 
 abbrev μ-loop : tie.MeasureT-loop
-μ-loop buf₀ reading₀ turns₀ buf reading turns = turns
+μ-loop buf₀ part₀ turns₀ buf part turns = turns
 
 slice-aggregate-first : tie.Need-slice-aggregate-first Inv-loop μ-loop
 slice-aggregate-first c = search needs
@@ -20,8 +20,8 @@ first-requires c κs = search needs
 loop-holds : tie.Need-loop-holds Inv-loop μ-loop
 loop-holds c = search needs
 
-print-end-requires : tie.Need-print-end-requires Inv-loop μ-loop
-print-end-requires c κs = search needs
+end-of-requires : tie.Need-end-of-requires Inv-loop μ-loop
+end-of-requires c κs = search needs
 
 returns : tie.Need-returns Inv-loop μ-loop
 returns c = search needs
@@ -41,11 +41,14 @@ loop-less c = search needs
 loop-again : tie.Need-loop-again Inv-loop μ-loop
 loop-again c = search needs
 
+end-of-requires-2 : tie.Need-end-of-requires-2 Inv-loop μ-loop
+end-of-requires-2 c κs = search needs
+
 returns-2 : tie.Need-returns-2 Inv-loop μ-loop
 returns-2 c = search needs
 
-pub main-spec : {M : Type 1} → statement M
-main-spec =
+pub read-input-spec : {M : Type 1} → statement M
+read-input-spec =
     tie.close
     (tie.spec
     Inv-loop
@@ -53,11 +56,12 @@ main-spec =
     slice-aggregate-first
     first-requires
     loop-holds
-    print-end-requires
+    end-of-requires
     returns
     slice-aggregate-turn
     turn-requires
     sub-turns
     loop-less
     loop-again
+    end-of-requires-2
     returns-2)
