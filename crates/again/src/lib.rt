@@ -13,7 +13,7 @@ use refusal::Refusal;
 use refusal::is_refused;
 use refusal::is_taken;
 use search::search;
-use search::within::search_within;
+use search::search_within;
 use withdrawal::CallKey;
 use withdrawal::is_known;
 use withdrawal::last_of;

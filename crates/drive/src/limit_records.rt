@@ -13,7 +13,7 @@ use margin::margin_of;
 use profile::Journey;
 use refusal::Answer;
 use search::Limited;
-use search::within::search_within;
+use search::search_within;
 use stdio::load_lines::figures;
 use stdio::out;
 

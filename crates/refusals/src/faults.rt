@@ -1,4 +1,5 @@
 // Each fault of a step alone, and each two of them together.
+use crate::limits;
 use crate::loads;
 use crate::loads::text;
 use crate::searched;
@@ -9,6 +10,7 @@ use crate::show::CALL;
 use crate::show::CALL_OF;
 use crate::show::EXCEPTION;
 use crate::show::FALLS;
+use crate::show::LIMITED;
 use crate::show::NOTHING;
 use crate::show::OUTSIDE;
 use crate::show::RESTS;
@@ -43,6 +45,9 @@ pub fn pick(a: u8, b: u8, n: u8, yes: u16, no: u16) -> u16 {
 fn apart(step: u8, a: u8, b: u8) -> bool {
     if step == WITHDRAWN {
         return b == FALLS && a != NOTHING;
+    }
+    if step == LIMITED {
+        return a == 15 && b != 1;
     }
     match a {
         3 => b == 5,
@@ -149,6 +154,9 @@ fn unsearched(step: u8, a: u8, b: u8) -> Load {
 }
 
 fn load_of(step: u8, a: u8, b: u8) -> Load {
+    if step == LIMITED {
+        return limits::load_of(a, b);
+    }
     if step >= ADDED {
         return searched::load_of(step, a, b);
     }
@@ -161,6 +169,9 @@ fn load_of(step: u8, a: u8, b: u8) -> Load {
 }
 
 fn stepped(step: u8, load: Load, a: u8, b: u8) -> Stepped {
+    if step == LIMITED {
+        return limits::stepped(load);
+    }
     if step >= ADDED {
         return searched::stepped(step, load, a, b);
     }

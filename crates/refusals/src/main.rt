@@ -1,7 +1,8 @@
 // Meets each refusal of opening, stop, call, rule, search, service, exception and withdrawal alone and in pairs, and writes what is
-// answered, and what a good step after it is answered. The file `stdout` says what the scope's order, and those of requests 03 and 11, give.
+// answered, and what a good step after it is answered. The file `stdout` says what the scope's order, and those of requests 03, 11 and 12, give.
 mod calls_of;
 mod faults;
+mod limits;
 mod loads;
 mod searched;
 mod show;
@@ -15,6 +16,7 @@ use show::CALL;
 use show::CALL_OF;
 use show::EXCEPTION;
 use show::FALLS;
+use show::LIMITED;
 use show::NOTHING;
 use show::OUTSIDE;
 use show::RESTS;
@@ -69,6 +71,10 @@ fn main() {
         ],
     );
     words::searches();
+    faults::each(
+        LIMITED,
+        [NOTHING, 15, 1, 14, 11, NOTHING, NOTHING, NOTHING, NOTHING],
+    );
     dated();
     altered();
 }

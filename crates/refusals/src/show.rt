@@ -28,6 +28,9 @@ pub const WITHDRAWAL: u8 = 10;
 
 pub const WITHDRAWN: u8 = 11;
 
+// A search within a limit on joins.
+pub const LIMITED: u8 = 12;
+
 // What is wrong with a step, beside the scope's numbers: nothing, a time absent, a call outside the window, one whose service
 // doesn't run, or 11 of the search that follows.
 pub const NOTHING: u8 = 0;
@@ -57,6 +60,7 @@ fn step(n: u8) {
         ADDED_OF => text(b"call of a service after the search"),
         WITHDRAWAL => text(b"withdrawal"),
         WITHDRAWN => text(b"withdrawal after the search"),
+        LIMITED => text(b"limited search"),
         _ => text(b"search"),
     }
 }

@@ -1,4 +1,4 @@
-// The search step: the calls put in order, every offer made, and what is kept. Within a limit on joins: `within`.
+// The search step: the calls put in order, every offer made, and what is kept; and the same within a limit on joins.
 ghost use mathlib.Core.Path.{_≡_};
 ghost use Prim.Native.Nat.{ℕ, _<_};
 ghost use lib.ListN.{getD};
@@ -30,7 +30,9 @@ use transfer::copied::flat_rules;
 use transfer::copied::parents_of;
 
 pub mod earliest;
-pub mod within;
+mod within;
+
+pub use within::search_within;
 
 // What a search within a limit on joins answers, and the load that it returns; how many joins it tested, and whether none is left. 0 and
 // false where it is sent back.

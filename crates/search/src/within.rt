@@ -1,4 +1,4 @@
-// The search step within a limit on joins: `search` that stops just before the first join past the limit.
+// The search within a limit on joins: as the search step, with the offers before the first join past the limit.
 ghost use mathlib.Core.Path.{_≡_};
 ghost use mathlib.Core.Bool.{not, cond};
 ghost use Prim.Native.Nat.{min};
