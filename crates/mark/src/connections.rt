@@ -48,11 +48,11 @@ fn line(out: &mut [u8; 65536], at: usize, load: Load, b: &[u8], from: usize) -> 
     text::verdict_line(out, at, v)
 }
 
-// A line for each connection.
-pub fn verdicts(out: &mut [u8; 65536], at: usize, load: Load, b: &[u8]) -> usize
+// A line for each connection of the first `size` bytes, up to as many as the longest part holds.
+pub fn verdicts(out: &mut [u8; 65536], at: usize, load: Load, b: &[u8], size: usize) -> usize
     ensures { λ r. ⌜ r ≤ 65536 ⌝ }
 {
-    let n = b.len() / 36;
+    let n = out::least(size / 36, 29127);
     let mut to = out::least(at, 65536);
     for i in 0usize..n {
         to = line(out, to, load, b, i * 36);

@@ -33,8 +33,8 @@ fn list(out: &mut [u8; 65536], answer: Answer, load: Load) -> usize {
     out::text(out, 0, &lines[..n])
 }
 
-// What is said of a load file and the connections.
-fn item(out: &mut [u8; 65536], t: Took, b: &[u8]) -> usize {
+// What is said of a load file and the connections in the first `size` bytes.
+fn item(out: &mut [u8; 65536], t: Took, b: &[u8], size: usize) -> usize {
     let answer = t.answer;
     let reader = t.reader;
     let load = reader.load;
@@ -42,7 +42,7 @@ fn item(out: &mut [u8; 65536], t: Took, b: &[u8]) -> usize {
     if is_refused(answer) {
         return at;
     }
-    connections::verdicts(out, at, load, b)
+    connections::verdicts(out, at, load, b, size)
 }
 
 fn file(bytes: &[u8], size: usize) -> Took {
@@ -58,7 +58,7 @@ fn second(out: &mut [u8; 65536], buf: &mut [u8], t: Took) -> bool {
     if size > buf.len() {
         return false;
     }
-    let at = item(out, t, &buf[..size]);
+    let at = item(out, t, buf, size);
     out::end_file(out, at);
     true
 }

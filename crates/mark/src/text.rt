@@ -34,7 +34,14 @@ fn two(out: &mut [u8; 65536], at: usize, word: &[u8], n: u64, m: u64) -> usize {
     out::spaced(out, a, m)
 }
 
-fn short(out: &mut [u8; 65536], at: usize, c: u8, needed: u16, arrival: u16, departure: u16) -> usize {
+fn short(
+    out: &mut [u8; 65536],
+    at: usize,
+    c: u8,
+    needed: u16,
+    arrival: u16,
+    departure: u16,
+) -> usize {
     let a = two(out, at, b" short", c as u64, needed as u64);
     let b = out::spaced(out, a, arrival as u64);
     out::spaced(out, b, departure as u64)
