@@ -2,7 +2,7 @@
 use mathlib.Core.Path.{_≡_, refl, sym, ap, _∙_, subst}
 use mathlib.Core.Logic.{_⊎_, inl, inr}
 use mathlib.Core.Bool.{Bool, true, false}
-use mathlib.Core.Option.{Option, none, some, none≢some}
+use mathlib.Core.Option.{none, Option·none-ne-some}
 use mathlib.Core.List.{List, [], _∷_, _++_}
 use Prim.Native.Nat.{ℕ, zero, suc, _+_, _*_, _-_, _≤_, _<_}
 use native.Mathlib.Omega.{arith}
@@ -16,9 +16,9 @@ use Rattle.profile.specs.declared.Journey.{Journey}
 use Rattle.fields.specs.Numbers.{byteAt}
 use Rattle.fields.specs.Records.{walksAt, settingsIn}
 use Rattle.fields.specs.Second.{secondSettingsIn, settingsBy}
-use Rattle.steps.specs.Steps.{Step}
+use Rattle.steps.specs.Steps.{Step, filling, withdraw, search, limited}
 use Rattle.comparison.specs.Taken.{State}
-use Rattle.comparison.specs.Window.{Held}
+use Rattle.comparison.specs.Window.{time, Held}
 use Rattle.comparison.specs.Kept.{Holds, Stands}
 use Rattle.comparison.specs.Falls as falling
 use Rattle.comparison.specs.Admitted.{Feed, Leg, Between, Admits}
@@ -30,7 +30,20 @@ use Rattle.tutor.proofs.PrintedLaws.{Small}
 
 again-none : {s : Settings} {t u : State} → runs.Again s t u → t .stopped ≡ none → u .stopped ≡ none
 again-none (runs.in-full e) q = q
-again-none (runs.within e w) q = absurd (none≢some (sym q ∙ e))
+again-none (runs.within e w) q = absurd (Option·none-ne-some _ (sym q ∙ e))
+
+-- a file says no withdrawal and no limited search
+abbrev FromFile : Step → Type 0
+FromFile (filling x) = Unit {0}
+FromFile (withdraw k) = ⊥
+FromFile search = Unit {0}
+FromFile (limited n) = ⊥
+
+from-file : {b : List ℕ} {x : Step} → Says b x → FromFile x
+from-file (a-stop e f) = tt
+from-file (a-call e f) = tt
+from-file (a-rule e f) = tt
+from-file (a-search e f) = tt
 
 after-none : {s : Settings} {t u : State} {b : List ℕ} {x : Step} {a : Answer} → Says b x → runs.After s t x a u → t .stopped ≡ none → u .stopped ≡ none
 after-none p runs.sent-back q = q
@@ -41,9 +54,9 @@ after-none p (runs.resting r) q = q
 after-none p (runs.outside n f w) q = again-none w q
 after-none p runs.a-service q = q
 after-none p runs.an-exception q = q
-after-none () (runs.a-withdrawal d w) q
+after-none p (runs.a-withdrawal d w) q = absurd (from-file p)
 after-none p runs.a-search q = refl
-after-none () (runs.a-limited w) q
+after-none p (runs.a-limited w) q = absurd (from-file p)
 
 pub never-stopped : {s : Settings} {t v : State} {bs : List (List ℕ)} {xs : List Step} {rs : List Answer} → EachSays bs xs → runs.Runs s t xs rs v → t .stopped ≡ none → v .stopped ≡ none
 never-stopped no-step runs.end q = q
@@ -83,7 +96,7 @@ taken-bytes [] ys p = (tt, p)
 taken-bytes (x ∷ xs) ys (b, p) = let (q, r) = taken-bytes xs ys p in ((b, q), r)
 
 pub body-bytes : (xs b : List ℕ) (bs : List (List ℕ)) → Records xs (b ∷ bs) → Bytes xs → Bytes b
-body-bytes xs b bs (one-more high low e w) (p, q, r) = taken-bytes b _ r .0
+body-bytes xs b bs (one-more {rest = rest} high low e w) (p, (q, r)) = taken-bytes b rest r .0
 
 byte-small : (b : List ℕ) → Bytes b → (i : ℕ) → byteAt b i < 256
 byte-small [] p i = omega arith
@@ -114,7 +127,7 @@ module _ (F : Feed) (near : F .horizon ≤ 21600) (few : F .settings .origins �
     (walks : (i : ℕ) → getD (F .settings .«origin_walks») i 0 < 256) (j : Journey) (due : j .arrival ≤ 21600) where
   small : (b a c : Call) → Leg F b c → Between F b a j → (r : ℕ) → j .rides ≡ r → r ≤ 3 → Small j
   small b a c leg w r e h =
-      let at = held-due (F .horizon) _ (b .departure) (leg .seen .departure) in
+      let at : b .departure ≤ F .horizon = held-due (F .horizon) (time (F .settings) (leg .boards .day) (leg .seen .d)) (b .departure) (leg .seen .departure) in
       let walk = walks (j .origin) in
       record {
         leave = omega (arith, w .leave, at, near);

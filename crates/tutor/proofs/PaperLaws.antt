@@ -28,7 +28,7 @@ use Rattle.file.specs.File.{startsWhole, sizeOf, bodyOf, versionAnswer, isSecon
 use Rattle.file.proofs.RecordLaws.{taken-settled}
 use Rattle.file.proofs.FedLaws.{none-whole, whole-room, fed-stops, fed-refuses, fed-goes-on}
 use Rattle.comparison.specs.Demands.{answersFrom}
-use Rattle.tutor.specs.Paper.{Records, SettingsSaid, EachSays, Version, first, second, Paper}
+use Rattle.tutor.specs.Paper.{Records, SettingsSaid, EachSays, Version, one, two}
 use Rattle.tutor.specs.Tutor.{NotRefused}
 use Rattle.tutor.proofs.RecordsLaws.{taken-tests, whole-record, Rest, goes}
 
@@ -163,8 +163,8 @@ versions : (v : ℕ) (rest : List ℕ) (x y : Bool) → eqb v 1 ≡ x → eqb v 
     → isRefused (cond (isRefused (cond (x || y) Taken (Refused FileVersion))) (record { answer = cond (x || y) Taken (Refused FileVersion); reader = freshReader y }) (endedBy rest (fedSpec (freshReader y) rest)) .answer) ≡ false
     → Whole (v ∷ rest) (cond (isRefused (cond (x || y) Taken (Refused FileVersion))) (record { answer = cond (x || y) Taken (Refused FileVersion); reader = freshReader y }) (endedBy rest (fedSpec (freshReader y) rest)))
 versions v rest true true e f k = absurd (let a = eqb-true v 1 e in let b = eqb-true v 2 f in omega (arith, a, b))
-versions v rest true false e f k = ended v rest false (subst (λ (n : ℕ). Version n false) (sym (eqb-true v 1 e)) first) k
-versions v rest false true e f k = ended v rest true (subst (λ (n : ℕ). Version n true) (sym (eqb-true v 2 f)) second) k
+versions v rest true false e f k = ended v rest false (subst (λ (n : ℕ). Version n false) (sym (eqb-true v 1 e)) one) k
+versions v rest false true e f k = ended v rest true (subst (λ (n : ℕ). Version n true) (sym (eqb-true v 2 f)) two) k
 versions v rest false false e f k = absurd (true≢false k)
 
 pub whole-file : (xs : List ℕ) → isRefused (readSpec xs .answer) ≡ false → Whole xs (readSpec xs)

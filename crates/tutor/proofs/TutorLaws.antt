@@ -133,7 +133,7 @@ answers-so xs p k w =
       runs = runs;
       none-refused = r .accepted;
       finished = stopped;
-      searched = λ e. subst (Listed s u) lines (lists-lines s o (r .steps) walks (d .1 .0 e stopped) e);
+      searched = λ e. subst (Listed s u) lines (lists-lines s o (r .steps) walks (d .1 e stopped) e);
       unsearched = λ e. subst NothingListed lines (fills-lines s o (r .steps) walks (d .0 e));
     }
 

@@ -44,8 +44,8 @@ pub data EachSays : List (List ℕ) → List Step → Type 0 where
 
 -- version 1 or 2
 pub data Version : ℕ → Bool → Type 0 where
-  first : Version 1 false
-  second : Version 2 true
+  one : Version 1 false
+  two : Version 2 true
 
 -- the bytes are a file of these settings and steps
 pub record Paper (xs : List ℕ) (s : Settings) (steps : List Step) : Type 0 where
