@@ -1,5 +1,6 @@
 """A paper as text to a load file: one record a line (papers/README.md)."""
 import re
+import dated
 from fields import FIELDS, KINDS, OTHER
 
 WORD = re.compile(r'(?:([a-z-]+)=)?("(?:[^"\\]|\\.)*"|[^\s"#]+)(?=[\s#]|$)', re.ASCII)
@@ -56,34 +57,53 @@ def version_of(line):
     return int(found[1][1])
 
 
-def record(line, ids, version):
-    """The bytes of a line; none for an empty one. The ids of the stops so far grow by a stop's."""
+def record(line, ids, version, week, number):
+    """The bytes of a line; none for an empty one, or a call whose service rests. The ids of the stops so far grow by a stop's."""
     head, *pairs = list(words(line)) or [(None, "")]
     if head == (None, ""):
         return b""
     kind = head[1] if head[0] is None else f"{head[0]}={head[1]}"
     if kind == "!":
         raise ValueError("the file that this text was made of is damaged here")
+    if kind in dated.FIELDS:
+        week.take(kind, pairs, number)
+        return b""
     if kind not in FIELDS[version]:
-        raise ValueError(f"{kind} is none of {', '.join(FIELDS[version])}")
+        raise ValueError(f"{kind} is none of {', '.join([*FIELDS[version], *dated.FIELDS])}")
+    own, pairs = week.own(kind, pairs)
     fields = dict(values(kind, given(kind, pairs, version), ids, version))
+    if kind == "settings" and own is not None:
+        week.dates(own)
+    if kind == "call" and week.rests(own, fields["day"]):
+        return b""
     if kind == "stop":
         ids.append(fields["id"])
     body = b"".join(field.put(fields[key]) for key, field, _ in FIELDS[version][kind])
-    number = next(n for n, name in KINDS.items() if name == kind)
-    return (len(body) + 1).to_bytes(2, "big") + bytes([number]) + body
+    return (len(body) + 1).to_bytes(2, "big") + bytes([next(n for n, name in KINDS.items() if name == kind)]) + body
+
+
+class Packed:
+    """The load file of a text, as bytes: of version 1, unless a line before the records names another; the line of each record."""
+    def __init__(self, text):
+        self.ids, self.parts, self.lines, self.version, self.week = [], [], [], 1, dated.Week()
+        for number, line in enumerate(text.removeprefix(b"\xef\xbb\xbf").decode("latin-1").split("\n"), 1):
+            try:
+                self.take(number, line)
+            except ValueError as error:
+                raise Wrong(f"line {number}: {error}")
+        self.data = bytes([self.version]) + b"".join(self.parts)
+
+    def take(self, number, line):
+        named = version_of(line)
+        if named and self.parts:
+            raise ValueError("the version stands before the records")
+        self.version = named or self.version
+        part = b"" if named else record(line, self.ids, self.version, self.week, number)
+        if part:
+            self.parts.append(part)
+            self.lines.append(number)
 
 
 def packed(text):
-    """The load file of a text, both as bytes: of version 1, unless a line before the records names another."""
-    ids, parts, version = [], [], 1
-    for number, line in enumerate(text.removeprefix(b"\xef\xbb\xbf").decode("latin-1").split("\n"), 1):
-        try:
-            named = version_of(line)
-            if named and any(parts):
-                raise ValueError("the version stands before the records")
-            version = named or version
-            parts.append(b"" if named else record(line, ids, version))
-        except ValueError as error:
-            raise Wrong(f"line {number}: {error}")
-    return bytes([version]) + b"".join(parts)
+    """The load file of a text, both as bytes."""
+    return Packed(text).data

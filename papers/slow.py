@@ -12,8 +12,8 @@ def imported():
     kept = {name: sys.modules.pop(name) for name in OWN if name in sys.modules}
     sys.path.insert(0, str(ORACLE))
     try:
-        import fields, reader, reading
-        return fields, reader, reading
+        import fields, reader, reading, weeks
+        return fields, reader, reading, weeks
     finally:
         sys.path.remove(str(ORACLE))
         for name in OWN:
@@ -21,4 +21,4 @@ def imported():
         sys.modules.update(kept)
 
 
-fields, reader, reading = imported()
+fields, reader, reading, weeks = imported()

@@ -41,6 +41,10 @@ put-three-then xs ys zs p q = put-as (simp append-assoc) (put-then p q)
 pub put-within : {m a b : ℕ} {xs l₀ l₁ : List ℕ} (k : ℕ) → length xs ≤ k → Put m xs a l₀ b l₁ → Put k xs a l₀ b l₁
 put-within k h p = record { stored = p .stored; behind = p .behind; small = h }
 
+-- the buffer stays as long
+pub put-long : {m a b : ℕ} {xs l₀ l₁ : List ℕ} → Put m xs a l₀ b l₁ → length l₁ ≡ length l₀
+put-long {a = a} {xs = xs} {l₀ = l₀} p = ap length (p .stored) ∙ length-sets l₀ a xs
+
 module _ {A : Type 0} (f : A → List ℕ) (xs : List A) (i : ℕ) (d : A) (h : i < length xs) where
   pieces-more : concatMap f (take (suc i) xs) ≡ concatMap f (take i xs) ++ f (getD xs i d)
   pieces-more = rw (take-suc xs i d h) (concatMap-append f (take i xs) (getD xs i d ∷ []) ∙ ap (λ (r : List ℕ). concatMap f (take i xs) ++ r) (append-nil (f (getD xs i d))))

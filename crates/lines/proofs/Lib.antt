@@ -1,4 +1,5 @@
 pub mod DecimalLaws
 pub mod BufferLaws
+pub mod RideLaws
 pub mod LineLaws
 pub mod MarkedLaws

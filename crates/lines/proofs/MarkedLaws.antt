@@ -1,11 +1,11 @@
 -- The first starred instance.
 use mathlib.Core.Path.{refl}
-use Rattle.lines.specs.Decimal.{decimalBy, decimal}
-use Rattle.lines.specs.Lines.{spaced, journeyLine, horizonLine, loadLines, linesOf}
+use Rattle.lines.specs.Decimal.{decimalBy, decimal, spaced}
+use Rattle.lines.specs.Lines.{journeyText, journeyLine, horizonLine, loadLines, linesOf}
 use Rattle.lines.specs.Marked.{FirstJourney, FirstHorizon, FirstLines}
 
 pub first-journey : FirstJourney
-unfolding decimalBy decimal spaced journeyLine
+unfolding decimalBy decimal spaced journeyText journeyLine
 first-journey j f = rw (f .leave, f .arrival, f .rides, f .walk, f .origin, f .target) refl
 
 pub first-horizon : FirstHorizon

@@ -1,7 +1,7 @@
 -- A number as its decimal digits, in ASCII, and what makes them the right ones.
 use Prim.Native.Nat.{ℕ, zero, suc, _+_, _*_, _-_, _/_, _%_, _≤_, _<_}
 use mathlib.Core.Path.{_≡_}
-use mathlib.Core.Bool.{cond}
+use mathlib.Core.Bool.{Bool, cond}
 use mathlib.Core.List.{List, [], _∷_, _++_}
 use lib.Dec.{ltb}
 use lib.ListN.{getD}
@@ -16,6 +16,14 @@ decimalBy (suc k) n = cond (ltb n 10) ((48 + n) ∷ []) (decimalBy k (n / 10) ++
 -- of a number below 65536
 unfoldable pub decimal : ℕ → List ℕ
 decimal n = decimalBy 5 n
+
+-- a space and a number
+unfoldable pub spaced : ℕ → List ℕ
+spaced n = 32 ∷ decimal n
+
+-- 1 or 0
+abbrev pub bit : Bool → ℕ
+bit b = cond b 1 0
 
 -- the number that a text of digits stands for
 abbrev pub valueOf : List ℕ → ℕ

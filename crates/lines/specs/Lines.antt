@@ -8,16 +8,15 @@ use Rattle.refusal.specs.Causes.{numberOf}
 use Rattle.profile.specs.declared.Journey.{Journey}
 use Rattle.load.specs.declared.Load.{Load}
 use Rattle.best.specs.Best.{keptOf}
-use Rattle.lines.specs.Decimal.{decimal}
-
--- a space and a number
-unfoldable pub spaced : ℕ → List ℕ
-spaced n = 32 ∷ decimal n
+use Rattle.lines.specs.Decimal.{spaced}
 
 -- "journey": leave, arrival, rides, walk in minutes, origin, target
+unfoldable pub journeyText : Journey → List ℕ
+journeyText j =
+    106 ∷ 111 ∷ 117 ∷ 114 ∷ 110 ∷ 101 ∷ 121 ∷ (spaced (j .leave) ++ (spaced (j .arrival) ++ (spaced (j .rides) ++ (spaced (j .walk) ++ (spaced (j .origin) ++ spaced (j .target))))))
+
 unfoldable pub journeyLine : Journey → List ℕ
-journeyLine j =
-    106 ∷ 111 ∷ 117 ∷ 114 ∷ 110 ∷ 101 ∷ 121 ∷ (spaced (j .leave) ++ (spaced (j .arrival) ++ (spaced (j .rides) ++ (spaced (j .walk) ++ (spaced (j .origin) ++ (spaced (j .target) ++ (10 ∷ [])))))))
+journeyLine j = journeyText j ++ (10 ∷ [])
 
 -- "horizon", and "limits"
 unfoldable pub horizonLine : ℕ → ℕ → List ℕ

@@ -1,36 +1,25 @@
-// Reads a load file from standard input and prints its journeys in list order, then horizon and limits; or the refusal.
-// The file is read in parts, as long as the buffer: what a part leaves of a record that is not whole yet is put before the next.
-mod part;
-
-use libc::STDOUT_FILENO;
+// Reads a load file from standard input and prints its journeys in list order, then horizon and limits; or the refusal. A read or a write
+// that fails is told on standard error; after a failed read nothing is printed.
 use load::Load;
-use part::Reading;
+use parts::print;
+use parts::read_input;
+use parts::tell_unread;
 use refusal::Answer;
 
-fn print(answer: Answer, load: Load) {
+fn print_lines(answer: Answer, load: Load) {
     let mut out = io::buffer();
     let n = lines::lines(&mut out, answer, load);
-    io::write_all(STDOUT_FILENO, &out[..n]);
-}
-
-fn print_end(r: Reading) {
-    let reader = r.reader;
-    let load = reader.load;
-    let answer = r.answer;
-    print(answer, load);
+    print(&out[..n]);
 }
 
 fn main() {
-    let mut buf = [0u8; 131072];
-    let mut reading = part::first(&mut buf);
-    let mut turns: u64 = 18446744073709551615;
-    while turns > 0 {
-        if reading.over {
-            print_end(reading);
-            return;
-        }
-        let next = part::turn(&mut buf, reading);
-        reading = next;
-        turns -= 1;
+    let end = read_input();
+    if end.failed {
+        tell_unread();
+        return;
     }
+    let reader = end.reader;
+    let load = reader.load;
+    let answer = end.answer;
+    print_lines(answer, load);
 }

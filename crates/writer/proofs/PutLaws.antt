@@ -30,12 +30,9 @@ use Rattle.writer.specs.declared.Wrote.{Wrote}
 use Rattle.writer.specs.File.{settingsFile, stopFile, ruleFile, callFile, searchFile, writeSpec}
 use Rattle.writer.specs.Wrote.{unwritable, writeTests, wroteSpec, bufferAfter}
 use Rattle.writer.specs.Parts.{settingsWalks, starts, settingsRest, stopTexts, stopRest, callKey, callTimes}
-
 -- ---- puts
 
--- a put leaves the buffer as long as it was
-pub put-long : {m a b : ℕ} {xs l₀ l₁ : List ℕ} → Put m xs a l₀ b l₁ → length l₁ ≡ length l₀
-put-long {a = a} {xs = xs} {l₀ = l₀} p = ap length (p .stored) ∙ length-sets l₀ a xs
+pub use Rattle.lines.proofs.BufferLaws.{put-long}
 
 -- two numbers take as much of a list, if they are one, or both its length or more
 pub take-same : {A : Type 0} (ks : List A) (count i : ℕ) → (i ≡ count) ⊎ ((length ks ≤ count) × (length ks ≤ i)) → take i ks ≡ take count ks

@@ -33,8 +33,11 @@ digit-requires t c κs = search needs
 put-byte-requires : (t : ℕ) → lts.Need-put-byte-requires (claims t) (given t) put-decimal.Post
 put-byte-requires t c κs = search needs
 
+same-length : (t : ℕ) → lts.Need-same-length (claims t) (given t) put-decimal.Post
+same-length t c = search needs
+
 returns : (t : ℕ) → lts.Need-returns (claims t) (given t) put-decimal.Post
-returns t c = one-put (c .before .before .before .before .args .n) (omega arith) (c .before .digit .ensures) (c .put-byte .ensures)
+returns t c = one-put (c .before .before .before .before .before .before .before .args .n) (omega arith) (c .before .before .before .digit .ensures) (c .before .before .put-byte .ensures)
 
 put-decimal-requires : (t : ℕ) → lts.Need-put-decimal-requires (claims t) (given t) put-decimal.Post
 put-decimal-requires t c κs = search needs
@@ -44,13 +47,16 @@ digit-requires-2 t c κs = search needs
 
 put-byte-requires-2 : (t : ℕ) → lts.Need-put-byte-requires-2 (claims t) (given t) put-decimal.Post
 put-byte-requires-2 t c κs =
-    let s = c .before .before .before .before .before in
-    omega (arith, c .before .before .put-decimal .ensures .behind, shorter (s .args .n) (omega arith) (omega arith), s .pre .1)
+    let s = c .before .before .before .before .before .before .before .before in
+    omega (arith, c .before .before .before .before .put-decimal .ensures .behind, shorter (s .args .n) (omega arith) (omega arith), s .pre .1)
+
+same-length-2 : (t : ℕ) → lts.Need-same-length-2 (claims t) (given t) put-decimal.Post
+same-length-2 t c = search needs
 
 returns-2 : (t : ℕ) → lts.Need-returns-2 (claims t) (given t) put-decimal.Post
 returns-2 t c =
-    let s = c .before .before .before .before .before .before in
-    more-put (s .args .n) (omega arith) (omega arith) (c .before .digit2 .ensures) (c .before .before .before .put-decimal .ensures) (c .put-byte2 .ensures)
+    let s = c .before .before .before .before .before .before .before .before .before .before .before in
+    more-put (s .args .n) (omega arith) (omega arith) (c .before .before .before .digit2 .ensures) (c .before .before .before .before .before .before .before .put-decimal .ensures) (c .before .before .put-byte2 .ensures)
 
 pub +put-decimal-spec : {M : Type 1} → statement M
 +put-decimal-spec = close μ-put-decimal λ t. lts.spec (claims t)
@@ -58,8 +64,10 @@ pub +put-decimal-spec : {M : Type 1} → statement M
     put-decimal.Post
     (digit-requires t)
     (put-byte-requires t)
+    (same-length t)
     (returns t)
     (put-decimal-requires t)
     (digit-requires-2 t)
     (put-byte-requires-2 t)
+    (same-length-2 t)
     (returns-2 t)

@@ -20,14 +20,18 @@ put-spaced-requires-2 c κs = search needs
 put-byte-requires : tie.Need-put-byte-requires
 put-byte-requires c κs = search needs
 
+same-length : tie.Need-same-length
+same-length c = search needs
+
 returns : tie.Need-returns
 unfolding horizonLine
 returns c =
-    let d = c .before .before in
-    let b = d .before .before in
-    let a = b .before .before .before .before in
-    let w = a .before .before in
-    put-then (w .put-word .ensures) (put-then (a .put-spaced .ensures) (put-then (b .put-word2 .ensures) (put-then (d .put-spaced2 .ensures) (c .put-byte .ensures))))
+    let y = c .before .before in
+    let d = y .before .before .before .before in
+    let b = d .before .before .before .before in
+    let a = b .before .before .before .before .before .before in
+    let w = a .before .before .before .before in
+    put-then (w .put-word .ensures) (put-then (a .put-spaced .ensures) (put-then (b .put-word2 .ensures) (put-then (d .put-spaced2 .ensures) (y .put-byte .ensures))))
 
 pub horizon-line-spec : {M : Type 1} → statement M
 horizon-line-spec =
@@ -38,4 +42,5 @@ horizon-line-spec =
     put-word-requires-2
     put-spaced-requires-2
     put-byte-requires
+    same-length
     returns)

@@ -7,7 +7,7 @@ use lib.ListN.{length, take}
 use lib.Seq.{take-all}
 use Rattle.laws.specs.Lists.{concatMap}
 use Rattle.lines.specs.Buffer.{Put}
-use Rattle.lines.proofs.BufferLaws.{put-none, put-turn, put-as, put-within, each-byte}
+use Rattle.lines.proofs.BufferLaws.{put-none, put-turn, put-as, put-within, put-long, each-byte}
 use borrow.Author.Needs.{needs}
 use Rattle.lines.proofs.text.put_word.Statement.{statement}
 use Rattle.lines.proofs.text.put_word.Tie as tie
@@ -35,13 +35,16 @@ loop-less c = search needs
 
 loop-again : tie.Need-loop-again Inv-loop μ-loop
 loop-again c =
-    let L = c .before .before .before .loop in
-    (omega arith, L .inv .1, put-turn (λ (x : ℕ). x ∷ []) _ (L .i) 0 (omega arith) (L .inv .2) (c .put-byte .ensures))
+    let L = c .before .before .before .before .before .loop in
+    (omega arith, L .inv .1, put-turn (λ (x : ℕ). x ∷ []) _ (L .i) 0 (omega arith) (L .inv .2) (c .before .before .put-byte .ensures))
+
+same-length : tie.Need-same-length Inv-loop μ-loop
+same-length c = put-long (c .before .loop .inv .2)
 
 returns : tie.Need-returns Inv-loop μ-loop
 returns c =
     let L = c .before .loop in
-    let w = c .before .before .args .t3 in
+    let w = c .before .before .before .args .t3 in
     put-within 7 (omega arith) (put-as (each-byte (take (L .i) w) ∙ take-all (L .i) w (omega arith)) (L .inv .2))
 
 pub put-word-spec : {M : Type 1} → statement M
@@ -56,4 +59,5 @@ put-word-spec =
     add-i
     loop-less
     loop-again
+    same-length
     returns)

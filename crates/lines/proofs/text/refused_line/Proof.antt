@@ -14,13 +14,19 @@ put-spaced-requires c κs = search needs
 put-byte-requires : tie.Need-put-byte-requires
 put-byte-requires c κs = search needs
 
+same-length : tie.Need-same-length
+same-length c = search needs
+
 returns : tie.Need-returns
 unfolding refusedLine
-returns c =
-    let a = c .before .before in
-    let w = a .before .before in
-    put-then (w .put-word .ensures) (put-then (a .put-spaced .ensures) (c .put-byte .ensures))
+returns c = put-then (c .before .before .before .before .before .before .before .before .before .before .put-word .ensures) (put-then (c .before .before .before .before .before .before .put-spaced .ensures) (c .before .before .put-byte .ensures))
 
 pub refused-line-spec : {M : Type 1} → statement M
 refused-line-spec =
-    tie.close (tie.spec put-word-requires put-spaced-requires put-byte-requires returns)
+    tie.close
+    (tie.spec
+    put-word-requires
+    put-spaced-requires
+    put-byte-requires
+    same-length
+    returns)

@@ -1,0 +1,5 @@
+pub mod Tests
+pub mod Find
+pub mod Legs
+pub mod Ends
+pub mod Changes

@@ -1,0 +1,5 @@
+pub mod RecordsLaws
+pub mod PaperLaws
+pub mod PrintedLaws
+pub mod BoundLaws
+pub mod TutorLaws

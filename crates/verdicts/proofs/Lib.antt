@@ -1,0 +1,9 @@
+pub mod FailLaws
+pub mod SaysLaws
+pub mod FoundLaws
+pub mod JoinLaws
+pub mod PartLaws
+pub mod MakesLaws
+pub mod EndLaws
+pub mod InstanceLaws
+pub mod RuleLaws
