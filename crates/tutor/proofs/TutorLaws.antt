@@ -39,7 +39,7 @@ use Rattle.comparison.proofs.KeptLaws.{getD-mem}
 use Rattle.comparison.proofs.SettingLaws.{opens}
 use Rattle.tutor.specs.Paper.{Bytes, Paper}
 use Rattle.tutor.specs.Printed.{RefusedLine, Lines}
-use Rattle.tutor.specs.Tutor.{printed, Listed, NothingListed, Answers, TutorsAnswer, Proved}
+use Rattle.tutor.specs.Tutor.{printed, Listed, NothingListed, Answers, TutorsAnswer}
 use Rattle.tutor.proofs.PaperLaws.{Read, Whole, whole-file}
 use Rattle.tutor.proofs.PrintedLaws.{Small, refused-says, lines-say, lines-load}
 use Rattle.tutor.proofs.BoundLaws.{never-stopped, fall-low, body-bytes, origin-walk, admitted-small}
@@ -141,6 +141,3 @@ pub tutors-answer : TutorsAnswer
 tutors-answer xs p n =
     let k = taken-so (readSpec xs .answer) (readSpec xs .reader .load) (file-number (readSpec xs .answer) (read-listed xs)) n in
     answers-so xs p k (whole-file xs k)
-
-pub proved : Proved
-proved = record { answer = tutors-answer }
