@@ -7,7 +7,6 @@ use native.Mathlib.Omega.{arith}
 use lib.ListN.{getD}
 use lib.Dec.{ltb}
 use borrow.Author.Tests.{ltb-true}
-use Rattle.laws.specs.Lists.{All}
 use Rattle.laws.proofs.Bools.{and-true-left, and-true-right}
 use Rattle.refusal.specs.First.{firstAnswer}
 use Rattle.settings.specs.Settings.{overCounts, near, allNear, settingsTests, walksOf, canonicalOf}
