@@ -1,6 +1,6 @@
 -- The lines that the program writes say the journeys of the load, its horizon and its mark.
 use mathlib.Core.Path.{_≡_, refl, sym, subst}
-use mathlib.Core.Bool.{false, true, true≢false}
+use mathlib.Core.Bool.{false, true≢false}
 use mathlib.Core.List.{List, [], _∷_, _++_, append-assoc}
 use Prim.Native.Nat.{ℕ, _<_}
 use Rattle.laws.specs.Lists.{All, concatMap}
