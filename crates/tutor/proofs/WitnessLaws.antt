@@ -34,8 +34,8 @@ use Rattle.fields.specs.Layout.{optionEnd, optionTextEnd, optionTextAt, setting
 use Rattle.fields.specs.Records.{walksAt, settingsIn, degreesAt, stopIn, secondsAt, callIn}
 use Rattle.file.specs.Record.{freshReader, kindRight, filled, recordTests, stepIn, steppedBy, settled, recordSpec}
 use Rattle.file.specs.File.{versionAnswer, startsWhole, fedBy, fedSpec, endAnswer, readSpec}
-use Rattle.lines.specs.Decimal.{decimalBy, decimal}
-use Rattle.lines.specs.Lines.{spaced, journeyLine, horizonLine, loadLines, linesOf}
+use Rattle.lines.specs.Decimal.{decimalBy, decimal, spaced}
+use Rattle.lines.specs.Lines.{journeyText, journeyLine, horizonLine, loadLines, linesOf}
 use Rattle.lines.specs.Marked.{firstJourney, firstHorizon}
 use Rattle.tutor.specs.Paper.{Bytes}
 use Rattle.tutor.specs.Printed.{RefusedLine, refused-line, HorizonLine, horizon-line, Lines, last}
@@ -44,7 +44,7 @@ use Rattle.tutor.specs.Witness.{firstLoad, Met, Proved}
 use Rattle.tutor.proofs.TutorLaws.{tutors-answer}
 
 first-printed : printed firstLoad ≡ firstJourney ++ firstHorizon
-unfolding firstAnswer overCounts near allNear settingsTests walksOf canonicalOf stationOf idWrong isKnown typeWrong nameNeeded nameWrong stopTests stopAt stopOf heldText known callTests callFit callOn cut fitted timeAfter seenCall seen openAnswer openSpec emptyOf undatedWeek stopSpec plainCall callSpec addSpec lexb clash rides firstRides joinedRides networkOf offers searchOf timetableOf outcomeOf searchSpec onward pass routes u16At u32At u64At signedOf optionEnd optionTextEnd optionTextAt settingsFilled stopFilled callFilled searchFilled walksAt settingsIn degreesAt stopIn secondsAt callIn freshReader kindRight filled recordTests stepIn steppedBy settled recordSpec versionAnswer startsWhole fedBy fedSpec endAnswer readSpec decimalBy decimal spaced journeyLine horizonLine loadLines linesOf
+unfolding firstAnswer overCounts near allNear settingsTests walksOf canonicalOf stationOf idWrong isKnown typeWrong nameNeeded nameWrong stopTests stopAt stopOf heldText known callTests callFit callOn cut fitted timeAfter seenCall seen openAnswer openSpec emptyOf undatedWeek stopSpec plainCall callSpec addSpec lexb clash rides firstRides joinedRides networkOf offers searchOf timetableOf outcomeOf searchSpec onward pass routes u16At u32At u64At signedOf optionEnd optionTextEnd optionTextAt settingsFilled stopFilled callFilled searchFilled walksAt settingsIn degreesAt stopIn secondsAt callIn freshReader kindRight filled recordTests stepIn steppedBy settled recordSpec versionAnswer startsWhole fedBy fedSpec endAnswer readSpec decimalBy decimal spaced journeyText journeyLine horizonLine loadLines linesOf
 first-printed = refl
 
 -- the first letter of a line tells which it is
