@@ -1,14 +1,13 @@
 -- Of a file of bytes: no search is stopped, the horizon falls, and the figures of the journeys admitted have five digits at most.
-use mathlib.Core.Path.{_≡_, refl, sym, ap, _∙_, subst}
+use mathlib.Core.Path.{_≡_, refl, sym, ap, _∙_}
 use mathlib.Core.Logic.{_⊎_, inl, inr}
 use mathlib.Core.Bool.{Bool, true, false}
 use mathlib.Core.Option.{none, Option·none-ne-some}
 use mathlib.Core.List.{List, [], _∷_, _++_}
-use Prim.Native.Nat.{ℕ, zero, suc, _+_, _*_, _-_, _≤_, _<_}
+use Prim.Native.Nat.{ℕ, zero, suc, _+_, _-_, _≤_, _<_}
 use native.Mathlib.Omega.{arith}
 use lib.ListN.{getD}
 use lib.IntN.{ℤ, pos, negsuc}
-use Rattle.laws.specs.Lists.{All}
 use Rattle.refusal.specs.declared.Answer.{Answer}
 use Rattle.settings.specs.declared.Settings.{Settings}
 use Rattle.calls.specs.declared.Call.{Call}
@@ -19,11 +18,11 @@ use Rattle.fields.specs.Second.{secondSettingsIn, settingsBy}
 use Rattle.steps.specs.Steps.{Step, filling, withdraw, search, limited}
 use Rattle.comparison.specs.Taken.{State}
 use Rattle.comparison.specs.Window.{time, Held}
-use Rattle.comparison.specs.Kept.{Holds, Stands}
+use Rattle.comparison.specs.Kept.{Holds}
 use Rattle.comparison.specs.Falls as falling
 use Rattle.comparison.specs.Admitted.{Feed, Leg, Between, Admits}
 use Rattle.comparison.specs.Runs as runs
-use Rattle.tutor.specs.Paper.{Bytes, Records, no-more, one-more, Says, a-stop, a-call, a-rule, a-search, EachSays, no-step, a-step}
+use Rattle.tutor.specs.Paper.{Bytes, Records, one-more, Says, a-stop, a-call, a-rule, a-search, EachSays, no-step, a-step}
 use Rattle.tutor.proofs.PrintedLaws.{Small}
 
 -- ---- no search that was stopped

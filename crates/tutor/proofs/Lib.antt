@@ -3,3 +3,4 @@ pub mod PaperLaws
 pub mod PrintedLaws
 pub mod BoundLaws
 pub mod TutorLaws
+pub mod WitnessLaws

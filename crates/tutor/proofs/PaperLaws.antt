@@ -2,11 +2,11 @@
 use mathlib.Core.Path.{_≡_, refl, sym, ap, _∙_, subst}
 use mathlib.Core.Bool.{Bool, true, false, not, cond, _||_, true≢false, false≢true}
 use mathlib.Core.List.{List, [], _∷_}
-use Prim.Native.Nat.{ℕ, zero, suc, _≤_}
+use Prim.Native.Nat.{ℕ}
 use native.Mathlib.Omega.{arith}
 use borrow.Author.Tests.{eqb-true}
 use lib.Dec.{eqb}
-use lib.ListN.{length, drop, length-drop}
+use lib.ListN.{length, drop}
 use lib.Seq.{drop-drop}
 use Rattle.laws.specs.Lists.{All}
 use Rattle.refusal.specs.declared.Refusal.the-variants.{SettingsRange, ClockRange, FileVersion, RecordLength, RecordKind}
@@ -18,15 +18,15 @@ use Rattle.fields.specs.Numbers.{byteAt}
 use Rattle.fields.specs.Second.{settingsBy, settingsFilledBy}
 use Rattle.load.specs.Steps.{undated, openAnswer, opened, openSpec}
 use Rattle.load.specs.Sound.{Opens}
-use Rattle.steps.specs.Steps.{Step, stepped}
+use Rattle.steps.specs.Steps.{Step}
 use Rattle.steps.specs.Lists.{handed, endOf}
 use Rattle.file.specs.declared.Reader.{Reader}
 use Rattle.file.specs.declared.Took.{Took}
 use Rattle.file.specs.declared.Fed.{Fed}
-use Rattle.file.specs.Record.{freshReader, openReader, kindRight, filled, stepIn, steppedBy, recordSpec}
-use Rattle.file.specs.File.{startsWhole, sizeOf, bodyOf, versionAnswer, isSecond, fedSpec, endAnswer, endedBy, readSpec}
+use Rattle.file.specs.Record.{freshReader, openReader, kindRight, filled, steppedBy, recordSpec}
+use Rattle.file.specs.File.{startsWhole, sizeOf, bodyOf, versionAnswer, fedSpec, endAnswer, endedBy, readSpec}
 use Rattle.file.proofs.RecordLaws.{taken-settled}
-use Rattle.file.proofs.FedLaws.{none-whole, whole-room, fed-stops, fed-refuses, fed-goes-on}
+use Rattle.file.proofs.FedLaws.{fed-stops, fed-refuses, fed-goes-on}
 use Rattle.comparison.specs.Demands.{answersFrom}
 use Rattle.tutor.specs.Paper.{Records, SettingsSaid, EachSays, Version, one, two}
 use Rattle.tutor.specs.Tutor.{NotRefused}

@@ -1,8 +1,8 @@
 -- Whole records at the start of bytes, none of which is refused: the records that stand there, and the step that each says.
 use mathlib.Core.Path.{_≡_, refl, sym, ap, _∙_, subst}
 use mathlib.Core.Logic.{_⊎_, inl, inr}
-use mathlib.Core.Bool.{Bool, true, false, not, cond, _&&_, true≢false}
-use mathlib.Core.List.{List, [], _∷_, _++_}
+use mathlib.Core.Bool.{Bool, true, false, true≢false}
+use mathlib.Core.List.{List, [], _∷_}
 use Prim.Native.Nat.{ℕ, zero, suc, _+_, _*_, _≤_}
 use native.Mathlib.Omega.{arith}
 use lib.Dec.{leb}
@@ -19,12 +19,11 @@ use Rattle.fields.specs.Numbers.{byteAt, u16At}
 use Rattle.fields.specs.Layout.{textAt, optionTextAt, nameAt, parentAt, stopFilled, callFilled, ruleFilled, searchFilled}
 use Rattle.fields.specs.Records.{stopIn, callIn, ruleIn}
 use Rattle.load.specs.Filling.{stop, call, rule}
-use Rattle.load.specs.declared.Load.{Load}
 use Rattle.steps.specs.Steps.{Step, filling, search, stepped}
 use Rattle.steps.specs.Lists.{handed}
 use Rattle.file.specs.declared.Reader.{Reader}
 use Rattle.file.specs.declared.Fed.{Fed}
-use Rattle.file.specs.Record.{openReader, kindRight, filled, recordTests, stepIn, steppedBy, recordSpec, causesBy}
+use Rattle.file.specs.Record.{openReader, kindRight, filled, recordTests, stepIn, steppedBy, recordSpec}
 use Rattle.file.specs.File.{startsWhole, sizeOf, bodyOf, fedSpec}
 use Rattle.file.proofs.RecordLaws.{record-answered, taken-settled}
 use Rattle.file.proofs.FedLaws.{none-whole, whole-room, fed-stops, fed-refuses, fed-goes-on}

@@ -3,12 +3,12 @@ use mathlib.Core.Path.{_≡_, refl, sym, ap, _∙_, subst}
 use mathlib.Core.Logic.{_⊎_, inl, inr}
 use mathlib.Core.Bool.{Bool, true, false, cond}
 use mathlib.Core.Option.{none}
-use mathlib.Core.List.{List, [], _∷_, List·Memᴰ, _++_}
+use mathlib.Core.List.{List, [], List·Memᴰ, _++_}
 use Prim.Native.Nat.{ℕ, _≤_, _<_}
 use native.Mathlib.Omega.{arith}
 use lib.Dec.{eqb}
 use lib.ListN.{getD}
-use Rattle.laws.specs.Lists.{All, concatMap, oneOf}
+use Rattle.laws.specs.Lists.{concatMap, oneOf}
 use Rattle.laws.proofs.Every.{mem-all, one-of}
 use Rattle.refusal.specs.declared.Answer.{Answer}
 use Rattle.refusal.specs.declared.Answer.the-variants.{Taken, Outside, Refused}
@@ -18,7 +18,7 @@ use Rattle.profile.specs.declared.Journey.{Journey}
 use Rattle.profile.specs.Journeys.{noJourney}
 use Rattle.fields.specs.Second.{settingsBy}
 use Rattle.load.specs.declared.Load.{Load}
-use Rattle.load.specs.Steps.{Opening, undated, opened}
+use Rattle.load.specs.Steps.{undated, opened}
 use Rattle.load.specs.Sound.{Opens}
 use Rattle.best.specs.Best.{keptOf}
 use Rattle.steps.specs.Steps.{Step}
@@ -28,19 +28,19 @@ use Rattle.steps.proofs.HandedLaws.{handed-sound}
 use Rattle.file.specs.File.{readSpec}
 use Rattle.file.specs.Answered.{fileNumbers}
 use Rattle.file.proofs.ListedLaws.{read-listed}
-use Rattle.lines.specs.Lines.{journeyLine, horizonLine, refusedLine, loadLines, linesOf}
+use Rattle.lines.specs.Lines.{journeyLine, horizonLine, loadLines, linesOf}
 use Rattle.comparison.specs.Taken.{State, fresh}
 use Rattle.comparison.specs.Admitted.{Admits}
 use Rattle.comparison.specs.Feeds.{feedOf}
-use Rattle.comparison.specs.Runs.{Runs, Admitted}
-use Rattle.comparison.specs.Demands.{answersFrom, Fills, Lists, Demand2}
+use Rattle.comparison.specs.Runs.{Runs}
+use Rattle.comparison.specs.Demands.{answersFrom, Fills, Lists}
 use Rattle.comparison.proofs.DemandLaws.{ending, run, ends-so, demand-2}
 use Rattle.comparison.proofs.KeptLaws.{getD-mem}
 use Rattle.comparison.proofs.SettingLaws.{opens}
-use Rattle.tutor.specs.Paper.{Bytes, Paper}
+use Rattle.tutor.specs.Paper.{Bytes}
 use Rattle.tutor.specs.Printed.{RefusedLine, Lines}
-use Rattle.tutor.specs.Tutor.{printed, Listed, NothingListed, Answers, TutorsAnswer, Proved}
-use Rattle.tutor.proofs.PaperLaws.{Read, Whole, whole-file}
+use Rattle.tutor.specs.Tutor.{printed, Listed, NothingListed, Answers, TutorsAnswer}
+use Rattle.tutor.proofs.PaperLaws.{Whole, whole-file}
 use Rattle.tutor.proofs.PrintedLaws.{Small, refused-says, lines-say, lines-load}
 use Rattle.tutor.proofs.BoundLaws.{never-stopped, fall-low, body-bytes, origin-walk, admitted-small}
 
@@ -141,6 +141,3 @@ pub tutors-answer : TutorsAnswer
 tutors-answer xs p n =
     let k = taken-so (readSpec xs .answer) (readSpec xs .reader .load) (file-number (readSpec xs .answer) (read-listed xs)) n in
     answers-so xs p k (whole-file xs k)
-
-pub proved : Proved
-proved = record { answer = tutors-answer }

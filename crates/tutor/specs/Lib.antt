@@ -1,3 +1,4 @@
 pub mod Paper
 pub mod Printed
 pub mod Tutor
+pub mod Witness

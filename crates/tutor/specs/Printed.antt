@@ -1,5 +1,4 @@
 -- What stands on the lines that are printed (request 01), read as text: words in ASCII, numbers in decimal.
-use mathlib.Core.Path.{_≡_}
 use mathlib.Core.List.{List, [], _∷_, _++_}
 use Prim.Native.Nat.{ℕ}
 use Rattle.profile.specs.declared.Journey.{Journey}
@@ -25,11 +24,13 @@ pub data Numbers : List ℕ → List ℕ → Type 0 where
 
 -- "journey L A R W O T"
 pub data JourneyLine (j : Journey) : List ℕ → Type 0 where
-  journey-line : {rest : List ℕ} → Numbers (j .leave ∷ j .arrival ∷ j .rides ∷ j .walk ∷ j .origin ∷ j .target ∷ []) rest → JourneyLine j (journeyWord ++ rest)
+  journey-line : {rest : List ℕ} → Numbers (j .leave ∷ j .arrival ∷ j .rides ∷ j .walk ∷ j .origin ∷ j .target ∷ []) rest
+      → JourneyLine j (journeyWord ++ rest)
 
 -- "horizon H limits M"
 pub data HorizonLine (h m : ℕ) : List ℕ → Type 0 where
-  horizon-line : {digits rest : List ℕ} → Spells h digits → Numbers (m ∷ []) rest → HorizonLine h m (horizonWord ++ 32 ∷ (digits ++ (limitsWord ++ rest)))
+  horizon-line : {digits rest : List ℕ} → Spells h digits → Numbers (m ∷ []) rest
+      → HorizonLine h m (horizonWord ++ 32 ∷ (digits ++ (limitsWord ++ rest)))
 
 -- "refused N"
 pub data RefusedLine (n : ℕ) : List ℕ → Type 0 where
@@ -38,4 +39,5 @@ pub data RefusedLine (n : ℕ) : List ℕ → Type 0 where
 -- a line for each of the journeys, in order, then the horizon's
 pub data Lines : List Journey → ℕ → ℕ → List ℕ → Type 0 where
   last : {h m : ℕ} {line : List ℕ} → HorizonLine h m line → Lines [] h m line
-  next : {j : Journey} {js : List Journey} {h m : ℕ} {line rest : List ℕ} → JourneyLine j line → Lines js h m rest → Lines (j ∷ js) h m (line ++ rest)
+  next : {j : Journey} {js : List Journey} {h m : ℕ} {line rest : List ℕ} → JourneyLine j line → Lines js h m rest
+      → Lines (j ∷ js) h m (line ++ rest)

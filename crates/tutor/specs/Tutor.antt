@@ -63,6 +63,3 @@ pub record Answers (xs lines : List ℕ) : Type 0 where
 -- of every byte string that is not refused
 abbrev pub TutorsAnswer : Type 0
 TutorsAnswer = (xs : List ℕ) → Bytes xs → ((n : ℕ) → RefusedLine n (printed xs) → ⊥) → Answers xs (printed xs)
-
-pub record Proved : Type 0 where
-  pub answer : TutorsAnswer
