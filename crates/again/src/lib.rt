@@ -1,5 +1,7 @@
 // Calls added to and withdrawn from any load. On a searched load each goes back to the unsearched load, is done there, and the load
 // is searched again.
+#![tactic(auto)]
+
 ghost use Rattle.std.specs.Prelude.{◌≡◌, ◌&&◌, leb};
 ghost use Rattle.again.specs.Again.{unsearched_of, researched, again, added_to, add_spec_of, taken_out, withdraw_spec};
 

@@ -1,5 +1,7 @@
 // Best and next after: the queries of a searched load. Its list stands in order, so best is the first that leaves in time, and what
 // follows is not read. `best_over` reads a list in any order.
+#![tactic(auto)]
+
 ghost use Rattle.std.specs.Prelude.{◌≡◌, take, leb};
 ghost use Rattle.best.specs.Best.{best_of_of, first_from, first_leaving, after_of, best_spec, next_spec};
 ghost use Rattle.best.specs.Turn.{better_of, turn_of};
@@ -9,7 +11,7 @@ use profile::Journey;
 use profile::figures::preferred;
 
 // What a query answers.
-#[derive(Drop)]
+#[derive(Clone, Copy)]
 pub enum Found {
     Best(Journey),
     Nothing,

@@ -1,5 +1,7 @@
 // The calls of a load: what is handed in, what the window shows of it, and the table that it goes into. The steps on that stand
 // in `table`.
+#![tactic(auto)]
+
 pub mod window;
 
 ghost use Rattle.std.specs.Prelude.{◌≡◌};
@@ -7,13 +9,13 @@ ghost use Rattle.calls.specs.Tables.{blank_call};
 
 use refusal::Answer;
 
-#[derive(Drop)]
+#[derive(Clone, Copy)]
 pub enum Seconds {
     Given(u32),
     Absent,
 }
 
-#[derive(Drop)]
+#[derive(Clone, Copy)]
 pub struct CallInput {
     pub trip: u16,
     pub day: u8,
@@ -25,7 +27,7 @@ pub struct CallInput {
     pub drop_off: u8,
 }
 
-#[derive(Drop)]
+#[derive(Clone, Copy)]
 pub struct Call {
     pub trip: u16,
     pub day: u8,
@@ -40,28 +42,28 @@ pub struct Call {
 }
 
 // A time from the start: before it, or so many seconds after it.
-#[derive(Drop)]
+#[derive(Clone, Copy)]
 pub enum Offset {
     Before,
     At(u64),
 }
 
 // A call as the window shows it.
-#[derive(Drop)]
+#[derive(Clone, Copy)]
 pub enum View {
     In(Call),
     Out,
 }
 
 // What becomes of a call for which nothing is cut: it goes in, or lies outside. `Other`: it is sent back, or the table is full.
-#[derive(Drop)]
+#[derive(Clone, Copy)]
 pub enum Uncut {
     In(Call),
     Outside,
     Other,
 }
 
-#[derive(Drop)]
+#[derive(Clone, Copy)]
 pub struct Table {
     pub calls: [Call; 512],
     pub count: usize,
@@ -69,13 +71,13 @@ pub struct Table {
     pub limits: u8,
 }
 
-#[derive(Drop)]
+#[derive(Clone, Copy)]
 pub struct Packed {
     pub calls: [Call; 512],
     pub held: usize,
 }
 
-#[derive(Drop)]
+#[derive(Clone, Copy)]
 pub struct Fitted {
     pub answer: Answer,
     pub table: Table,

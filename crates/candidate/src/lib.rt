@@ -1,4 +1,6 @@
 // An offer (`candidate`) to the kept list of a search.
+#![tactic(auto)]
+
 ghost use Rattle.std.specs.Prelude.{◌≡◌, [], ◌∷◌, ◌++◌, ◌+◌, ◌*◌, ◌≤◌, ◌<◌, max, length, set, take};
 ghost use Rattle.profile.specs.Journeys.{due, row_of};
 ghost use Rattle.state.specs.Layout.{slots, width, size};

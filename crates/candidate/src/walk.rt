@@ -72,7 +72,7 @@ fn turn(st: &State, at: usize, i: usize, c: usize, o: Row) -> u8
 // Where a walk stops: the place of the first kept row that covers the offer or that it covers, else their number; where the numbers of
 // that row start; whether the offer is passed over. Place and start are both carried, and as u16: so the compiler finds a walk that
 // needs no register that must be saved first.
-#[derive(Drop)]
+#[derive(Clone, Copy)]
 pub struct Found {
     pub at: u16,
     pub start: u16,

@@ -1,4 +1,6 @@
 // The changes from the stops that calls name to each of 128, one row of 128 numbers after the other.
+#![tactic(auto)]
+
 ghost use Rattle.laws.specs.Bounds.{least};
 ghost use Rattle.std.specs.Prelude.{◌≡◌, ℕ, ◌+◌, ◌*◌, ◌<◌, min, length, get_or, set};
 ghost use Rattle.transfer.specs.Copied.{rules_of};

@@ -1,5 +1,7 @@
 // The changes from one stop to each of 128. One pass over the rules finds the best for each `to`; one pass over the stops takes the better
 // of the rules for a stop and for its parent.
+#![tactic(auto)]
+
 ghost use Rattle.laws.specs.Bounds.{least};
 ghost use Rattle.std.specs.Prelude.{◌≡◌, ◌<◌, ◌≤◌, max, length, get_or, set};
 ghost use Rattle.laws.specs.Tables.{table};

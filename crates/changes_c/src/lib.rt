@@ -1,4 +1,6 @@
 // Changes over plain numbers and lent arrays, for programs in C and Rust to call.
+#![tactic(auto)]
+
 ghost use Rattle.std.specs.Prelude.{◌≡◌, take};
 ghost use Rattle.laws.specs.Bounds.{least};
 ghost use Rattle.transfer.specs.Copied.{rules_of};

@@ -1,4 +1,6 @@
 // The demands, as relations over what was handed in, and their proofs. Nothing is computed here.
+#![tactic(auto)]
+
 ghost use Rattle.comparison.specs.Proved.{Proved};
 
 // The demands are met, their premises can be, and the starred instances hold: whoever calls this has all of it.

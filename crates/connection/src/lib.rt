@@ -1,5 +1,7 @@
 // A connection that a person names: its origin and target, and one to three rides, each a trip on a day from one call to another. Here
 // stands why it can't be made: the first of a list of causes, in a fixed order. What is said of one that can is told in `verdict`.
+#![tactic(auto)]
+
 pub mod changes;
 pub mod ends;
 pub mod find;
@@ -9,7 +11,7 @@ pub mod tests;
 use calls::Call;
 
 // A ride as it is named: the sequences of the calls where it boards and alights.
-#[derive(Drop)]
+#[derive(Clone, Copy)]
 pub struct Leg {
     pub trip: u16,
     pub day: u8,
@@ -18,7 +20,7 @@ pub struct Leg {
 }
 
 // The first `rides` of the legs count.
-#[derive(Drop)]
+#[derive(Clone, Copy)]
 pub struct Connection {
     pub origin: u8,
     pub target: u8,
@@ -27,7 +29,7 @@ pub struct Connection {
 }
 
 // Why a connection can't be made. The number that comes first is that of the leg, or of the change, from 0.
-#[derive(Drop)]
+#[derive(Clone, Copy)]
 pub enum Cause {
     // No ride, or more than three: how many.
     RideCount(u8),
@@ -55,28 +57,28 @@ pub enum Cause {
 }
 
 // A cause, or none.
-#[derive(Drop)]
+#[derive(Clone, Copy)]
 pub enum Told {
     Because(Cause),
     Free,
 }
 
 // A call that was looked for; the blank one where there is none.
-#[derive(Drop)]
+#[derive(Clone, Copy)]
 pub struct FoundCall {
     pub there: bool,
     pub call: Call,
 }
 
 // The calls that a leg names.
-#[derive(Drop)]
+#[derive(Clone, Copy)]
 pub struct FoundLeg {
     pub board: FoundCall,
     pub alight: FoundCall,
 }
 
 // Those of three legs.
-#[derive(Drop)]
+#[derive(Clone, Copy)]
 pub struct Way {
     pub first: FoundLeg,
     pub second: FoundLeg,

@@ -1,4 +1,6 @@
 // A display for up to four groups (request 08): dealt at once from their searched loads, then asked for a group's best.
+#![tactic(auto)]
+
 ghost use Rattle.std.specs.Prelude.{◌≡◌, take};
 ghost use Rattle.display.specs.Display.{refused_display, display_of, part_of};
 ghost use Rattle.display.specs.Queries.{best_of_group, next_of_group};
@@ -13,7 +15,7 @@ use shares::shares;
 pub mod part;
 
 // Taken, or why the display is turned away; and the part of each group, by its number.
-#[derive(Drop)]
+#[derive(Clone, Copy)]
 pub struct Display {
     pub answer: Answer,
     pub parts: [Part; 4],

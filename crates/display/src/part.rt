@@ -9,7 +9,7 @@ use refusal::{Answer, Refusal};
 
 // `shows` where the group has a display: then the first `count` of its list are shown, those due by the window. Otherwise both are
 // 0, and the answer is 11 where the window would fall below 3600.
-#[derive(Drop)]
+#[derive(Clone, Copy)]
 pub struct Part {
     pub shows: bool,
     pub answer: Answer,

@@ -1,4 +1,6 @@
 // A display of four full lists, by their arrivals, for programs in C and Rust to time.
+#![tactic(auto)]
+
 ghost use Rattle.std.specs.Prelude.{◌≡◌};
 ghost use Rattle.display_c.specs.Full.{due_at, list_due, full_group, last_window};
 

@@ -14,7 +14,7 @@ use refusal::Answer;
 use stdio::out;
 
 // The groups set aside for the next display, and the last display with its groups.
-#[derive(Drop)]
+#[derive(Clone, Copy)]
 pub struct Board {
     pub aside: [Group; 4],
     pub held: usize,
@@ -24,7 +24,7 @@ pub struct Board {
 }
 
 // After a record: where the text goes on, and the board; `going` unless the record is malformed.
-#[derive(Drop)]
+#[derive(Clone, Copy)]
 pub struct Boarded {
     pub going: bool,
     pub to: usize,
@@ -197,7 +197,7 @@ fn asked(out: &mut [u8; 65536], at: usize, board: Board, b: &[u8]) -> Boarded
 }
 
 // How a record is run.
-#[derive(Drop)]
+#[derive(Clone, Copy)]
 enum Way {
     Aside,
     Display,

@@ -17,7 +17,7 @@ use stdio::load_lines::figures;
 use stdio::out;
 
 // After a record: where the text goes on, and the load; `going` unless the record is malformed.
-#[derive(Drop)]
+#[derive(Clone, Copy)]
 pub struct Turned {
     pub going: bool,
     pub to: usize,
@@ -216,7 +216,7 @@ fn asked(out: &mut [u8; 65536], at: usize, reader: Reader, b: &[u8]) -> Turned
 }
 
 // How a record is run.
-#[derive(Drop)]
+#[derive(Clone, Copy)]
 enum Way {
     Opening,
     Dated,

@@ -49,7 +49,7 @@ fn record_end(bytes: &[u8], at: usize) -> usize
 }
 
 // After a record: where the text goes on, the load, and what is set aside and shown; `going` unless the record is malformed.
-#[derive(Drop)]
+#[derive(Clone, Copy)]
 struct Run {
     going: bool,
     to: usize,

@@ -1,9 +1,11 @@
 // The lent arrays of a search, feed and changes: what is read of them about a stop or a pair of stops, and the tests and sums on what is read.
+#![tactic(auto)]
+
 ghost use Rattle.std.specs.Prelude.{◌≡◌, ◌*◌, min, leb};
 ghost use Rattle.feed.specs.Feed.{member_at, origin_mask, target_mask, change_at, same_run, leave_of, arrival_of, joined};
 
 // A call, as the loops read it.
-#[derive(Drop)]
+#[derive(Clone, Copy)]
 pub struct FeedCall {
     pub trip: u16,
     pub day: u16,
@@ -15,7 +17,7 @@ pub struct FeedCall {
 }
 
 // A first ride: the figures, the origin and the places of its calls that its rows have, and what a join asks of it.
-#[derive(Drop)]
+#[derive(Clone, Copy)]
 pub struct FirstRide {
     pub leave: u16,
     pub walk: u16,

@@ -1,4 +1,6 @@
 // The feed of a search: its calls, the members of its stops and its walks as numbers in one array.
+#![tactic(auto)]
+
 ghost use Rattle.std.specs.Prelude.{◌≡◌, ℕ, ◌+◌, ◌*◌, ◌%◌, ◌^◌, ◌<◌, ◌≤◌, min, length, get_or};
 ghost use Rattle.calls.specs.Tables.{blank_call};
 ghost use Rattle.stops.specs.Sound.{stop_at};

@@ -1,4 +1,6 @@
 // The groups of a display (request 08): what is read of each one's load, the group of a number, and why a display is turned away.
+#![tactic(auto)]
+
 ghost use Rattle.std.specs.Prelude.{◌≡◌, ◌||◌, ◌≤◌, take, drop, eqb};
 ghost use Rattle.laws.specs.Lists.{anyb};
 ghost use Rattle.groups.specs.Groups.{no_group, no_slot, group_of, has_number, group_at, start_or, lowest_start};
@@ -8,7 +10,7 @@ use load::Load;
 use profile::{Journey, no_journey};
 
 // What a display reads of a load, which is given for the group of a number.
-#[derive(Drop)]
+#[derive(Clone, Copy)]
 pub struct Group {
     pub number: u8,
     pub searched: bool,
@@ -19,7 +21,7 @@ pub struct Group {
 }
 
 // The group of a number; the blank group, where none is given.
-#[derive(Drop)]
+#[derive(Clone, Copy)]
 pub struct Slot {
     pub given: bool,
     pub group: Group,

@@ -1,5 +1,7 @@
 // Reads a load file from standard input and prints each kept journey with its rides, horizon and limits, and whether it was searched; or
 // the refusal. A read or a write that fails is told on standard error; after a failed read nothing is printed.
+#![tactic(auto)]
+
 use load::Load;
 use parts::{print, read_input, tell_unread};
 use refusal::Answer;

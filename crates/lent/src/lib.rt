@@ -1,4 +1,6 @@
 // Best over journeys that the caller lends.
+#![tactic(auto)]
+
 ghost use Rattle.std.specs.Prelude.{◌≡◌, ◌≤◌, take};
 ghost use Rattle.best.specs.Best.{best_of_of};
 

@@ -1,5 +1,7 @@
 // Best over journeys given as plain numbers, for programs in C and Rust to call. Each figure has a column of 64 numbers; a journey's
 // number is its place in the columns.
+#![tactic(auto)]
+
 ghost use Rattle.std.specs.Prelude.{◌≡◌};
 ghost use Rattle.lent_c.specs.Plain.{journey_with, journeys_of, answer_of, best_numbers, first_numbers};
 

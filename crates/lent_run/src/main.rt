@@ -1,5 +1,7 @@
 // Asks best by value (`best_over`) and over lent journeys (`best_lent`), side by side, a line for each question: which journey of the
 // list each takes, with its leave, arrival, rides and walk. The file `stdout` says what each must give.
+#![tactic(auto)]
+
 mod lists;
 mod rows;
 

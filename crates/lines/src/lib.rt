@@ -1,4 +1,6 @@
 // The lines that are printed of a load, as bytes in a lent buffer: request 01's, or each journey with its rides.
+#![tactic(auto)]
+
 ghost use Rattle.std.specs.Prelude.{◌≡◌, ◌+◌, ◌≤◌, length, take};
 ghost use Rattle.lines.specs.Buffer.{Put, Counts};
 ghost use Rattle.lines.specs.Lines.{lines_of};

@@ -1,4 +1,6 @@
 // What a list of journeys says of one that can be made: whether it is listed, and which listed journey is as good or beats it.
+#![tactic(auto)]
+
 pub mod same;
 
 ghost use Rattle.std.specs.Prelude.{◌≡◌, take};
@@ -12,7 +14,7 @@ use profile::{Journey, Ride, Row};
 use same::{same_figures, same_journey};
 
 // What is said of a connection. A journey of the list is named by its place, from 0.
-#[derive(Drop)]
+#[derive(Clone, Copy)]
 pub enum Verdict {
     // Nothing: there is no list, as no search of the load is finished.
     NotFinished,

@@ -1,4 +1,6 @@
 // The load: settings, stops, calls, rules and journeys, passed by value. It is opened, filled, searched once, then queried.
+#![tactic(auto)]
+
 mod calling;
 
 ghost use Rattle.std.specs.Prelude.{◌≡◌};
@@ -19,7 +21,7 @@ use week::{Week, dated, undated};
 // A slot past its count holds the blank record. `table_horizon` and `table_limits` are the call table's; `horizon` and
 // `limits` are what a query sees, and differ from them only after the search. A load whose search was stopped holds its limit on joins; any
 // other holds 0.
-#[derive(Drop)]
+#[derive(Clone, Copy)]
 pub struct Load {
     pub settings: Settings,
     pub stops: [Stop; 128],
@@ -41,7 +43,7 @@ pub struct Load {
 }
 
 // What a step answers, and the load that it returns: the load given, where the step is sent back.
-#[derive(Drop)]
+#[derive(Clone, Copy)]
 pub struct Stepped {
     pub answer: Answer,
     pub load: Load,

@@ -1,4 +1,6 @@
 // A whole load file over lent bytes, for programs in C and Rust to call.
+#![tactic(auto)]
+
 pub mod altered;
 
 ghost use Rattle.std.specs.Prelude.{◌≡◌, pos, take};

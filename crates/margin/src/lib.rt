@@ -1,4 +1,6 @@
 // The margin of a stopped load's answer for second 0: the finished answer is at most that much earlier.
+#![tactic(auto)]
+
 ghost use Rattle.std.specs.Prelude.{◌≡◌, ◌-◌};
 ghost use Rattle.margin.specs.Stopped.{margin_spec};
 
@@ -6,7 +8,7 @@ use best::{Found, best};
 use load::Load;
 use search::earliest::earliest_arrival;
 
-#[derive(Drop)]
+#[derive(Clone, Copy)]
 pub enum Margin {
     Is(u16),
     Nothing,

@@ -1,6 +1,8 @@
 // Reads pairs of parts from standard input, each part after its length as a big-endian u32: a load file, and connections of 36 bytes each
 // (crate `mark`, connections.rt). Prints the list of the load as `show` does, then a line for each connection (text.rt), then a line `.`.
 // Of a file that is refused, its refusal alone. A part that is longer than the buffer, or is not there whole, ends the run.
+#![tactic(auto)]
+
 mod connections;
 mod numbers;
 mod text;

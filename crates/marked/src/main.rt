@@ -1,4 +1,6 @@
 // Runs the scope's marked instances and published hash vectors, and writes a line for each; the file `stdout` says what each must give.
+#![tactic(auto)]
+
 mod changes;
 mod places;
 mod show;

@@ -1,5 +1,7 @@
 // A load file read from standard input in parts, as long as the buffer: what a part leaves of a record that is not whole yet is put before
 // the next.
+#![tactic(auto)]
+
 ghost use Rattle.std.specs.Prelude.{◌≡◌, ◌≤◌, length};
 
 use file::{Reader, Took};
@@ -8,14 +10,14 @@ use reader::{ended, fed, fresh, is_second, version};
 use refusal::{Answer, is_refused};
 
 // How many bytes the buffer holds, and whether a read failed.
-#[derive(Drop)]
+#[derive(Clone, Copy)]
 struct Filled {
     held: usize,
     failed: bool,
 }
 
 // The bytes from `at` up to `held` are not read yet. It is over once the file has ended, a record was refused or a read failed.
-#[derive(Drop)]
+#[derive(Clone, Copy)]
 struct Part {
     over: bool,
     at: usize,
@@ -26,7 +28,7 @@ struct Part {
 }
 
 // A file read to its end: what the last record was answered, and the reader then. Neither counts if a read failed.
-#[derive(Drop)]
+#[derive(Clone, Copy)]
 pub struct Ended {
     pub failed: bool,
     pub answer: Answer,

@@ -1,4 +1,6 @@
 // Places: the position of a stop, its place key, and whether two keys are one place.
+#![tactic(auto)]
+
 ghost use Rattle.std.specs.Prelude.{◌≡◌, ◌&&◌, pos, ◌+ℤ◌, ◌-ℤ◌, unsigned_abs};
 ghost use Rattle.std.specs.Float.Ieee.{neg, le, to_signed};
 ghost use Rattle.place.specs.Positions.{position_of, usable_degrees, is_usable, micro, micro_of};
@@ -8,21 +10,21 @@ ghost use Rattle.place.specs.Near.{close_by, turn, same_keys};
 use key::NameKey;
 
 // The two floats of a stop's record.
-#[derive(Drop)]
+#[derive(Clone, Copy)]
 pub struct Degrees {
     pub latitude: f64,
     pub longitude: f64,
 }
 
 // A position in degrees, latitude first.
-#[derive(Drop)]
+#[derive(Clone, Copy)]
 pub enum Position {
     Given(f64, f64),
     Absent,
 }
 
 // The same in whole microdegrees.
-#[derive(Drop)]
+#[derive(Clone, Copy)]
 pub enum Micro {
     At(i32, i32),
     Nowhere,
@@ -30,7 +32,7 @@ pub enum Micro {
 
 // The key of a stop's place. The tag says what the hash is of: 80, P, the parent's id; 78, N, the name
 // at a position; 73, I, the stop's own id. 0 is no place.
-#[derive(Drop)]
+#[derive(Clone, Copy)]
 pub struct PlaceKey {
     pub tag: u8,
     pub hash: u64,

@@ -1,4 +1,6 @@
 // The place test and the microdegrees over plain numbers, for programs in C and Rust to call.
+#![tactic(auto)]
+
 ghost use Rattle.std.specs.Prelude.{◌≡◌};
 ghost use Rattle.place.specs.Near.{same_keys};
 ghost use Rattle.place.specs.Positions.{is_usable, micro_of};

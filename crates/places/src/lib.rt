@@ -1,4 +1,6 @@
 // The places of stops: each stop of type 0, in the byte order of ids, goes with the smallest-id representative that is one place with it, else as its own.
+#![tactic(auto)]
+
 mod entries;
 pub mod group;
 mod sorted;
@@ -6,7 +8,7 @@ mod sorted;
 use place::PlaceKey;
 
 // What the grouping reads of a stop: its id, its number and its place key.
-#[derive(Drop)]
+#[derive(Clone, Copy)]
 pub struct Entry {
     pub id: [u8; 32],
     pub id_len: u8,
@@ -15,7 +17,7 @@ pub struct Entry {
 }
 
 // A representative.
-#[derive(Drop)]
+#[derive(Clone, Copy)]
 pub enum Found {
     At(u16),
     Nothing,

@@ -1,11 +1,13 @@
 // What a search keeps: the records of a journey, its four figures, and the theory of the kept list.
+#![tactic(auto)]
+
 ghost use Rattle.std.specs.Prelude.{◌≡◌};
 ghost use Rattle.profile.specs.Journeys.{no_ride, no_journey, no_row};
 
 pub mod figures;
 
 // A ride, as a kept journey holds it.
-#[derive(Drop)]
+#[derive(Clone, Copy)]
 pub struct Ride {
     pub trip: u16,
     pub day: u8,
@@ -18,7 +20,7 @@ pub struct Ride {
 }
 
 // A kept journey. For one ride, `last` is the blank ride; for fewer than three, `middle` is.
-#[derive(Drop)]
+#[derive(Clone, Copy)]
 pub struct Journey {
     pub leave: u16,
     pub arrival: u16,
@@ -34,7 +36,7 @@ pub struct Journey {
 // A journey while the search runs: its figures, its origin and target, and the numbers of the calls where it boards and
 // alights: of the first ride, the last and the middle one. For one ride, `board2` and `alight2` are 0, and for fewer than three those of
 // the middle ride.
-#[derive(Drop)]
+#[derive(Clone, Copy)]
 pub struct Row {
     pub leave: u16,
     pub arrival: u16,

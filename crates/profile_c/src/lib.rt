@@ -1,4 +1,6 @@
 // The offer over plain numbers and a lent array, for programs in C and Rust to call.
+#![tactic(auto)]
+
 ghost use Rattle.std.specs.Prelude.{◌≡◌};
 ghost use Rattle.profile.specs.Journeys.{row_of};
 ghost use Rattle.state.specs.View.{view};

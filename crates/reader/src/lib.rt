@@ -1,4 +1,6 @@
 // The reader of a load file (requests 01 and 13, versions 1 and 2), whole or in parts: version, records, end.
+#![tactic(auto)]
+
 ghost use Rattle.std.specs.Prelude.{◌≡◌, true, false};
 ghost use Rattle.file.specs.Record.{fresh_reader};
 ghost use Rattle.file.specs.File.{version_answer, is_second, next_spec, fed_spec, end_answer, read_spec_of};

@@ -1,9 +1,11 @@
 // Why a call is sent back: one case for each cause, with the scope's number for it, and the answer of a step.
+#![tactic(auto)]
+
 ghost use Rattle.std.specs.Prelude.{◌≡◌};
 ghost use Rattle.refusal.specs.Causes.{number_of};
 ghost use Rattle.refusal.specs.First.{is_refused, is_taken};
 
-#[derive(Drop)]
+#[derive(Clone, Copy)]
 pub enum Refusal {
     // 1: an origin or target count above 4, or `max_transfers` above 2
     SettingsRange,
@@ -60,7 +62,7 @@ pub enum Refusal {
 }
 
 // What a step answers. Only a call can lie outside the window.
-#[derive(Drop)]
+#[derive(Clone, Copy)]
 pub enum Answer {
     Taken,
     Outside,

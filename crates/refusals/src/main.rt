@@ -1,5 +1,7 @@
 // Meets each refusal of opening, stop, call, rule, search, service, exception and withdrawal alone and in pairs, and writes what is
 // answered, and what a good step after it is answered. The file `stdout` says what the scope's order, and those of requests 03, 11 and 12, give.
+#![tactic(auto)]
+
 mod calls_of;
 mod faults;
 mod limits;

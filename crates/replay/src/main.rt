@@ -1,6 +1,8 @@
 // Reads load files from standard input, each after its length as a big-endian u32, and prints what each was answered, a line
 // `.` after each: the calls' answers, the table, the places, the journeys, horizon and limits, best and next after. A file
 // that is longer than the buffer, or is not there whole, ends the run.
+#![tactic(auto)]
+
 mod answers;
 mod load_lines;
 mod queries;

@@ -1,4 +1,6 @@
 // The nested loops of a search over lent arrays of numbers: each journey by one ride or two is offered to the running state, in order.
+#![tactic(auto)]
+
 pub mod bits;
 pub mod bounds;
 pub mod last;

@@ -1,4 +1,6 @@
 // The rules of a load: transfers between two stops, and which of them are sent back.
+#![tactic(auto)]
+
 ghost use Rattle.std.specs.Prelude.{◌≡◌, take};
 ghost use Rattle.refusal.specs.First.{first_answer};
 ghost use Rattle.laws.specs.Lists.{anyb};
@@ -7,13 +9,13 @@ ghost use Rattle.rules.specs.Rules.{blank_rule, same_pair, type_right_of, second
 use refusal::{Answer, Refusal};
 
 // GTFS's min_transfer_time.
-#[derive(Drop)]
+#[derive(Clone, Copy)]
 pub enum MinTime {
     Given(u16),
     Absent,
 }
 
-#[derive(Drop)]
+#[derive(Clone, Copy)]
 pub struct RuleInput {
     pub from: u16,
     pub to: u16,
@@ -22,7 +24,7 @@ pub struct RuleInput {
 }
 
 // `seconds` is 0 where none were given.
-#[derive(Drop)]
+#[derive(Clone, Copy)]
 pub struct Rule {
     pub from: u16,
     pub to: u16,

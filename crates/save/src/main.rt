@@ -1,5 +1,7 @@
 // Reads a load file of either version from standard input, up to 1 MiB, and writes its load as a file of version 2 to standard output.
 // A file that is refused, and a load that is not written, are told on standard error; then nothing is written.
+#![tactic(auto)]
+
 use file::Took;
 use libc::{STDERR_FILENO, STDOUT_FILENO};
 use load::Load;

@@ -1,1 +1,2 @@
 // No code: a load that was written is read as it was (request 13).
+#![tactic(auto)]

@@ -1,4 +1,6 @@
 // The search step: the calls put in order, every offer made, and what is kept; and the same within a limit on joins.
+#![tactic(auto)]
+
 ghost use Rattle.std.specs.Prelude.{◌≡◌, ℕ, ◌<◌, get_or};
 ghost use Rattle.state.specs.View.{view};
 ghost use Rattle.search.specs.Search.{search_spec};
@@ -27,7 +29,7 @@ pub use within::search_within;
 
 // What a search within a limit on joins answers, and the load that it returns; how many joins it tested, and whether none is left. 0 and
 // false where it is sent back.
-#[derive(Drop)]
+#[derive(Clone, Copy)]
 pub struct Limited {
     pub answer: Answer,
     pub load: Load,

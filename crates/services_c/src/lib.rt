@@ -1,4 +1,6 @@
 // Dates, weekdays and services over plain numbers, for programs in C and Rust to call.
+#![tactic(auto)]
+
 ghost use Rattle.std.specs.Prelude.{◌≡◌};
 ghost use Rattle.calendar.specs.Dates.{is_date, weekday_of};
 ghost use Rattle.services.specs.Runs.{runs_of};

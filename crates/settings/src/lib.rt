@@ -1,4 +1,6 @@
 // The settings of a load: counts, walks, the change time, the start and the service days; and which settings are sent back.
+#![tactic(auto)]
+
 ghost use Rattle.std.specs.Prelude.{◌≡◌, ◌||◌};
 ghost use Rattle.refusal.specs.First.{first_answer};
 ghost use Rattle.settings.specs.Settings.{near, all_near, over_counts, settings_tests, walks_of, canonical_of, kept_walk};
@@ -6,7 +8,7 @@ ghost use Rattle.settings.specs.Settings.{near, all_near, over_counts, settings_
 use refusal::{Answer, Refusal};
 
 // Walks past a count are ignored, and 0 in the settings of a load.
-#[derive(Drop)]
+#[derive(Clone, Copy)]
 pub struct Settings {
     pub origins: u8,
     pub targets: u8,

@@ -1,4 +1,6 @@
 // How many journeys of a display each of four groups gets: numbers alone.
+#![tactic(auto)]
+
 ghost use Rattle.std.specs.Prelude.{◌≡◌, [], ◌∷◌, ◌+◌, ◌-◌, min};
 ghost use Rattle.shares.specs.Shares.{at_first_of, needs, shares_of};
 

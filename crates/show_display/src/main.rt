@@ -1,6 +1,8 @@
 // Reads up to four load files from standard input, each after its length as a big-endian u32, and prints the display of groups 0 to 3:
 // for each its journeys shown and its window, or a refusal. A file that is refused ends the run with its group and number; one that is
 // longer than the buffer, or is not there whole, ends the reading.
+#![tactic(auto)]
+
 mod text;
 
 use file::Took;
@@ -11,7 +13,7 @@ use refusal::Answer;
 use stdio::input;
 
 // The groups read so far; `refused` once a file was, `more` while files may follow.
-#[derive(Drop)]
+#[derive(Clone, Copy)]
 struct Reading {
     more: bool,
     refused: bool,

@@ -1,5 +1,7 @@
 // The running state of a search, a lent array of numbers (`layout`): slots of a row each, the last of them spare, then the count, the
 // horizon, limits and refused. `view` says which state it is. It is made and read here.
+#![tactic(auto)]
+
 ghost use Rattle.std.specs.Prelude.{◌≡◌, not, [], ◌*◌, ◌+◌, ◌<◌, ltb, length, get_or};
 ghost use Rattle.profile.specs.Kept.{going, too_late};
 ghost use Rattle.profile.specs.Journeys.{no_row};

@@ -1,4 +1,6 @@
 // Stops, rules and calls handed to a load one by one, as many as asked, for programs in C and Rust to time.
+#![tactic(auto)]
+
 ghost use Rattle.std.specs.Prelude.{◌≡◌};
 ghost use Rattle.steps_c.specs.Steps.{plain_settings, plain_stop, plain_rule, plain_call, with_stop, with_rule, with_call, turns, calls_held};
 

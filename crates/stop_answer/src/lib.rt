@@ -1,4 +1,6 @@
 // Why a stop is sent back: 15, 3, 5, 6, 7, 8, 4.
+#![tactic(auto)]
+
 ghost use Rattle.std.specs.Prelude.{◌≡◌, not, ◌&&◌};
 ghost use Rattle.refusal.specs.First.{first_answer};
 ghost use Rattle.stops.specs.Stops.{is_at};

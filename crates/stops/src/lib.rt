@@ -1,11 +1,13 @@
 // The stops of a load: what is handed in, how they are held, and how one is found by its id. Which are sent back is told in `stop_answer`.
+#![tactic(auto)]
+
 pub mod find;
 pub mod taken;
 
 use place::Degrees;
 
 // A text is held with 0 past its length. The parent is the number of a station, or 65535 where there is none.
-#[derive(Drop)]
+#[derive(Clone, Copy)]
 pub struct Stop {
     pub id: [u8; 32],
     pub id_len: u8,
@@ -20,7 +22,7 @@ pub struct Stop {
 }
 
 // What is handed in beside the texts: id, name and parent's id.
-#[derive(Drop)]
+#[derive(Clone, Copy)]
 pub struct StopInput {
     pub named: bool,
     pub has_parent: bool,
@@ -31,7 +33,7 @@ pub struct StopInput {
 }
 
 // The number of a stop.
-#[derive(Drop)]
+#[derive(Clone, Copy)]
 pub enum Found {
     At(u16),
     Nothing,

@@ -1,3 +1,5 @@
 // The table of calls: its cuts to a smaller horizon, and the call step on it.
+#![tactic(auto)]
+
 pub mod cuts;
 pub mod step;

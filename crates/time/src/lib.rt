@@ -1,11 +1,13 @@
 // Time text to seconds of a service day: digits, ':', two digits, ':', two digits.
+#![tactic(auto)]
+
 ghost use Rattle.std.specs.Prelude.{◌≡◌, ◌-◌, [], ◌∷◌};
 ghost use Rattle.time.specs.Text.{is_digit, number, sixty, time_of};
 ghost use Rattle.time.specs.Hours.{with_hours};
 
 use refusal::Refusal;
 
-#[derive(Drop)]
+#[derive(Clone, Copy)]
 pub enum Time {
     Seconds(u32),
     Refused(Refusal),

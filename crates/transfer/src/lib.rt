@@ -1,4 +1,6 @@
 // The time that a change from one stop to another takes, and which rides join.
+#![tactic(auto)]
+
 pub mod choice;
 pub mod copied;
 pub mod pair;
@@ -8,7 +10,7 @@ pub mod reads;
 use rules::Rule;
 
 // The two stops of a change with their parents, 65535 where there is none.
-#[derive(Drop)]
+#[derive(Clone, Copy)]
 pub struct Ends {
     pub from: u16,
     pub from_parent: u16,
@@ -17,14 +19,14 @@ pub struct Ends {
 }
 
 // The rule that holds for a change.
-#[derive(Drop)]
+#[derive(Clone, Copy)]
 pub enum Chosen {
     By(Rule),
     Open,
 }
 
 // The seconds that a change takes.
-#[derive(Drop)]
+#[derive(Clone, Copy)]
 pub enum Change {
     Takes(u16),
     Never,

@@ -1,4 +1,6 @@
 // The dated part of a load: the dates of its three days, its services, and whether more of them may come.
+#![tactic(auto)]
+
 mod answer;
 pub mod step;
 
@@ -10,7 +12,7 @@ use refusal::Answer;
 use services::Service;
 
 // A load opened without dates is not dated, and its services are closed from the start. A slot past the count holds the blank service.
-#[derive(Drop)]
+#[derive(Clone, Copy)]
 pub struct Week {
     pub dated: bool,
     pub dates: [u32; 3],
@@ -20,14 +22,14 @@ pub struct Week {
 }
 
 // What a service or an exception is answered, and the week after it: the week given, where it is sent back.
-#[derive(Drop)]
+#[derive(Clone, Copy)]
 pub struct WeekStepped {
     pub answer: Answer,
     pub week: Week,
 }
 
 // Of the service that a call names, on the call's day.
-#[derive(Drop)]
+#[derive(Clone, Copy)]
 pub enum Running {
     Unknown,
     Rests,

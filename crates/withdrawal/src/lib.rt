@@ -1,4 +1,6 @@
 // A call taken out of the table: the last of its trip, day and sequence goes, and those behind it move down.
+#![tactic(auto)]
+
 ghost use Rattle.std.specs.Prelude.{◌≡◌, min, take};
 ghost use Rattle.calls.specs.Tables.{blank_call};
 ghost use Rattle.withdrawal.specs.Removal.{last_of, closed_up, has_key, key_known};
@@ -6,7 +8,7 @@ ghost use Rattle.withdrawal.specs.Removal.{last_of, closed_up, has_key, key_know
 use calls::{Call, blank_call};
 
 // What a withdrawal names.
-#[derive(Drop)]
+#[derive(Clone, Copy)]
 pub struct CallKey {
     pub trip: u16,
     pub day: u8,

@@ -1,4 +1,6 @@
 // A load written as a load file of version 2 into a lent buffer (request 13).
+#![tactic(auto)]
+
 mod bytes;
 mod file;
 mod records;
@@ -11,7 +13,7 @@ use load::Load;
 use refusal::{Answer, Refusal};
 
 // Taken, and how long the file is; or why nothing was written.
-#[derive(Drop)]
+#[derive(Clone, Copy)]
 pub struct Wrote {
     pub answer: Answer,
     pub length: usize,

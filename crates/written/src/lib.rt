@@ -1,2 +1,3 @@
 // What a load that steps make has beside soundness, so that its records can be written and handed in again. No step uses it yet.
 // There is no code here. specs/ has the definitions and the claims, proofs/ their proofs.
+#![tactic(auto)]

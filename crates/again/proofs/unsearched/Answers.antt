@@ -1,0 +1,7 @@
+-- The blank journeys, and the table's horizon and mark.
+use Rattle.again.proofs.CodeLaws.{unsearched-made}
+use borrow.Author.Rules.{rules}
+use Rattle.again.proofs.unsearched.Goals as goal
+
+pub returns : goal.returns
+returns c = unsearched-made c.args.load _ c.no_journey-journey.ensures

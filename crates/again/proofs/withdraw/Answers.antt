@@ -1,0 +1,14 @@
+-- The withdrawal on the unsearched load, and the search again.
+use Rattle.again.proofs.CodeLaws.{withdraw-searched, withdraw-unsearched}
+use borrow.Author.Rules.{rules}
+use Rattle.again.proofs.withdraw.Goals as goal
+
+pub returns-then-load : goal.returns-then-load
+returns-then-load c =
+    let a = c.args in
+    withdraw-searched a.load a.key _ _ _ c.unsearched-before.ensures c.taken_out-made.ensures c.searched_again.ensures c.if-load.true
+
+pub returns : goal.returns
+returns c =
+    let a = c.args in
+    withdraw-unsearched a.load a.key _ c.taken_out.ensures c.if-load.false

@@ -1,0 +1,38 @@
+-- The loop has found best over the journeys passed.
+use mathlib.Core.Path.{◌≡◌, sym, ◌∙◌}
+use mathlib.Core.Logic.{inl, inr, ⊎_elim}
+use Prim.Native.Nat.{◌≤◌, ◌-◌}
+use native.Mathlib.Omega.{arith}
+use borrow.Author.Rules.{rules}
+use lib.ListN.{length}
+use mir.Syntax.{w64}
+use mir.Val.{to_z}
+use mir.Facts.{to_z-of_z}
+use Rattle.best.specs.Turn.{up_to}
+use Rattle.best.proofs.TurnLaws.{up-to-none, up-to-next, up-to-part}
+use Rattle.best.proofs.best_over.Goals as goal
+
+pub loop-i-init : goal.loop-i-init
+loop-i-init c = (omega arith, ⊎_elim (λ w. omega arith) (λ w. omega arith) c.if-count-lt64.branch, search rules, sym (up-to-none _ _ _))
+
+pub offset_bounds-journeys-i : goal.offset_bounds-journeys-i
+offset_bounds-journeys-i c = omega arith
+
+pub bounds-journeys-i : goal.bounds-journeys-i
+bounds-journeys-i c = omega arith
+
+pub overflow_add-i : goal.overflow_add-i
+overflow_add-i c = omega arith
+
+pub loop-i-smaller : goal.loop-i-smaller
+loop-i-smaller c = omega arith
+
+pub loop-i-preserved : goal.loop-i-preserved
+loop-i-preserved c =
+    let inv = c.loop-i.invariant in
+    (omega arith, inv.1, inv.2, c.turn-found.ensures ∙ sym (rw inv.3 (up-to-next _ _ _ c.loop-i.i (omega arith))))
+
+pub returns : goal.returns
+returns c =
+    let e = to_z-of_z c.ranges.second in
+    (rw e at c.loop-i.invariant.3) ∙ up-to-part _ _ _ c.args.count _ (⊎_elim (λ w. inl (omega arith)) (λ w. inr (omega arith, omega arith)) c.if-count-lt64.branch)

@@ -1,0 +1,18 @@
+-- What is left of the journeys has the first of all of them.
+use mathlib.Core.Path.{◌≡◌, refl, sym, ◌∙◌}
+use mathlib.Core.Logic.{inl, inr}
+use Prim.Native.Nat.{◌-◌, ◌≤◌, ◌<◌}
+use native.Mathlib.Omega.{arith}
+use borrow.Author.Tests.{leb-true, leb-false}
+use lib.ListN.{length, get_or, take}
+use Rattle.profile.specs.Journeys.{no_journey}
+use Rattle.best.specs.Best.{first_from}
+use Rattle.best.proofs.FirstLaws.{rest, first_past, first-here, first_next}
+use borrow.Author.Rules.{rules}
+use Rattle.best.proofs.first_from.Given as goal
+
+abbrev pub invariant-loop-k : goal.invariant-loop-k
+invariant-loop-k l = (l.k ≤ 64) × (length l.journeys ≡ 64) × (first_from l.t (rest l.t l.journeys l.count l.k) ≡ first_from l.t (take l.count l.journeys))
+
+abbrev pub decreases-loop-k : goal.decreases-loop-k
+decreases-loop-k l = 64 - l.k

@@ -1,0 +1,31 @@
+-- `passes_over` meets its contract: too late, or the walk passes it over; the mark behind the kept rows is not seen.
+use mathlib.Core.Path.{refl}
+use Rattle.profile.specs.Journeys.{due, row_of}
+use Rattle.state.proofs.ViewLaws.{few}
+use Rattle.candidate.proofs.PassedLaws.{passed-late, passed-covered}
+use Rattle.candidate.proofs.OfferLaws.{marked-long, marked-ends, marked-view, marked-passing}
+use borrow.Author.Rules.{rules}
+use Rattle.candidate.proofs.passes_over.Goals as goal
+
+pub returns-then-too_late : goal.returns-then-too_late
+unfolding row_of due
+returns-then-too_late c = (refl, passed-late _ _ _ c.too_late.ensures c.if-too_late.true)
+
+pub mark-requires : goal.mark-requires
+mark-requires c = (c.known.ensures, few _ _ c.count-c.ensures)
+
+pub first_near-f-requires : goal.first_near-f-requires
+first_near-f-requires c =
+    let n = c.count-c.ensures in
+    let k = c.known.ensures in
+    (marked-long _ _ _ _ k n c.mark.ensures, few _ _ n, marked-ends _ _ _ _ k n c.mark.ensures _ refl)
+
+pub returns : goal.returns
+unfolding row_of due
+returns c =
+    let n = c.count-c.ensures in
+    let k = c.known.ensures in
+    let m = c.mark.ensures in (
+      marked-view _ _ _ _ k n m,
+      passed-covered _ _ _ _ _ c.too_late.ensures c.if-too_late.false n (marked-passing _ _ _ _ k n m _ _ c.first_near-f.ensures.1),
+    )

@@ -1,0 +1,18 @@
+-- `row_ranks` meets its contract, test by test.
+use Rattle.candidate.proofs.TurnLaws.{rank-sooner, rank-later, rank-walk, rank-rides}
+use borrow.Author.Rules.{rules}
+use Rattle.candidate.proofs.walk.row_ranks.Goals as goal
+
+pub returns-then-st-at : goal.returns-then-st-at
+returns-then-st-at c = rank-sooner _ _ _ _ _ _ c.if-st-at.true
+
+pub returns-then-o-st : goal.returns-then-o-st
+returns-then-o-st c = rank-later _ _ _ _ _ _ c.if-o-st.true
+
+pub returns-then-st-at-2 : goal.returns-then-st-at-2
+returns-then-st-at-2 c =
+    rank-walk _ _ _ _ _ _ c.if-st-at.false c.if-o-st.false c.if-st-at-2.true
+
+pub returns : goal.returns
+returns c =
+    rank-rides _ _ _ _ _ _ c.if-st-at.false c.if-o-st.false c.if-st-at-2.false

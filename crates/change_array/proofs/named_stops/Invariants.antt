@@ -1,0 +1,14 @@
+-- The stops of the calls passed are marked.
+use borrow.Author.Rules.{rules}
+use mathlib.Core.Path.{◌≡◌, refl, ap, ◌∙◌}
+use Prim.Native.Nat.{◌-◌, ◌≤◌, min}
+use native.Mathlib.Omega.{arith}
+use lib.ListN.{length, length-set}
+use Rattle.change_array.proofs.ChangeLaws.{MarkedTo, marks-more}
+use Rattle.change_array.proofs.named_stops.Given as goal
+
+abbrev pub invariant-loop-i : goal.invariant-loop-i
+invariant-loop-i l = (l.n ≡ min l.calls 512) × (l.i ≤ l.n) × (length l.feed ≡ 3208) × (length l.marks ≡ 128) × MarkedTo l.marks l.feed l.i
+
+abbrev pub decreases-loop-i : goal.decreases-loop-i
+decreases-loop-i l = l.n - l.i

@@ -1,0 +1,7 @@
+-- The row is made and put in.
+use Rattle.change_array.proofs.ChangeLaws.{row-region}
+use borrow.Author.Rules.{rules}
+use Rattle.change_array.proofs.put_changes.Goals as goal
+
+pub returns : goal.returns
+returns c = row-region _ _ _ _ _ _ _ _ _ c.change_row.ensures c.put_row.ensures

@@ -1,0 +1,12 @@
+-- A walk of the array, and none past it.
+use mathlib.Core.Path.{◌≡◌, sym}
+use native.Mathlib.Omega.{arith}
+use lib.ListN.{length, get_or-eq_default}
+use borrow.Author.Rules.{rules}
+use Rattle.connection.proofs.ends.walk_at.Goals as goal
+
+pub returns : goal.returns
+returns c =
+    let a = c.args in
+    let long : length a.t1 ≡ 4 = c.well_formed.0.1.0.1 in
+    sym (get_or-eq_default a.t1 0 (omega (arith, long)))

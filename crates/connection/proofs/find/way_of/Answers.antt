@@ -1,0 +1,8 @@
+-- Three legs.
+use Rattle.connection.specs.Find.{way_of}
+use borrow.Author.Rules.{rules}
+use Rattle.connection.proofs.find.way_of.Goals as goal
+
+pub returns : goal.returns
+unfolding way_of
+returns c = λ i. record { first = c.find_leg-first.ensures i; second = c.find_leg-second.ensures i; third = c.find_leg-third.ensures i }

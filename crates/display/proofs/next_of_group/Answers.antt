@@ -1,0 +1,13 @@
+-- Best at the larger second.
+use mathlib.Core.Path.{◌∙◌, ap}
+use lib.IntN.{ℤ}
+use Rattle.laws.proofs.Ints.{again}
+use Rattle.best.specs.Best.{after_of}
+use Rattle.display.proofs.DisplayLaws.{next-shown}
+use borrow.Author.Rules.{rules}
+use Rattle.display.proofs.next_of_group.Goals as goal
+
+pub returns : goal.returns
+returns c =
+    next-shown c.args.group c.args.part c.args.second c.args.missed (again (record { sfits = c.after.type-inv }))
+    (c.after.ensures ∙ ap (λ (z : ℤ). after_of z c.args.missed.leave) (again c.ranges.second)) c.best_of_group.ensures

@@ -1,0 +1,7 @@
+-- The blank journey with an arrival.
+use mathlib.Core.Path.{refl}
+use borrow.Author.Rules.{rules}
+use Rattle.display_c.proofs.due_at.Goals as goal
+
+pub returns : goal.returns
+returns c = rw c.no_journey-j.ensures refl

@@ -1,0 +1,21 @@
+-- The journeys passed are in place.
+use mathlib.Core.Path.{refl}
+use Prim.Native.Nat.{ℕ, ◌-◌, ◌≤◌}
+use native.Mathlib.Omega.{arith}
+use lib.ListN.{get_or}
+use Rattle.laws.proofs.Tables.{Filled, filled_none, filled_more, filled-all}
+use Rattle.profile.specs.Journeys.{no_journey}
+use Rattle.display_c.specs.Full.{due_at, list_due}
+use borrow.Author.Rules.{rules}
+use Rattle.display_c.proofs.list_due.Goals as goal
+
+pub loop-i-init : goal.loop-i-init
+loop-i-init c = (omega arith, filled_none _ no_journey 64 _ refl)
+
+pub loop-i-preserved : goal.loop-i-preserved
+loop-i-preserved c =
+    (omega arith, filled_more _ no_journey 64 _ c.loop-i.journeys c.loop-i.i _ c.loop-i.invariant.1 (omega arith) c.due_at.ensures)
+
+pub returns : goal.returns
+unfolding list_due
+returns c = filled-all _ no_journey 64 _ c.loop-i.journeys c.loop-i.i c.loop-i.invariant.1 (omega arith)

@@ -1,0 +1,29 @@
+-- Stop after stop.
+use mathlib.Core.Path.{◌≡◌, refl, ap, ◌∙◌}
+use Prim.Native.Nat.{ℕ, ◌-◌, ◌≤◌}
+use native.Mathlib.Omega.{arith}
+use lib.ListN.{length}
+use Rattle.laws.proofs.Bounds.{get_d_any}
+use Rattle.stops.specs.declared.Stop.{Stop}
+use Rattle.stops.specs.Sound.{stop_at}
+use Rattle.stops.specs.Taken.{blank_stop}
+use Rattle.stops.proofs.Texts.{past}
+use Rattle.laws.specs.Regions.{Region}
+use Rattle.feed_array.specs.Feeds.{masked_of}
+use Rattle.laws.proofs.Regions.{region-none, region-more, region-all}
+use borrow.Author.Rules.{rules}
+use Rattle.feed_array.proofs.put_members.Goals as goal
+
+pub loop-k-init : goal.loop-k-init
+loop-k-init c = (omega arith, omega arith, region-none _ _ _)
+
+pub loop-k-preserved : goal.loop-k-preserved
+unfolding stop_at
+loop-k-preserved c =
+    let a = c.args in
+    let n : length a.t2 ≡ 128 = c.well_formed.1.0.1.0.1 in
+    let e = ap (λ (s : Stop). masked_of a.origins a.targets s.members) (get_d_any a.t2 c.loop-k.k past blank_stop (omega arith)) in
+    (omega arith, c.loop-k.invariant.1, region-more _ 3072 _ c.loop-k.feed c.loop-k.k _ c.loop-k.invariant.2 (omega arith) (c.masked_of.ensures ∙ e))
+
+pub returns : goal.returns
+returns c = region-all _ _ _ c.loop-k.feed _ c.loop-k.k 128 c.loop-k.invariant.2 (omega arith) refl

@@ -1,0 +1,10 @@
+-- Four stores.
+use native.Mathlib.Omega.{arith}
+use Rattle.feed_array.proofs.FeedLaws.{walks-region}
+use borrow.Author.Rules.{rules}
+use Rattle.feed_array.proofs.put_walks.Goals as goal
+
+pub returns : goal.returns
+returns c =
+    let a = c.args in
+    walks-region a.feed.now a.at a.t3 _ _ _ _ c.wide-a.ensures c.wide-b.ensures c.wide-c.ensures c.wide-d.ensures (omega arith)

@@ -1,0 +1,10 @@
+-- After the position.
+use mathlib.Core.Path.{ap, ◌∙◌}
+use Prim.Native.Nat.{ℕ, ◌+◌}
+use native.Mathlib.Omega.{arith}
+use Rattle.fields.specs.Layout.{option_end}
+use borrow.Author.Rules.{rules}
+use Rattle.fields.proofs.layout.members_at.Goals as goal
+
+pub returns : goal.returns
+returns c = (c.option_end.ensures.0 ∙ ap (λ (n : ℕ). option_end c.args.b.now (n + 1) 16) c.type_at.ensures.0, omega arith)

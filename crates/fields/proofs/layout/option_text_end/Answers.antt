@@ -1,0 +1,15 @@
+-- By the byte before the text.
+use mathlib.Core.Path.{sym, ◌∙◌}
+use native.Mathlib.Omega.{arith}
+use Rattle.laws.proofs.Bools.{cond-by, cond-not}
+use Rattle.fields.specs.Layout.{option_text_end}
+use borrow.Author.Rules.{rules}
+use Rattle.fields.proofs.layout.option_text_end.Goals as goal
+
+pub returns-then-has_at : goal.returns-then-has_at
+unfolding option_text_end
+returns-then-has_at c = (c.text_end.ensures.0 ∙ sym (cond-by _ _ (sym c.has_at.ensures ∙ c.if-has_at.true)), omega arith)
+
+pub returns : goal.returns
+unfolding option_text_end
+returns c = (sym (cond-not _ _ (sym c.has_at.ensures ∙ c.if-has_at.false)), search rules)

@@ -1,0 +1,9 @@
+-- After the parent's id.
+use mathlib.Core.Path.{ap, ◌∙◌}
+use native.Mathlib.Omega.{arith}
+use Rattle.fields.specs.Layout.{option_text_end}
+use borrow.Author.Rules.{rules}
+use Rattle.fields.proofs.layout.type_at.Goals as goal
+
+pub returns : goal.returns
+returns c = (c.option_text_end.ensures.0 ∙ ap (option_text_end c.args.b.now) c.parent_at.ensures.0, omega arith)

@@ -1,0 +1,9 @@
+-- The bits, read as a signed number.
+use mathlib.Core.Path.{ap, ◌∙◌}
+use Rattle.laws.proofs.Ints.{again}
+use Rattle.fields.specs.Numbers.{signed_of}
+use borrow.Author.Rules.{rules}
+use Rattle.fields.proofs.numbers.i64_at.Goals as goal
+
+pub returns : goal.returns
+returns c = again (record { sfits = c.signed.type-inv }) ∙ c.signed.ensures ∙ ap signed_of c.u64_at.ensures

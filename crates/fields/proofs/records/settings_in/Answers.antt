@@ -1,0 +1,28 @@
+-- Field by field.
+use mathlib.Core.Path.{ap, ◌∙◌}
+use Prim.Native.Nat.{ℕ, ◌+◌, ◌*◌}
+use mathlib.Core.List.{[], ◌∷◌}
+use Rattle.fields.proofs.NumberLaws.{i64-again}
+use Rattle.fields.specs.Numbers.{byte_at}
+use Rattle.fields.specs.Records.{walks_at, settings_in}
+use borrow.Author.Rules.{rules}
+use Rattle.fields.proofs.records.settings_in.Goals as goal
+
+pub returns : goal.returns
+unfolding settings_in
+returns c = let b = c.args.b.now in
+    let at = c.minutes_at-at.ensures.0 in
+    λ t. record {
+      origins = c.byte_at.ensures t;
+      targets = c.byte_at-2.ensures t;
+      origin_walks = c.walks_at-origin_walks.ensures t;
+      target_walks = (c.walks_at-target_walks.ensures ∙ ap (walks_at b) c.target_walks_at.ensures) t;
+      transfer_seconds = (c.byte_at-minutes.ensures ∙ ap (byte_at b) at) t * 60;
+      max_transfers = (c.byte_at-3.ensures ∙ ap (λ (n : ℕ). byte_at b (n + 1)) at) t;
+      now = i64-again b 2 (record { sfits = c.i64_at-4.type-inv }) c.i64_at-4.ensures at t;
+      epochs =
+          i64-again b 10 (record { sfits = c.i64_at.type-inv }) c.i64_at.ensures at t
+          ∷ i64-again b 18 (record { sfits = c.i64_at-2.type-inv }) c.i64_at-2.ensures at t
+          ∷ i64-again b 26 (record { sfits = c.i64_at-3.type-inv }) c.i64_at-3.ensures at t
+          ∷ [];
+    }

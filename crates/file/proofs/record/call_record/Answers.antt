@@ -1,0 +1,6 @@
+-- The call of the empty name.
+use borrow.Author.Rules.{rules}
+use Rattle.file.proofs.record.call_record.Goals as goal
+
+pub returns : goal.returns
+returns c = c.add.ensures

@@ -1,0 +1,8 @@
+-- From its first byte up to the location type.
+use mathlib.Core.Path.{◌∙◌}
+use Rattle.file.proofs.StopLaws.{text-part}
+use borrow.Author.Rules.{rules}
+use Rattle.file.proofs.texts.parent_text.Goals as goal
+
+pub returns : goal.returns
+returns c = c.part.ensures ∙ text-part _ _ c.parent_at-parent.ensures.0 c.text_from-from.ensures c.type_at-end.ensures.0

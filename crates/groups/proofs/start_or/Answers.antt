@@ -1,0 +1,12 @@
+-- The group's start, or the other.
+use Rattle.laws.proofs.Ints.{again}
+use Rattle.groups.proofs.GroupLaws.{start-given, start-other}
+use borrow.Author.Rules.{rules}
+use Rattle.groups.proofs.start_or.Goals as goal
+
+pub returns-then-slot : goal.returns-then-slot
+returns-then-slot c =
+    start-given c.args.slot c.args.other c.if-slot.true (again (record { sfits = c.struct_told-1.given.1.1.0.1 }))
+
+pub returns : goal.returns
+returns c = start-other c.args.slot c.args.other c.if-slot.false (again c.ranges.other)

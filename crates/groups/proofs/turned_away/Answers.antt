@@ -1,0 +1,14 @@
+-- A group given twice, or one that is wrong.
+use mathlib.Core.Path.{sym, ◌∙◌}
+use lib.ListN.{take}
+use Rattle.laws.proofs.Ints.{again}
+use Rattle.groups.proofs.GroupLaws.{away-twice, away-wrong}
+use borrow.Author.Rules.{rules}
+use Rattle.groups.proofs.turned_away.Goals as goal
+
+pub returns-then-given_twice : goal.returns-then-given_twice
+returns-then-given_twice c = away-twice _ (sym c.given_twice.ensures ∙ c.if-given_twice.true)
+
+pub returns : goal.returns
+returns c =
+    away-wrong _ _ (sym c.given_twice.ensures ∙ c.if-given_twice.false) (again (record { sfits = c.lowest_start.type-inv }) ∙ c.lowest_start.ensures) c.any_wrong.ensures

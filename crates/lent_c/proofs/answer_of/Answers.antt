@@ -1,0 +1,9 @@
+-- `answer_of`: by the variant.
+use borrow.Author.Rules.{rules}
+use mathlib.Core.Path.{sym, ap}
+use Rattle.lent_c.specs.Plain.{answer_of}
+use Rattle.lent_c.proofs.answer_of.Goals as goal
+
+pub returns-in-Best : goal.returns-in-Best
+unfolding answer_of
+returns-in-Best c = ap answer_of (sym c.found-1.given.1)

@@ -1,0 +1,6 @@
+-- `earliest_of` meets its contract.
+use borrow.Author.Rules.{rules}
+use Rattle.limited_rides.proofs.earliest.earliest_of.Goals as goal
+
+pub returns : goal.returns
+returns c = rw (← c.at_most_512.ensures) c.least_of.ensures

@@ -1,0 +1,20 @@
+-- Line after line.
+use mathlib.Core.Path.{◌≡◌, ap}
+use mathlib.Core.Logic.{inl, inr, ⊎_elim}
+use Prim.Native.Nat.{◌*◌, ◌≤◌, ◌-◌}
+use native.Mathlib.Omega.{arith}
+use lib.ListN.{length, take}
+use Rattle.laws.specs.Lists.{concat_map}
+use Rattle.lines.specs.Buffer.{Put}
+use Rattle.lines.specs.Rides.{line_for, line_most}
+use Rattle.lines.proofs.BufferLaws.{put-none, put-turn, put_as, put-within, put-long}
+use Rattle.lines.proofs.RideLaws.{most-room, most-all}
+use Rattle.best.proofs.TurnLaws.{take_same}
+use borrow.Author.Rules.{rules}
+use Rattle.lines.proofs.journeys.journey_lines.Given as goal
+
+abbrev pub invariant-loop-i : goal.invariant-loop-i
+invariant-loop-i l = (l.i ≤ l.n) × (l.n ≤ 64) × (length l.journeys ≡ 64) × Put (line_most l.rides * l.i) (concat_map (line_for l.rides) (take l.i l.journeys)) 0 l.initial.out l.at l.out
+
+abbrev pub decreases-loop-i : goal.decreases-loop-i
+decreases-loop-i l = l.n - l.i

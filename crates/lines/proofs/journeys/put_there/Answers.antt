@@ -1,0 +1,11 @@
+-- By whether it is there.
+use native.Mathlib.Omega.{arith}
+use Rattle.lines.proofs.BufferLaws.{put-none, put-within}
+use borrow.Author.Rules.{rules}
+use Rattle.lines.proofs.journeys.put_there.Goals as goal
+
+pub returns-then-there : goal.returns-then-there
+returns-then-there c = rw c.if-there.true c.put_ride.ensures
+
+pub returns : goal.returns
+returns c = rw c.if-there.false (put-within 50 (omega arith) (put-none _ _))

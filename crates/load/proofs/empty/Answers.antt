@@ -1,0 +1,7 @@
+-- Every slot blank.
+use Rattle.load.proofs.StepLaws.{empty-made}
+use borrow.Author.Rules.{rules}
+use Rattle.load.proofs.empty.Goals as goal
+
+pub returns : goal.returns
+returns c = empty-made _ _ _ _ _ _ c.blank_stop-stop.ensures c.blank_call-call.ensures c.blank_rule-rule.ensures c.no_journey-journey.ensures

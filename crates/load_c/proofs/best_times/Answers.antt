@@ -1,0 +1,8 @@
+-- The times of best.
+use borrow.Author.Rules.{rules}
+use mathlib.Core.Path.{ap, ◌∙◌}
+use Rattle.load_c.specs.Best.{times_of}
+use Rattle.load_c.proofs.best_times.Goals as goal
+
+pub returns : goal.returns
+returns c = c.times_of.ensures ∙ ap times_of c.best.ensures

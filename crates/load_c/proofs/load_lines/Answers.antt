@@ -1,0 +1,9 @@
+-- The lines of what is read.
+use borrow.Author.Rules.{rules}
+use mathlib.Core.Path.{ap, ◌∙◌}
+use Rattle.file.specs.declared.Took.{Took}
+use Rattle.lines.specs.Lines.{lines_of}
+use Rattle.load_c.proofs.load_lines.Goals as goal
+
+pub returns : goal.returns
+returns c = c.lines.ensures.0 ∙ ap (λ (t : Took). lines_of t.answer t.reader-1.load) c.read-t.ensures

@@ -1,0 +1,14 @@
+-- What is left to search adds what is left of the sum.
+use borrow.Author.Rules.{rules}
+use mathlib.Core.Path.{◌≡◌, ◌∙◌}
+use Prim.Native.Nat.{◌+◌, ◌*◌, ◌-◌, ◌≤◌}
+use native.Mathlib.Omega.{arith}
+use Rattle.load_c.specs.Searches.{horizon_after, sum_of}
+use Rattle.load_c.proofs.SearchesLaws.{next-turn, last_turn}
+use Rattle.load_c.proofs.searches.Given as goal
+
+abbrev pub invariant-loop-left : goal.invariant-loop-left
+invariant-loop-left l = (l.left ≤ l.times) × (l.sum ≤ 65535 * (l.times - l.left)) × (l.sum + sum_of horizon_after l.left l.next ≡ sum_of horizon_after l.times l.initial.next)
+
+abbrev pub decreases-loop-left : goal.decreases-loop-left
+decreases-loop-left l = l.left

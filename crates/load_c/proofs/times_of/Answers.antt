@@ -1,0 +1,8 @@
+-- Leave and arrival in one number; 2^32 for none.
+use borrow.Author.Rules.{rules}
+use Rattle.load_c.specs.Best.{times_of}
+use Rattle.load_c.proofs.times_of.Goals as goal
+
+pub returns-in-Best : goal.returns-in-Best
+unfolding times_of
+returns-in-Best c = rw (c.found-1.given.1, c.wide.ensures, c.wide-in-Best.ensures)

@@ -1,0 +1,12 @@
+-- `margin_of` meets its contract.
+use Rattle.margin.proofs.StoppedLaws.{margin-found, margin_nothing, margin_finished}
+use borrow.Author.Rules.{rules}
+use Rattle.margin.proofs.margin_of.Goals as goal
+
+pub returns-in-Best : goal.returns-in-Best
+returns-in-Best c =
+    margin-found c.args.load _ _ _ _ c.if-load.true c.best-found.ensures
+    c.found-1.given.1 c.earliest_arrival.ensures c.less.ensures
+
+pub returns-else-load : goal.returns-else-load
+returns-else-load c = margin_finished c.args.load c.if-load.false

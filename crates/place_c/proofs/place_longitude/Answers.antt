@@ -1,0 +1,13 @@
+-- `place_c::place_longitude` meets its contract: by the variant.
+use borrow.Author.Rules.{rules}
+use mathlib.Core.Path.{sym, ap, ◌∙◌}
+use mir.Syntax.{w32}
+use Rattle.laws.proofs.Ints.{again}
+use Rattle.place_c.specs.Plain.{lon_of}
+use Rattle.place_c.proofs.place_longitude.Goals as goal
+
+pub returns-in-At : goal.returns-in-At
+returns-in-At c =
+    let at-micro = c in
+    again {w = w32} {z = at-micro.micro.given.0.1.0} (record { sfits = c.known_told-1.given.1.0.1 })
+    ∙ ap lon_of (sym at-micro.micro.given.1 ∙ at-micro.before.before.micro-with.ensures)

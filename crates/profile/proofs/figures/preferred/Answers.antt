@@ -1,0 +1,6 @@
+-- `preferred` meets its contract: three levels of `lexb`, one call each.
+use borrow.Author.Rules.{rules}
+use Rattle.profile.proofs.figures.preferred.Goals as goal
+
+pub returns : goal.returns
+returns c = rw (← c.lex-w.ensures, ← c.lex-r.ensures) c.lex.ensures

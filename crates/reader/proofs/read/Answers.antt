@@ -1,0 +1,25 @@
+-- The version, the records, the end.
+use Prim.Native.Nat.{◌-◌}
+use mathlib.Core.Path.{ap, ◌∙◌}
+use Rattle.file.specs.Record.{fresh_reader}
+use borrow.Author.Rules.{rules}
+use Rattle.reader.proofs.ReadLaws.{version-room, used-room, read-refused, read-fed, read-ended}
+use Rattle.reader.proofs.read.Goals as goal
+
+pub returns-then-is_refused : goal.returns-then-is_refused
+returns-then-is_refused c = read-refused _ c.version-answer.ensures c.is_refused.ensures c.if-is_refused.true (c.fresh.ensures ∙ ap fresh_reader c.is_second-second.ensures)
+
+pub slice_bounds-fed-count : goal.slice_bounds-fed-count
+slice_bounds-fed-count c = version-room _ c.version-answer.ensures c.is_refused.ensures c.if-is_refused.false
+
+pub returns-then-is_refused-2 : goal.returns-then-is_refused-2
+returns-then-is_refused-2 c = read-fed _ c.version-answer.ensures c.is_refused.ensures c.if-is_refused.false (c.fresh-2.ensures ∙ ap fresh_reader c.is_second-second.ensures) c.fed-f.ensures c.is_refused-2.ensures c.if-is_refused-2.true
+
+pub overflow_sub-left : goal.overflow_sub-left
+overflow_sub-left c = version-room _ c.version-answer.ensures c.is_refused.ensures c.if-is_refused.false
+
+pub overflow_sub-left-2 : goal.overflow_sub-left-2
+overflow_sub-left-2 c = used-room _ c.version-answer.ensures c.is_refused.ensures c.if-is_refused.false (c.fresh-2.ensures ∙ ap fresh_reader c.is_second-second.ensures) c.fed-f.ensures
+
+pub returns : goal.returns
+returns c = read-ended _ c.version-answer.ensures c.is_refused.ensures c.if-is_refused.false (c.fresh-2.ensures ∙ ap fresh_reader c.is_second-second.ensures) c.fed-f.ensures c.is_refused-2.ensures c.if-is_refused-2.false c.ended-answer.ensures

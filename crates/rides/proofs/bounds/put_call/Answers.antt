@@ -1,0 +1,8 @@
+-- `put_call` meets its contract: the call's own number, then that for its departure.
+use borrow.Author.Rules.{rules}
+use Rattle.rides.proofs.BoundLaws.{filled}
+use Rattle.rides.proofs.bounds.put_call.Goals as goal
+
+pub returns : goal.returns
+returns c =
+    filled _ c.known.ensures c.requires.0 c.requires.1 c.board_bound-t.ensures c.requires.2 c.put_bucket.ensures

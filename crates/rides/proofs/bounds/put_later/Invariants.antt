@@ -1,0 +1,12 @@
+-- `put_later` meets its contract: a loop over the times of departure from the right.
+use mathlib.Core.Path.{refl}
+use native.Mathlib.Omega.{arith}
+use borrow.Author.Rules.{rules}
+use Rattle.rides.proofs.BoundLaws.{From, from_start, from-turn, from-done}
+use Rattle.rides.proofs.bounds.put_later.Given as goal
+
+abbrev pub invariant-loop-q : goal.invariant-loop-q
+invariant-loop-q l = From l.initial.bounds l.bounds l.q
+
+abbrev pub decreases-loop-q : goal.decreases-loop-q
+decreases-loop-q l = l.q

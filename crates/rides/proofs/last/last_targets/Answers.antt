@@ -1,0 +1,24 @@
+-- `last_targets` meets its contract: a loop over the set digits of the mask.
+use borrow.Author.Rules.{rules}
+use Rattle.rides.specs.Loops.{over_bits, last_at}
+use Rattle.rides.specs.Sheets.{sheet_of}
+use Rattle.rides.proofs.LoopLaws.{InBits, bits-start, bits-low, bits-less, bits-turn, bits-done}
+use Rattle.rides.proofs.last.last_targets.Goals as goal
+
+pub loop-left-init : goal.loop-left-init
+loop-left-init c = bits-start c.requires.2
+
+pub last_at-requires : goal.last_at-requires
+last_at-requires c =
+    (c.requires.0, c.requires.1, bits-low c.loop-left-test.true c.loop-left.invariant c.lowest-x.ensures)
+
+pub loop-left-smaller : goal.loop-left-smaller
+loop-left-smaller c =
+    bits-less c.loop-left-test.true c.loop-left.invariant c.clear_lowest-left.ensures
+
+pub loop-left-preserved : goal.loop-left-preserved
+loop-left-preserved c =
+    bits-turn c.loop-left-test.true c.loop-left.invariant c.lowest-x.ensures c.clear_lowest-left.ensures c.last_at.ensures
+
+pub returns : goal.returns
+returns c = bits-done c.loop-left-test.false c.loop-left.invariant

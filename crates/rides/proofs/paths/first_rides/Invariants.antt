@@ -1,0 +1,16 @@
+-- `first_rides` meets its contract: a loop over the later calls of the run.
+use Prim.Native.Nat.{◌-◌}
+use native.Mathlib.Omega.{arith}
+use borrow.Author.Rules.{rules}
+use Rattle.rides.specs.Loops.{over_run, alight_rows}
+use Rattle.feed.specs.Feed.{call_at}
+use Rattle.rides.specs.Sheets.{joins_of, sheet_of}
+use Rattle.rides.proofs.LoopLaws.{Left, starts, run-turn, run-other, run-done}
+use Rattle.rides.proofs.OnwardLaws.{same-run-is}
+use Rattle.rides.proofs.paths.first_rides.Given as goal
+
+abbrev pub invariant-loop-k : goal.invariant-loop-k
+invariant-loop-k l = Left l.initial.st l.st (over_run (alight_rows (sheet_of l.feed) (joins_of l.feed l.changes) l.depth l.n l.i l.o) (call_at l.feed) l.n l.i l.initial.k) (over_run (alight_rows (sheet_of l.feed) (joins_of l.feed l.changes) l.depth l.n l.i l.o) (call_at l.feed) l.n l.i l.k)
+
+abbrev pub decreases-loop-k : goal.decreases-loop-k
+decreases-loop-k l = l.n - l.k

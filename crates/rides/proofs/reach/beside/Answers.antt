@@ -1,0 +1,18 @@
+-- `beside` meets its contract: number by number.
+use mathlib.Core.Path.{refl}
+use Prim.Native.Nat.{◌-◌, ◌≤◌}
+use native.Mathlib.Omega.{arith}
+use Rattle.rides.specs.Reach.{Beside}
+use Rattle.rides.proofs.OnwardLaws.{beside-start, beside-turn, beside-all}
+use borrow.Author.Rules.{rules}
+use Rattle.rides.proofs.reach.beside.Goals as goal
+
+pub loop-i-init : goal.loop-i-init
+loop-i-init c = (omega arith, beside-start _ _)
+
+pub loop-i-preserved : goal.loop-i-preserved
+loop-i-preserved c =
+    (omega arith, beside-turn c.loop-i-test.true refl refl c.loop-i.invariant.1)
+
+pub returns : goal.returns
+returns c = beside-all c.loop-i.invariant.0 c.loop-i-test.false c.loop-i.invariant.1

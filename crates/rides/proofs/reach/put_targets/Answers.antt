@@ -1,0 +1,24 @@
+-- `put_targets` meets its contract: a loop over the calls.
+use mathlib.Core.Path.{refl}
+use Prim.Native.Nat.{◌-◌, ◌≤◌}
+use native.Mathlib.Omega.{arith}
+use borrow.Author.Rules.{rules}
+use Rattle.rides.specs.Bounds.{AtCall}
+use Rattle.rides.specs.Reach.{Each}
+use Rattle.rides.proofs.ReachLaws.{none_yet, put_right, each_to}
+use Rattle.rides.proofs.reach.put_targets.Goals as goal
+
+pub loop-m-init : goal.loop-m-init
+loop-m-init c = (omega arith, none_yet _ _ _)
+
+pub overflow_add-m : goal.overflow_add-m
+overflow_add-m c = omega arith
+
+pub loop-m-smaller : goal.loop-m-smaller
+loop-m-smaller c = omega arith
+
+pub loop-m-preserved : goal.loop-m-preserved
+loop-m-preserved c = (omega arith, put_right _ refl (omega arith) c.alight_bound-t.ensures c.loop-m.invariant.1)
+
+pub returns : goal.returns
+returns c = each_to _ (omega (arith, c.loop-m.invariant.0)) c.loop-m.invariant.1

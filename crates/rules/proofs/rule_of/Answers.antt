@@ -1,0 +1,6 @@
+-- The record, field by field.
+use borrow.Author.Rules.{rules}
+use Rattle.rules.proofs.rule_of.Goals as goal
+
+pub returns : goal.returns
+returns c = rw (c.seconds_of-seconds.ensures, c.is_given-timed.ensures)

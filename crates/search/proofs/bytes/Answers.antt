@@ -1,0 +1,11 @@
+-- Each element by the array's type.
+use native.Mathlib.Omega.{arith}
+use Rattle.search.proofs.OfferedLaws.{none_below}
+use borrow.Author.Rules.{rules}
+use Rattle.search.proofs.bytes.Goals as goal
+
+pub returns-then-a-gt0 : goal.returns-then-a-gt0
+returns-then-a-gt0 c = λ i. (c.shared_slice_known-1.given i).fits
+
+pub returns-else-a-gt0 : goal.returns-else-a-gt0
+returns-else-a-gt0 c = λ i. none_below c.args.a.now i 256 c.if-a-gt0.false (omega arith)

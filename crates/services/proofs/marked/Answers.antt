@@ -1,0 +1,12 @@
+-- `marked` meets its contract.
+use mathlib.Core.Path.{sym}
+use native.Mathlib.Omega.{arith}
+use Rattle.services.proofs.Digits.{digit_shift, digit-past}
+use borrow.Author.Rules.{rules}
+use Rattle.services.proofs.marked.Goals as goal
+
+pub returns-then-k-lt8 : goal.returns-then-k-lt8
+returns-then-k-lt8 c = sym (digit_shift c.args.k c.args.mask)
+
+pub returns : goal.returns
+returns c = sym (digit-past 8 c.args.k c.args.mask (omega arith) c.if-k-lt8.false)

@@ -1,0 +1,16 @@
+-- What is left to hand in gives what all of it gives.
+use borrow.Author.Rules.{rules}
+use mathlib.Core.Path.{◌≡◌, refl}
+use native.Mathlib.Omega.{arith}
+use Rattle.steps_c.specs.Steps.{with_stop, turns}
+use Rattle.steps_c.proofs.TurnLaws.{next-turn, last_turn}
+use Rattle.steps_c.proofs.stops.Goals as goal
+
+pub loop-left-init : goal.loop-left-init
+loop-left-init c = refl
+
+pub loop-left-preserved : goal.loop-left-preserved
+loop-left-preserved c = let L = c.loop-left in next-turn with_stop L.left L.next (omega arith) c.with_stop-after.ensures L.invariant
+
+pub returns : goal.returns
+returns c = let L = c.loop-left in last_turn with_stop L.left L.next (omega arith) L.invariant

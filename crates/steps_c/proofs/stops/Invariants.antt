@@ -1,0 +1,13 @@
+-- What is left to hand in gives what all of it gives.
+use borrow.Author.Rules.{rules}
+use mathlib.Core.Path.{◌≡◌, refl}
+use native.Mathlib.Omega.{arith}
+use Rattle.steps_c.specs.Steps.{with_stop, turns}
+use Rattle.steps_c.proofs.TurnLaws.{next-turn, last_turn}
+use Rattle.steps_c.proofs.stops.Given as goal
+
+abbrev pub invariant-loop-left : goal.invariant-loop-left
+invariant-loop-left l = turns l.left with_stop l.next ≡ turns l.times with_stop l.initial.next
+
+abbrev pub decreases-loop-left : goal.decreases-loop-left
+decreases-loop-left l = l.left

@@ -1,0 +1,16 @@
+-- The loop looks for the stop among the first `count`.
+use borrow.Author.Rules.{rules}
+use Prim.Native.Nat.{◌≤◌, ◌-◌}
+use mathlib.Core.Path.{◌≡◌, refl, sym, ◌∙◌}
+use mathlib.Core.Bool.{true, false}
+use native.Mathlib.Omega.{arith}
+use lib.ListN.{length, get_or, take, drop, length-take}
+use Rattle.stops.specs.Stops.{is_it, find_stop}
+use Rattle.stops.proofs.Texts.{find-turn, find-end, past}
+use Rattle.stops.proofs.find.find.Given as goal
+
+abbrev pub invariant-loop-i : goal.invariant-loop-i
+invariant-loop-i l = (l.i ≤ 128) × (find_stop (is_it l.station l.id) (take l.count l.stops) 0 ≡ find_stop (is_it l.station l.id) (drop l.i (take l.count l.stops)) l.i)
+
+abbrev pub decreases-loop-i : goal.decreases-loop-i
+decreases-loop-i l = 128 - l.i

@@ -1,0 +1,13 @@
+-- The name that is held, no bytes where none is given.
+use mathlib.Core.Path.{ap, sym, ◌∙◌}
+use Rattle.stops.specs.Texts.{held_text}
+use Rattle.stops.proofs.Texts.{held_none}
+use Rattle.stops.proofs.Laws.{shown-named, shown-none}
+use borrow.Author.Rules.{rules}
+use Rattle.stops.proofs.taken.name_text.Goals as goal
+
+pub returns-then-named : goal.returns-then-named
+returns-then-named c = c.text64.ensures ∙ ap (held_text 64) (sym (shown-named _ _ c.if-named.true))
+
+pub returns : goal.returns
+returns c = held_none 64 ∙ ap (held_text 64) (sym (shown-none _ _ c.if-named.false))

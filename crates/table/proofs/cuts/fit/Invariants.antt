@@ -1,0 +1,14 @@
+-- Each turn ends in an answer, or cuts the table and tries the same call anew.
+use mathlib.Core.Path.{◌≡◌, refl, sym, ap, ◌∙◌}
+use native.Mathlib.Omega.{arith}
+use borrow.Author.Rules.{rules}
+use Rattle.calls.specs.declared.Table.{Table}
+use Rattle.calls.specs.Tables.{fitted}
+use Rattle.calls.proofs.FitLaws as law
+use Rattle.table.proofs.cuts.fit.Given as goal
+
+abbrev pub invariant-loop-call : goal.invariant-loop-call
+invariant-loop-call l = fitted l.t l.a l.d l.input ≡ fitted l.initial.t l.a l.d l.input
+
+abbrev pub decreases-loop-call : goal.decreases-loop-call
+decreases-loop-call l = l.t.horizon

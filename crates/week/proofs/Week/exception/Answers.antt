@@ -1,0 +1,32 @@
+-- The service at its place marked, or the week as it was.
+use Prim.Native.Nat.{◌<◌}
+use mathlib.Core.Path.{sym, ◌∙◌}
+use native.Mathlib.Omega.{arith}
+use Rattle.week.proofs.Known.{services-long}
+use Rattle.week.proofs.StepLaws.{place-below, exception-passed, exception-taken, exception-refused}
+use borrow.Author.Rules.{rules}
+use Rattle.week.proofs.Week.exception.Goals as goal
+
+-- a service that is known stands in one of the slots
+fits : (c : goal.After-excepted) → c.place_of-at.result < 64
+fits c =
+    let a = c.args in
+    let k = (exception-passed a.self a.searched a.name.now a.date a.kind _ c.exception_answer-answer.ensures (sym c.is_taken.ensures ∙ c.if-is_taken.true)).known in
+    omega (arith, c.place_of-at.ensures, (place-below a.self.services a.self.service_count a.name.now k).1, services-long a.self _ c.well_formed.0)
+
+pub offset_bounds-next-at : goal.offset_bounds-next-at
+offset_bounds-next-at c = omega (arith, fits c)
+
+pub bounds-next-at : goal.bounds-next-at
+bounds-next-at c = fits c
+
+pub returns-then-is_taken : goal.returns-then-is_taken
+returns-then-is_taken c =
+    let a = c.args in
+    exception-taken a.self a.searched _ _ _ _ c.exception_answer-answer.ensures _ _ _ _ (sym c.is_taken.ensures ∙ c.if-is_taken.true)
+    c.place_of-at.ensures c.service_in-service.ensures c.days_on.ensures c.excepted.ensures
+
+pub returns : goal.returns
+returns c =
+    let a = c.args in
+    exception-refused a.self a.searched _ _ _ _ c.exception_answer-answer.ensures (sym c.is_taken.ensures ∙ c.if-is_taken.false)
