@@ -11,3 +11,7 @@ overflow_mul-al c = record { fits = below 32 (omega arith) (omega arith) }
 
 pub overflow_mul-al-2 : goal.overflow_mul-al-2
 overflow_mul-al-2 c = record { fits = below 32 (omega arith) (omega arith) }
+
+pub returns : goal.returns
+returns c =
+    c.wrapping_add_u64.ensures.value ∙ rw c.wrapping_add_u64-middle.ensures.value (halves 4294967296 c.args.a c.args.b)
