@@ -7,7 +7,7 @@ use Rattle.profile.specs.Figures.{lexb}
 use Rattle.profile.specs.Kept.{St, latest, settle}
 use Rattle.profile.specs.Walk.{place, near, passes}
 use Rattle.profile.specs.Journeys.{cov, due, no_row}
-use Rattle.state.specs.Layout.{slots, width, count_place, refused_place, size}
+use Rattle.state.specs.Layout.{width, count_place, refused_place, size}
 use Rattle.state.specs.View.{row_at, rows, horizon_of, limits_of}
 
 -- the row r stored in slot i

@@ -3,7 +3,6 @@ use mathlib.Core.Path.{refl}
 use native.Mathlib.Omega.{arith}
 use Rattle.candidate.specs.Pieces.{Open, put_row}
 use Rattle.candidate.proofs.OfferLaws.{added-fits, added-open, added-too-many, added-long}
-use borrow.Author.Rules.{rules}
 use Rattle.candidate.proofs.added.Goals as goal
 
 pub returns-then-n-lt64 : goal.returns-then-n-lt64

@@ -3,7 +3,6 @@ use Rattle.profile.specs.Journeys.{due, row_of}
 use Rattle.candidate.specs.Pieces.{Open}
 use Rattle.state.proofs.ViewLaws.{in_time}
 use Rattle.candidate.proofs.OfferLaws.{offered-late}
-use borrow.Author.Rules.{rules}
 use Rattle.candidate.proofs.candidate.Goals as goal
 
 pub returns-then-too_late : goal.returns-then-too_late

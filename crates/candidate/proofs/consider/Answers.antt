@@ -2,7 +2,6 @@
 use mathlib.Core.Path.{refl}
 use Rattle.state.proofs.ViewLaws.{few}
 use Rattle.candidate.proofs.OfferLaws.{marked-long, marked-open, marked-horizon, marked-count, marked-ends, marked-view}
-use borrow.Author.Rules.{rules}
 use Rattle.candidate.proofs.consider.Goals as goal
 
 pub mark-requires : goal.mark-requires

@@ -4,7 +4,6 @@ use Rattle.candidate.specs.Pieces.{Open}
 use native.Mathlib.Omega.{arith}
 use Rattle.candidate.proofs.StepLaws.{packed_none}
 use Rattle.candidate.proofs.OfferLaws.{fallen-all}
-use borrow.Author.Rules.{rules}
 use Rattle.candidate.proofs.fall.Goals as goal
 
 pub pack-n-requires : goal.pack-n-requires

@@ -1,12 +1,10 @@
 -- `latest` meets its contract. The invariant: the latest so far and that of the rows left is the latest of all.
 use mathlib.Core.Path.{◌≡◌}
 use Prim.Native.Nat.{◌-◌, max}
-use native.Mathlib.Omega.{arith}
 use lib.ListN.{drop}
 use Rattle.state.specs.Layout.{slots}
 use Rattle.state.specs.View.{rows}
 use Rattle.candidate.specs.Pieces.{latest_due}
-use Rattle.candidate.proofs.StepLaws.{latest-turn, latest-done}
 use Rattle.candidate.proofs.latest.Given as goal
 
 abbrev pub invariant-loop-i : goal.invariant-loop-i

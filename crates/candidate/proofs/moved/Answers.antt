@@ -2,7 +2,6 @@
 use native.Mathlib.Omega.{arith}
 use Rattle.state.proofs.RowLaws.{row-got}
 use Rattle.candidate.proofs.StepLaws.{moved_on, moved-not}
-use borrow.Author.Rules.{rules}
 use Rattle.candidate.proofs.moved.Goals as goal
 
 pub store-requires : goal.store-requires

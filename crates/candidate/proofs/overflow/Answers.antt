@@ -2,7 +2,6 @@
 use mathlib.Core.Path.{refl}
 use native.Mathlib.Omega.{arith}
 use Rattle.candidate.proofs.OfferLaws.{refused_all}
-use borrow.Author.Rules.{rules}
 use Rattle.candidate.proofs.overflow.Goals as goal
 
 pub returns-then-late-lt3601 : goal.returns-then-late-lt3601

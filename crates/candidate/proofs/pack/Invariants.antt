@@ -1,8 +1,6 @@
 -- `pack` meets its contract. The invariant: the rows that stay of those looked at stand in front, and the rest is as it was.
 use Prim.Native.Nat.{◌-◌, ◌≤◌}
-use native.Mathlib.Omega.{arith}
 use Rattle.candidate.specs.Pieces.{Packed, stays}
-use Rattle.candidate.proofs.StepLaws.{pack-turn, packed_all}
 use Rattle.candidate.proofs.pack.Given as goal
 
 abbrev pub invariant-loop-i : goal.invariant-loop-i

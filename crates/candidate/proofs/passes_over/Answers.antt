@@ -4,7 +4,6 @@ use Rattle.profile.specs.Journeys.{due, row_of}
 use Rattle.state.proofs.ViewLaws.{few}
 use Rattle.candidate.proofs.PassedLaws.{passed-late, passed-covered}
 use Rattle.candidate.proofs.OfferLaws.{marked-long, marked-ends, marked-view, marked-passing}
-use borrow.Author.Rules.{rules}
 use Rattle.candidate.proofs.passes_over.Goals as goal
 
 pub returns-then-too_late : goal.returns-then-too_late

@@ -1,7 +1,6 @@
 -- `stays_on` meets its contract, by which of the two tests is asked.
 use Rattle.profile.specs.Journeys.{due}
 use Rattle.candidate.specs.Pieces.{stays}
-use borrow.Author.Rules.{rules}
 use Rattle.candidate.proofs.stays_on.Goals as goal
 
 pub returns-then-covers : goal.returns-then-covers

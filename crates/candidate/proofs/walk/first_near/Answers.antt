@@ -1,11 +1,6 @@
 -- `first_near` meets its contract. The invariant: no row so far covers o or is covered by it; where the numbers of the next one start.
-use mathlib.Core.Path.{◌≡◌, refl}
-use Prim.Native.Nat.{◌-◌, ◌*◌, ◌≤◌}
+use mathlib.Core.Path.{refl}
 use native.Mathlib.Omega.{arith}
-use lib.ListN.{take}
-use Rattle.state.specs.Layout.{width}
-use Rattle.state.specs.View.{rows}
-use Rattle.candidate.specs.Pieces.{Skipped}
 use Rattle.candidate.proofs.StepLaws.{skip-none}
 use Rattle.candidate.proofs.TurnLaws.{walk-empty, walk-on, walk-passes, walk-stops}
 use Rattle.candidate.proofs.walk.first_near.Goals as goal

@@ -1,6 +1,5 @@
 -- `offer_ranks` meets its contract, test by test.
 use Rattle.candidate.proofs.TurnLaws.{rank-sooner, rank-later, rank-walk, rank-rides}
-use borrow.Author.Rules.{rules}
 use Rattle.candidate.proofs.walk.offer_ranks.Goals as goal
 
 pub returns-then-st-at : goal.returns-then-st-at

@@ -1,6 +1,5 @@
 -- `row_ranks` meets its contract, test by test.
 use Rattle.candidate.proofs.TurnLaws.{rank-sooner, rank-later, rank-walk, rank-rides}
-use borrow.Author.Rules.{rules}
 use Rattle.candidate.proofs.walk.row_ranks.Goals as goal
 
 pub returns-then-st-at : goal.returns-then-st-at
