@@ -1,4 +1,5 @@
 -- Best at the larger second.
+use mir.Syntax.{w64}
 use mathlib.Core.Path.{◌∙◌, ap}
 use lib.IntN.{ℤ}
 use Rattle.laws.proofs.Ints.{again}
@@ -9,5 +10,5 @@ use Rattle.display.proofs.next_of_group.Goals as goal
 
 pub returns : goal.returns
 returns c =
-    next-shown c.args.group c.args.part c.args.second c.args.missed (again (record { sfits = c.after.type-inv }))
+    next-shown c.args.group c.args.part c.args.second c.args.missed (again {w = w64} (record { sfits = c.after.type-inv }))
     (c.after.ensures ∙ ap (λ (z : ℤ). after_of z c.args.missed.leave) (again c.ranges.second)) c.best_of_group.ensures

@@ -1,4 +1,5 @@
 -- Above 3, unsearched, or of another start.
+use mir.Syntax.{w64}
 use Rattle.laws.proofs.Ints.{again}
 use Rattle.groups.proofs.GroupLaws.{wrong-above, wrong-unsearched, wrong_start}
 use borrow.Author.Rules.{rules}
@@ -10,7 +11,7 @@ returns-then-group-gt3 c = wrong-above _ _ c.if-group-gt3.true
 pub returns-then-group : goal.returns-then-group
 returns-then-group c =
     wrong_start c.args.low c.args.group c.if-group-gt3.false c.if-group.true
-    (again (record { sfits = c.struct_told-1.given.1.1.0.1 })) (again c.ranges.low) c.differ.ensures
+    (again {w = w64} (record { sfits = c.struct_told-1.given.1.1.0.1 })) (again c.ranges.low) c.differ.ensures
 
 pub returns : goal.returns
 returns c = wrong-unsearched _ _ c.if-group-gt3.false c.if-group.false

@@ -20,11 +20,11 @@ near-now c =
 
 -- what the machine reads back of the time is the time
 fit : (c : goal.After-since) → SFits w64 (to_z w64 (of_z w64 c.since-t.result))
-fit c = rw (again (record { sfits = c.since-t.type-inv })) (record { sfits = c.since-t.type-inv })
+fit c = rw (again {w = w64} (record { sfits = c.since-t.type-inv })) (record { sfits = c.since-t.type-inv })
 
 is : (c : goal.After-since) → to_z w64 (of_z w64 c.since-t.result) ≡ c.args.epoch +ℤ pos c.args.seconds -ℤ c.args.now
 is c =
-    again (record { sfits = c.since-t.type-inv }) ∙ c.since-t.ensures ∙ (λ i. again c.ranges.epoch i +ℤ pos c.args.seconds -ℤ again c.ranges.now i)
+    again {w = w64} (record { sfits = c.since-t.type-inv }) ∙ c.since-t.ensures ∙ (λ i. again c.ranges.epoch i +ℤ pos c.args.seconds -ℤ again c.ranges.now i)
 
 pub since-t-requires : goal.since-t-requires
 since-t-requires c =
