@@ -30,6 +30,9 @@ module _ (b : Bool) (stops : ℕ) (rs : List Rule) (n : ℕ) (i : RuleInput) whe
     pub to_known : i.to < stops
     pub type_right : type_right_of i.transfer_type i.seconds ≡ true
 
+  pub sound : b ≡ false → i.from < stops → i.to < stops → type_right_of i.transfer_type i.seconds ≡ true → Sound
+  sound u f t k = record { unsearched = u; from_known = f; to_known = t; type_right = k }
+
   pub searched : b ≡ true → Refused AlreadySearched ≡ answer
   unfolding rule_tests
   searched h = first-is-answer _ _ (hit h)

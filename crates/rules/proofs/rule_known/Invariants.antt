@@ -1,13 +1,9 @@
 -- The loop looks for the pair among the first `count` rules.
 use Prim.Native.Nat.{◌≤◌, ◌-◌}
-use mathlib.Core.Path.{◌≡◌, refl, sym, ◌∙◌}
-use mathlib.Core.Bool.{true, false}
-use lib.ListN.{length, get_or, take, drop, length-take}
-use native.Mathlib.Omega.{arith}
-use borrow.Author.Rules.{rules}
+use mathlib.Core.Path.{◌≡◌}
+use lib.ListN.{take, drop}
 use Rattle.laws.specs.Lists.{anyb}
-use Rattle.rules.specs.Rules.{same_pair, blank_rule}
-use Rattle.laws.proofs.Turns.{any-turn, any-past}
+use Rattle.rules.specs.Rules.{same_pair}
 use Rattle.rules.proofs.rule_known.Given as goal
 
 abbrev pub invariant-loop-i : goal.invariant-loop-i

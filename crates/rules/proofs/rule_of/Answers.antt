@@ -1,5 +1,4 @@
 -- The record, field by field.
-use borrow.Author.Rules.{rules}
 use Rattle.rules.proofs.rule_of.Goals as goal
 
 pub returns : goal.returns
