@@ -15,4 +15,4 @@ returns c =
     let a = c.args in
     entry-parts (rules_of a.rules.now (least a.count 128)) a.parents.now a.places.now a.from a.to a.change
     c.ends_of-ends.ensures c.rule_by-rule.ensures c.number_at-from_place.ensures c.number_at-to_place.ensures
-    c.are_near-near.ensures c.change_by-by.ensures c.change_number.ensures.0
+    c.are_near-near.ensures c.change_by-by.ensures c.change_number.ensures.value

@@ -12,4 +12,4 @@ returns-then-given_twice c = away-twice _ (sym c.given_twice.ensures ∙ c.if-gi
 
 pub returns : goal.returns
 returns c =
-    away-wrong _ _ (sym c.given_twice.ensures ∙ c.if-given_twice.false) (again {w = w64} (record { sfits = c.lowest_start.type-inv }) ∙ c.lowest_start.ensures) c.any_wrong.ensures
+    away-wrong _ _ (sym c.given_twice.ensures ∙ c.if-given_twice.false) (again {w = w64} (record { sfits = c.lowest_start.type_inv }) ∙ c.lowest_start.ensures) c.any_wrong.ensures

@@ -6,4 +6,8 @@ use Rattle.lent_c.proofs.answer_of.Goals as goal
 
 pub returns-in-Best : goal.returns-in-Best
 unfolding answer_of
-returns-in-Best c = ap answer_of (sym c.found-1.given.1)
+returns-in-Best c = ap answer_of (sym c.in-Best.is)
+
+pub returns-in-Nothing : goal.returns-in-Nothing
+unfolding answer_of
+returns-in-Nothing c = ap answer_of (sym c.in-Nothing.is)

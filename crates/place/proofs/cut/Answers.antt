@@ -5,11 +5,12 @@ use lib.Ieee.Casts.{to_signed_in}
 use Rattle.laws.proofs.Cut.{cut_inside, cut-not-low, cut-not-high, cut-above, cut_below, cut-neither}
 use Rattle.laws.proofs.Ints.{again}
 use Rattle.place.proofs.cut.Goals as goal
+use Rattle.place.proofs.cut.Goals.{After-truncating_f64_to_i64}
 
-is : (c : goal.After-truncating_f64_to_i64) → to_z w64 (of_z w64 c.truncating_f64_to_i64.result) ≡ to_signed 31 c.args.y
+is : (c : After-truncating_f64_to_i64) → to_z w64 (of_z w64 c.truncating_f64_to_i64.result) ≡ to_signed 31 c.args.y
 unfolding of_bits neg
 is c =
-    again {w = w64} {z = c.truncating_f64_to_i64.result} (record { sfits = c.truncating_f64_to_i64.type-inv })
+    again {w = w64} {z = c.truncating_f64_to_i64.result} (record { sfits = c.truncating_f64_to_i64.type_inv })
     ∙ c.truncating_f64_to_i64.ensures
     ∙ cut_inside c.args.y c.if-y.true c.if-y-2.true
 

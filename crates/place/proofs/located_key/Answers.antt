@@ -7,7 +7,7 @@ use Rattle.place.proofs.located_key.Goals as goal
 
 pub returns-in-At : goal.returns-in-At
 returns-in-At c =
-    let at-m = c in
+    let at-m = c.before.before in
     let told = c.known_told-1.given in
     let k = at-m.before.before.before.args in
     let lat = at-m.m.given.0.0 in
@@ -15,3 +15,8 @@ returns-in-At c =
     c.named_key.ensures
     ∙ (λ i. named_key k.k (again {w = w32} {z = lat} (record { sfits = told.0.1 }) i) (again {w = w32} {z = lon} (record { sfits = told.1.0.1 }) i) k.id.now)
     ∙ sym (ap (λ (m : Micro). located_key m k.k k.id.now) at-m.m.given.1)
+
+pub returns-in-Nowhere : goal.returns-in-Nowhere
+returns-in-Nowhere c =
+    let k = c.args in
+    c.id_key.ensures ∙ sym (ap (λ (m : Micro). located_key m k.k k.id.now) c.in-Nowhere.is)

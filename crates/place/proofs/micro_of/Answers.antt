@@ -6,4 +6,4 @@ use Rattle.place.proofs.micro_of.Goals as goal
 
 pub returns : goal.returns
 unfolding micro
-returns c = again {w = w32} {z = c.cut.result} (record { sfits = c.cut.type-inv }) ∙ c.cut.ensures
+returns c = again {w = w32} {z = c.cut.result} (record { sfits = c.cut.type_inv }) ∙ c.cut.ensures

@@ -18,7 +18,7 @@ other NotLatin lat lon id o = refl
 
 pub returns-in-Hash : goal.returns-in-Hash
 returns-in-Hash c =
-    let at-k = c in
+    let at-k = c.before in
     let s = at-k.before.before.before in
     (λ i. record { tag = tag_n; hash = at-k.k.given.0.0; lat = again s.ranges.lat i; lon = again s.ranges.lon i })
     ∙ sym (ap (λ (k : NameKey). named_key k s.args.lat s.args.lon s.args.id.now) at-k.k.given.1)

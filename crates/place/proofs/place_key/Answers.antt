@@ -17,11 +17,19 @@ returns-then-has_parent c =
 
 pub returns-in-Given : goal.returns-in-Given
 returns-in-Given c =
-    let at-shown = c in
+    let at-shown = c.before in
     let at-micro = at-shown.before in
     let at_p = at-micro.before.before in
-    let at-if = at_p in
+    let at-if = at_p.before.before in
     let k = at-if.before.before.before.before.args in
     c.located_key.ensures
     ∙ (λ i. located_key (at-micro.microdegrees.ensures i) (at-shown.shown-key.ensures i) k.id.now)
     ∙ sym (alone _ k.parent.now _ _ k.named k.name.now k.id.now at-if.if1.false at_p.position.given.1)
+
+pub returns-in-Absent : goal.returns-in-Absent
+unfolding micro_of
+returns-in-Absent c =
+    let at-if = c.before.before.before in
+    let k = at-if.before.before.before.before.args in
+    c.id_key.ensures
+    ∙ sym (alone _ k.parent.now _ _ k.named k.name.now k.id.now at-if.if1.false c.in-Absent.is)

@@ -22,14 +22,14 @@ returns-then-a-b-2 c =
 
 pub returns-then-a-ne78 : goal.returns-then-a-ne78
 returns-then-a-ne78 c =
-    let at-2 = c in
+    let at-2 = c.before.before in
     let at_1 = at-2.before.before.before in
     let k = at_1.args in
     sym (by_tests k.a k.b _ _ _ (eq-eqb _ _ at_1.if1.false) (eq-eqb _ _ at-2.if2.false) (ne_eqb _ _ c.if-a-ne78.true))
 
 pub returns : goal.returns
 returns c =
-    let at-3 = c in
+    let at-3 = c.before.before.before.before.before in
     let at-2 = at-3.before.before in
     let at_1 = at-2.before.before.before in
     let k = at_1.args in

@@ -8,6 +8,9 @@ use Rattle.place_c.proofs.place_longitude.Goals as goal
 
 pub returns-in-At : goal.returns-in-At
 returns-in-At c =
-    let at-micro = c in
+    let at-micro = c.before in
     again {w = w32} {z = at-micro.micro.given.0.1.0} (record { sfits = c.known_told-1.given.1.0.1 })
     ∙ ap lon_of (sym at-micro.micro.given.1 ∙ at-micro.before.before.micro-with.ensures)
+
+pub returns-in-Nowhere : goal.returns-in-Nowhere
+returns-in-Nowhere c = ap lon_of (sym c.in-Nowhere.is ∙ c.micro_with-micro.ensures)

@@ -8,4 +8,4 @@ use Rattle.search.proofs.changes_for.Goals as goal
 pub returns : goal.returns
 returns c =
     let l = c.args.load in
-    changes-are l c.args.feed.now c.changes_of.result _ _ _ _ _ (rules-long l _ c.well_formed.0) c.flat_rules-flat.ensures.1 c.parents_of-parents.ensures c.group_places-places.ensures refl refl c.changes_of.ensures
+    changes-are l c.args.feed.now c.changes_of.result _ _ _ _ _ (rules-long l _ c.well_formed.0) c.flat_rules-flat.ensures.read c.parents_of-parents.ensures c.group_places-places.ensures refl refl c.changes_of.ensures

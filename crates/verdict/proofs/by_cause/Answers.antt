@@ -8,4 +8,4 @@ use Rattle.verdict.proofs.by_cause.Goals as goal
 pub returns-in-Because : goal.returns-in-Because
 returns-in-Because c =
     let a = c.args in
-    sym (ap (λ (t : Told). judged_by t a.listed) c.told-1.given.1)
+    sym (ap (λ (t : Told). judged_by t a.listed) c.in-Because.is)

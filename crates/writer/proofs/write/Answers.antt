@@ -14,14 +14,16 @@ pub returns-then-is_unwritable : goal.returns-then-is_unwritable
 returns-then-is_unwritable c =
     let a = c.args in
     let w = wrote-barred a.load a.out-1.now (sym c.is_unwritable.ensures ∙ c.if-is_unwritable.true) in
-    (c.refused.ensures ∙ w.0, w.1)
+    record { value = c.refused.ensures ∙ w.0; out_after = w.1 }
+
 
 pub returns-then-out-n : goal.returns-then-out-n
 returns-then-out-n c =
     let a = c.args in
     let h : length a.out-1.now < length (write_spec_of a.load) = omega (arith, c.file_length-n.ensures, c.if-out-n.true) in
     let w = wrote-short a.load a.out-1.now (sym c.is_unwritable.ensures ∙ c.if-is_unwritable.false) h in
-    (c.refused-then-out-n.ensures ∙ w.0, w.1)
+    record { value = c.refused-then-out-n.ensures ∙ w.0; out_after = w.1 }
+
 
 pub returns : goal.returns
 returns c =
@@ -30,4 +32,5 @@ returns c =
     let w = wrote-all a.load a.out-1.now (sym c.is_unwritable.ensures ∙ c.if-is_unwritable.false) h c.put_file.ensures in
     let r : ◌≡◌ {A = Wrote} (record { answer = Taken; length = c.file_length-n.result }) (record { answer = Taken; length = length (write_spec_of a.load) }) =
     ap (λ (n : ℕ). record { answer = Taken; length = n }) c.file_length-n.ensures in
-    (r ∙ w.0, w.1)
+    record { value = r ∙ w.0; out_after = w.1 }
+

@@ -4,7 +4,7 @@ use borrow.Author.Rules.{rules}
 use Rattle.calls.proofs.window.held_to.Goals as goal
 
 pub returns-then-n-h : goal.returns-then-n-h
-returns-then-n-h c = rw (c.t-1.given.1, le-leb _ _ c.if-n-h.true)
+returns-then-n-h c = rw (c.in-At.is, le-leb _ _ c.if-n-h.true)
 
 pub returns-else-n-h : goal.returns-else-n-h
-returns-else-n-h c = rw (c.t-1.given.1, lt-leb _ _ c.if-n-h.false)
+returns-else-n-h c = rw (c.in-At.is, lt-leb _ _ c.if-n-h.false)

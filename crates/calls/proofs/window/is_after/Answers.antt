@@ -3,4 +3,4 @@ use borrow.Author.Rules.{rules}
 use Rattle.calls.proofs.window.is_after.Goals as goal
 
 pub returns-in-At : goal.returns-in-At
-returns-in-At c = rw c.t-1.given.1
+returns-in-At c = rw c.in-At.is

@@ -4,10 +4,10 @@ use borrow.Author.Rules.{rules}
 use Rattle.calls.proofs.window.since.Goals as goal
 
 pub overflow_add-result : goal.overflow_add-result
-overflow_add-result c = sum_fits _ _ _ c.ranges.epoch c.ranges.now c.ranges.seconds c.requires.0 c.requires.1
+overflow_add-result c = sum_fits _ _ _ c.ranges.epoch c.ranges.now c.ranges.seconds c.requires.epoch_value c.requires.value
 
 pub overflow_sub-result : goal.overflow_sub-result
-overflow_sub-result c = gap-fits _ _ _ c.ranges.epoch c.ranges.now c.ranges.seconds c.requires.0 c.requires.1
+overflow_sub-result c = gap-fits _ _ _ c.ranges.epoch c.ranges.now c.ranges.seconds c.requires.epoch_value c.requires.value
 
 pub returns : goal.returns
-returns c = gap_is _ _ _ c.ranges.epoch c.ranges.now c.ranges.seconds c.requires.0 c.requires.1
+returns c = gap_is _ _ _ c.ranges.epoch c.ranges.now c.ranges.seconds c.requires.epoch_value c.requires.value

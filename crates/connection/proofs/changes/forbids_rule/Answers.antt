@@ -5,4 +5,4 @@ use borrow.Author.Rules.{rules}
 use Rattle.connection.proofs.changes.forbids_rule.Goals as goal
 
 pub returns-in-By : goal.returns-in-By
-returns-in-By c = sym (ap forbids c.rule-1.given.1)
+returns-in-By c = sym (ap forbids c.in-By.is)

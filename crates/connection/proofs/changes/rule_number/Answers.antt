@@ -9,4 +9,4 @@ use Rattle.connection.proofs.changes.rule_number.Goals as goal
 pub returns-in-By : goal.returns-in-By
 returns-in-By c =
     let a = c.args in
-    c.less_one.ensures ∙ ap (λ (n : ℕ). n - 1) c.pair_place-at.ensures ∙ sym (ap (number_in (take a.count a.rules)) c.rule-1.given.1)
+    c.less_one.ensures ∙ ap (λ (n : ℕ). n - 1) c.pair_place-at.ensures ∙ sym (ap (number_in (take a.count a.rules)) c.in-By.is)

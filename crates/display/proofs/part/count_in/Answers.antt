@@ -4,7 +4,7 @@ use borrow.Author.Rules.{rules}
 use Rattle.display.proofs.part.count_in.Goals as goal
 
 pub returns-then-slot : goal.returns-then-slot
-returns-then-slot c = count-given c.args.slot c.if-slot.true c.listed.ensures.0
+returns-then-slot c = count-given c.args.slot c.if-slot.true c.listed.ensures.value
 
 pub returns : goal.returns
 returns c = count_none _ c.if-slot.false

@@ -16,15 +16,15 @@ returns-then-count-k c =
     omega (arith, c.loop-k.invariant.3, due-past a.window a.t1 a.count c.loop-k.k (omega (arith, length-take a.count a.t1)))
 
 pub overflow_add-n : goal.overflow_add-n
-overflow_add-n c = omega (arith, c.shown_of-n.ensures.1)
+overflow_add-n c = omega (arith, c.shown_of-n.ensures.upper_bound)
 
 pub loop-k-preserved : goal.loop-k-preserved
 loop-k-preserved c =
     let a = c.args in (
       omega arith,
       c.loop-k.invariant.1,
-      omega (arith, c.shown_of-n.ensures.1),
-      due-next a.window a.t1 a.count c.loop-k.k _ c.loop-k.n _ _ (omega arith) (omega (arith, c.loop-k.invariant.1)) c.shown_of-n.ensures.0 c.loop-k.invariant.3,
+      omega (arith, c.shown_of-n.ensures.upper_bound),
+      due-next a.window a.t1 a.count c.loop-k.k _ c.loop-k.n _ _ (omega arith) (omega (arith, c.loop-k.invariant.1)) c.shown_of-n.ensures.value c.loop-k.invariant.3,
     )
 
 pub returns : goal.returns

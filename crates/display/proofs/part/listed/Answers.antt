@@ -7,9 +7,11 @@ use Rattle.display.proofs.part.listed.Goals as goal
 pub returns-then-group-lt64 : goal.returns-then-group-lt64
 returns-then-group-lt64 c =
     let g = c.args.group in
-    (listed-part g.journeys-1 g.count c.known.ensures c.if-group-lt64.true, omega arith)
+    record { value = listed-part g.journeys-1 g.count c.known.ensures c.if-group-lt64.true; upper_bound = omega arith }
+
 
 pub returns-else-group-lt64 : goal.returns-else-group-lt64
 returns-else-group-lt64 c =
     let g = c.args.group in
-    (listed-all g.journeys-1 g.count c.known.ensures c.if-group-lt64.false, omega arith)
+    record { value = listed-all g.journeys-1 g.count c.known.ensures c.if-group-lt64.false; upper_bound = omega arith }
+

@@ -9,19 +9,19 @@ use borrow.Author.Rules.{rules}
 use Rattle.display.proofs.part.window_at.Goals as goal
 
 pub offset_bounds-journeys-share : goal.offset_bounds-journeys-share
-offset_bounds-journeys-share c = omega (arith, c.listed-n.ensures.1)
+offset_bounds-journeys-share c = omega (arith, c.listed-n.ensures.upper_bound)
 
 pub bounds-journeys-share : goal.bounds-journeys-share
-bounds-journeys-share c = omega (arith, c.listed-n.ensures.1)
+bounds-journeys-share c = omega (arith, c.listed-n.ensures.upper_bound)
 
 pub returns-then-share-n : goal.returns-then-share-n
 returns-then-share-n c =
     let a = c.args in
-    let h : a.share < length (list_of a.group) = omega (arith, c.listed-n.ensures.0, c.if-share-n.true) in
+    let h : a.share < length (list_of a.group) = omega (arith, c.listed-n.ensures.value, c.if-share-n.true) in
     window-cut a.group.journeys a.group.count a.share a.group.horizon _ h c.a_second_before.ensures
 
 pub returns : goal.returns
 returns c =
     let a = c.args in
-    let h : length (list_of a.group) ≤ a.share = omega (arith, c.listed-n.ensures.0, c.if-share-n.false) in
+    let h : length (list_of a.group) ≤ a.share = omega (arith, c.listed-n.ensures.value, c.if-share-n.false) in
     window-all (list_of a.group) a.share a.group.horizon h

@@ -9,22 +9,23 @@ use Rattle.laws.proofs.Bools.{and-by, and-not}
 use Rattle.fields.specs.Layout.{mark_at, pickup_at, call_filled_of}
 use borrow.Author.Rules.{rules}
 use Rattle.fields.proofs.layout.call_filled.Goals as goal
+use Rattle.fields.proofs.layout.call_filled.Goals.{Then-pickup_at-b}
 
-ends : (c : goal.Then-pickup_at-b) → eqb (pickup_at c.args.b.now + 2) (length c.args.b.now) ≡ true
-ends c = eq-eqb _ _ (ap (λ (n : ℕ). n + 2) (sym c.pickup_at.ensures.0) ∙ c.if-pickup_at-b.true)
+ends : (c : Then-pickup_at-b) → eqb (pickup_at c.args.b.now + 2) (length c.args.b.now) ≡ true
+ends c = eq-eqb _ _ (ap (λ (n : ℕ). n + 2) (sym c.pickup_at.ensures.value) ∙ c.if-pickup_at-b.true)
 
 pub returns-then-mark_at : goal.returns-then-mark_at
 unfolding call_filled_of
 returns-then-mark_at c =
     c.mark_at-then-mark_at.ensures
-    ∙ ap (mark_at c.args.b.now) c.departure_at.ensures.0
+    ∙ ap (mark_at c.args.b.now) c.departure_at.ensures.value
     ∙ sym (and-by _ (sym c.mark_at.ensures ∙ c.if-mark_at.true))
-    ∙ sym (and-by _ (ends c))
+    ∙ sym (and-by _ (ends c.before.before.before.before))
 
 pub returns-else-mark_at : goal.returns-else-mark_at
 unfolding call_filled_of
-returns-else-mark_at c = sym (and-not _ (sym c.mark_at.ensures ∙ c.if-mark_at.false)) ∙ sym (and-by _ (ends c))
+returns-else-mark_at c = sym (and-not _ (sym c.mark_at.ensures ∙ c.if-mark_at.false)) ∙ sym (and-by _ (ends c.before.before))
 
 pub returns-else-pickup_at-b : goal.returns-else-pickup_at-b
 unfolding call_filled_of
-returns-else-pickup_at-b c = sym (and-not _ (ne_eqb _ _ (λ e. c.if-pickup_at-b.false (ap (λ (n : ℕ). n + 2) c.pickup_at.ensures.0 ∙ e))))
+returns-else-pickup_at-b c = sym (and-not _ (ne_eqb _ _ (λ e. c.if-pickup_at-b.false (ap (λ (n : ℕ). n + 2) c.pickup_at.ensures.value ∙ e))))

@@ -7,4 +7,5 @@ use borrow.Author.Rules.{rules}
 use Rattle.fields.proofs.layout.members_at.Goals as goal
 
 pub returns : goal.returns
-returns c = (c.option_end.ensures.0 ∙ ap (λ (n : ℕ). option_end c.args.b.now (n + 1) 16) c.type_at.ensures.0, omega arith)
+returns c = record { value = c.option_end.ensures.value ∙ ap (λ (n : ℕ). option_end c.args.b.now (n + 1) 16) c.type_at.ensures.value; near = omega arith }
+

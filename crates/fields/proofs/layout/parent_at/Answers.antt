@@ -6,4 +6,5 @@ use borrow.Author.Rules.{rules}
 use Rattle.fields.proofs.layout.parent_at.Goals as goal
 
 pub returns : goal.returns
-returns c = (c.option_text_end.ensures.0 ∙ ap (option_text_end c.args.b.now) c.name_at.ensures.0, omega arith)
+returns c = record { value = c.option_text_end.ensures.value ∙ ap (option_text_end c.args.b.now) c.name_at.ensures.value; near = omega arith }
+

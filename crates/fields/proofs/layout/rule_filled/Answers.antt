@@ -8,8 +8,8 @@ use Rattle.fields.proofs.layout.rule_filled.Goals as goal
 
 pub returns-then-option_end-b : goal.returns-then-option_end-b
 unfolding rule_filled_of
-returns-then-option_end-b c = c.mark_at.ensures ∙ sym (and-by _ (eq-eqb _ _ (sym c.option_end.ensures.0 ∙ c.if-option_end-b.true)))
+returns-then-option_end-b c = c.mark_at.ensures ∙ sym (and-by _ (eq-eqb _ _ (sym c.option_end.ensures.value ∙ c.if-option_end-b.true)))
 
 pub returns : goal.returns
 unfolding rule_filled_of
-returns c = sym (and-not _ (ne_eqb _ _ (λ e. c.if-option_end-b.false (c.option_end.ensures.0 ∙ e))))
+returns c = sym (and-not _ (ne_eqb _ _ (λ e. c.if-option_end-b.false (c.option_end.ensures.value ∙ e))))

@@ -9,4 +9,4 @@ use Rattle.fields.proofs.layout.settings_filled.Goals as goal
 
 pub returns : goal.returns
 unfolding settings_filled_of
-returns c = ap (λ (n : ℕ). eqb (n + 34) (length c.args.b.now)) c.minutes_at.ensures.0
+returns c = ap (λ (n : ℕ). eqb (n + 34) (length c.args.b.now)) c.minutes_at.ensures.value

@@ -7,4 +7,4 @@ use borrow.Author.Rules.{rules}
 use Rattle.fields.proofs.numbers.i64_at.Goals as goal
 
 pub returns : goal.returns
-returns c = again {w = w64} (record { sfits = c.signed.type-inv }) ∙ c.signed.ensures ∙ ap signed_of c.u64_at.ensures
+returns c = again {w = w64} (record { sfits = c.signed.type_inv }) ∙ c.signed.ensures ∙ ap signed_of c.u64_at.ensures

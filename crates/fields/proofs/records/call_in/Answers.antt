@@ -9,14 +9,14 @@ use Rattle.fields.proofs.records.call_in.Goals as goal
 pub returns : goal.returns
 unfolding call_in
 returns c = let b = c.args.b.now in
-    let at = c.pickup_at-at.ensures.0 in
+    let at = c.pickup_at-at.ensures.value in
     λ t. record {
       trip = c.u16_at.ensures t;
       day = c.byte_at.ensures t;
       sequence = c.u32_at.ensures t;
       stop = c.u16_at-2.ensures t;
       arrival = c.seconds_at-arrival.ensures t;
-      departure = (c.seconds_at-departure.ensures ∙ ap (seconds_at b) c.departure_at.ensures.0) t;
+      departure = (c.seconds_at-departure.ensures ∙ ap (seconds_at b) c.departure_at.ensures.value) t;
       pickup = (c.byte_at-2.ensures ∙ ap (byte_at b) at) t;
       drop_off = (c.byte_at-3.ensures ∙ ap (λ (n : ℕ). byte_at b (n + 1)) at) t;
     }

@@ -11,7 +11,7 @@ use Rattle.fields.proofs.records.settings_in.Goals as goal
 pub returns : goal.returns
 unfolding settings_in
 returns c = let b = c.args.b.now in
-    let at = c.minutes_at-at.ensures.0 in
+    let at = c.minutes_at-at.ensures.value in
     λ t. record {
       origins = c.byte_at.ensures t;
       targets = c.byte_at-2.ensures t;
@@ -19,10 +19,10 @@ returns c = let b = c.args.b.now in
       target_walks = (c.walks_at-target_walks.ensures ∙ ap (walks_at b) c.target_walks_at.ensures) t;
       transfer_seconds = (c.byte_at-minutes.ensures ∙ ap (byte_at b) at) t * 60;
       max_transfers = (c.byte_at-3.ensures ∙ ap (λ (n : ℕ). byte_at b (n + 1)) at) t;
-      now = i64-again b 2 (record { sfits = c.i64_at-4.type-inv }) c.i64_at-4.ensures at t;
+      now = i64-again b 2 (record { sfits = c.i64_at-4.type_inv }) c.i64_at-4.ensures at t;
       epochs =
-          i64-again b 10 (record { sfits = c.i64_at.type-inv }) c.i64_at.ensures at t
-          ∷ i64-again b 18 (record { sfits = c.i64_at-2.type-inv }) c.i64_at-2.ensures at t
-          ∷ i64-again b 26 (record { sfits = c.i64_at-3.type-inv }) c.i64_at-3.ensures at t
+          i64-again b 10 (record { sfits = c.i64_at.type_inv }) c.i64_at.ensures at t
+          ∷ i64-again b 18 (record { sfits = c.i64_at-2.type_inv }) c.i64_at-2.ensures at t
+          ∷ i64-again b 26 (record { sfits = c.i64_at-3.type_inv }) c.i64_at-3.ensures at t
           ∷ [];
     }

@@ -10,12 +10,12 @@ use Rattle.fields.proofs.records.stop_in.Goals as goal
 pub returns : goal.returns
 unfolding stop_in
 returns c = let b = c.args.b.now in
-    let at = c.type_at-kind.ensures.0 in
+    let at = c.type_at-kind.ensures.value in
     λ t. record {
-      named = (c.has_at.ensures ∙ ap (has_at b) c.name_at.ensures.0) t;
-      has_parent = (c.has_at-2.ensures ∙ ap (has_at b) c.parent_at.ensures.0) t;
+      named = (c.has_at.ensures ∙ ap (has_at b) c.name_at.ensures.value) t;
+      has_parent = (c.has_at-2.ensures ∙ ap (has_at b) c.parent_at.ensures.value) t;
       location_type = (c.byte_at.ensures ∙ ap (byte_at b) at) t;
       located = (c.has_at-3.ensures ∙ ap (λ (n : ℕ). has_at b (n + 1)) at) t;
       degrees = (c.degrees_at-degrees.ensures ∙ ap (λ (n : ℕ). degrees_at b (n + 1)) at) t;
-      members = (c.byte_at-2.ensures ∙ ap (byte_at b) c.members_at.ensures.0) t;
+      members = (c.byte_at-2.ensures ∙ ap (byte_at b) c.members_at.ensures.value) t;
     }

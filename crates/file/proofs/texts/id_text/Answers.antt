@@ -5,4 +5,4 @@ use borrow.Author.Rules.{rules}
 use Rattle.file.proofs.texts.id_text.Goals as goal
 
 pub returns : goal.returns
-returns c = c.part.ensures ∙ id-part c.args.b.now c.name_at.ensures.0
+returns c = c.part.ensures ∙ id-part c.args.b.now c.name_at.ensures.value

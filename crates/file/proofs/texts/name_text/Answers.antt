@@ -5,4 +5,4 @@ use borrow.Author.Rules.{rules}
 use Rattle.file.proofs.texts.name_text.Goals as goal
 
 pub returns : goal.returns
-returns c = c.part.ensures ∙ text-part _ _ c.name_at-name.ensures.0 c.text_from-from.ensures c.parent_at-end.ensures.0
+returns c = c.part.ensures ∙ text-part _ _ c.name_at-name.ensures.value c.text_from-from.ensures c.parent_at-end.ensures.value

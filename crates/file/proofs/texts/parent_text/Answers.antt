@@ -5,4 +5,4 @@ use borrow.Author.Rules.{rules}
 use Rattle.file.proofs.texts.parent_text.Goals as goal
 
 pub returns : goal.returns
-returns c = c.part.ensures ∙ text-part _ _ c.parent_at-parent.ensures.0 c.text_from-from.ensures c.type_at-end.ensures.0
+returns c = c.part.ensures ∙ text-part _ _ c.parent_at-parent.ensures.value c.text_from-from.ensures c.type_at-end.ensures.value

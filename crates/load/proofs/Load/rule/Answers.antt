@@ -5,9 +5,10 @@ use native.Mathlib.Omega.{arith}
 use Rattle.load.proofs.StepLaws.{rule-room, rule-taken, rule-refused}
 use borrow.Author.Rules.{rules}
 use Rattle.load.proofs.Load.rule.Goals as goal
+use Rattle.load.proofs.Load.rule.Goals.{After-rule_of}
 
 -- a rule that is taken has room
-fits : (c : goal.After-rule_of) → c.args.self.rule_count < 128
+fits : (c : After-rule_of) → c.args.self.rule_count < 128
 fits c = rule-room c.args.self c.args.input _ c.rule_answer-answer.ensures (sym c.is_taken.ensures ∙ c.if-is_taken.true)
 
 pub offset_bounds-next-at : goal.offset_bounds-next-at

@@ -10,9 +10,10 @@ use Rattle.places.specs.Entries.{entry_at}
 use Rattle.places.proofs.Laws.{entry-parts, within_in}
 use Rattle.places.proofs.Laws.{past as pastEntry}
 use Rattle.places.proofs.entries.entries_of.Goals as goal
+use Rattle.places.proofs.entries.entries_of.Goals.{After-within_of-at}
 
 -- the parent's record is read within the array
-below : (c : goal.After-within_of-at invariant-loop decreases-loop) → c.within_of-at.result < 128
+below : (c : After-within_of-at invariant-loop decreases-loop) → c.within_of-at.result < 128
 below c =
     omega (arith, c.within_of-at.ensures, within_in (get_or c.args.stops c.loop-i.i past).parent c.args.n (omega arith))
 

@@ -4,7 +4,7 @@ use borrow.Author.Rules.{rules}
 use Rattle.runs.proofs.fits.station_at.Goals as goal
 
 pub returns-then-has_at : goal.returns-then-has_at
-returns-then-has_at c = station-is _ _ _ c.parent_at.ensures.0 c.has_at.ensures c.if-has_at.true c.parent_text.ensures c.parent_of.ensures
+returns-then-has_at c = station-is _ _ _ c.parent_at.ensures.value c.has_at.ensures c.if-has_at.true c.parent_text.ensures c.parent_of.ensures
 
 pub returns : goal.returns
-returns c = station-none _ _ _ c.parent_at.ensures.0 c.has_at.ensures c.if-has_at.false
+returns c = station-none _ _ _ c.parent_at.ensures.value c.has_at.ensures c.if-has_at.false

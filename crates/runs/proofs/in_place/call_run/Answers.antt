@@ -20,22 +20,31 @@ pub slice_bounds-size_of-count : goal.slice_bounds-size_of-count
 slice_bounds-size_of-count c = omega arith
 
 pub offset_bounds-next-n : goal.offset_bounds-next-n
-offset_bounds-next-n c = omega (arith, call-space c.loop-at.invariant.0 c.call_told-told.ensures c.type_size.ensures c.loop-at.invariant.1 c.told-1.given.1)
+offset_bounds-next-n c = omega (arith, call-space c.loop-at.invariant.0 c.call_told-told.ensures c.type_size.ensures c.loop-at.invariant.1 c.in-In.is)
 
 pub bounds-next-n : goal.bounds-next-n
-bounds-next-n c = call-space c.loop-at.invariant.0 c.call_told-told.ensures c.type_size.ensures c.loop-at.invariant.1 c.told-1.given.1
+bounds-next-n c = call-space c.loop-at.invariant.0 c.call_told-told.ensures c.type_size.ensures c.loop-at.invariant.1 c.in-In.is
 
 pub overflow_add-next : goal.overflow_add-next
-overflow_add-next c = omega (arith, call-space c.loop-at.invariant.0 c.call_told-told.ensures c.type_size.ensures c.loop-at.invariant.1 c.told-1.given.1)
+overflow_add-next c = omega (arith, call-space c.loop-at.invariant.0 c.call_told-told.ensures c.type_size.ensures c.loop-at.invariant.1 c.in-In.is)
 
 pub overflow_add-at : goal.overflow_add-at
-overflow_add-at c = omega (arith, (call-in-on c.loop-at.invariant.0 c.call_told-told.ensures c.type_size.ensures c.loop-at.invariant.1 c.told-1.given.1).room)
+overflow_add-at c = omega (arith, (call-in-on c.loop-at.invariant.0 c.call_told-told.ensures c.type_size.ensures c.loop-at.invariant.1 c.in-In.is).room)
 
 pub loop-at-smaller-in-In : goal.loop-at-smaller-in-In
-loop-at-smaller-in-In c = omega (arith, (call-in-on c.loop-at.invariant.0 c.call_told-told.ensures c.type_size.ensures c.loop-at.invariant.1 c.told-1.given.1).room, c.type_size.ensures)
+loop-at-smaller-in-In c = omega (arith, (call-in-on c.loop-at.invariant.0 c.call_told-told.ensures c.type_size.ensures c.loop-at.invariant.1 c.in-In.is).room, c.type_size.ensures)
 
 pub loop-at-preserved-in-In : goal.loop-at-preserved-in-In
-loop-at-preserved-in-In c = (call-in-on c.loop-at.invariant.0 c.call_told-told.ensures c.type_size.ensures c.loop-at.invariant.1 c.told-1.given.1, c.loop-at.invariant.1)
+loop-at-preserved-in-In c = (call-in-on c.loop-at.invariant.0 c.call_told-told.ensures c.type_size.ensures c.loop-at.invariant.1 c.in-In.is, c.loop-at.invariant.1)
+
+pub overflow_add-at-in-Outside : goal.overflow_add-at-in-Outside
+overflow_add-at-in-Outside c = omega (arith, (call-outside-on c.loop-at.invariant.0 c.call_told-told.ensures c.type_size.ensures c.loop-at.invariant.1 c.in-Outside.is).room)
+
+pub loop-at-smaller : goal.loop-at-smaller
+loop-at-smaller c = omega (arith, (call-outside-on c.loop-at.invariant.0 c.call_told-told.ensures c.type_size.ensures c.loop-at.invariant.1 c.in-Outside.is).room, c.type_size.ensures)
+
+pub loop-at-preserved : goal.loop-at-preserved
+loop-at-preserved c = (call-outside-on c.loop-at.invariant.0 c.call_told-told.ensures c.type_size.ensures c.loop-at.invariant.1 c.in-Outside.is, c.loop-at.invariant.1)
 
 pub returns-in-Other : goal.returns-in-Other
 returns-in-Other c = c.loop-at.invariant.0

@@ -9,4 +9,4 @@ use Rattle.transfer.proofs.pair.join.Goals as goal
 pub returns-in-Takes : goal.returns-in-Takes
 returns-in-Takes c =
     let a = c.args in
-    sym (ap (λ (x : Change). join_of x a.one-run a.arrival a.departure) c.change-1.given.1 ∙ cond-not _ _ c.if-one_run.false)
+    sym (ap (λ (x : Change). join_of x a.one-run a.arrival a.departure) c.in-Takes.is ∙ cond-not _ _ c.if-one_run.false)

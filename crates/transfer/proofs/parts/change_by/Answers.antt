@@ -9,4 +9,9 @@ use Rattle.transfer.proofs.parts.change_by.Goals as goal
 pub returns-in-By : goal.returns-in-By
 returns-in-By c =
     let a = c.args in
-    c.rule_change.ensures ∙ sym (ap (λ (x : Chosen). change_of x a.near a.change) c.rule-1.given.1)
+    c.rule_change.ensures ∙ sym (ap (λ (x : Chosen). change_of x a.near a.change) c.in-By.is)
+
+pub returns-then-near : goal.returns-then-near
+returns-then-near c =
+    let a = c.args in
+    sym (ap (λ (x : Chosen). change_of x a.near a.change) c.in-Open.is ∙ cond-by _ _ c.if-near.true)

@@ -6,9 +6,10 @@ use Rattle.week.proofs.Known.{services-long}
 use Rattle.week.proofs.StepLaws.{place-below, exception-passed, exception-taken, exception-refused}
 use borrow.Author.Rules.{rules}
 use Rattle.week.proofs.Week.exception.Goals as goal
+use Rattle.week.proofs.Week.exception.Goals.{After-excepted}
 
 -- a service that is known stands in one of the slots
-fits : (c : goal.After-excepted) → c.place_of-at.result < 64
+fits : (c : After-excepted) → c.place_of-at.result < 64
 fits c =
     let a = c.args in
     let k = (exception-passed a.self a.searched a.name.now a.date a.kind _ c.exception_answer-answer.ensures (sym c.is_taken.ensures ∙ c.if-is_taken.true)).known in

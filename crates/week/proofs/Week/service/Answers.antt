@@ -5,9 +5,10 @@ use native.Mathlib.Omega.{arith}
 use Rattle.week.proofs.StepLaws.{service-passed, service-taken, service-refused}
 use borrow.Author.Rules.{rules}
 use Rattle.week.proofs.Week.service.Goals as goal
+use Rattle.week.proofs.Week.service.Goals.{After-service_of}
 
 -- a service that is taken has room
-fits : (c : goal.After-service_of) → c.args.self.service_count < 64
+fits : (c : After-service_of) → c.args.self.service_count < 64
 fits c =
     let a = c.args in
     (service-passed a.self a.searched a.name.now a.weekdays a.start a.end _ c.service_answer-answer.ensures (sym c.is_taken.ensures ∙ c.if-is_taken.true)).room
