@@ -115,7 +115,7 @@ module _ {l₀ l : List ℕ} {all : List Row} (g : ℕ → List Row) (n i : ℕ)
 module _ (at : ℕ → FeedCall) (n i j : ℕ) {b a : FeedCall} {t : Bool} (h : j < n) (eb : b ≡ at i) (ea : a ≡ at j) (et : t ≡ same_run b a) where
   pub later-cons : t ≡ true → later_from at n i j ≡ j ∷ later_from at n i (j + 1)
   unfolding later_from
-  later-cons e = rw (span-cons j n h, ← ea, ← eb, ← et, e)
+  later-cons e = let same : same_run (at i) (at j) ≡ true = rw (← ea, ← eb, ← et, e) in rw (span-cons j n h, same)
 
   pub later-other : t ≡ false → later_from at n i j ≡ []
   unfolding later_from
