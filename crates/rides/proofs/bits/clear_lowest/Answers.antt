@@ -1,7 +1,6 @@
 -- `clear_lowest` meets its contract.
 use mathlib.Core.Path.{refl}
 use Rattle.laws.specs.Bits.{cleared}
-use borrow.Author.Rules.{rules}
 use Rattle.rides.proofs.bits.clear_lowest.Goals as goal
 
 pub returns : goal.returns

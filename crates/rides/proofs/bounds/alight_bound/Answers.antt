@@ -1,5 +1,4 @@
 -- `alight_bound` meets its contract: the targets of the stop, if the call is alightable.
-use borrow.Author.Rules.{rules}
 use Rattle.feed.proofs.FeedLaws.{targets-small}
 use Rattle.rides.proofs.BoundLaws.{alight-some, alight-none}
 use Rattle.rides.proofs.bounds.alight_bound.Goals as goal

@@ -1,5 +1,4 @@
 -- `board_bound` meets its contract: the next call of the run and what is put in for it.
-use borrow.Author.Rules.{rules}
 use Rattle.rides.proofs.BoundLaws.{board-end, board-other, board-next}
 use Rattle.rides.proofs.bounds.board_bound.Goals as goal
 

@@ -1,5 +1,4 @@
 -- `bounds_of` meets its contract: the calls are put in, then the later times of departure; or nothing is.
-use borrow.Author.Rules.{rules}
 use Rattle.rides.proofs.BoundLaws.{bounds-made, bounds-zero}
 use Rattle.rides.proofs.bounds.bounds_of.Goals as goal
 

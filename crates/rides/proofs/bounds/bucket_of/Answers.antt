@@ -1,7 +1,6 @@
 -- `bucket_of` meets its contract.
 use mathlib.Core.Path.{refl}
 use native.Mathlib.Omega.{arith}
-use borrow.Author.Rules.{rules}
 use Rattle.rides.specs.Bounds.{bucket_of}
 use Rattle.rides.proofs.bounds.bucket_of.Goals as goal
 

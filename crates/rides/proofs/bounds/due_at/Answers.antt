@@ -1,6 +1,5 @@
 -- `due_at` meets its contract: it is the arrival, or earlier.
 use native.Mathlib.Omega.{arith}
-use borrow.Author.Rules.{rules}
 use Rattle.rides.proofs.bounds.due_at.Goals as goal
 
 pub returns-then-t-lt65535 : goal.returns-then-t-lt65535

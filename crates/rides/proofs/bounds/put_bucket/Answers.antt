@@ -1,5 +1,4 @@
 -- `put_bucket` meets its contract.
-use borrow.Author.Rules.{rules}
 use Rattle.rides.proofs.BoundLaws.{lowered, lowered_none}
 use Rattle.rides.proofs.bounds.put_bucket.Goals as goal
 

@@ -1,5 +1,4 @@
 -- `put_call` meets its contract: the call's own number, then that for its departure.
-use borrow.Author.Rules.{rules}
 use Rattle.rides.proofs.BoundLaws.{filled}
 use Rattle.rides.proofs.bounds.put_call.Goals as goal
 

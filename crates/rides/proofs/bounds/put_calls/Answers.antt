@@ -1,7 +1,5 @@
 -- `put_calls` meets its contract: a loop over the calls from the right.
-use Prim.Native.Nat.{◌≤◌}
 use native.Mathlib.Omega.{arith}
-use Rattle.rides.specs.Bounds.{Filled}
 use Rattle.rides.proofs.BoundLaws.{filled_none, filled-same}
 use Rattle.rides.proofs.bounds.put_calls.Goals as goal
 

@@ -1,8 +1,6 @@
 -- `put_calls` meets its contract: a loop over the calls from the right.
 use Prim.Native.Nat.{◌≤◌}
-use native.Mathlib.Omega.{arith}
 use Rattle.rides.specs.Bounds.{Filled}
-use Rattle.rides.proofs.BoundLaws.{filled_none, filled-same}
 use Rattle.rides.proofs.bounds.put_calls.Given as goal
 
 abbrev pub invariant-loop-j : goal.invariant-loop-j

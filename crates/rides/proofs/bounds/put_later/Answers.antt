@@ -1,8 +1,7 @@
 -- `put_later` meets its contract: a loop over the times of departure from the right.
 use mathlib.Core.Path.{refl}
 use native.Mathlib.Omega.{arith}
-use borrow.Author.Rules.{rules}
-use Rattle.rides.proofs.BoundLaws.{From, from_start, from-turn, from-done}
+use Rattle.rides.proofs.BoundLaws.{from_start, from-turn, from-done}
 use Rattle.rides.proofs.bounds.put_later.Goals as goal
 
 pub loop-q-init : goal.loop-q-init

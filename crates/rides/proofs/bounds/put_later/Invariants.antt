@@ -1,8 +1,5 @@
 -- `put_later` meets its contract: a loop over the times of departure from the right.
-use mathlib.Core.Path.{refl}
-use native.Mathlib.Omega.{arith}
-use borrow.Author.Rules.{rules}
-use Rattle.rides.proofs.BoundLaws.{From, from_start, from-turn, from-done}
+use Rattle.rides.proofs.BoundLaws.{From}
 use Rattle.rides.proofs.bounds.put_later.Given as goal
 
 abbrev pub invariant-loop-q : goal.invariant-loop-q

@@ -1,6 +1,5 @@
 -- `target_bound` meets its contract: a loop over the set digits of the mask.
-use borrow.Author.Rules.{rules}
-use Rattle.rides.proofs.BoundLaws.{InMask, mask_start, mask_low, mask-less, mask-turn, mask_done}
+use Rattle.rides.proofs.BoundLaws.{InMask}
 use Rattle.rides.proofs.bounds.target_bound.Given as goal
 
 abbrev pub invariant-loop-left : goal.invariant-loop-left

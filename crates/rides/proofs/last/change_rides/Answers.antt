@@ -1,6 +1,5 @@
 -- `change_rides` meets its contract: every last ride, if changes are allowed; none is walked if every one would be passed over.
 use borrow.Author.Tests.{eq-eqb, ne_eqb}
-use borrow.Author.Rules.{rules}
 use Rattle.rides.specs.Loops.{change_rows}
 use Rattle.rides.proofs.LoopLaws.{nothing, seen_first, seen_last}
 use Rattle.rides.proofs.SkipLaws.{skip-changes}

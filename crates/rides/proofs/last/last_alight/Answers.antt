@@ -1,5 +1,4 @@
 -- `last_alight` meets its contract: the targets of the stop, if the call is alightable.
-use borrow.Author.Rules.{rules}
 use Rattle.rides.specs.Loops.{last_alight_rows}
 use Rattle.rides.specs.Sheets.{sheet_of}
 use Rattle.feed.proofs.FeedLaws.{targets-small}

@@ -1,11 +1,9 @@
 -- `last_alightings` meets its contract: a loop over the later calls of the run.
 use Prim.Native.Nat.{◌-◌}
-use native.Mathlib.Omega.{arith}
-use borrow.Author.Rules.{rules}
 use Rattle.rides.specs.Loops.{over_run, last_alight_rows}
 use Rattle.feed.specs.Feed.{call_at}
 use Rattle.rides.specs.Sheets.{sheet_of}
-use Rattle.rides.proofs.LoopLaws.{Left, starts, run-turn, run-other, run-done}
+use Rattle.rides.proofs.LoopLaws.{Left}
 use Rattle.rides.proofs.last.last_alightings.Given as goal
 
 abbrev pub invariant-loop-m : goal.invariant-loop-m

@@ -3,7 +3,6 @@ use Rattle.rides.specs.Rows.{change_row}
 use Rattle.rides.specs.Loops.{last_at}
 use Rattle.rides.specs.Sheets.{sheet_of}
 use Rattle.rides.proofs.LoopLaws.{single}
-use borrow.Author.Rules.{rules}
 use Rattle.rides.proofs.last.last_at.Goals as goal
 
 pub returns : goal.returns

@@ -1,6 +1,5 @@
 -- `last_board` meets its contract: the run's later calls, if the call is boardable, the first ride joins it and one due at its
 -- bound would not be passed over.
-use borrow.Author.Rules.{rules}
 use Rattle.rides.specs.Loops.{last_board_rows}
 use Rattle.feed.specs.Feed.{joined}
 use Rattle.rides.specs.Sheets.{joins_of, sheet_of}

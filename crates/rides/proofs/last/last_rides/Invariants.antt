@@ -1,10 +1,8 @@
 -- `last_rides` meets its contract: a loop over the calls, which ends early where the search is refused.
 use Prim.Native.Nat.{◌-◌}
-use native.Mathlib.Omega.{arith}
-use borrow.Author.Rules.{rules}
 use Rattle.rides.specs.Loops.{over_calls, last_board_rows}
 use Rattle.rides.specs.Sheets.{joins_of, sheet_of}
-use Rattle.rides.proofs.LoopLaws.{Left, starts, stops, calls-turn, calls-done}
+use Rattle.rides.proofs.LoopLaws.{Left}
 use Rattle.rides.proofs.last.last_rides.Given as goal
 
 abbrev pub invariant-loop-j : goal.invariant-loop-j

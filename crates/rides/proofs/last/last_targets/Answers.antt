@@ -1,8 +1,5 @@
 -- `last_targets` meets its contract: a loop over the set digits of the mask.
-use borrow.Author.Rules.{rules}
-use Rattle.rides.specs.Loops.{over_bits, last_at}
-use Rattle.rides.specs.Sheets.{sheet_of}
-use Rattle.rides.proofs.LoopLaws.{InBits, bits-start, bits-low, bits-less, bits-turn, bits-done}
+use Rattle.rides.proofs.LoopLaws.{bits-start, bits-low, bits-less, bits-turn, bits-done}
 use Rattle.rides.proofs.last.last_targets.Goals as goal
 
 pub loop-left-init : goal.loop-left-init

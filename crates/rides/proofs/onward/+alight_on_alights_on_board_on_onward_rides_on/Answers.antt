@@ -1,5 +1,5 @@
 -- The cycle of calls {alight_on, alights_on, board_on, onward, rides_on} meets its contracts.
-use Rattle.std.proofs.Common.{arith, rules}
+use Rattle.std.proofs.Common.{arith}
 use Rattle.feed.proofs.FeedLaws.{targets-small}
 use Rattle.rides.specs.Sheets.{sheet_of}
 use Rattle.rides.specs.Loops.{onward_rows, alight_on, board_on}

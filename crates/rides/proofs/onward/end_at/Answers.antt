@@ -3,7 +3,6 @@ use Rattle.rides.specs.Rows.{three_row}
 use Rattle.rides.specs.Loops.{end_at}
 use Rattle.rides.specs.Sheets.{sheet_of}
 use Rattle.rides.proofs.LoopLaws.{single}
-use borrow.Author.Rules.{rules}
 use Rattle.rides.proofs.onward.end_at.Goals as goal
 
 pub returns : goal.returns

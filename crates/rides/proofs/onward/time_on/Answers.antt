@@ -2,7 +2,6 @@
 use mathlib.Core.Path.{sym}
 use Prim.Native.Nat.{◌-◌, ◌*◌}
 use lib.Seq.{get_or-drop}
-use borrow.Author.Rules.{rules}
 use Rattle.rides.proofs.onward.time_on.Goals as goal
 
 pub returns : goal.returns

@@ -3,7 +3,6 @@ use Rattle.rides.specs.Loops.{alight_rows}
 use Rattle.rides.specs.Sheets.{sheet_of}
 use Rattle.rides.proofs.LoopLaws.{nothing}
 use Rattle.rides.proofs.OnwardLaws.{alight-is}
-use borrow.Author.Rules.{rules}
 use Rattle.rides.proofs.paths.alight_at.Goals as goal
 
 pub first_ride-requires : goal.first_ride-requires

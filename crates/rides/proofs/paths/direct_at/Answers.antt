@@ -3,7 +3,6 @@ use Rattle.rides.specs.Rows.{direct_row}
 use Rattle.rides.specs.Loops.{direct_at}
 use Rattle.rides.specs.Sheets.{sheet_of}
 use Rattle.rides.proofs.LoopLaws.{single}
-use borrow.Author.Rules.{rules}
 use Rattle.rides.proofs.paths.direct_at.Goals as goal
 
 pub returns : goal.returns

@@ -1,9 +1,7 @@
 -- `directs` meets its contract: a loop over the set digits of the stop's targets.
-use borrow.Author.Rules.{rules}
 use Rattle.rides.specs.Loops.{direct_at, direct_rows}
 use Rattle.rides.specs.Sheets.{sheet_of}
-use Rattle.feed.proofs.FeedLaws.{targets-small}
-use Rattle.rides.proofs.LoopLaws.{InBits, bits-start, bits-low, bits-less, bits-turn, bits-done}
+use Rattle.rides.proofs.LoopLaws.{InBits}
 use Rattle.rides.proofs.paths.directs.Given as goal
 
 abbrev pub invariant-loop-left : goal.invariant-loop-left

@@ -1,7 +1,6 @@
 -- `endpoint_paths` meets its contract: a pass up to one change, and with more a pass of three rides.
 use native.Mathlib.Omega.{arith}
 use Rattle.rides.proofs.PassLaws.{pass_alone, pass-then}
-use borrow.Author.Rules.{rules}
 use Rattle.rides.proofs.paths.endpoint_paths.Goals as goal
 
 pub passed-requires : goal.passed-requires

@@ -3,7 +3,6 @@ use native.Mathlib.Omega.{arith}
 use borrow.Author.Tests.{eq-eqb, ne_eqb}
 use Rattle.rides.specs.Loops.{first_rows_of}
 use Rattle.rides.proofs.LoopLaws.{both}
-use borrow.Author.Rules.{rules}
 use Rattle.rides.proofs.paths.first_ride.Goals as goal
 
 pub onward-requires : goal.onward-requires

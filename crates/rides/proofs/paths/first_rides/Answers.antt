@@ -1,11 +1,6 @@
 -- `first_rides` meets its contract: a loop over the later calls of the run.
-use Prim.Native.Nat.{◌-◌}
 use native.Mathlib.Omega.{arith}
-use borrow.Author.Rules.{rules}
-use Rattle.rides.specs.Loops.{over_run, alight_rows}
-use Rattle.feed.specs.Feed.{call_at}
-use Rattle.rides.specs.Sheets.{joins_of, sheet_of}
-use Rattle.rides.proofs.LoopLaws.{Left, starts, run-turn, run-other, run-done}
+use Rattle.rides.proofs.LoopLaws.{starts, run-turn, run-other, run-done}
 use Rattle.rides.proofs.OnwardLaws.{same-run-is}
 use Rattle.rides.proofs.paths.first_rides.Goals as goal
 

@@ -1,5 +1,4 @@
 -- `origin_at` meets its contract: the run's later calls, if there is time to walk.
-use borrow.Author.Rules.{rules}
 use Rattle.rides.specs.Loops.{origin_rows}
 use Rattle.rides.specs.Sheets.{sheet_of}
 use Rattle.rides.proofs.LoopLaws.{nothing}

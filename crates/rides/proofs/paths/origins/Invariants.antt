@@ -1,8 +1,7 @@
 -- `origins` meets its contract: a loop over the set digits of the mask.
-use borrow.Author.Rules.{rules}
 use Rattle.rides.specs.Loops.{over_bits, origin_rows}
 use Rattle.rides.specs.Sheets.{joins_of, sheet_of}
-use Rattle.rides.proofs.LoopLaws.{InBits, bits-start, bits-low, bits-less, bits-turn, bits-done}
+use Rattle.rides.proofs.LoopLaws.{InBits}
 use Rattle.rides.proofs.paths.origins.Given as goal
 
 abbrev pub invariant-loop-left : goal.invariant-loop-left

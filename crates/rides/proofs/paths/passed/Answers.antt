@@ -1,10 +1,6 @@
 -- `passed` meets its contract: a loop over the calls, which ends early where the search is refused.
-use Prim.Native.Nat.{◌-◌}
 use native.Mathlib.Omega.{arith}
-use borrow.Author.Rules.{rules}
-use Rattle.rides.specs.Loops.{over_calls, board_rows}
-use Rattle.rides.specs.Sheets.{joins_of, sheet_of}
-use Rattle.rides.proofs.LoopLaws.{Left, starts, stops, calls-turn, calls-done}
+use Rattle.rides.proofs.LoopLaws.{starts, stops, calls-turn, calls-done}
 use Rattle.rides.proofs.paths.passed.Goals as goal
 
 pub loop-i-init : goal.loop-i-init

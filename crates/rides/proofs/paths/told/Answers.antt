@@ -1,6 +1,5 @@
 -- `told` meets its contract: the ways on of three rides, or the last rides.
 use Rattle.rides.proofs.OnwardLaws.{told-threes, told-last}
-use borrow.Author.Rules.{rules}
 use Rattle.rides.proofs.paths.told.Goals as goal
 
 pub returns-then-depth-eq2 : goal.returns-then-depth-eq2

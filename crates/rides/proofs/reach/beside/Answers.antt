@@ -1,10 +1,7 @@
 -- `beside` meets its contract: number by number.
 use mathlib.Core.Path.{refl}
-use Prim.Native.Nat.{◌-◌, ◌≤◌}
 use native.Mathlib.Omega.{arith}
-use Rattle.rides.specs.Reach.{Beside}
 use Rattle.rides.proofs.OnwardLaws.{beside-start, beside-turn, beside-all}
-use borrow.Author.Rules.{rules}
 use Rattle.rides.proofs.reach.beside.Goals as goal
 
 pub loop-i-init : goal.loop-i-init

@@ -1,6 +1,5 @@
 -- `board_time` meets its contract: the next call of the run and what is put in for it.
 use Rattle.rides.proofs.ReachLaws.{run-last, run-apart, run-next}
-use borrow.Author.Rules.{rules}
 use Rattle.rides.proofs.reach.board_time.Goals as goal
 
 pub returns-then-same_run : goal.returns-then-same_run

@@ -1,6 +1,5 @@
 -- `join_time` meets its contract: the number at the call, if it is boardable and the ride joins it.
 use Rattle.rides.proofs.ReachLaws.{join-taken, join_apart, join-unboardable}
-use borrow.Author.Rules.{rules}
 use Rattle.rides.proofs.reach.join_time.Goals as goal
 
 pub returns-then-join : goal.returns-then-join

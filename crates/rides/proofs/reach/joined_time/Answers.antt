@@ -1,5 +1,4 @@
 -- `joined_time` meets its contract: the earliest of the rides that are joined, if one can alight at the place.
-use borrow.Author.Rules.{rules}
 use Rattle.rides.proofs.ReachLaws.{joins-some, joins-none}
 use Rattle.rides.proofs.reach.joined_time.Goals as goal
 

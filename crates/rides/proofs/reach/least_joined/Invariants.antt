@@ -1,10 +1,6 @@
 -- `least_joined` meets its contract: a loop over the calls.
-use mathlib.Core.Path.{refl}
 use Prim.Native.Nat.{◌-◌, ◌≤◌}
-use native.Mathlib.Omega.{arith}
-use borrow.Author.Rules.{rules}
 use Rattle.rides.specs.Reach.{Least}
-use Rattle.rides.proofs.ReachLaws.{least_start, least-turn, least-same}
 use Rattle.rides.proofs.reach.least_joined.Given as goal
 
 abbrev pub invariant-loop-c : goal.invariant-loop-c

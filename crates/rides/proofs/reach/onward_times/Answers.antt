@@ -1,7 +1,6 @@
 -- `onward_times` meets its contract: from no change left to one, and to two.
 use native.Mathlib.Omega.{arith}
 use Rattle.rides.proofs.OnwardLaws.{onward-made}
-use borrow.Author.Rules.{rules}
 use Rattle.rides.proofs.reach.onward_times.Goals as goal
 
 pub returns : goal.returns

@@ -1,8 +1,5 @@
 -- `put_boards` meets its contract: a loop over the calls from the right.
-use Prim.Native.Nat.{◌≤◌}
 use native.Mathlib.Omega.{arith}
-use borrow.Author.Rules.{rules}
-use Rattle.rides.specs.Reach.{BoardAt, Each}
 use Rattle.rides.proofs.ReachLaws.{none_yet, put-left, each_same}
 use Rattle.rides.proofs.reach.put_boards.Goals as goal
 

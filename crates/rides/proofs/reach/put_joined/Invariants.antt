@@ -1,10 +1,6 @@
 -- `put_joined` meets its contract: a loop over the calls.
-use mathlib.Core.Path.{refl}
 use Prim.Native.Nat.{◌-◌, ◌≤◌}
-use native.Mathlib.Omega.{arith}
-use borrow.Author.Rules.{rules}
 use Rattle.rides.specs.Reach.{JoinsAt, Each}
-use Rattle.rides.proofs.ReachLaws.{none_yet, put_right, each_to}
 use Rattle.rides.proofs.reach.put_joined.Given as goal
 
 abbrev pub invariant-loop-m : goal.invariant-loop-m

@@ -1,5 +1,4 @@
 -- `target_times` meets its contract: the targets of each place.
-use borrow.Author.Rules.{rules}
 use native.Mathlib.Omega.{arith}
 use Rattle.rides.proofs.ReachLaws.{each_to, not-before-here}
 use Rattle.rides.proofs.reach.target_times.Goals as goal

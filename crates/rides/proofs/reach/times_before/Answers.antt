@@ -1,5 +1,4 @@
 -- `times_before` meets its contract: the rides that board at each place, then those that are joined at each.
-use borrow.Author.Rules.{rules}
 use native.Mathlib.Omega.{arith}
 use Rattle.rides.proofs.ReachLaws.{not-before-on}
 use Rattle.rides.proofs.reach.times_before.Goals as goal

@@ -1,7 +1,6 @@
 -- `call_at` meets its contract: seven readings of six numbers.
 use mathlib.Core.Path.{refl}
 use Rattle.feed.specs.Feed.{call_at}
-use borrow.Author.Rules.{rules}
 use Rattle.rides.proofs.reads.call_at.Goals as goal
 
 pub returns : goal.returns

@@ -1,7 +1,6 @@
 -- `first_of` meets its contract.
 use Rattle.rides.specs.Rows.{first_of}
 use Rattle.rides.specs.Sheets.{sheet_of}
-use borrow.Author.Rules.{rules}
 use Rattle.rides.proofs.reads.first_of.Goals as goal
 
 pub returns : goal.returns

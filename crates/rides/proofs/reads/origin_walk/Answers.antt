@@ -1,7 +1,6 @@
 -- `origin_walk` meets its contract.
 use mathlib.Core.Path.{refl}
 use Rattle.feed.specs.Feed.{origin_walk_of}
-use borrow.Author.Rules.{rules}
 use Rattle.rides.proofs.reads.origin_walk.Goals as goal
 
 pub returns : goal.returns

@@ -1,7 +1,6 @@
 -- `target_walk` meets its contract.
 use mathlib.Core.Path.{refl}
 use Rattle.feed.specs.Feed.{target_walk_of}
-use borrow.Author.Rules.{rules}
 use Rattle.rides.proofs.reads.target_walk.Goals as goal
 
 pub returns : goal.returns
