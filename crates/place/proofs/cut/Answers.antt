@@ -5,9 +5,8 @@ use lib.Ieee.Casts.{to_signed_in}
 use Rattle.laws.proofs.Cut.{cut_inside, cut-not-low, cut-not-high, cut-above, cut_below, cut-neither}
 use Rattle.laws.proofs.Ints.{again}
 use Rattle.place.proofs.cut.Goals as goal
-use Rattle.place.proofs.cut.Goals.{After-truncating_f64_to_i64}
 
-is : (c : After-truncating_f64_to_i64) → to_z w64 (of_z w64 c.truncating_f64_to_i64.result) ≡ to_signed 31 c.args.y
+is : (c : goal.After-truncating_f64_to_i64) → to_z w64 (of_z w64 c.truncating_f64_to_i64.result) ≡ to_signed 31 c.args.y
 unfolding of_bits neg
 is c =
     again {w = w64} {z = c.truncating_f64_to_i64.result} (record { sfits = c.truncating_f64_to_i64.type_inv })
@@ -18,13 +17,16 @@ pub truncating_f64_to_i64-requires : goal.truncating_f64_to_i64-requires
 unfolding of_bits neg
 truncating_f64_to_i64-requires c =
     let y = c.args.y in
-    (subst T (sym (cut-not-low y c.if-y.true)) tt, subst T (sym (cut-not-high y c.if-y-2.true)) tt)
+    record {
+      lower_bound = subst T (sym (cut-not-low y c.if-y.true)) tt;
+      upper_bound = subst T (sym (cut-not-high y c.if-y-2.true)) tt;
+    }
 
 pub overflow_cast-result : goal.overflow_cast-result
 overflow_cast-result c = subst (SFits w32) (sym (is c)) (record { sfits = to_signed_in 31 c.args.y })
 
 pub returns-then-y-2 : goal.returns-then-y-2
-returns-then-y-2 c = again (cast-result c) ∙ is c
+returns-then-y-2 c = again (overflow_cast-result c) ∙ is c
 
 pub returns-then-y : goal.returns-then-y
 unfolding of_bits neg

@@ -13,11 +13,11 @@ by-test lat lon b e = ap (λ (t : Bool). at_if t (micro lat) (micro lon)) e
 
 pub returns-then-usable_degrees : goal.returns-then-usable_degrees
 returns-then-usable_degrees c =
-    let at-lat = c.before in
-    let at_test = at-lat.before in
+    let at-lat = c in
+    let at_test = at-lat in
     let k = at_test.args in
-    (λ i. At ((again {w = w32} {z = at-lat.micro-of.result} (record { sfits = at-lat.micro-of.type_inv }) ∙ at-lat.micro-of.ensures) i) ((again {w = w32} {z = c.micro_of-then-usable_degrees.result} (record { sfits = c.micro_of-then-usable_degrees.type_inv }) ∙ c.micro_of-then-usable_degrees.ensures) i))
-    ∙ sym (by-test k.latitude k.longitude _ (sym at_test.usable_degrees.ensures ∙ at_test.if1.true))
+    (λ i. At ((again {w = w32} {z = at-lat.micro_of.result} (record { sfits = at-lat.micro_of.type_inv }) ∙ at-lat.micro_of.ensures) i) ((again {w = w32} {z = c.micro_of-then-usable_degrees.result} (record { sfits = c.micro_of-then-usable_degrees.type_inv }) ∙ c.micro_of-then-usable_degrees.ensures) i))
+    ∙ sym (by-test k.latitude k.longitude _ (sym at_test.usable_degrees.ensures ∙ at_test.if-usable_degrees.true))
 
 pub returns : goal.returns
 returns c =

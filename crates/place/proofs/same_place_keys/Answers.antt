@@ -1,5 +1,5 @@
 -- `place::same_place_keys` meets its contract: by the three tests.
-use Rattle.std.proofs.Common.{◌≡◌, Bool, true, false, cond, ◌&&◌, eqb, sym, ◌∙◌, w32, rules, eq-eqb, ne_eqb}
+use Rattle.std.proofs.Common.{◌≡◌, Bool, true, false, cond, ◌&&◌, eqb, sym, ◌∙◌, w32, SFits, rules, eq-eqb, ne_eqb}
 use Rattle.place.specs.Near.{close_by}
 use Rattle.place.specs.Keys.{tag_n}
 use Rattle.laws.proofs.Ints.{again}
@@ -22,16 +22,15 @@ returns-then-a-b-2 c =
 
 pub returns-then-a-ne78 : goal.returns-then-a-ne78
 returns-then-a-ne78 c =
-    let at-2 = c.before.before in
-    let at_1 = at-2.before.before.before in
-    let k = at_1.args in
-    sym (by_tests k.a k.b _ _ _ (eq-eqb _ _ at_1.if1.false) (eq-eqb _ _ at-2.if2.false) (ne_eqb _ _ c.if-a-ne78.true))
+    let k = c.args in
+    sym (by_tests k.a k.b _ _ _ (eq-eqb _ _ c.if-a-b.false) (eq-eqb _ _ c.if-a-b-2.false) (ne_eqb _ _ c.if-a-ne78.true))
 
 pub returns : goal.returns
 returns c =
-    let at-3 = c.before.before.before.before.before in
-    let at-2 = at-3.before.before in
-    let at_1 = at-2.before.before.before in
-    let k = at_1.args in
-    (c.close_by.ensures ∙ (λ i. close_by (again {w = w32} {z = k.a.lat} (record { sfits = c.struct_told-1.given.1.1.0.1 }) i) (again {w = w32} {z = k.a.lon} (record { sfits = c.struct_told-2-1.given.1.1.1.0.1 }) i) (again {w = w32} {z = k.b.lat} (record { sfits = c.struct_told-3-1.given.1.1.0.1 }) i) (again {w = w32} {z = k.b.lon} (record { sfits = c.struct_told-4-1.given.1.1.1.0.1 }) i)))
-    ∙ sym (by_tests k.a k.b _ _ _ (eq-eqb _ _ at_1.if1.false) (eq-eqb _ _ at-2.if2.false) (eq-eqb _ _ at-3.if3.false))
+    let k = c.args in
+    let alat : SFits w32 k.a.lat = search rules in
+    let alon : SFits w32 k.a.lon = search rules in
+    let blat : SFits w32 k.b.lat = search rules in
+    let blon : SFits w32 k.b.lon = search rules in
+    (c.close_by.ensures ∙ (λ i. close_by (again alat i) (again alon i) (again blat i) (again blon i)))
+    ∙ sym (by_tests k.a k.b _ _ _ (eq-eqb _ _ c.if-a-b.false) (eq-eqb _ _ c.if-a-b-2.false) (eq-eqb _ _ c.if-a-ne78.false))
