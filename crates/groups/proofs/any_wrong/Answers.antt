@@ -18,21 +18,21 @@ loop-k-init c = (omega arith, search rules, refl)
 pub returns-then-n-k : goal.returns-then-n-k
 returns-then-n-k c =
     let a = c.args in
-    any-end a.t1 a.n c.loop-k.k (is_wrong a.low) (omega (arith, length-take a.n a.t1)) ∙ (rw (again c.ranges.low) at c.loop-k.invariant.2)
+    any-end a.given a.n c.loop-k.k (is_wrong a.low) (omega (arith, length-take a.n a.given)) ∙ (rw (again c.ranges.low) at c.loop-k.invariant.2)
 
 pub returns-then-is_wrong : goal.returns-then-is_wrong
 returns-then-is_wrong c =
     let a = c.args in
     let e = again c.ranges.low in
-    any_here a.t1 a.n c.loop-k.k _ (omega arith) (omega (arith, c.loop-k.invariant.1)) (is_wrong a.low) (sym (rw e at c.is_wrong.ensures) ∙ c.if-is_wrong.true)
+    any_here a.given a.n c.loop-k.k _ (omega arith) (omega (arith, c.loop-k.invariant.1)) (is_wrong a.low) (sym (rw e at c.is_wrong.ensures) ∙ c.if-is_wrong.true)
     ∙ (rw e at c.loop-k.invariant.2)
 
 pub loop-k-preserved : goal.loop-k-preserved
 loop-k-preserved c =
     let a = c.args in
-    (omega arith, c.loop-k.invariant.1, any_next a.t1 a.n c.loop-k.k _ (omega arith) (omega (arith, c.loop-k.invariant.1)) (is_wrong (to_z w64 (of_z w64 a.low))) (sym c.is_wrong.ensures ∙ c.if-is_wrong.false) ∙ c.loop-k.invariant.2)
+    (omega arith, c.loop-k.invariant.1, any_next a.given a.n c.loop-k.k _ (omega arith) (omega (arith, c.loop-k.invariant.1)) (is_wrong (to_z w64 (of_z w64 a.low))) (sym c.is_wrong.ensures ∙ c.if-is_wrong.false) ∙ c.loop-k.invariant.2)
 
 pub returns : goal.returns
 returns c =
     let a = c.args in
-    any-end a.t1 a.n c.loop-k.k (is_wrong a.low) (omega (arith, length-take a.n a.t1, c.loop-k.invariant.1)) ∙ (rw (again c.ranges.low) at c.loop-k.invariant.2)
+    any-end a.given a.n c.loop-k.k (is_wrong a.low) (omega (arith, length-take a.n a.given, c.loop-k.invariant.1)) ∙ (rw (again c.ranges.low) at c.loop-k.invariant.2)

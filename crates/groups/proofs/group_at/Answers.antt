@@ -15,19 +15,19 @@ loop-k-init c = (omega arith, search rules, refl)
 pub returns-then-n-k : goal.returns-then-n-k
 returns-then-n-k c =
     let a = c.args in
-    c.no_slot.ensures ∙ at-end a.t1 a.n c.loop-k.k a.number (omega (arith, length-take a.n a.t1)) ∙ c.loop-k.invariant.2
+    c.no_slot.ensures ∙ at-end a.given a.n c.loop-k.k a.number (omega (arith, length-take a.n a.given)) ∙ c.loop-k.invariant.2
 
 pub returns-then-group-number : goal.returns-then-group-number
 returns-then-group-number c =
     let a = c.args in
-    at_here a.t1 a.n c.loop-k.k _ (omega arith) (omega (arith, c.loop-k.invariant.1)) a.number c.if-group-number.true ∙ c.loop-k.invariant.2
+    at_here a.given a.n c.loop-k.k _ (omega arith) (omega (arith, c.loop-k.invariant.1)) a.number c.if-group-number.true ∙ c.loop-k.invariant.2
 
 pub loop-k-preserved : goal.loop-k-preserved
 loop-k-preserved c =
     let a = c.args in
-    (omega arith, c.loop-k.invariant.1, at_next a.t1 a.n c.loop-k.k _ (omega arith) (omega (arith, c.loop-k.invariant.1)) a.number c.if-group-number.false ∙ c.loop-k.invariant.2)
+    (omega arith, c.loop-k.invariant.1, at_next a.given a.n c.loop-k.k _ (omega arith) (omega (arith, c.loop-k.invariant.1)) a.number c.if-group-number.false ∙ c.loop-k.invariant.2)
 
 pub returns : goal.returns
 returns c =
     let a = c.args in
-    c.no_slot-2.ensures ∙ at-end a.t1 a.n c.loop-k.k a.number (omega (arith, length-take a.n a.t1, c.loop-k.invariant.1)) ∙ c.loop-k.invariant.2
+    c.no_slot-2.ensures ∙ at-end a.given a.n c.loop-k.k a.number (omega (arith, length-take a.n a.given, c.loop-k.invariant.1)) ∙ c.loop-k.invariant.2

@@ -14,27 +14,27 @@ use Rattle.connection.proofs.changes.pair_place.Goals as goal
 pub loop-n-init : goal.loop-n-init
 loop-n-init c =
     let a = c.args in
-    let long : length a.t1 ≡ 128 = c.well_formed.0.1.0.1 in
-    (omega (arith, c.at_most-n.ensures, least_under a.count 128), ap (last_of (same_pair a.from a.to)) (sym (take-least a.t1 a.count 128 _ c.at_most-n.ensures long)))
+    let long : length a.rules ≡ 128 = c.well_formed.0.1.0.1 in
+    (omega (arith, c.at_most-n.ensures, least_under a.count 128), ap (last_of (same_pair a.from a.to)) (sym (take-least a.rules a.count 128 _ c.at_most-n.ensures long)))
 
 pub returns-then-is_pair : goal.returns-then-is_pair
 returns-then-is_pair c =
     let a = c.args in
-    let long : length a.t1 ≡ 128 = c.well_formed.0.1.0.1 in
-    let f : same_pair a.from a.to (get_or a.t1 (c.loop-n.n - 1) blank_rule) ≡ true = sym c.is_pair.ensures ∙ c.if-is_pair.true in
-    let t = last_turn (same_pair a.from a.to) blank_rule a.t1 c.loop-n.n (omega arith) (omega arith) in
+    let long : length a.rules ≡ 128 = c.well_formed.0.1.0.1 in
+    let f : same_pair a.from a.to (get_or a.rules (c.loop-n.n - 1) blank_rule) ≡ true = sym c.is_pair.ensures ∙ c.if-is_pair.true in
+    let t = last_turn (same_pair a.from a.to) blank_rule a.rules c.loop-n.n (omega arith) (omega arith) in
     sym (c.loop-n.invariant.1 ∙ t ∙ rw f refl)
 
 pub loop-n-preserved : goal.loop-n-preserved
 loop-n-preserved c =
     let a = c.args in
-    let long : length a.t1 ≡ 128 = c.well_formed.0.1.0.1 in
-    let f : same_pair a.from a.to (get_or a.t1 (c.loop-n.n - 1) blank_rule) ≡ false = sym c.is_pair.ensures ∙ c.if-is_pair.false in
-    let t = last_turn (same_pair a.from a.to) blank_rule a.t1 c.loop-n.n (omega arith) (omega arith) in
+    let long : length a.rules ≡ 128 = c.well_formed.0.1.0.1 in
+    let f : same_pair a.from a.to (get_or a.rules (c.loop-n.n - 1) blank_rule) ≡ false = sym c.is_pair.ensures ∙ c.if-is_pair.false in
+    let t = last_turn (same_pair a.from a.to) blank_rule a.rules c.loop-n.n (omega arith) (omega arith) in
     (omega arith, c.loop-n.invariant.1 ∙ t ∙ rw f refl)
 
 pub returns : goal.returns
 returns c =
     let a = c.args in
     let none : c.loop-n.n ≡ 0 = omega arith in
-    sym (c.loop-n.invariant.1 ∙ ap (λ n. last_of (same_pair a.from a.to) (take n a.t1)) none)
+    sym (c.loop-n.invariant.1 ∙ ap (λ n. last_of (same_pair a.from a.to) (take n a.rules)) none)

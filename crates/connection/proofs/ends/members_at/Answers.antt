@@ -13,12 +13,12 @@ pub returns-then-i-lt128 : goal.returns-then-i-lt128
 unfolding stop_at
 returns-then-i-lt128 c =
     let a = c.args in
-    let long : length a.t1 ≡ 128 = c.well_formed.0.1.0.1 in
-    ap (λ (s : Stop). s.members) (get_d_any a.t1 a.k _ blank_stop (omega (arith, long)))
+    let long : length a.stops ≡ 128 = c.well_formed.0.1.0.1 in
+    ap (λ (s : Stop). s.members) (get_d_any a.stops a.k _ blank_stop (omega (arith, long)))
 
 pub returns : goal.returns
 unfolding stop_at
 returns c =
     let a = c.args in
-    let long : length a.t1 ≡ 128 = c.well_formed.0.1.0.1 in
-    sym (ap (λ (s : Stop). s.members) (get_or-eq_default a.t1 blank_stop (omega (arith, long))))
+    let long : length a.stops ≡ 128 = c.well_formed.0.1.0.1 in
+    sym (ap (λ (s : Stop). s.members) (get_or-eq_default a.stops blank_stop (omega (arith, long))))

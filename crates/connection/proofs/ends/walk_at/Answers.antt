@@ -8,5 +8,5 @@ use Rattle.connection.proofs.ends.walk_at.Goals as goal
 pub returns : goal.returns
 returns c =
     let a = c.args in
-    let long : length a.t1 ≡ 4 = c.well_formed.0.1.0.1 in
-    sym (get_or-eq_default a.t1 0 (omega (arith, long)))
+    let long : length a.walks ≡ 4 = c.well_formed.0.1.0.1 in
+    sym (get_or-eq_default a.walks 0 (omega (arith, long)))

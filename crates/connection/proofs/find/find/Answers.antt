@@ -7,7 +7,7 @@ use Rattle.connection.proofs.find.find.Goals as goal
 pub returns-then-at-eq0 : goal.returns-then-at-eq0
 returns-then-at-eq0 c =
     let a = c.args in
-    find_none a.t1 a.count a.key c.well_formed.0.1.0.1 _ _ c.last_of-at.ensures c.if-at-eq0.true c.blank_call-none.ensures
+    find_none a.calls a.count a.key c.well_formed.0.1.0.1 _ _ c.last_of-at.ensures c.if-at-eq0.true c.blank_call-none.ensures
 
 pub offset_bounds-calls-at : goal.offset_bounds-calls-at
 offset_bounds-calls-at c =
@@ -20,4 +20,4 @@ bounds-calls-at c =
 pub returns : goal.returns
 returns c =
     let a = c.args in
-    find-some a.t1 a.count a.key c.well_formed.0.1.0.1 _ c.last_of-at.ensures c.if-at-eq0.false
+    find-some a.calls a.count a.key c.well_formed.0.1.0.1 _ c.last_of-at.ensures c.if-at-eq0.false

@@ -33,5 +33,5 @@ pub returns : goal.returns
 returns c =
     let L = c.loop-i in
     let a = c.args in
-    let e = take_same a.t3 a.count L.i (⊎_elim (λ w. inl (omega arith)) (λ w. inr (omega arith, omega arith)) c.if-count-lt64.branch) in
+    let e = take_same a.journeys a.count L.i (⊎_elim (λ w. inl (omega arith)) (λ w. inr (omega arith, omega arith)) c.if-count-lt64.branch) in
     put_as (ap (concat_map (line_for a.rides)) e) (put-within _ (omega (arith, L.invariant.3.small, most-all a.rides L.i (omega arith))) L.invariant.3)

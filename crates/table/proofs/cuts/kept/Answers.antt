@@ -16,15 +16,15 @@ loop-i-init c = (omega arith, omega arith, rw c.blank_call-blank.ensures (packs-
 pub returns-then-count-i : goal.returns-then-count-i
 returns-then-count-i c =
     let a = c.args in
-    let w = packs-all _ _ _ _ (take a.count a.t1) _ _ _ (simp length-take (omega arith)) c.loop-i.invariant.2 in
+    let w = packs-all _ _ _ _ (take a.count a.calls) _ _ _ (simp length-take (omega arith)) c.loop-i.invariant.2 in
     λ i. record { calls = w.1 i; held = w.0 i }
 
 pub loop-i-preserved : goal.loop-i-preserved
 loop-i-preserved c =
     let a = c.args in
-    let long : length a.t1 ≡ 512 = c.well_formed.0.1.0.1 in
-    let hh : c.loop-i.i < length (take a.count a.t1) = simp length-take (omega arith) in
-    let g : get_or (take a.count a.t1) c.loop-i.i blank_call ≡ get_or a.t1 c.loop-i.i blank_call = get_or-take a.count a.t1 c.loop-i.i blank_call (omega arith) in
+    let long : length a.calls ≡ 512 = c.well_formed.0.1.0.1 in
+    let hh : c.loop-i.i < length (take a.count a.calls) = simp length-take (omega arith) in
+    let g : get_or (take a.count a.calls) c.loop-i.i blank_call ≡ get_or a.calls c.loop-i.i blank_call = get_or-take a.count a.calls c.loop-i.i blank_call (omega arith) in
     ⊎_elim
     (λ w. let k = packs-keep _ _ _ _ _ blank_call c.loop-i.i _ _ _ _ _ hh g c.loop-i.invariant.2 (omega arith) (sym c.due.ensures ∙ w.0.taken) w.3 (w.2 ∙ ap (set c.loop-i.out c.loop-i.n) w.1.ensures) in (omega arith, k.small, k))
     (λ w. let k = packs-drop _ _ _ _ _ blank_call c.loop-i.i _ _ _ _ _ hh g c.loop-i.invariant.2 (sym c.due.ensures ∙ w.0.left) w.2 w.1 in (omega arith, k.small, k))
@@ -33,6 +33,6 @@ loop-i-preserved c =
 pub returns : goal.returns
 returns c =
     let a = c.args in
-    let n : length a.t1 ≡ 512 = c.well_formed.0.1.0.1 in
-    let w = packs-all _ _ _ _ (take a.count a.t1) _ _ _ (simp length-take (omega arith)) c.loop-i.invariant.2 in
+    let n : length a.calls ≡ 512 = c.well_formed.0.1.0.1 in
+    let w = packs-all _ _ _ _ (take a.count a.calls) _ _ _ (simp length-take (omega arith)) c.loop-i.invariant.2 in
     λ i. record { calls = w.1 i; held = w.0 i }

@@ -27,5 +27,5 @@ pub returns : goal.returns
 returns c =
     let L = c.loop-i in
     let a = c.args in
-    let e = take_same a.t3 a.count L.i (⊎_elim (λ w. inl (omega arith)) (λ w. inr (omega arith, omega arith)) c.if-count-lt512.branch) in
+    let e = take_same a.calls a.count L.i (⊎_elim (λ w. inl (omega arith)) (λ w. inr (omega arith, omega arith)) c.if-count-lt512.branch) in
     put_as (ap (concat_map call_file) e) (put-within 12288 (omega (arith, L.invariant.3.small)) L.invariant.3)

@@ -27,5 +27,5 @@ pub returns : goal.returns
 returns c =
     let L = c.loop-i in
     let a = c.args in
-    let e = take_same a.t3 a.count L.i (⊎_elim (λ w. inl (omega arith)) (λ w. inr (omega arith, omega arith)) c.if-count-lt128.branch) in
+    let e = take_same a.rules a.count L.i (⊎_elim (λ w. inl (omega arith)) (λ w. inr (omega arith, omega arith)) c.if-count-lt128.branch) in
     put_as (ap (concat_map rule_file) e) (put-within 1408 (omega (arith, L.invariant.3.small)) L.invariant.3)
