@@ -1,6 +1,5 @@
 -- `alights_from` meets its contract.
 use Rattle.limited_rides.proofs.MadeLaws.{alights-end, alights-other, alights-one, alights-none}
-use borrow.Author.Rules.{rules}
 use Rattle.limited_rides.proofs.counts.alights_from.Goals as goal
 
 pub returns-then-a : goal.returns-then-a

@@ -1,8 +1,7 @@
 -- `put_counts` meets its contract: a loop over the calls from the right.
 use mathlib.Core.Path.{refl}
 use native.Mathlib.Omega.{arith}
-use borrow.Author.Rules.{rules}
-use Rattle.limited_rides.proofs.MadeLaws.{Counted, counted_start, counted_next, counted-fits, counted-turn, counted-done}
+use Rattle.limited_rides.proofs.MadeLaws.{counted_start, counted_next, counted-fits, counted-turn, counted-done}
 use Rattle.limited_rides.proofs.counts.put_counts.Goals as goal
 
 pub loop-j-init : goal.loop-j-init

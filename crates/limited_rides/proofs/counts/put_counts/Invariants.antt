@@ -1,8 +1,5 @@
 -- `put_counts` meets its contract: a loop over the calls from the right.
-use mathlib.Core.Path.{refl}
-use native.Mathlib.Omega.{arith}
-use borrow.Author.Rules.{rules}
-use Rattle.limited_rides.proofs.MadeLaws.{Counted, counted_start, counted_next, counted-fits, counted-turn, counted-done}
+use Rattle.limited_rides.proofs.MadeLaws.{Counted}
 use Rattle.limited_rides.proofs.counts.put_counts.Given as goal
 
 abbrev pub invariant-loop-j : goal.invariant-loop-j

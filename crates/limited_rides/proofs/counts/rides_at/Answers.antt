@@ -1,6 +1,5 @@
 -- `rides_at` meets its contract.
 use mathlib.Core.Path.{refl}
-use borrow.Author.Rules.{rules}
 use Rattle.limited_rides.proofs.counts.rides_at.Goals as goal
 
 pub returns-then-b : goal.returns-then-b

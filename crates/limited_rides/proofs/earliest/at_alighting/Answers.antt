@@ -2,7 +2,6 @@
 use Rattle.feed.proofs.FeedLaws.{targets-small}
 use Rattle.limited_rides.specs.Earliest.{alight_due}
 use Rattle.limited_rides.proofs.DueLaws.{soonest-none}
-use borrow.Author.Rules.{rules}
 use Rattle.limited_rides.proofs.earliest.at_alighting.Goals as goal
 
 pub at_targets-requires : goal.at_targets-requires

@@ -1,6 +1,5 @@
 -- `at_boarding` meets its contract.
 use mathlib.Core.Path.{refl}
-use borrow.Author.Rules.{rules}
 use Rattle.limited_rides.proofs.earliest.at_boarding.Goals as goal
 
 pub returns-then-b : goal.returns-then-b

@@ -1,6 +1,5 @@
 -- `at_later` meets its contract: the next call of the run, and what is known for it.
 use Rattle.limited_rides.proofs.DueLaws.{later-end, later-apart, later-one}
-use borrow.Author.Rules.{rules}
 use Rattle.limited_rides.proofs.earliest.at_later.Goals as goal
 
 pub returns-then-same_run : goal.returns-then-same_run

@@ -1,6 +1,5 @@
 -- `at_targets` meets its contract: a loop over the set digits of the mask.
-use Rattle.limited_rides.proofs.DueLaws.{InDue, due-start, due-low, due-less, due-turn, due-done}
-use borrow.Author.Rules.{rules}
+use Rattle.limited_rides.proofs.DueLaws.{InDue}
 use Rattle.limited_rides.proofs.earliest.at_targets.Given as goal
 
 abbrev pub invariant-loop-left : goal.invariant-loop-left

@@ -1,5 +1,4 @@
 -- `earliest_of` meets its contract.
-use borrow.Author.Rules.{rules}
 use Rattle.limited_rides.proofs.earliest.earliest_of.Goals as goal
 
 pub returns : goal.returns

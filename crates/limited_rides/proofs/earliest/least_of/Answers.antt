@@ -1,8 +1,7 @@
 -- `least_of` meets its contract: a loop over the calls from the right.
 use mathlib.Core.Path.{refl}
 use native.Mathlib.Omega.{arith}
-use Rattle.limited_rides.proofs.DueLaws.{Due, calls-start, calls-next, calls-turn, calls-done}
-use borrow.Author.Rules.{rules}
+use Rattle.limited_rides.proofs.DueLaws.{calls-start, calls-next, calls-turn, calls-done}
 use Rattle.limited_rides.proofs.earliest.least_of.Goals as goal
 
 pub loop-j-init : goal.loop-j-init

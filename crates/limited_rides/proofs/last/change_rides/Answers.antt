@@ -3,7 +3,6 @@ use borrow.Author.Tests.{eq-eqb, ne_eqb}
 use Rattle.limited_rides.specs.RowEvents.{change_events}
 use Rattle.limited_rides.proofs.RunLaws.{nothing, met-first, met-last}
 use Rattle.limited_rides.proofs.BlockLaws.{skip-changes}
-use borrow.Author.Rules.{rules}
 use Rattle.limited_rides.proofs.last.change_rides.Goals as goal
 
 pub returns-then-passes_over : goal.returns-then-passes_over

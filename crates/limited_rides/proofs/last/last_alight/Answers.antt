@@ -4,7 +4,6 @@ use Rattle.rides.specs.Loops.{last_alight_rows}
 use Rattle.rides.specs.Sheets.{sheet_of}
 use Rattle.limited_rides.specs.RowEvents.{join_then, last_joined}
 use Rattle.limited_rides.proofs.RunLaws.{nothing, join-then, over-met, offered-met}
-use borrow.Author.Rules.{rules}
 use Rattle.limited_rides.proofs.last.last_alight.Goals as goal
 
 pub returns-then-is_over : goal.returns-then-is_over

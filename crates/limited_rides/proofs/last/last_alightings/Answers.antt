@@ -1,11 +1,6 @@
 -- `last_alightings` meets its contract: a loop over the later calls of the run.
-use Prim.Native.Nat.{◌-◌}
 use native.Mathlib.Omega.{arith}
-use borrow.Author.Rules.{rules}
-use Rattle.limited_rides.specs.RowEvents.{run_events, last_joined}
-use Rattle.feed.specs.Feed.{call_at}
-use Rattle.rides.specs.Sheets.{sheet_of}
-use Rattle.limited_rides.proofs.TurnLaws.{Left, starts, run-turn, run-other, run-done}
+use Rattle.limited_rides.proofs.TurnLaws.{starts, run-turn, run-other, run-done}
 use Rattle.limited_rides.proofs.last.last_alightings.Goals as goal
 
 pub overflow_add-m : goal.overflow_add-m

@@ -1,11 +1,9 @@
 -- `last_alightings` meets its contract: a loop over the later calls of the run.
 use Prim.Native.Nat.{◌-◌}
-use native.Mathlib.Omega.{arith}
-use borrow.Author.Rules.{rules}
 use Rattle.limited_rides.specs.RowEvents.{run_events, last_joined}
 use Rattle.feed.specs.Feed.{call_at}
 use Rattle.rides.specs.Sheets.{sheet_of}
-use Rattle.limited_rides.proofs.TurnLaws.{Left, starts, run-turn, run-other, run-done}
+use Rattle.limited_rides.proofs.TurnLaws.{Left}
 use Rattle.limited_rides.proofs.last.last_alightings.Given as goal
 
 abbrev pub invariant-loop-m : goal.invariant-loop-m

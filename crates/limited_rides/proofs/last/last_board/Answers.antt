@@ -4,7 +4,6 @@ use Rattle.rides.specs.Sheets.{joins_of, sheet_of}
 use Rattle.limited_rides.specs.RowEvents.{board_events}
 use Rattle.limited_rides.proofs.RunLaws.{nothing, met-first, met-last}
 use Rattle.limited_rides.proofs.BlockLaws.{skip-run, skip-apart}
-use borrow.Author.Rules.{rules}
 use Rattle.limited_rides.proofs.last.last_board.Goals as goal
 
 pub returns-then-passes_over : goal.returns-then-passes_over

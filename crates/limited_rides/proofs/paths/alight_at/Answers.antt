@@ -1,5 +1,4 @@
 -- `alight_at` meets its contract: the direct journeys, and then the joins, unless the search is over.
-use borrow.Author.Rules.{rules}
 use Rattle.rides.specs.Sheets.{sheet_of}
 use Rattle.limited_rides.specs.RowEvents.{alight_events}
 use Rattle.limited_rides.proofs.RunLaws.{nothing, both, over-met, offered-met}

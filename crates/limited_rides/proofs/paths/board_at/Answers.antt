@@ -1,5 +1,4 @@
 -- `board_at` meets its contract: the origins of the stop, if the call is boardable.
-use borrow.Author.Rules.{rules}
 use Rattle.limited_rides.specs.RowEvents.{boarding_events}
 use Rattle.rides.specs.Sheets.{sheet_of}
 use Rattle.feed.proofs.FeedLaws.{origins-small}

@@ -1,11 +1,6 @@
 -- `first_rides` meets its contract: a loop over the later calls of the run.
-use Prim.Native.Nat.{◌-◌}
 use native.Mathlib.Omega.{arith}
-use borrow.Author.Rules.{rules}
-use Rattle.limited_rides.specs.RowEvents.{run_events, alight_events}
-use Rattle.feed.specs.Feed.{call_at}
-use Rattle.rides.specs.Sheets.{joins_of, sheet_of}
-use Rattle.limited_rides.proofs.TurnLaws.{Left, starts, run-turn, run-other, run-done}
+use Rattle.limited_rides.proofs.TurnLaws.{starts, run-turn, run-other, run-done}
 use Rattle.limited_rides.proofs.paths.first_rides.Goals as goal
 
 pub overflow_add-k : goal.overflow_add-k

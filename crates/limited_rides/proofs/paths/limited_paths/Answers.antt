@@ -1,10 +1,7 @@
 -- `limited_paths` meets its contract: a loop over the calls, which ends early where the search is over.
-use Prim.Native.Nat.{◌-◌}
 use native.Mathlib.Omega.{arith}
-use borrow.Author.Rules.{rules}
-use Rattle.limited_rides.specs.RowEvents.{call_events, boarding_events, row_events}
-use Rattle.rides.specs.Sheets.{joins_of, sheet_of}
-use Rattle.limited_rides.proofs.TurnLaws.{Left, starts, stops, calls-turn, calls-done}
+use Rattle.limited_rides.specs.RowEvents.{row_events}
+use Rattle.limited_rides.proofs.TurnLaws.{starts, stops, calls-turn, calls-done}
 use Rattle.limited_rides.proofs.paths.limited_paths.Goals as goal
 
 pub loop-i-init : goal.loop-i-init

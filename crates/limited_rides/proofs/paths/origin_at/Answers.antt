@@ -1,5 +1,4 @@
 -- `origin_at` meets its contract: the run's later calls, if there is time to walk.
-use borrow.Author.Rules.{rules}
 use Rattle.limited_rides.specs.RowEvents.{origin_events}
 use Rattle.rides.specs.Sheets.{sheet_of}
 use Rattle.limited_rides.proofs.RunLaws.{nothing}

@@ -1,8 +1,5 @@
 -- `origins` meets its contract: a loop over the set digits of the mask.
-use borrow.Author.Rules.{rules}
-use Rattle.limited_rides.specs.RowEvents.{bits_events, origin_events}
-use Rattle.rides.specs.Sheets.{joins_of, sheet_of}
-use Rattle.limited_rides.proofs.TurnLaws.{InBits, bits-start, bits-low, bits-less, bits-turn, bits-done}
+use Rattle.limited_rides.proofs.TurnLaws.{bits-start, bits-low, bits-less, bits-turn, bits-done}
 use Rattle.limited_rides.proofs.paths.origins.Goals as goal
 
 pub loop-left-init : goal.loop-left-init

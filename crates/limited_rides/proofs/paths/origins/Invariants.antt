@@ -1,8 +1,7 @@
 -- `origins` meets its contract: a loop over the set digits of the mask.
-use borrow.Author.Rules.{rules}
 use Rattle.limited_rides.specs.RowEvents.{bits_events, origin_events}
 use Rattle.rides.specs.Sheets.{joins_of, sheet_of}
-use Rattle.limited_rides.proofs.TurnLaws.{InBits, bits-start, bits-low, bits-less, bits-turn, bits-done}
+use Rattle.limited_rides.proofs.TurnLaws.{InBits}
 use Rattle.limited_rides.proofs.paths.origins.Given as goal
 
 abbrev pub invariant-loop-left : goal.invariant-loop-left

@@ -1,6 +1,5 @@
 -- `is_over` meets its contract.
 use Rattle.limited_rides.proofs.RunLaws.{over-refused, over-stopped}
-use borrow.Author.Rules.{rules}
 use Rattle.limited_rides.proofs.tally.is_over.Goals as goal
 
 pub returns-then-tally-eq0 : goal.returns-then-tally-eq0

@@ -1,6 +1,5 @@
 -- `spend` meets its contract: what is left falls by n, or the search stops.
 use Rattle.limited_rides.proofs.RunLaws.{spent_some, spent_all, spent-none}
-use borrow.Author.Rules.{rules}
 use Rattle.limited_rides.proofs.tally.spend.Goals as goal
 
 pub returns-then-n-tally : goal.returns-then-n-tally

@@ -1,6 +1,5 @@
 -- `paths_within` meets its contract.
 use Rattle.limited_rides.proofs.WithinLaws.{within-least}
-use borrow.Author.Rules.{rules}
 use Rattle.limited_rides.proofs.within.paths_within.Goals as goal
 
 pub returns : goal.returns

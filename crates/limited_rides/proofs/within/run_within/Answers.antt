@@ -1,7 +1,6 @@
 -- `run_within` meets its contract.
 use mathlib.Core.Path.{refl}
 use Rattle.limited_rides.proofs.WithinLaws.{within-arrays}
-use borrow.Author.Rules.{rules}
 use Rattle.limited_rides.proofs.within.run_within.Goals as goal
 
 pub returns : goal.returns

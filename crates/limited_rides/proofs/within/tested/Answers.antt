@@ -1,6 +1,5 @@
 -- `tested` meets its contract.
 use mathlib.Core.Path.{refl}
-use borrow.Author.Rules.{rules}
 use Rattle.limited_rides.proofs.within.tested.Goals as goal
 
 pub returns-then-stopped-eq0 : goal.returns-then-stopped-eq0
