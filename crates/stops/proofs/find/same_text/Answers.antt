@@ -12,30 +12,23 @@ use Rattle.stops.proofs.find.same_text.Goals as goal
 pub returns-then-n-i : goal.returns-then-n-i
 returns-then-n-i c =
     let a = c.args in
-    same_end a.t1 _ a.n c.loop-i.i (simp length-take (omega arith)) ∙ sym c.loop-i.invariant.1
+    same_end a.held _ a.n c.loop-i.i (simp length-take (omega arith)) ∙ sym c.loop-i.invariant.1
 
 pub returns-then-id-i : goal.returns-then-id-i
 returns-then-id-i c =
     let a = c.args in
-    let la : length a.t1 ≡ 32 = c.well_formed.0.1.0.1 in
-    same-short a.t1 _ a.n c.loop-i.i c.if-n-i.false (omega arith) c.if-id-i.true ∙ sym c.loop-i.invariant.1
+    let la : length a.held ≡ 32 = omega arith in
+    same-short a.held _ a.n c.loop-i.i c.if-n-i.false (omega arith) c.if-id-i.true ∙ sym c.loop-i.invariant.1
 
 pub returns-then-held-i : goal.returns-then-held-i
 returns-then-held-i c =
     let a = c.args in
-    let la : length a.t1 ≡ 32 = c.well_formed.0.1.0.1 in
-    let t = same_turn a.t1 a.id.now a.n c.loop-i.i c.if-n-i.false (omega arith) c.if-id-i.false in
+    let la : length a.held ≡ 32 = omega arith in
+    let t = same_turn a.held a.id.now a.n c.loop-i.i c.if-n-i.false (omega arith) c.if-id-i.false in
     sym (c.loop-i.invariant.1 ∙ t ∙ rw (ne_eqb _ _ c.if-held-i.true) refl)
-
-pub loop-i-preserved : goal.loop-i-preserved
-loop-i-preserved c =
-    let a = c.args in
-    let la : length a.t1 ≡ 32 = c.well_formed.0.1.0.1 in
-    let t = same_turn a.t1 a.id.now a.n c.loop-i.i c.if-n-i.false (omega arith) c.if-id-i.false in
-    (search rules, c.loop-i.invariant.1 ∙ t ∙ rw (eq-eqb _ _ c.if-held-i.false) refl)
 
 pub returns : goal.returns
 returns c =
     let a = c.args in
-    let la : length a.t1 ≡ 32 = c.well_formed.0.1.0.1 in
-    same_end a.t1 _ a.n c.loop-i.i (simp length-take (omega arith)) ∙ sym c.loop-i.invariant.1
+    let la : length a.held ≡ 32 = omega arith in
+    same_end a.held _ a.n c.loop-i.i (simp length-take (omega arith)) ∙ sym c.loop-i.invariant.1

@@ -9,21 +9,12 @@ use lib.ListN.{length, get_or, take, drop, length-set}
 use Rattle.stops.proofs.Texts.{over-turn, over-end}
 use Rattle.stops.proofs.taken.fill.Goals as goal
 
-pub loop-i-init : goal.loop-i-init
-loop-i-init c = (refl, omega arith, omega arith, refl)
-
-pub shape_of-out-then-s-i : goal.shape_of-out-then-s-i
-shape_of-out-then-s-i c = c.loop-i.invariant.0
-
 pub returns-then-s-i : goal.returns-then-s-i
 returns-then-s-i c = c.loop-i.invariant.3 ∙ over-end _ _ c.loop-i.i (omega arith) (omega arith) (inl c.if-s-i.true)
 
 pub loop-i-preserved : goal.loop-i-preserved
 loop-i-preserved c =
     (length-set c.loop-i.out c.loop-i.i (get_or c.args.s.now c.loop-i.i 0) ∙ c.loop-i.invariant.0, omega arith, omega arith, over-turn _ _ _ c.loop-i.i c.if-s-i.false (omega arith) c.loop-i.invariant.3)
-
-pub shape_of-out : goal.shape_of-out
-shape_of-out c = c.loop-i.invariant.0
 
 pub returns : goal.returns
 returns c = c.loop-i.invariant.3 ∙ over-end _ _ c.loop-i.i (omega arith) (omega arith) (inr (omega arith))

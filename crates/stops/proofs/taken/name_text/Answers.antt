@@ -6,8 +6,5 @@ use Rattle.stops.proofs.Laws.{shown-named, shown-none}
 use borrow.Author.Rules.{rules}
 use Rattle.stops.proofs.taken.name_text.Goals as goal
 
-pub returns-then-named : goal.returns-then-named
-returns-then-named c = c.text64.ensures ∙ ap (held_text 64) (sym (shown-named _ _ c.if-named.true))
-
 pub returns : goal.returns
 returns c = held_none 64 ∙ ap (held_text 64) (sym (shown-none _ _ c.if-named.false))
