@@ -12,10 +12,10 @@ viewed : (c : After-view_of-view) → (let a = c.args in c.view_of-view.result �
 viewed c = seen-call c.args.settings _ _ _ c.time_of-a.ensures c.time_of-d.ensures _ _ c.view_of-view.ensures
 
 pub returns-in_default : goal.returns-in_default
-returns-in_default c = view_out _ _ (sym (viewed c.before.before) ∙ c.in_default.is)
+returns-in_default c = view_out _ _ (sym (viewed c.before) ∙ c.in_default.is)
 
 pub returns-then-count-lt512 : goal.returns-then-count-lt512
-returns-then-count-lt512 c = view_in _ _ _ (sym (viewed c.before.before.before.before) ∙ c.in-In.is) c.if-count-lt512.true
+returns-then-count-lt512 c = view_in _ _ _ (sym (viewed c.before.before) ∙ c.in-In.is) c.if-count-lt512.true
 
 pub returns : goal.returns
-returns c = view-full _ _ _ (sym (viewed c.before.before.before.before) ∙ c.in-In.is) c.if-count-lt512.false
+returns c = view-full _ _ _ (sym (viewed c.before.before) ∙ c.in-In.is) c.if-count-lt512.false
