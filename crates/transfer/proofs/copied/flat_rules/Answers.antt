@@ -28,7 +28,8 @@ loop-i-preserved c =
 
 pub returns : goal.returns
 returns c =
-    let long : length c.args.rules ≡ 128 = c.well_formed.0.1.0.1 in (
-      flat-all c.args.rules c.loop-i.flat c.loop-i.invariant.1 (λ k h. c.loop-i.invariant.3 k (omega arith)),
-      rules-all c.loop-i.flat c.args.rules 128 (omega arith) (λ k h. c.loop-i.invariant.2 k (omega arith)),
-    )
+    let long : length c.args.rules ≡ 128 = omega arith in
+    record {
+      value = flat-all c.args.rules c.loop-i.flat c.loop-i.invariant.1 (λ k h. c.loop-i.invariant.3 k (omega arith));
+      read = rules-all c.loop-i.flat c.args.rules 128 (omega arith) (λ k h. c.loop-i.invariant.2 k (omega arith));
+    }

@@ -20,8 +20,8 @@ pub loop-i-preserved : goal.loop-i-preserved
 unfolding stop_at
 loop-i-preserved c =
     let a = c.args in
-    let n : length a.t1 ≡ 128 = c.well_formed.0.1.0.1 in
-    let e = ap (λ (s : Stop). s.parent) (get_d_any a.t1 c.loop-i.i past blank_stop (omega arith)) in
+    let n : length a.stops ≡ 128 = c.well_formed.0.1.0.1 in
+    let e = ap (λ (s : Stop). s.parent) (get_d_any a.stops c.loop-i.i past blank_stop (omega arith)) in
     (omega arith, filled_more _ 0 128 _ c.loop-i.parents c.loop-i.i _ c.loop-i.invariant.1 (omega arith) e)
 
 pub returns : goal.returns
