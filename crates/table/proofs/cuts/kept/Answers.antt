@@ -9,6 +9,7 @@ use lib.Seq.{get_or-take}
 use Rattle.calls.specs.Tables.{due_by, trim, blank_call}
 use Rattle.laws.proofs.Pack.{Packs, packs-none, packs-keep, packs-drop, packs-all}
 use Rattle.table.proofs.cuts.kept.Goals as goal
+use Rattle.table.proofs.cuts.kept.Goals.{then-due, else-due}
 
 pub loop-i-init : goal.loop-i-init
 loop-i-init c = (omega arith, omega arith, rw c.blank_call-blank.ensures (packs-none _ _ _ _ _))
@@ -25,10 +26,9 @@ loop-i-preserved c =
     let long : length a.calls ≡ 512 = c.well_formed.0.1.0.1 in
     let hh : c.loop-i.i < length (take a.count a.calls) = simp length-take (omega arith) in
     let g : get_or (take a.count a.calls) c.loop-i.i blank_call ≡ get_or a.calls c.loop-i.i blank_call = get_or-take a.count a.calls c.loop-i.i blank_call (omega arith) in
-    ⊎_elim
-    (λ w. let k = packs-keep _ _ _ _ _ blank_call c.loop-i.i _ _ _ _ _ hh g c.loop-i.invariant.2 (omega arith) (sym c.due.ensures ∙ w.0.taken) w.3 (w.2 ∙ ap (set c.loop-i.out c.loop-i.n) w.1.ensures) in (omega arith, k.small, k))
-    (λ w. let k = packs-drop _ _ _ _ _ blank_call c.loop-i.i _ _ _ _ _ hh g c.loop-i.invariant.2 (sym c.due.ensures ∙ w.0.left) w.2 w.1 in (omega arith, k.small, k))
-    c.if-due.branch
+    elim c.if-due.branch [ then-due
+    w ↦ let k = packs-keep _ _ _ _ _ blank_call c.loop-i.i _ _ _ _ _ hh g c.loop-i.invariant.2 (omega arith) (sym c.due.ensures ∙ w.if-due.true) w.n-is (w.out-is ∙ ap (set c.loop-i.out c.loop-i.n) w.trimmed.ensures) in (omega arith, k.small, k)
+    | else-due w ↦ let k = packs-drop _ _ _ _ _ blank_call c.loop-i.i _ _ _ _ _ hh g c.loop-i.invariant.2 (sym c.due.ensures ∙ w.if-due.false) w.n-is w.out-is in (omega arith, k.small, k) ]
 
 pub returns : goal.returns
 returns c =
