@@ -1,13 +1,12 @@
 -- The rule that holds among the first i is that of the loop.
 use Rattle.laws.specs.Bounds.{least}
 use mathlib.Core.Path.{◌≡◌, ap, ap₂, sym, ◌∙◌}
-use Prim.Native.Nat.{ℕ, ◌-◌, ◌≤◌}
+use Prim.Native.Nat.{ℕ}
 use native.Mathlib.Omega.{arith}
 use Rattle.transfer.specs.declared.Chosen.TheVariants.{Open}
 use Rattle.transfer.specs.Choice.{read, chosen}
 use Rattle.transfer.specs.Copied.{rules_of}
 use Rattle.transfer.proofs.Laws.{rules-turn, rules-none}
-use borrow.Author.Rules.{rules}
 use Rattle.transfer.proofs.choice.rule_for.Goals as goal
 
 pub loop-i-init : goal.loop-i-init

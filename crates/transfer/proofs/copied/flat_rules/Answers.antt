@@ -1,12 +1,9 @@
 -- The numbers written so far are the rules' own, and are read back.
-use borrow.Author.Rules.{rules}
-use Prim.Native.Nat.{ℕ, ◌-◌, ◌*◌, ◌≤◌, ◌<◌}
 use mathlib.Core.Path.{◌≡◌, refl, ◌∙◌}
 use native.Mathlib.Omega.{arith}
 use borrow.Author.Count.{below_none, below_more}
 use lib.ListN.{length, get_or}
 use Rattle.rules.specs.Rules.{blank_rule}
-use Rattle.transfer.specs.Copied.{flat_at, rule_at}
 use Rattle.transfer.proofs.Flat.{five-long, rule-here, rule-before, rules-all, flat-more, flat-all}
 use Rattle.transfer.proofs.copied.flat_rules.Goals as goal
 

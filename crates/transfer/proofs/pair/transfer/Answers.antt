@@ -1,6 +1,5 @@
 -- The parts of a transfer, put together.
 use Rattle.laws.specs.Bounds.{least}
-use borrow.Author.Rules.{rules}
 use Rattle.transfer.specs.Copied.{rules_of}
 use Rattle.transfer.proofs.Laws.{transfer-parts}
 use Rattle.transfer.proofs.pair.transfer.Goals as goal

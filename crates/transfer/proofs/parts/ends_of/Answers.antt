@@ -1,5 +1,4 @@
 -- The two stops, and what the array has for each.
-use borrow.Author.Rules.{rules}
 use Rattle.transfer.specs.Changes.{ends_of_of}
 use Rattle.transfer.proofs.parts.ends_of.Goals as goal
 
