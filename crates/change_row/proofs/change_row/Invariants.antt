@@ -1,14 +1,12 @@
 -- Each place is filled with its entry, by the best rules.
 use Rattle.laws.specs.Bounds.{least}
-use borrow.Author.Rules.{rules}
-use mathlib.Core.Path.{◌≡◌, ap, ◌∙◌}
-use Prim.Native.Nat.{ℕ, ◌-◌, ◌≤◌}
-use native.Mathlib.Omega.{arith}
+use mathlib.Core.Path.{◌≡◌}
+use Prim.Native.Nat.{◌-◌, ◌≤◌}
 use lib.ListN.{get_or}
 use Rattle.laws.specs.Tables.{table}
-use Rattle.laws.proofs.Tables.{Filled, filled_none, filled_more, filled-all}
+use Rattle.laws.proofs.Tables.{Filled}
 use Rattle.transfer.specs.Copied.{rules_of}
-use Rattle.transfer.specs.Rows.{entry_of, change_row}
+use Rattle.transfer.specs.Rows.{entry_of}
 use Rattle.change_row.specs.Ranks.{best_to}
 use Rattle.change_row.proofs.change_row.Given as goal
 

@@ -2,7 +2,6 @@
 use Rattle.laws.specs.Bounds.{least}
 use Rattle.transfer.specs.Copied.{rules_of}
 use Rattle.change_row.proofs.Entries.{ends-best, entry-parts}
-use borrow.Author.Rules.{rules}
 use Rattle.change_row.proofs.entry_by.Goals as goal
 
 pub rule_by-rule-requires : goal.rule_by-rule-requires

@@ -3,7 +3,6 @@ use mathlib.Core.Path.{sym, ◌∙◌}
 use borrow.Author.Tests.{eq-eqb, ne_eqb}
 use Rattle.laws.proofs.Bools.{cond-by, cond-not}
 use Rattle.change_row.specs.Ranks.{rank_from}
-use borrow.Author.Rules.{rules}
 use Rattle.change_row.proofs.rank_from.Goals as goal
 
 pub returns-then-x-from : goal.returns-then-x-from

@@ -4,7 +4,6 @@ use Rattle.laws.proofs.Bounds.{least_under}
 use mathlib.Core.Path.{sym, ◌∙◌}
 use native.Mathlib.Omega.{arith}
 use Rattle.change_row.proofs.Entries.{best-below, rule_found}
-use borrow.Author.Rules.{rules}
 use Rattle.change_row.proofs.rule_by.Goals as goal
 
 pub raised_of-own-requires : goal.raised_of-own-requires

@@ -4,7 +4,6 @@ use borrow.Author.Tests.{eq-eqb, ne_eqb}
 use Rattle.laws.proofs.Bools.{cond-by, cond-not}
 use Rattle.transfer.specs.declared.Chosen.TheVariants.{By}
 use Rattle.change_row.specs.Ranks.{ranked}
-use borrow.Author.Rules.{rules}
 use Rattle.change_row.proofs.rule_ranked.Goals as goal
 
 pub returns-then-k-eq0 : goal.returns-then-k-eq0
