@@ -1,5 +1,5 @@
 -- The code point at the front of a text, and what is left; what is written is read back.
-use Rattle.std.proofs.Common.{◌≡◌, ℕ, suc, ◌+◌, ◌-◌, ◌/◌, ◌%◌, ◌<◌, ◌≤◌, Bool, true, false, cond, ◌&&◌, ltb, leb, List, [], ◌∷◌, ◌++◌, length, get_or, drop, refl, ap, ◌∙◌, subst, ap₂, add-one, arith, length-drop, get_or-drop, drop-cons, drop-drop, ltb-false, ltb-true, le-ltb, lt-ltb, le-leb, leb-true}
+use Rattle.std.proofs.Common.{◌≡◌, ℕ, suc, ◌+◌, ◌/◌, ◌%◌, ◌<◌, ◌≤◌, Bool, true, false, cond, ◌&&◌, ltb, leb, List, [], ◌∷◌, ◌++◌, length, get_or, drop, refl, ap, ◌∙◌, subst, ap₂, add-one, arith, length-drop, get_or-drop, drop-cons, drop-drop, ltb-false, ltb-true, le-ltb, lt-ltb, le-leb, leb-true}
 use Rattle.laws.proofs.Bools.{and-true-left, and-true-right}
 use Rattle.key.specs.Utf8.{encoded_of, utf8, unread, is_pair, pair_of, point_of, width_of, points, is_latin}
 use Rattle.key.specs.Name.{is_control, is_bad}

@@ -1,6 +1,6 @@
 -- At equal longitude two positions are close by exactly where their latitudes differ by at most 1124 microdegrees: the square of the distance grows with
 -- the difference, and 1124 and 1125 are computed.
-use Rattle.std.proofs.Common.{◌≡◌, ℕ, zero, suc, ◌+◌, ◌-◌, ◌*◌, ◌^◌, ◌<◌, ◌≤◌, Bool, true, false, not, T, leb, ℤ, pos, negsuc, ◌+ℤ◌, ◌-ℤ◌, nat_abs, sym, refl, ap, ◌∙◌, subst, le_trans, le_of_eq, zero-lt-suc, mul-pos, one-mul, zero-add, zero-mul, mul-one, arith, lit<, lit≤, leb→le}
+use Rattle.std.proofs.Common.{◌≡◌, ℕ, zero, suc, ◌+◌, ◌*◌, ◌^◌, ◌<◌, ◌≤◌, Bool, true, false, not, T, leb, ℤ, pos, negsuc, ◌+ℤ◌, ◌-ℤ◌, nat_abs, sym, refl, ap, ◌∙◌, subst, le_trans, le_of_eq, zero-lt-suc, mul-pos, one-mul, zero-add, zero-mul, mul-one, arith, lit<, lit≤, leb→le}
 use lib.Dec.{nleb→lt}
 use lib.IntN.{+ℤ_invr}
 use lib.Ieee.{Float, nan, inf, fin, binary64, up, down, of_bits, of_int, round, sum, add, mul, div, le, unlike}

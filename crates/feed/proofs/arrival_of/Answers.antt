@@ -1,7 +1,6 @@
 -- `arrival_of` meets its contract.
 use mathlib.Core.Path.{refl}
 use Rattle.feed.specs.Feed.{arrival_of}
-use borrow.Author.Rules.{rules}
 use Rattle.feed.proofs.arrival_of.Goals as goal
 
 pub returns : goal.returns

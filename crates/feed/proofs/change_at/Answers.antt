@@ -1,7 +1,6 @@
 -- `change_at` meets its contract: the number stored, or past the end 65536.
 use borrow.Author.Tests.{lt-ltb, le-ltb}
 use Rattle.feed.specs.Feed.{change_at}
-use borrow.Author.Rules.{rules}
 use Rattle.feed.proofs.change_at.Goals as goal
 
 pub returns-then-at-lt16384 : goal.returns-then-at-lt16384

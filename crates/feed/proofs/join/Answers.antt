@@ -1,7 +1,6 @@
 -- `join` meets its contract: another trip or day, and in time.
 use borrow.Author.Tests.{eq-eqb, ne_eqb}
 use Rattle.feed.specs.Feed.{joined}
-use borrow.Author.Rules.{rules}
 use Rattle.feed.proofs.join.Goals.{then-f-b+else-f-b-2, else-f-b}
 use Rattle.feed.proofs.join.Goals as goal
 

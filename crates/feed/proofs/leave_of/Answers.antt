@@ -1,7 +1,6 @@
 -- `leave_of` meets its contract: a difference, 0 where it would be less.
 use native.Mathlib.Omega.{arith}
 use Rattle.feed.specs.Feed.{leave_of}
-use borrow.Author.Rules.{rules}
 use Rattle.feed.proofs.leave_of.Goals as goal
 
 pub returns-then-seconds-departure : goal.returns-then-seconds-departure

@@ -1,7 +1,6 @@
 -- `member_at` meets its contract: the number stored, or past the 128 stops none.
 use borrow.Author.Tests.{lt-ltb, le-ltb}
 use Rattle.feed.specs.Feed.{member_at}
-use borrow.Author.Rules.{rules}
 use Rattle.feed.proofs.member_at.Goals as goal
 
 pub returns-then-stop-lt128 : goal.returns-then-stop-lt128

@@ -2,7 +2,6 @@
 use mathlib.Core.Path.{ap}
 use Prim.Native.Nat.{ℕ, ◌%◌}
 use Rattle.feed.specs.Feed.{origin_mask}
-use borrow.Author.Rules.{rules}
 use Rattle.feed.proofs.origins_of.Goals as goal
 
 pub returns : goal.returns

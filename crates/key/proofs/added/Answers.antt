@@ -1,5 +1,5 @@
 -- `added` meets its contract.
-use Rattle.std.proofs.Common.{sym, refl, ◌∙◌, ap₂, rules}
+use Rattle.std.proofs.Common.{sym, refl, ◌∙◌, ap₂}
 use Rattle.key.specs.Stream.{point_step, added_of}
 use Rattle.key.proofs.added.Goals as goal
 

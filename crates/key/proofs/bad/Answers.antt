@@ -1,5 +1,5 @@
 -- `bad` meets its contract.
-use Rattle.std.proofs.Common.{refl, rules, le-ltb, lt-ltb}
+use Rattle.std.proofs.Common.{refl, le-ltb, lt-ltb}
 use Rattle.key.specs.Utf8.{is_latin}
 use Rattle.key.specs.Name.{is_bad}
 use Rattle.key.proofs.bad.Goals as goal

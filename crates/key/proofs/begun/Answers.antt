@@ -1,5 +1,5 @@
 -- `begun` meets its contract.
-use Rattle.std.proofs.Common.{◌-◌, refl, rules}
+use Rattle.std.proofs.Common.{refl}
 use Rattle.key.specs.Stream.{begun_of}
 use Rattle.key.proofs.begun.Goals as goal
 

@@ -1,7 +1,6 @@
 -- `fold` meets its contract. The loop's invariant: the hash of the whole is the hash of what is left, from the hash so far.
-use Rattle.std.proofs.Common.{◌≡◌, ◌-◌, ◌≤◌, length, drop, sym, ◌∙◌, arith, rules}
+use Rattle.std.proofs.Common.{◌≡◌, ◌-◌, ◌≤◌, length, drop}
 use Rattle.key.specs.Hash.{hashed}
-use Rattle.key.proofs.Stream.{hash-turn, hash-end}
 use Rattle.key.proofs.fold.Given as goal
 
 abbrev pub invariant-loop-i : goal.invariant-loop-i

@@ -1,5 +1,5 @@
 -- `lower` meets its contract.
-use Rattle.std.proofs.Common.{refl, arith, rules, le-ltb, lt-ltb, eq-eqb, ne_eqb, le-leb}
+use Rattle.std.proofs.Common.{refl, arith, le-ltb, lt-ltb, eq-eqb, ne_eqb, le-leb}
 use borrow.Author.Tests.{lt-leb}
 use Rattle.key.specs.Name.{lower_of, is_capital}
 use Rattle.key.proofs.lower.Goals as goal

@@ -1,9 +1,7 @@
 -- `name_key` meets its contract. The loop's invariant: the name's key is the key of what is left, from what is kept.
-use Rattle.std.proofs.Common.{◌≡◌, ◌-◌, ◌≤◌, length, drop, sym, ◌∙◌, arith, rules}
-use Rattle.key.specs.Utf8.{points}
-use Rattle.key.specs.Name.{name_key}
+use Rattle.std.proofs.Common.{sym, ◌∙◌, arith}
 use Rattle.key.proofs.Points.{good-latin}
-use Rattle.key.proofs.Stream.{rest, rest_all, rest-none, rest_some, bad, turned, name-turn, byte-bad, byte-turn, name-end}
+use Rattle.key.proofs.Stream.{rest_all, rest-none, rest_some, bad, turned, name-turn, byte-bad, byte-turn, name-end}
 use Rattle.key.proofs.name_key.Goals as goal
 
 -- a byte below 128

@@ -1,9 +1,8 @@
 -- `name_key` meets its contract. The loop's invariant: the name's key is the key of what is left, from what is kept.
-use Rattle.std.proofs.Common.{◌≡◌, ◌-◌, ◌≤◌, length, drop, sym, ◌∙◌, arith, rules}
+use Rattle.std.proofs.Common.{◌≡◌, ◌-◌, ◌≤◌, length, drop}
 use Rattle.key.specs.Utf8.{points}
 use Rattle.key.specs.Name.{name_key}
-use Rattle.key.proofs.Points.{good-latin}
-use Rattle.key.proofs.Stream.{rest, rest_all, rest-none, rest_some, bad, turned, name-turn, byte-bad, byte-turn, name-end}
+use Rattle.key.proofs.Stream.{rest}
 use Rattle.key.proofs.name_key.Given as goal
 
 abbrev pub invariant-loop-i : goal.invariant-loop-i

@@ -1,5 +1,5 @@
 -- `point` meets its contract.
-use Rattle.std.proofs.Common.{sym, refl, ◌∙◌, rules, le-ltb, lt-ltb}
+use Rattle.std.proofs.Common.{sym, refl, ◌∙◌, le-ltb, lt-ltb}
 use Rattle.key.specs.Utf8.{point_of, pair_of}
 use Rattle.key.proofs.point.Goals as goal
 

@@ -1,5 +1,5 @@
 -- `step` meets its contract.
-use Rattle.std.proofs.Common.{refl, ◌∙◌, rules}
+use Rattle.std.proofs.Common.{refl, ◌∙◌}
 use Rattle.key.specs.Hash.{step_of}
 use Rattle.key.proofs.step.Goals as goal
 

@@ -1,5 +1,5 @@
 -- `step_point` meets its contract.
-use Rattle.std.proofs.Common.{refl, rules, le-ltb, lt-ltb}
+use Rattle.std.proofs.Common.{refl, le-ltb, lt-ltb}
 use Rattle.key.specs.Utf8.{encoded_of}
 use Rattle.key.specs.Stream.{point_step}
 use Rattle.key.proofs.step_point.Goals as goal

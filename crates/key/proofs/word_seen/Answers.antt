@@ -1,5 +1,5 @@
 -- `word_seen` meets its contract.
-use Rattle.std.proofs.Common.{sym, refl, ◌∙◌, rules}
+use Rattle.std.proofs.Common.{sym, refl, ◌∙◌}
 use Rattle.key.specs.Stream.{word_seen}
 use Rattle.key.proofs.word_seen.Goals as goal
 

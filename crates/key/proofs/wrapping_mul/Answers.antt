@@ -1,5 +1,5 @@
 -- `wrapping_mul` meets its contract: the halves of the factors are below 2 ^ 32, and `halves` is the sum of the partial products.
-use Rattle.std.proofs.Common.{◌∙◌, arith, rules}
+use Rattle.std.proofs.Common.{◌∙◌, arith}
 use Rattle.laws.proofs.Halves.{below, halves}
 use Rattle.key.proofs.wrapping_mul.Goals as goal
 

@@ -1,5 +1,5 @@
 -- `place::close_by` meets its contract: each number that is made a float is the sum, the way round or the difference of the definition.
-use Rattle.std.proofs.Common.{◌≡◌, ◌+ℤ◌, ◌-ℤ◌, ap, ◌∙◌, w64, rules}
+use Rattle.std.proofs.Common.{◌≡◌, ◌+ℤ◌, ◌-ℤ◌, ap, ◌∙◌, w64}
 use lib.Ieee.{binary64, of_int}
 use Rattle.place.specs.Near.{close_by, close_at, angle, square, series, metres, turn}
 use Rattle.laws.proofs.Ints.{again}

@@ -1,5 +1,5 @@
 -- `place::id_key` meets its contract: by what `key` ensures.
-use Rattle.std.proofs.Common.{pos, rules}
+use Rattle.std.proofs.Common.{pos}
 use Rattle.place.specs.Keys.{tag_i, id_key}
 use Rattle.place.proofs.id_key.Goals as goal
 

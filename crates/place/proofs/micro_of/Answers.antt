@@ -1,5 +1,5 @@
 -- `place::micro_of` meets its contract: the product, cut.
-use Rattle.std.proofs.Common.{◌∙◌, w32, rules}
+use Rattle.std.proofs.Common.{◌∙◌, w32}
 use Rattle.laws.proofs.Ints.{again}
 use Rattle.place.specs.Positions.{micro}
 use Rattle.place.proofs.micro_of.Goals as goal

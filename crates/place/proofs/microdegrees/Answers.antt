@@ -1,5 +1,5 @@
 -- `place::microdegrees` meets its contract: by the test of both.
-use Rattle.std.proofs.Common.{◌≡◌, Bool, sym, ap, ◌∙◌, w32, rules}
+use Rattle.std.proofs.Common.{◌≡◌, Bool, sym, ap, ◌∙◌, w32}
 use lib.Ieee.{Float}
 use Rattle.laws.proofs.Ints.{again}
 use Rattle.place.specs.Positions.{usable_degrees, micro, at_if, micro_of}

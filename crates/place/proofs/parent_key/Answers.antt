@@ -1,5 +1,5 @@
 -- `place::parent_key` meets its contract: by what `key` ensures.
-use Rattle.std.proofs.Common.{pos, rules}
+use Rattle.std.proofs.Common.{pos}
 use Rattle.place.specs.Keys.{tag_p, parent_key}
 use Rattle.place.proofs.parent_key.Goals as goal
 

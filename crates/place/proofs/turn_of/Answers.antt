@@ -1,5 +1,5 @@
 -- `place::turn_of` meets its contract: by the test.
-use Rattle.std.proofs.Common.{◌≡◌, ℕ, Bool, cond, ltb, ℤ, pos, ◌-ℤ◌, nat_abs, sym, ap, ◌∙◌, lit≤, w32, w64, SFits, to_z, of_z, rules}
+use Rattle.std.proofs.Common.{◌≡◌, ℕ, Bool, cond, ltb, ℤ, pos, ◌-ℤ◌, nat_abs, sym, ap, ◌∙◌, lit≤, w32, w64, SFits, to_z, of_z}
 use lib.Signed.{lt_z}
 use Rattle.place.specs.Near.{turn, around}
 use Rattle.laws.proofs.Ints.{again, from-fits, gap-size}

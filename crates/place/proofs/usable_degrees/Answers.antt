@@ -1,5 +1,5 @@
 -- `place::usable_degrees` meets its contract: each of the two tests is whether the degrees are finite and at most so large.
-use Rattle.std.proofs.Common.{◌≡◌, Bool, ◌&&◌, sym, ap, ◌∙◌, rules}
+use Rattle.std.proofs.Common.{◌≡◌, Bool, ◌&&◌, sym, ap, ◌∙◌}
 use lib.Ieee.{Float, of_bits, neg, le}
 use Rattle.place.specs.Numbers.{n90, n180}
 use Rattle.place.specs.Positions.{in_reach, usable_degrees}

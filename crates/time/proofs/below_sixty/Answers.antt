@@ -1,7 +1,6 @@
 -- `below_sixty` meets its contract.
 use mathlib.Core.Path.{refl, sym, ◌∙◌}
 use Rattle.time.specs.Text.{sixty}
-use borrow.Author.Rules.{rules}
 use Rattle.time.proofs.below_sixty.Goals as goal
 
 pub returns-then-digit-2 : goal.returns-then-digit-2

@@ -1,15 +1,8 @@
 -- `with_hours` meets its contract. The loop's invariant: the answer is that of the digits left, after the number of those read, which is at most 1193046.
-use Prim.Native.Nat.{◌≤◌, ◌-◌}
-use mathlib.Core.Path.{◌≡◌, sym, ◌∙◌}
+use mathlib.Core.Path.{sym, ◌∙◌}
 use native.Mathlib.Omega.{arith}
-use lib.ListN.{length, drop}
-use Rattle.time.specs.Hours.{with_hours}
 use Rattle.time.proofs.Laws.{over, under, too_many, digit-turn, other-turn, hours-end}
-use borrow.Author.Rules.{rules}
 use Rattle.time.proofs.with_hours.Goals as goal
-
-pub overflow_add-v : goal.overflow_add-v
-overflow_add-v c = omega (arith, c.digit_value.ensures, c.shared_slice_known-in-loop-i-1.given c.loop-i.i)
 
 pub returns-else-digit : goal.returns-else-digit
 returns-else-digit c =

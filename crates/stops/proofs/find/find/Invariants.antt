@@ -1,12 +1,8 @@
 -- The loop looks for the stop among the first `count`.
-use borrow.Author.Rules.{rules}
 use Prim.Native.Nat.{◌≤◌, ◌-◌}
-use mathlib.Core.Path.{◌≡◌, refl, sym, ◌∙◌}
-use mathlib.Core.Bool.{true, false}
-use native.Mathlib.Omega.{arith}
-use lib.ListN.{length, get_or, take, drop, length-take}
+use mathlib.Core.Path.{◌≡◌}
+use lib.ListN.{take, drop}
 use Rattle.stops.specs.Stops.{is_it, find_stop}
-use Rattle.stops.proofs.Texts.{find-turn, find-end, past}
 use Rattle.stops.proofs.find.find.Given as goal
 
 abbrev pub invariant-loop-i : goal.invariant-loop-i

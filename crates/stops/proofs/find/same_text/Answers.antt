@@ -1,11 +1,8 @@
 -- The loop compares byte by byte, and the lengths at the end.
-use borrow.Author.Rules.{rules}
-use Prim.Native.Nat.{◌≤◌, ◌-◌}
 use mathlib.Core.Path.{◌≡◌, refl, sym, ◌∙◌}
 use native.Mathlib.Omega.{arith}
-use borrow.Author.Tests.{eq-eqb, ne_eqb}
-use lib.ListN.{length, take, drop, length-take}
-use Rattle.stops.specs.Texts.{same_bytes_of}
+use borrow.Author.Tests.{ne_eqb}
+use lib.ListN.{length, length-take}
 use Rattle.stops.proofs.Texts.{same_turn, same_end, same-short}
 use Rattle.stops.proofs.find.same_text.Goals as goal
 

@@ -1,11 +1,8 @@
 -- The loop copies bytes until the text ends or there is no room.
-use borrow.Author.Rules.{rules}
-use Prim.Native.Nat.{◌≤◌, ◌-◌}
-use mathlib.Core.Path.{◌≡◌, refl, ◌∙◌}
+use mathlib.Core.Path.{◌∙◌}
 use mathlib.Core.Logic.{inl, inr}
-use mathlib.Core.List.{◌++◌}
 use native.Mathlib.Omega.{arith}
-use lib.ListN.{length, get_or, take, drop, length-set}
+use lib.ListN.{get_or, length-set}
 use Rattle.stops.proofs.Texts.{over-turn, over-end}
 use Rattle.stops.proofs.taken.fill.Goals as goal
 

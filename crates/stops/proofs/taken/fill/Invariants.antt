@@ -1,12 +1,8 @@
 -- The loop copies bytes until the text ends or there is no room.
-use borrow.Author.Rules.{rules}
 use Prim.Native.Nat.{◌≤◌, ◌-◌}
-use mathlib.Core.Path.{◌≡◌, refl, ◌∙◌}
-use mathlib.Core.Logic.{inl, inr}
+use mathlib.Core.Path.{◌≡◌}
 use mathlib.Core.List.{◌++◌}
-use native.Mathlib.Omega.{arith}
-use lib.ListN.{length, get_or, take, drop, length-set}
-use Rattle.stops.proofs.Texts.{over-turn, over-end}
+use lib.ListN.{length, take, drop}
 use Rattle.stops.proofs.taken.fill.Given as goal
 
 abbrev pub invariant-loop-i : goal.invariant-loop-i

@@ -2,8 +2,7 @@
 use mathlib.Core.Path.{ap, sym, ◌∙◌}
 use Rattle.stops.specs.Texts.{held_text}
 use Rattle.stops.proofs.Texts.{held_none}
-use Rattle.stops.proofs.Laws.{shown-named, shown-none}
-use borrow.Author.Rules.{rules}
+use Rattle.stops.proofs.Laws.{shown-none}
 use Rattle.stops.proofs.taken.name_text.Goals as goal
 
 pub returns : goal.returns

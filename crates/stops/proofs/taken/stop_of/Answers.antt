@@ -1,6 +1,5 @@
 -- The record, field by field.
 use Rattle.stops.proofs.Laws.{made}
-use borrow.Author.Rules.{rules}
 use Rattle.stops.proofs.taken.stop_of.Goals as goal
 
 pub returns : goal.returns

@@ -1,5 +1,4 @@
 -- Zeros, with the text over them.
-use borrow.Author.Rules.{rules}
 use mathlib.Core.Path.{◌∙◌}
 use Rattle.stops.proofs.Texts.{over-blank}
 use Rattle.stops.proofs.taken.text32.Goals as goal

@@ -1,12 +1,11 @@
 -- `Time::from_str` meets its contract: each return is one of the tests of `Laws`.
-use Prim.Native.Nat.{ℕ, ◌-◌, ◌+◌, ◌*◌, ◌≤◌}
+use Prim.Native.Nat.{ℕ, ◌+◌, ◌*◌, ◌≤◌}
 use mathlib.Core.Path.{◌≡◌, sym, ap, ap₂, ◌∙◌}
 use mathlib.Core.List.{List}
 use native.Mathlib.Omega.{arith}
 use lib.ListN.{length, length-take}
 use Rattle.time.specs.Hours.{with_hours}
 use Rattle.time.proofs.Laws.{sixty-below, back, Colons, short, first-other, second-other, no-minutes, no-seconds, right}
-use borrow.Author.Rules.{rules}
 use Rattle.time.proofs.Time.from_str.Goals as goal
 
 -- both colons stand in their places
