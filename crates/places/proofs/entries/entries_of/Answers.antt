@@ -1,36 +1,30 @@
 -- Each place is filled with its entry.
-use borrow.Author.Rules.{rules}
 use mathlib.Core.Path.{◌≡◌, refl}
 use native.Mathlib.Omega.{arith}
-use Prim.Native.Nat.{◌-◌, ◌≤◌, ◌<◌}
-use lib.ListN.{length, get_or, take}
-use Rattle.laws.proofs.Tables.{Filled, filled_none, filled_more, filled-front}
+use lib.ListN.{length, get_or}
+use Rattle.laws.proofs.Tables.{filled_none, filled_more, filled-front}
 use Rattle.stops.proofs.Texts.{past}
-use Rattle.places.specs.Entries.{entry_at}
 use Rattle.places.proofs.Laws.{entry-parts, within_in}
 use Rattle.places.proofs.Laws.{past as pastEntry}
 use Rattle.places.proofs.entries.entries_of.Goals as goal
 use Rattle.places.proofs.entries.entries_of.Goals.{After-within_of-at}
 
--- the parent's record is read within the array
-below : (c : After-within_of-at invariant-loop decreases-loop) → c.within_of-at.result < 128
-below c =
-    omega (arith, c.within_of-at.ensures, within_in (get_or c.args.stops c.loop-i.i past).parent c.args.n (omega arith))
-
 pub loop-i-init : goal.loop-i-init
 loop-i-init c = (omega arith, omega arith, filled_none _ pastEntry 128 _ refl)
 
+-- the parent's record is read within the array
 pub offset_bounds-stops-at : goal.offset_bounds-stops-at
-offset_bounds-stops-at c = record { fits = omega (arith, below c) }
+offset_bounds-stops-at c =
+    record { fits = omega (arith, c.within_of-at.ensures, within_in (get_or c.args.stops c.loop-i.i past).parent c.args.n (omega arith)) }
 
 pub bounds-stops-at : goal.bounds-stops-at
-bounds-stops-at c = below c
+bounds-stops-at c = omega (arith, c.within_of-at.ensures, within_in (get_or c.args.stops c.loop-i.i past).parent c.args.n (omega arith))
 
 pub loop-i-preserved : goal.loop-i-preserved
 loop-i-preserved c =
     let a = c.args in
-    let long : length a.t1 ≡ 128 = c.well_formed.0.1.0.1 in
-    let e = entry-parts a.t1 a.n c.loop-i.i past (omega arith) (omega arith) refl c.within_of-at.ensures refl c.entry_of.ensures in
+    let long : length a.stops ≡ 128 = c.well_formed.0.1.0.1 in
+    let e = entry-parts a.stops a.n c.loop-i.i past (omega arith) (omega arith) refl c.within_of-at.ensures refl c.entry_of.ensures in
     (omega arith, omega arith, filled_more _ pastEntry 128 _ c.loop-i.entries c.loop-i.i _ c.loop-i.invariant.2 (omega arith) e)
 
 pub returns : goal.returns

@@ -1,5 +1,4 @@
 -- The record, with the key of the parent's id.
-use borrow.Author.Rules.{rules}
 use mathlib.Core.Path.{ap, ◌∙◌}
 use lib.ListN.{take}
 use Prim.Native.Nat.{ℕ}
