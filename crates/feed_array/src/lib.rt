@@ -23,6 +23,7 @@ fn stop_number(stop: u16) -> u16
     if stop < 128 { stop } else { 65535 }
 }
 
+#[tactic(auto, unfolding(crate::specs::Feeds::flags_of))]
 fn flags_of(board: bool, alight: bool) -> u16
     ensures { result ≡ flags_of board alight }
 {

@@ -1,6 +1,5 @@
 -- The four parts, one after the other.
 use Rattle.feed_array.proofs.FeedLaws.{feeds}
-use borrow.Author.Rules.{rules}
 use Rattle.feed_array.proofs.feed_of.Goals as goal
 
 pub returns : goal.returns

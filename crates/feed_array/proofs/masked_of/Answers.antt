@@ -2,7 +2,6 @@
 use mathlib.Core.Path.{ap₂}
 use Prim.Native.Nat.{ℕ, ◌+◌, ◌*◌}
 use Rattle.feed_array.specs.Feeds.{masked_of}
-use borrow.Author.Rules.{rules}
 use Rattle.feed_array.proofs.masked_of.Goals as goal
 
 pub returns : goal.returns

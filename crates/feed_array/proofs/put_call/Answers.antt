@@ -1,7 +1,6 @@
 -- Six stores.
 use native.Mathlib.Omega.{arith}
 use Rattle.feed_array.proofs.FeedLaws.{six-region}
-use borrow.Author.Rules.{rules}
 use Rattle.feed_array.proofs.put_call.Goals as goal
 
 pub returns : goal.returns

@@ -1,13 +1,7 @@
 -- Call after call.
-use mathlib.Core.Path.{◌≡◌, ◌∙◌}
-use Prim.Native.Nat.{ℕ, ◌-◌, ◌≤◌}
+use mathlib.Core.Path.{◌∙◌}
 use native.Mathlib.Omega.{arith}
-use lib.ListN.{length, get_or}
-use Rattle.calls.specs.Tables.{blank_call}
-use Rattle.laws.specs.Regions.{Blocks}
-use Rattle.feed_array.specs.Feeds.{six_of}
 use Rattle.laws.proofs.Regions.{blocks-none, blocks_more, blocks-all}
-use borrow.Author.Rules.{rules}
 use Rattle.feed_array.proofs.put_calls.Goals as goal
 
 pub loop-i-init : goal.loop-i-init

@@ -1,13 +1,10 @@
 -- Call after call.
-use mathlib.Core.Path.{◌≡◌, ◌∙◌}
+use mathlib.Core.Path.{◌≡◌}
 use Prim.Native.Nat.{ℕ, ◌-◌, ◌≤◌}
-use native.Mathlib.Omega.{arith}
 use lib.ListN.{length, get_or}
 use Rattle.calls.specs.Tables.{blank_call}
 use Rattle.laws.specs.Regions.{Blocks}
 use Rattle.feed_array.specs.Feeds.{six_of}
-use Rattle.laws.proofs.Regions.{blocks-none, blocks_more, blocks-all}
-use borrow.Author.Rules.{rules}
 use Rattle.feed_array.proofs.put_calls.Given as goal
 
 abbrev pub invariant-loop-i : goal.invariant-loop-i

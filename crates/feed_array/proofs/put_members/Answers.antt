@@ -1,6 +1,5 @@
 -- Stop after stop.
 use mathlib.Core.Path.{◌≡◌, refl, ap, ◌∙◌}
-use Prim.Native.Nat.{ℕ, ◌-◌, ◌≤◌}
 use native.Mathlib.Omega.{arith}
 use lib.ListN.{length}
 use Rattle.laws.proofs.Bounds.{get_d_any}
@@ -8,10 +7,8 @@ use Rattle.stops.specs.declared.Stop.{Stop}
 use Rattle.stops.specs.Sound.{stop_at}
 use Rattle.stops.specs.Taken.{blank_stop}
 use Rattle.stops.proofs.Texts.{past}
-use Rattle.laws.specs.Regions.{Region}
 use Rattle.feed_array.specs.Feeds.{masked_of}
 use Rattle.laws.proofs.Regions.{region-none, region-more, region-all}
-use borrow.Author.Rules.{rules}
 use Rattle.feed_array.proofs.put_members.Goals as goal
 
 pub loop-k-init : goal.loop-k-init

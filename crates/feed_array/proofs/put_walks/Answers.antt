@@ -1,7 +1,6 @@
 -- Four stores.
 use native.Mathlib.Omega.{arith}
 use Rattle.feed_array.proofs.FeedLaws.{walks-region}
-use borrow.Author.Rules.{rules}
 use Rattle.feed_array.proofs.put_walks.Goals as goal
 
 pub returns : goal.returns
