@@ -1,13 +1,11 @@
 -- Row after row.
-use borrow.Author.Rules.{rules}
-use mathlib.Core.Path.{◌≡◌, refl, ◌∙◌}
+use mathlib.Core.Path.{◌≡◌}
 use Prim.Native.Nat.{ℕ, ◌-◌, ◌≤◌}
-use native.Mathlib.Omega.{arith}
 use lib.ListN.{length}
 use Rattle.laws.specs.Bounds.{least}
 use Rattle.transfer.specs.Copied.{rules_of}
 use Rattle.transfer.specs.Rows.{entry_of}
-use Rattle.change_array.proofs.ChangeLaws.{RowsTo, rows_more}
+use Rattle.change_array.proofs.ChangeLaws.{RowsTo}
 use Rattle.change_array.proofs.marked_rows.Given as goal
 
 abbrev pub invariant-loop-from : goal.invariant-loop-from

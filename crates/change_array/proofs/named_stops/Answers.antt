@@ -1,10 +1,8 @@
 -- The stops of the calls passed are marked.
-use borrow.Author.Rules.{rules}
-use mathlib.Core.Path.{◌≡◌, refl, ap, ◌∙◌}
-use Prim.Native.Nat.{◌-◌, ◌≤◌, min}
+use mathlib.Core.Path.{refl, ap, ◌∙◌}
 use native.Mathlib.Omega.{arith}
 use lib.ListN.{length, length-set}
-use Rattle.change_array.proofs.ChangeLaws.{MarkedTo, marks-more}
+use Rattle.change_array.proofs.ChangeLaws.{marks-more}
 use Rattle.change_array.proofs.named_stops.Goals as goal
 
 pub loop-i-init : goal.loop-i-init

@@ -1,10 +1,8 @@
 -- The stops of the calls passed are marked.
-use borrow.Author.Rules.{rules}
-use mathlib.Core.Path.{◌≡◌, refl, ap, ◌∙◌}
+use mathlib.Core.Path.{◌≡◌}
 use Prim.Native.Nat.{◌-◌, ◌≤◌, min}
-use native.Mathlib.Omega.{arith}
-use lib.ListN.{length, length-set}
-use Rattle.change_array.proofs.ChangeLaws.{MarkedTo, marks-more}
+use lib.ListN.{length}
+use Rattle.change_array.proofs.ChangeLaws.{MarkedTo}
 use Rattle.change_array.proofs.named_stops.Given as goal
 
 abbrev pub invariant-loop-i : goal.invariant-loop-i

@@ -1,6 +1,5 @@
 -- The row is made and put in.
 use Rattle.change_array.proofs.ChangeLaws.{row-region}
-use borrow.Author.Rules.{rules}
 use Rattle.change_array.proofs.put_changes.Goals as goal
 
 pub returns : goal.returns
