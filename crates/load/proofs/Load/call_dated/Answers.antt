@@ -6,28 +6,22 @@ use Rattle.load.specs.Steps.{dated_call}
 use Rattle.load.proofs.StepLaws.{gate-refused, gate-outside, plain-refused, plain-answered}
 use borrow.Author.Rules.{rules}
 use Rattle.load.proofs.Load.call_dated.Goals as goal
-use Rattle.load.proofs.Load.call_dated.Goals.{After-gate_answer-first}
-
--- what is told of the service is the week's word
-by-week : (c : After-gate_answer-first)
-    → (let a = c.args in dated_call a.self c.running-told.result a.input ≡ dated_call a.self (running a.self.week a.service.now a.input.day) a.input)
-by-week c = let a = c.args in ap (λ (r : Running). dated_call a.self r a.input) c.running-told.ensures
 
 pub returns-then-is_refused : goal.returns-then-is_refused
 returns-then-is_refused c =
-    gate-refused c.args.self _ _ _ c.gate_answer-first.ensures (sym c.is_refused.ensures ∙ c.if-is_refused.true) ∙ by-week c.before.before
+    gate-refused c.args.self _ _ _ c.gate_answer-first.ensures (sym c.is_refused.ensures ∙ c.if-is_refused.true) ∙ ap (λ (r : Running). dated_call c.args.self r c.args.input) c.running-told.ensures
 
 pub returns-then-is_refused-2 : goal.returns-then-is_refused-2
 returns-then-is_refused-2 c =
     plain-refused c.args.self _ _ _ c.gate_answer-first.ensures (sym c.is_taken.ensures ∙ c.if-is_taken.true) _ c.call_by_cuts-s.ensures
-    (sym c.is_refused-then-is_taken.ensures ∙ c.if-is_refused-2.true) ∙ by-week c.before.before.before.before.before.before.before
+    (sym c.is_refused-then-is_taken.ensures ∙ c.if-is_refused-2.true) ∙ ap (λ (r : Running). dated_call c.args.self r c.args.input) c.running-told.ensures
 
 pub returns-then-is_taken : goal.returns-then-is_taken
 returns-then-is_taken c =
     plain-answered c.args.self _ _ _ c.gate_answer-first.ensures (sym c.is_taken.ensures ∙ c.if-is_taken.true) _ c.call_by_cuts-s.ensures
-    (sym c.is_refused-then-is_taken.ensures ∙ c.if-is_refused-2.false) _ c.closed-next.ensures ∙ by-week c.before.before.before.before.before.before.before.before.before
+    (sym c.is_refused-then-is_taken.ensures ∙ c.if-is_refused-2.false) _ c.closed-next.ensures ∙ ap (λ (r : Running). dated_call c.args.self r c.args.input) c.running-told.ensures
 
 pub returns : goal.returns
 returns c =
     gate-outside c.args.self _ _ _ c.gate_answer-first.ensures (sym c.is_refused.ensures ∙ c.if-is_refused.false) (sym c.is_taken.ensures ∙ c.if-is_taken.false) _ c.closed-next-2.ensures
-    ∙ by-week c.before.before.before.before.before
+    ∙ ap (λ (r : Running). dated_call c.args.self r c.args.input) c.running-told.ensures

@@ -10,20 +10,13 @@ use Rattle.load.specs.Steps.{stop_answer}
 use Rattle.load.proofs.StepLaws.{stop-room, stop-taken, stop-refused}
 use borrow.Author.Rules.{rules}
 use Rattle.load.proofs.Load.stop.Goals as goal
-use Rattle.load.proofs.Load.stop.Goals.{After-stop_answer-answer, After-stop_of}
-
--- what was answered is the definition's answer
-answered : (d : After-stop_answer-answer) → (let a = d.args in d.stop_answer-answer.result ≡ stop_answer a.self a.id.now a.name.now a.parent.now a.input)
-answered d =
-    let a = d.args in
-    d.stop_answer-answer.ensures
-    ∙ ap (λ (f : Found). first_answer (stop_tests a.self.searched a.self.stops a.self.stop_count f a.id.now a.name.now a.input)) d.parent_of-station.ensures
+use Rattle.load.proofs.Load.stop.Goals.{After-stop_of}
 
 -- a stop that is taken has room
 fits : (c : After-stop_of) → c.args.self.stop_count < 128
 fits c =
     let a = c.args in
-    stop-room a.self a.id.now a.name.now a.parent.now a.input _ (answered c.before.before.before) (sym c.is_taken.ensures ∙ c.if-is_taken.true)
+    stop-room a.self a.id.now a.name.now a.parent.now a.input _ (c.stop_answer-answer.ensures ∙ ap (λ (f : Found). first_answer (stop_tests a.self.searched a.self.stops a.self.stop_count f a.id.now a.name.now a.input)) c.parent_of-station.ensures) (sym c.is_taken.ensures ∙ c.if-is_taken.true)
 
 pub offset_bounds-next-at : goal.offset_bounds-next-at
 offset_bounds-next-at c = omega (arith, fits c)
@@ -37,10 +30,10 @@ overflow_add-next c = omega (arith, fits c)
 pub returns-then-is_taken : goal.returns-then-is_taken
 returns-then-is_taken c =
     let a = c.args in
-    stop-taken a.self _ _ a.parent.now _ _ (answered c.before.before.before) _ (sym c.is_taken.ensures ∙ c.if-is_taken.true)
+    stop-taken a.self _ _ a.parent.now _ _ (c.stop_answer-answer.ensures ∙ ap (λ (f : Found). first_answer (stop_tests a.self.searched a.self.stops a.self.stop_count f a.id.now a.name.now a.input)) c.parent_of-station.ensures) _ (sym c.is_taken.ensures ∙ c.if-is_taken.true)
     (c.stop_of.ensures ∙ ap (λ (f : Found). stop_of a.id.now a.name.now f a.input) c.parent_of-station.ensures)
 
 pub returns : goal.returns
 returns c =
     let a = c.args in
-    stop-refused a.self _ _ a.parent.now _ _ (answered c.before.before) (sym c.is_taken.ensures ∙ c.if-is_taken.false)
+    stop-refused a.self _ _ a.parent.now _ _ (c.stop_answer-answer.ensures ∙ ap (λ (f : Found). first_answer (stop_tests a.self.searched a.self.stops a.self.stop_count f a.id.now a.name.now a.input)) c.parent_of-station.ensures) (sym c.is_taken.ensures ∙ c.if-is_taken.false)
