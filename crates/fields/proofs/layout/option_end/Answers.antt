@@ -9,8 +9,6 @@ pub returns-then-has_at : goal.returns-then-has_at
 unfolding option_end
 returns-then-has_at c = record { value = sym (cond-by _ _ (sym c.has_at.ensures ∙ c.if-has_at.true)); near = search rules }
 
-
 pub returns : goal.returns
 unfolding option_end
 returns c = record { value = sym (cond-not _ _ (sym c.has_at.ensures ∙ c.if-has_at.false)); near = search rules }
-

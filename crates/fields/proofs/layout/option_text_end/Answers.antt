@@ -10,8 +10,6 @@ pub returns-then-has_at : goal.returns-then-has_at
 unfolding option_text_end
 returns-then-has_at c = record { value = c.text_end.ensures.value ∙ sym (cond-by _ _ (sym c.has_at.ensures ∙ c.if-has_at.true)); near = omega arith }
 
-
 pub returns : goal.returns
 unfolding option_text_end
 returns c = record { value = sym (cond-not _ _ (sym c.has_at.ensures ∙ c.if-has_at.false)); near = search rules }
-

@@ -3,7 +3,6 @@ use mathlib.Core.Path.{sym, ◌∙◌}
 use borrow.Author.Tests.{eq-eqb, ne_eqb}
 use Rattle.laws.proofs.Bools.{and-by, and-not}
 use Rattle.fields.specs.Layout.{rule_filled_of}
-use borrow.Author.Rules.{rules}
 use Rattle.fields.proofs.layout.rule_filled.Goals as goal
 
 pub returns-then-option_end-b : goal.returns-then-option_end-b

@@ -4,7 +4,6 @@ use Prim.Native.Nat.{ℕ, ◌+◌}
 use lib.Dec.{eqb}
 use lib.ListN.{length}
 use Rattle.fields.specs.Layout.{settings_filled_of}
-use borrow.Author.Rules.{rules}
 use Rattle.fields.proofs.layout.settings_filled.Goals as goal
 
 pub returns : goal.returns

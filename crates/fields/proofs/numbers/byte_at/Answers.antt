@@ -1,7 +1,6 @@
 -- Past the end the default is read.
 use mathlib.Core.Path.{sym}
 use lib.ListN.{get_or-eq_default}
-use borrow.Author.Rules.{rules}
 use Rattle.fields.proofs.numbers.byte_at.Goals as goal
 
 pub returns-else-at-b : goal.returns-else-at-b

@@ -2,7 +2,6 @@
 use mathlib.Core.Path.{sym, ap, ◌∙◌}
 use lib.Ieee.{binary64, of_bits}
 use Rattle.fields.proofs.NumberLaws.{nan-of, not-nan}
-use borrow.Author.Rules.{rules}
 use Rattle.fields.proofs.numbers.f64_at.Goals as goal
 
 pub returns-then-is_nan : goal.returns-then-is_nan

@@ -3,7 +3,6 @@ use mir.Syntax.{w64}
 use mathlib.Core.Path.{ap, ◌∙◌}
 use Rattle.laws.proofs.Ints.{again}
 use Rattle.fields.specs.Numbers.{signed_of}
-use borrow.Author.Rules.{rules}
 use Rattle.fields.proofs.numbers.i64_at.Goals as goal
 
 pub returns : goal.returns

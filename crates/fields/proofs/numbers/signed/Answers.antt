@@ -1,6 +1,5 @@
 -- Below 2 ^ 63 the number itself, else counted down from −1.
 use Rattle.fields.proofs.NumberLaws.{signed_low, high_fits, signed_high}
-use borrow.Author.Rules.{rules}
 use Rattle.fields.proofs.numbers.signed.Goals as goal
 
 pub returns-then-n-lt9223372036854775808 : goal.returns-then-n-lt9223372036854775808

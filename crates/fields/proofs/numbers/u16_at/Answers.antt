@@ -1,7 +1,6 @@
 -- The two bytes by their weights.
 use Prim.Native.Nat.{◌+◌, ◌*◌}
 use Rattle.fields.specs.Numbers.{u16_at}
-use borrow.Author.Rules.{rules}
 use Rattle.fields.proofs.numbers.u16_at.Goals as goal
 
 pub returns : goal.returns

@@ -1,7 +1,6 @@
 -- The two halves by their weights.
 use Prim.Native.Nat.{◌+◌, ◌*◌}
 use Rattle.fields.specs.Numbers.{u64_at}
-use borrow.Author.Rules.{rules}
 use Rattle.fields.proofs.numbers.u64_at.Goals as goal
 
 pub returns : goal.returns

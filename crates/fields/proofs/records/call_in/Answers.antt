@@ -3,7 +3,6 @@ use mathlib.Core.Path.{ap, ◌∙◌}
 use Prim.Native.Nat.{ℕ, ◌+◌}
 use Rattle.fields.specs.Numbers.{byte_at}
 use Rattle.fields.specs.Records.{seconds_at, call_in}
-use borrow.Author.Rules.{rules}
 use Rattle.fields.proofs.records.call_in.Goals as goal
 
 pub returns : goal.returns

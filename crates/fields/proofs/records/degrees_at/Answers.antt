@@ -2,7 +2,6 @@
 use mathlib.Core.Path.{sym, ◌∙◌}
 use Rattle.laws.proofs.Bools.{cond-by, cond-not}
 use Rattle.fields.specs.Records.{degrees_at}
-use borrow.Author.Rules.{rules}
 use Rattle.fields.proofs.records.degrees_at.Goals as goal
 
 pub returns-then-has_at : goal.returns-then-has_at

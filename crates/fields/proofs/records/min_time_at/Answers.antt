@@ -3,7 +3,6 @@ use mathlib.Core.Path.{sym, ap, ◌∙◌}
 use Rattle.laws.proofs.Bools.{cond-by, cond-not}
 use Rattle.rules.specs.declared.MinTime.{MinTime}
 use Rattle.fields.specs.Records.{min_time_at}
-use borrow.Author.Rules.{rules}
 use Rattle.fields.proofs.records.min_time_at.Goals as goal
 
 pub returns-then-has_at : goal.returns-then-has_at

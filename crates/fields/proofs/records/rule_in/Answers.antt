@@ -1,6 +1,5 @@
 -- Field by field.
 use Rattle.fields.specs.Records.{rule_in}
-use borrow.Author.Rules.{rules}
 use Rattle.fields.proofs.records.rule_in.Goals as goal
 
 pub returns : goal.returns

@@ -6,7 +6,6 @@ use Rattle.fields.proofs.NumberLaws.{i64-again}
 use Rattle.fields.specs.Numbers.{byte_at, u16_at}
 use Rattle.fields.specs.Second.{second_settings_in}
 use Rattle.fields.specs.Records.{walks_at}
-use borrow.Author.Rules.{rules}
 use Rattle.fields.proofs.records.second_settings_in.Goals as goal
 
 pub returns : goal.returns

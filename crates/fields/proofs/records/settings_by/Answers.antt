@@ -1,7 +1,6 @@
 -- By the version.
 use mathlib.Core.Path.{sym, ◌∙◌}
 use Rattle.laws.proofs.Bools.{cond-by, cond-not}
-use borrow.Author.Rules.{rules}
 use Rattle.fields.proofs.records.settings_by.Goals as goal
 
 pub returns-then-second : goal.returns-then-second

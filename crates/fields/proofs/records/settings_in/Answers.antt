@@ -5,7 +5,6 @@ use mathlib.Core.List.{[], ◌∷◌}
 use Rattle.fields.proofs.NumberLaws.{i64-again}
 use Rattle.fields.specs.Numbers.{byte_at}
 use Rattle.fields.specs.Records.{walks_at, settings_in}
-use borrow.Author.Rules.{rules}
 use Rattle.fields.proofs.records.settings_in.Goals as goal
 
 pub returns : goal.returns

@@ -4,7 +4,6 @@ use Prim.Native.Nat.{ℕ, ◌+◌}
 use Rattle.fields.specs.Numbers.{byte_at}
 use Rattle.fields.specs.Layout.{has_at}
 use Rattle.fields.specs.Records.{degrees_at, stop_in}
-use borrow.Author.Rules.{rules}
 use Rattle.fields.proofs.records.stop_in.Goals as goal
 
 pub returns : goal.returns

@@ -1,7 +1,6 @@
 -- Byte by byte.
 use mathlib.Core.List.{[], ◌∷◌}
 use Rattle.fields.specs.Records.{walks_at}
-use borrow.Author.Rules.{rules}
 use Rattle.fields.proofs.records.walks_at.Goals as goal
 
 pub returns : goal.returns
