@@ -1,5 +1,4 @@
 -- `place_c::micro_with` meets its contract: by what the functions of `place` ensure.
-use borrow.Author.Rules.{rules}
 use mathlib.Core.Path.{ap, ◌∙◌}
 use Rattle.place.specs.Positions.{micro_of}
 use Rattle.place_c.proofs.micro_with.Goals as goal

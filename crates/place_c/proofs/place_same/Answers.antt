@@ -1,5 +1,4 @@
 -- `place_c::place_same` meets its contract: by what `same_place_keys` ensures.
-use borrow.Author.Rules.{rules}
 use mathlib.Core.Path.{◌∙◌}
 use Rattle.laws.proofs.Ints.{again}
 use Rattle.place.specs.Near.{same_keys}

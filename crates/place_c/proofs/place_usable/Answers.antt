@@ -1,5 +1,4 @@
 -- `place_c::place_usable` meets its contract: by what the functions of `place` ensure.
-use borrow.Author.Rules.{rules}
 use mathlib.Core.Path.{ap, ◌∙◌}
 use Rattle.place.specs.Positions.{is_usable}
 use Rattle.place_c.proofs.place_usable.Goals as goal
