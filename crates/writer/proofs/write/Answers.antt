@@ -16,14 +16,12 @@ returns-then-is_unwritable c =
     let w = wrote-barred a.load a.out-1.now (sym c.is_unwritable.ensures ∙ c.if-is_unwritable.true) in
     record { value = c.refused.ensures ∙ w.0; out_after = w.1 }
 
-
 pub returns-then-out-n : goal.returns-then-out-n
 returns-then-out-n c =
     let a = c.args in
     let h : length a.out-1.now < length (write_spec_of a.load) = omega (arith, c.file_length-n.ensures, c.if-out-n.true) in
     let w = wrote-short a.load a.out-1.now (sym c.is_unwritable.ensures ∙ c.if-is_unwritable.false) h in
     record { value = c.refused-then-out-n.ensures ∙ w.0; out_after = w.1 }
-
 
 pub returns : goal.returns
 returns c =
@@ -33,4 +31,3 @@ returns c =
     let r : ◌≡◌ {A = Wrote} (record { answer = Taken; length = c.file_length-n.result }) (record { answer = Taken; length = length (write_spec_of a.load) }) =
     ap (λ (n : ℕ). record { answer = Taken; length = n }) c.file_length-n.ensures in
     record { value = r ∙ w.0; out_after = w.1 }
-

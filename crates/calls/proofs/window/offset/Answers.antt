@@ -31,7 +31,6 @@ pub since-t-requires : goal.since-t-requires
 since-t-requires c =
     record { epoch_value = sym c.is_near.ensures ∙ c.if-is_near.true; value = sym c.is_near-then-is_near.ensures ∙ c.if-is_near-2.true }
 
-
 pub returns-then-t-lt0 : goal.returns-then-t-lt0
 returns-then-t-lt0 c = time-early _ _ _ _ (near-epoch c.before) (near-now c.before) (is c.before) c.if-t-lt0.true
 

@@ -9,9 +9,7 @@ returns-then-group-lt64 c =
     let g = c.args.group in
     record { value = listed-part g.journeys-1 g.count c.known.ensures c.if-group-lt64.true; upper_bound = omega arith }
 
-
 pub returns-else-group-lt64 : goal.returns-else-group-lt64
 returns-else-group-lt64 c =
     let g = c.args.group in
     record { value = listed-all g.journeys-1 g.count c.known.ensures c.if-group-lt64.false; upper_bound = omega arith }
-

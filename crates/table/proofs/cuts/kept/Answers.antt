@@ -26,9 +26,11 @@ loop-i-preserved c =
     let long : length a.calls ≡ 512 = c.well_formed.0.1.0.1 in
     let hh : c.loop-i.i < length (take a.count a.calls) = simp length-take (omega arith) in
     let g : get_or (take a.count a.calls) c.loop-i.i blank_call ≡ get_or a.calls c.loop-i.i blank_call = get_or-take a.count a.calls c.loop-i.i blank_call (omega arith) in
-    elim c.if-due.branch [ then-due
-    w ↦ let k = packs-keep _ _ _ _ _ blank_call c.loop-i.i _ _ _ _ _ hh g c.loop-i.invariant.2 (omega arith) (sym c.due.ensures ∙ w.if-due.true) w.n-is (w.out-is ∙ ap (set c.loop-i.out c.loop-i.n) w.trimmed.ensures) in (omega arith, k.small, k)
-    | else-due w ↦ let k = packs-drop _ _ _ _ _ blank_call c.loop-i.i _ _ _ _ _ hh g c.loop-i.invariant.2 (sym c.due.ensures ∙ w.if-due.false) w.n-is w.out-is in (omega arith, k.small, k) ]
+    elim c.if-due.branch [
+      | then-due
+          w ↦ let k = packs-keep _ _ _ _ _ blank_call c.loop-i.i _ _ _ _ _ hh g c.loop-i.invariant.2 (omega arith) (sym c.due.ensures ∙ w.if-due.true) w.n-is (w.out-is ∙ ap (set c.loop-i.out c.loop-i.n) w.trimmed.ensures) in (omega arith, k.small, k)
+      | else-due w ↦ let k = packs-drop _ _ _ _ _ blank_call c.loop-i.i _ _ _ _ _ hh g c.loop-i.invariant.2 (sym c.due.ensures ∙ w.if-due.false) w.n-is w.out-is in (omega arith, k.small, k)
+    ]
 
 pub returns : goal.returns
 returns c =
