@@ -1,13 +1,13 @@
 -- A display is turned away exactly by one of its four causes.
 use mathlib.Core.Path.{◌≡◌, refl, sym, ap, subst, ◌∙◌}
-use mathlib.Core.Logic.{◌⊎◌, inl, inr, ◌↔◌}
+use mathlib.Core.Logic.{◌⊎◌, inl, inr}
 use mathlib.Core.Bool.{Bool, true, false, not, cond, true≢false, ◌||◌}
 use mathlib.Core.Option.{Option, none, some}
 use mathlib.Core.List.Memᴰ
 use mathlib.Core.List.{List, [], ◌∷◌, ◌++◌, Memᴰ}
-use Prim.Native.Nat.{ℕ, zero, suc, ◌≤◌, ◌<◌}
+use Prim.Native.Nat.{ℕ, suc, ◌≤◌}
 use native.Mathlib.Omega.{arith}
-use lib.Dec.{ltb, eqb}
+use lib.Dec.{ltb}
 use lib.IntN.{ℤ, pos, negsuc}
 use lib.Signed.{lt_z}
 use borrow.Author.Tests.{ltb-true, ltb-false, le-ltb, eqb-true, eqb-false, eq-eqb, ne_eqb}
@@ -15,7 +15,6 @@ use Rattle.laws.specs.Lists.{anyb, firstb}
 use Rattle.laws.proofs.Bools.{or-true-cases, or-true-left, or_true_right, or-false-left, or-false-right, or-not, cond-by, cond-not}
 use Rattle.laws.proofs.Lists.{anyb-mem, mem-anyb, anyb-not}
 use Rattle.groups.specs.declared.Group.{Group}
-use Rattle.groups.specs.declared.Slot.{Slot}
 use Rattle.groups.specs.Groups.{no_slot, slot_of, has_number, group_at, start_or, lowest_start}
 use Rattle.groups.specs.Refused.{unlike, is_wrong, twice, turned_away, Above, Twice, Unsearched, Lowest, Unlike, TurnedAwayExactly}
 

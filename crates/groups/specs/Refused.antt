@@ -1,6 +1,6 @@
 -- "Turned away: 23 a group above 3 or given twice, an unsearched load or a start unlike the lowest group's, first, for the whole display."
 -- The test, and the four causes as relations.
-use Rattle.std.specs.Prelude.{◌≡◌, ◌⊎◌, ◌↔◌, Bool, true, false, not, ◌||◌, ℕ, ◌≤◌, ◌<◌, ltb, ℤ}
+use Rattle.std.specs.Prelude.{◌≡◌, ◌⊎◌, ◌↔◌, Bool, true, false, not, ◌||◌, ◌≤◌, ◌<◌, ltb, ℤ}
 use mathlib.Core.List.{List, [], ◌∷◌, ◌++◌, Memᴰ}
 use Rattle.std.specs.Int.Signed.{lt_z}
 use Rattle.laws.specs.Lists.{anyb}

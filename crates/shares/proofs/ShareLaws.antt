@@ -1,11 +1,11 @@
 -- The shares, dealt from the first group on: what holds of those dealt from any point on.
-use mathlib.Core.Path.{◌≡◌, refl, ap, ◌∙◌}
+use mathlib.Core.Path.{◌≡◌, refl, ap}
 use mathlib.Core.List.{List, [], ◌∷◌}
 use Prim.Native.Nat.{ℕ, zero, suc, ◌+◌, ◌-◌, ◌*◌, ◌≤◌, ◌<◌, min}
 use native.Mathlib.Omega.{arith}
 use lib.ListN.{length, get_or}
 use Rattle.shares.specs.Shares.{at_first_of, needs, total, first_total, dealt, shares_of}
-use Rattle.shares.specs.Promises.{length_at, Shared, SharesRight, SharesMarked}
+use Rattle.shares.specs.Promises.{SharesRight, SharesMarked}
 
 pub dealt-length : (left : ℕ) (ns : List ℕ) → length (dealt left ns) ≡ length ns
 unfolding dealt

@@ -1,14 +1,12 @@
 -- None of the groups passed is wrong.
-use mathlib.Core.Path.{◌≡◌, refl, sym, ◌∙◌}
-use Prim.Native.Nat.{◌-◌, ◌≤◌}
+use mathlib.Core.Path.{refl, sym, ◌∙◌}
 use native.Mathlib.Omega.{arith}
-use lib.ListN.{length, take, drop, length-take}
+use lib.ListN.{length-take}
 use mir.Syntax.{w64}
 use mir.Val.{to_z, of_z}
-use Rattle.laws.specs.Lists.{anyb}
 use Rattle.laws.proofs.Ints.{again}
 use Rattle.groups.specs.Refused.{is_wrong}
-use Rattle.groups.proofs.GroupLaws.{left, any-end, any_here, any_next}
+use Rattle.groups.proofs.GroupLaws.{any-end, any_here, any_next}
 use borrow.Author.Rules.{rules}
 use Rattle.groups.proofs.any_wrong.Goals as goal
 

@@ -2,7 +2,6 @@
 use mathlib.Core.Path.{refl}
 use Rattle.laws.proofs.Ints.{again}
 use Rattle.groups.proofs.GroupLaws.{unlike-less, unlike-more}
-use borrow.Author.Rules.{rules}
 use Rattle.groups.proofs.differ.Goals as goal
 
 pub returns-then-a-b : goal.returns-then-a-b

@@ -1,10 +1,8 @@
 -- None of the groups passed is given again.
-use mathlib.Core.Path.{◌≡◌, refl, sym, ◌∙◌}
-use Prim.Native.Nat.{◌-◌, ◌≤◌}
+use mathlib.Core.Path.{refl, sym, ◌∙◌}
 use native.Mathlib.Omega.{arith}
-use lib.ListN.{length, take, drop, length-take}
-use Rattle.groups.specs.Refused.{twice}
-use Rattle.groups.proofs.GroupLaws.{left, twice-end, twice-here, twice-next}
+use lib.ListN.{length-take}
+use Rattle.groups.proofs.GroupLaws.{twice-end, twice-here, twice-next}
 use borrow.Author.Rules.{rules}
 use Rattle.groups.proofs.given_twice.Goals as goal
 

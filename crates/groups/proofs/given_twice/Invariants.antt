@@ -1,11 +1,9 @@
 -- None of the groups passed is given again.
-use mathlib.Core.Path.{◌≡◌, refl, sym, ◌∙◌}
+use mathlib.Core.Path.{◌≡◌}
 use Prim.Native.Nat.{◌-◌, ◌≤◌}
-use native.Mathlib.Omega.{arith}
-use lib.ListN.{length, take, drop, length-take}
+use lib.ListN.{length, take}
 use Rattle.groups.specs.Refused.{twice}
-use Rattle.groups.proofs.GroupLaws.{left, twice-end, twice-here, twice-next}
-use borrow.Author.Rules.{rules}
+use Rattle.groups.proofs.GroupLaws.{left}
 use Rattle.groups.proofs.given_twice.Given as goal
 
 abbrev pub invariant-loop-k : goal.invariant-loop-k

@@ -1,11 +1,8 @@
 -- What is left of the groups has the first of all of them.
-use mathlib.Core.Path.{◌≡◌, refl, sym, ◌∙◌}
-use mathlib.Core.Bool.{true, false}
-use Prim.Native.Nat.{◌+◌, ◌-◌, ◌≤◌, ◌<◌}
+use mathlib.Core.Path.{refl, ◌∙◌}
 use native.Mathlib.Omega.{arith}
-use lib.ListN.{length, take, drop, length-take}
-use Rattle.groups.specs.Groups.{group_at}
-use Rattle.groups.proofs.GroupLaws.{left, at-end, at_here, at_next}
+use lib.ListN.{length-take}
+use Rattle.groups.proofs.GroupLaws.{at-end, at_here, at_next}
 use borrow.Author.Rules.{rules}
 use Rattle.groups.proofs.group_at.Goals as goal
 

@@ -1,12 +1,10 @@
 -- None of the groups passed has the number.
-use mathlib.Core.Path.{◌≡◌, refl, sym, ◌∙◌}
-use Prim.Native.Nat.{◌-◌, ◌≤◌}
+use mathlib.Core.Path.{refl, ◌∙◌}
 use native.Mathlib.Omega.{arith}
-use lib.ListN.{length, take, drop, length-take}
-use Rattle.laws.specs.Lists.{anyb}
+use lib.ListN.{length-take}
 use Rattle.groups.specs.Groups.{has_number}
 use borrow.Author.Tests.{eq-eqb, ne_eqb}
-use Rattle.groups.proofs.GroupLaws.{left, any-end, any_here, any_next}
+use Rattle.groups.proofs.GroupLaws.{any-end, any_here, any_next}
 use borrow.Author.Rules.{rules}
 use Rattle.groups.proofs.has_number.Goals as goal
 

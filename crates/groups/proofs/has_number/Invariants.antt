@@ -1,13 +1,10 @@
 -- None of the groups passed has the number.
-use mathlib.Core.Path.{◌≡◌, refl, sym, ◌∙◌}
+use mathlib.Core.Path.{◌≡◌}
 use Prim.Native.Nat.{◌-◌, ◌≤◌}
-use native.Mathlib.Omega.{arith}
-use lib.ListN.{length, take, drop, length-take}
+use lib.ListN.{length}
 use Rattle.laws.specs.Lists.{anyb}
 use Rattle.groups.specs.Groups.{has_number}
-use borrow.Author.Tests.{eq-eqb, ne_eqb}
-use Rattle.groups.proofs.GroupLaws.{left, any-end, any_here, any_next}
-use borrow.Author.Rules.{rules}
+use Rattle.groups.proofs.GroupLaws.{left}
 use Rattle.groups.proofs.has_number.Given as goal
 
 abbrev pub invariant-loop-k : goal.invariant-loop-k

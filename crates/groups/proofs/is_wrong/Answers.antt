@@ -11,7 +11,7 @@ returns-then-group-gt3 c = wrong-above _ _ c.if-group-gt3.true
 pub returns-then-group : goal.returns-then-group
 returns-then-group c =
     wrong_start c.args.low c.args.group c.if-group-gt3.false c.if-group.true
-    (again {w = w64} (record { sfits = c.struct_told-1.given.1.1.0.1 })) (again c.ranges.low) c.differ.ensures
+    (again {w = w64} {z = c.args.group.now} (search rules)) (again c.ranges.low) c.differ.ensures
 
 pub returns : goal.returns
 returns c = wrong-unsearched _ _ c.if-group-gt3.false c.if-group.false

@@ -4,7 +4,6 @@ use mathlib.Core.Path.{refl, ◌∙◌}
 use lib.ListN.{take}
 use Rattle.laws.proofs.Ints.{again}
 use Rattle.groups.proofs.GroupLaws.{lowest-made}
-use borrow.Author.Rules.{rules}
 use Rattle.groups.proofs.lowest_start.Goals as goal
 
 pub returns : goal.returns

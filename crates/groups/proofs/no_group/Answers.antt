@@ -1,6 +1,5 @@
 -- Every slot is blank.
 use Rattle.groups.proofs.GroupLaws.{made}
-use borrow.Author.Rules.{rules}
 use Rattle.groups.proofs.no_group.Goals as goal
 
 pub returns : goal.returns

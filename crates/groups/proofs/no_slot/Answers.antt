@@ -3,7 +3,6 @@ use mathlib.Core.Path.{ap}
 use mathlib.Core.Bool.{false}
 use Rattle.groups.specs.declared.Group.{Group}
 use Rattle.groups.specs.declared.Slot.{Slot}
-use borrow.Author.Rules.{rules}
 use Rattle.groups.proofs.no_slot.Goals as goal
 
 pub returns : goal.returns

@@ -7,7 +7,7 @@ use Rattle.groups.proofs.start_or.Goals as goal
 
 pub returns-then-slot : goal.returns-then-slot
 returns-then-slot c =
-    start-given c.args.slot c.args.other c.if-slot.true (again {w = w64} (record { sfits = c.struct_told-1.given.1.1.0.1 }))
+    start-given c.args.slot c.args.other c.if-slot.true (again {w = w64} {z = c.args.slot.group.now} (search rules))
 
 pub returns : goal.returns
 returns c = start-other c.args.slot c.args.other c.if-slot.false (again c.ranges.other)

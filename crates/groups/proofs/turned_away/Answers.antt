@@ -1,10 +1,8 @@
 -- A group given twice, or one that is wrong.
 use mir.Syntax.{w64}
 use mathlib.Core.Path.{sym, ◌∙◌}
-use lib.ListN.{take}
 use Rattle.laws.proofs.Ints.{again}
 use Rattle.groups.proofs.GroupLaws.{away-twice, away-wrong}
-use borrow.Author.Rules.{rules}
 use Rattle.groups.proofs.turned_away.Goals as goal
 
 pub returns-then-given_twice : goal.returns-then-given_twice

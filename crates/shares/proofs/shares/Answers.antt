@@ -1,6 +1,5 @@
 -- The four shares are dealt one after the other.
 use Rattle.shares.proofs.ShareLaws.{four-shares}
-use borrow.Author.Rules.{rules}
 use Rattle.shares.proofs.shares.Goals as goal
 
 pub returns : goal.returns
