@@ -1,18 +1,17 @@
 -- Lists in order by arrival: those due by a window stand first; the first of them that passes a test.
 use mathlib.Core.Path.{◌≡◌, refl, sym, ap, ◌∙◌}
-use mathlib.Core.Logic.{◌⊎◌, inl, inr}
-use mathlib.Core.Bool.{Bool, true, false, cond, true≢false}
-use mathlib.Core.Option.{Option, none, some}
+use mathlib.Core.Bool.{Bool, true, false, cond}
+use mathlib.Core.Option.{none, some}
 use mathlib.Core.List.{List, [], ◌∷◌, ◌++◌, Memᴰ}
-use Prim.Native.Nat.{ℕ, zero, suc, ◌+◌, ◌-◌, ◌≤◌, ◌<◌}
+use Prim.Native.Nat.{ℕ, zero, suc, ◌-◌, ◌≤◌, ◌<◌}
 use native.Mathlib.Omega.{arith}
 use lib.Dec.{leb, ltb}
 use lib.IntN.{ℤ, pos, negsuc}
 use lib.ListN.{length, take, drop, get_or, length-take, length-append, take-append-drop, drop_of_length-le}
 use lib.Seq.{drop-cons}
-use borrow.Author.Tests.{leb-true, leb-false, le-leb, lt-leb, le-ltb, lt-ltb, ltb-true, ltb-false}
-use Rattle.laws.specs.Lists.{filterb, firstb}
-use Rattle.laws.specs.Sort.{insert_by, sort}
+use borrow.Author.Tests.{leb-true, leb-false, lt-leb, le-ltb, ltb-true, ltb-false}
+use Rattle.laws.specs.Lists.{firstb}
+use Rattle.laws.specs.Sort.{insert_by}
 use Rattle.laws.proofs.Bools.{cond-by, cond-not}
 use Rattle.laws.proofs.Lists.{filterb-mem, filterb-append, length-filterb}
 use Rattle.profile.specs.declared.Journey.{Journey}

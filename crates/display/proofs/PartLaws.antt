@@ -1,17 +1,16 @@
 -- The functions of a part, one by one: how long a list is, its window, what is due by it.
-use mathlib.Core.Path.{◌≡◌, refl, sym, ap, ◌∙◌}
-use mathlib.Core.Bool.{Bool, true, false, cond, ◌&&◌}
-use mathlib.Core.List.{List, [], ◌∷◌}
-use Prim.Native.Nat.{ℕ, suc, ◌+◌, ◌-◌, ◌≤◌, ◌<◌}
+use mathlib.Core.Path.{◌≡◌, sym, ap, ◌∙◌}
+use mathlib.Core.Bool.{Bool, true, false, cond}
+use mathlib.Core.List.{List, ◌∷◌}
+use Prim.Native.Nat.{ℕ, ◌+◌, ◌-◌, ◌≤◌, ◌<◌}
 use native.Mathlib.Omega.{arith}
-use lib.Dec.{leb, ltb}
+use lib.Dec.{ltb}
 use lib.ListN.{length, take, drop, get_or, length-take, drop_of_length-le}
 use borrow.Author.Tests.{lt-ltb, le-ltb, le-leb, lt-leb}
 use Rattle.laws.proofs.Bools.{and-by, and-not, cond-by, cond-not}
 use Rattle.laws.proofs.Turns.{drop-take-cons, drop-take-nil}
 use Rattle.refusal.specs.declared.Answer.TheVariants.{Taken}
 use Rattle.profile.specs.declared.Journey.{Journey}
-use Rattle.groups.specs.declared.Group.{Group}
 use Rattle.groups.specs.declared.Slot.{Slot}
 use Rattle.groups.specs.Groups.{list_of}
 use Rattle.display.specs.declared.part.Part.{Part}

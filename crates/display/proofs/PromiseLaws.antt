@@ -1,22 +1,22 @@
 -- The promises of specs/Promises.antt, each from the laws of lists in order and of the groups of a display.
 use mathlib.Core.Path.{◌≡◌, refl, sym, ap, subst, ◌∙◌}
-use mathlib.Core.Logic.{◌⊎◌, inl, inr, ◌↔◌}
-use mathlib.Core.Bool.{Bool, true, false, cond, true≢false, false≢true, ◌&&◌}
+use mathlib.Core.Logic.{◌⊎◌, inl, inr}
+use mathlib.Core.Bool.{Bool, true, false, cond, true≢false}
 use mathlib.Core.Option.{Option, none, some}
 use mathlib.Core.List.{List, [], ◌∷◌, Memᴰ}
 use Prim.Native.Nat.{ℕ, zero, suc, ◌+◌, ◌-◌, ◌≤◌, ◌<◌}
 use native.Mathlib.Omega.{arith}
-use lib.Dec.{leb, ltb}
+use lib.Dec.{ltb}
 use lib.IntN.{ℤ}
 use lib.ListN.{length, take, get_or, length-take}
 use lib.Seq.{take-take}
-use borrow.Author.Tests.{ltb-true, ltb-false, lt-ltb, le-ltb, le-leb}
+use borrow.Author.Tests.{ltb-true, ltb-false, lt-ltb, le-leb}
 use Rattle.laws.proofs.Bools.{cond-by, cond-not, and-true, and-true-left, and-true-right, test}
 use Rattle.laws.proofs.Lists.{filterb-all, length-filterb}
 use Rattle.refusal.specs.declared.Answer.{Answer}
 use Rattle.refusal.specs.declared.Answer.TheVariants.{Taken, Refused}
 use Rattle.refusal.specs.declared.Refusal.TheVariants.{DisplayGroups}
-use Rattle.shares.specs.Shares.{at_first_of, total, dealt, shares_of}
+use Rattle.shares.specs.Shares.{total, shares_of}
 use Rattle.shares.specs.Promises.{Shared}
 use Rattle.shares.proofs.ShareLaws.{shares-right}
 use Rattle.profile.specs.declared.Journey.{Journey}
@@ -31,10 +31,10 @@ use Rattle.groups.specs.Refused.{turned_away}
 use Rattle.groups.proofs.RefusedLaws.{not-away, group-found, group-cases}
 use Rattle.display.specs.declared.part.Part.{Part}
 use Rattle.display.specs.declared.Display.{Display}
-use Rattle.display.specs.Parts.{no_part, refused_part, window_of, falls_below, is_due, shown_by, shown_part, part_for, part_in, count_in}
+use Rattle.display.specs.Parts.{no_part, refused_part, window_of, falls_below, is_due, shown_by, shown_part, part_in, count_in}
 use Rattle.display.specs.Display.{refused_display, counts, share_of, part_at, display_of, part_of}
 use Rattle.display.specs.Queries.{best_of_group}
-use Rattle.display.specs.Promises.{group_part, Given, FallsBelow, RefusedWhole, RefusedAlone, Shows, ShownRight, SixteenShown, SixtyFour, read_none_of, BestByGroup}
+use Rattle.display.specs.Promises.{group_part, Given, FallsBelow, RefusedWhole, RefusedAlone, ShownRight, SixteenShown, SixtyFour, read_none_of, BestByGroup}
 use Rattle.display.proofs.ListLaws.{window-fits, window-before, window-under, due-first, shown-fit, first_read}
 
 -- ---- the part of a group that is given
@@ -117,12 +117,12 @@ is_below ks share h e =
 
 refused-shows : (ks : List Journey) (share h : ℕ) → falls_below (length ks) share (window_of ks share h) ≡ true → shown_part ks share h ≡ refused_part
 unfolding shown_part
-refused-shows ks share h e = cond-by _ _ e
+refused-shows _ _ _ e = cond-by _ _ e
 
 shown-shows : (ks : List Journey) (share h : ℕ) → falls_below (length ks) share (window_of ks share h) ≡ false
     → shown_part ks share h ≡ record { shows = true; answer = Taken; window = window_of ks share h; count = length (shown_by (window_of ks share h) ks) }
 unfolding shown_part
-shown-shows ks share h e = cond-not _ _ e
+shown-shows _ _ _ e = cond-not _ _ e
 
 -- a part that shows isn't refused
 stays_up : (ks : List Journey) (share h : ℕ) → (shown_part ks share h).shows ≡ true → falls_below (length ks) share (window_of ks share h) ≡ false

@@ -4,7 +4,7 @@ use Rattle.std.proofs.Math.Option.{Option, none, some}
 use mathlib.Core.List.{List, Memᴰ}
 use Rattle.laws.specs.Sort.{sort}
 use Rattle.refusal.specs.declared.Answer.TheVariants.{Taken, Refused}
-use Rattle.refusal.specs.declared.Refusal.TheVariants.{NoRoom, DisplayGroups}
+use Rattle.refusal.specs.declared.Refusal.TheVariants.{DisplayGroups}
 use Rattle.profile.specs.declared.Journey.{Journey}
 use Rattle.profile.specs.Journeys.{no_journey, journey_figures}
 use Rattle.profile.specs.Best.{Ordered, Ahead}
@@ -15,7 +15,7 @@ use Rattle.groups.specs.Groups.{group_of, list_of}
 use Rattle.groups.specs.Refused.{turned_away}
 use Rattle.display.specs.declared.part.Part.{Part}
 use Rattle.display.specs.Parts.{no_part, refused_part, window_of, shown_by}
-use Rattle.display.specs.Display.{refused_display, counts, share_of, display_of, part_of}
+use Rattle.display.specs.Display.{share_of, display_of, part_of}
 use Rattle.display.specs.Queries.{best_of_group}
 
 -- "ranked by arrival, equals in list order": of a list in order the ranks are its places

@@ -1,5 +1,5 @@
 -- "Best and next-after take a group and its window .. A group without a display answers none."
-use Rattle.std.specs.Prelude.{cond, ℕ, ℤ, take}
+use Rattle.std.specs.Prelude.{cond, ℤ, take}
 use Rattle.profile.specs.declared.Journey.{Journey}
 use Rattle.best.specs.declared.Found.{Found}
 use Rattle.best.specs.Best.{first_leaving, after_of}

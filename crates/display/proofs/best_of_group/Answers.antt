@@ -1,7 +1,6 @@
 -- A group that has a display answers over its journeys shown, any other none.
 use Rattle.laws.proofs.Ints.{again}
 use Rattle.display.proofs.DisplayLaws.{best-shown, best-absent}
-use borrow.Author.Rules.{rules}
 use Rattle.display.proofs.best_of_group.Goals as goal
 
 pub returns-then-part : goal.returns-then-part

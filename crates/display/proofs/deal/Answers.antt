@@ -2,7 +2,6 @@
 use mathlib.Core.Path.{sym, ◌∙◌}
 use lib.ListN.{take}
 use Rattle.display.proofs.DisplayLaws.{turned, dealt}
-use borrow.Author.Rules.{rules}
 use Rattle.display.proofs.deal.Goals as goal
 
 pub returns-then-turned_away : goal.returns-then-turned_away

@@ -5,7 +5,6 @@ use lib.IntN.{ℤ}
 use Rattle.laws.proofs.Ints.{again}
 use Rattle.best.specs.Best.{after_of}
 use Rattle.display.proofs.DisplayLaws.{next-shown}
-use borrow.Author.Rules.{rules}
 use Rattle.display.proofs.next_of_group.Goals as goal
 
 pub returns : goal.returns

@@ -1,7 +1,6 @@
 -- Four parts, and none above.
 use mathlib.Core.Path.{refl}
 use Rattle.display.proofs.DisplayLaws.{part-within, part-above}
-use borrow.Author.Rules.{rules}
 use Rattle.display.proofs.part_of.Goals as goal
 
 pub returns-then-at-lt4 : goal.returns-then-at-lt4

@@ -1,6 +1,5 @@
 -- No group has a part.
 use Rattle.display.proofs.DisplayLaws.{refused-made}
-use borrow.Author.Rules.{rules}
 use Rattle.display.proofs.refused.Goals as goal
 
 pub returns : goal.returns

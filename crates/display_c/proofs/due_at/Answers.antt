@@ -1,6 +1,5 @@
 -- The blank journey with an arrival.
 use mathlib.Core.Path.{refl}
-use borrow.Author.Rules.{rules}
 use Rattle.display_c.proofs.due_at.Goals as goal
 
 pub returns : goal.returns

@@ -1,6 +1,5 @@
 -- Four groups, a display of them, the last part.
 use Rattle.display_c.proofs.FullLaws.{window-of}
-use borrow.Author.Rules.{rules}
 use Rattle.display_c.proofs.full_display.Goals as goal
 
 pub returns : goal.returns

@@ -1,6 +1,5 @@
 -- A full list.
 use Rattle.display_c.proofs.FullLaws.{group-made}
-use borrow.Author.Rules.{rules}
 use Rattle.display_c.proofs.full_group.Goals as goal
 
 pub returns : goal.returns

@@ -1,12 +1,9 @@
 -- The journeys passed are in place.
 use mathlib.Core.Path.{refl}
-use Prim.Native.Nat.{ℕ, ◌-◌, ◌≤◌}
 use native.Mathlib.Omega.{arith}
-use lib.ListN.{get_or}
-use Rattle.laws.proofs.Tables.{Filled, filled_none, filled_more, filled-all}
+use Rattle.laws.proofs.Tables.{filled_none, filled_more, filled-all}
 use Rattle.profile.specs.Journeys.{no_journey}
-use Rattle.display_c.specs.Full.{due_at, list_due}
-use borrow.Author.Rules.{rules}
+use Rattle.display_c.specs.Full.{list_due}
 use Rattle.display_c.proofs.list_due.Goals as goal
 
 pub loop-i-init : goal.loop-i-init

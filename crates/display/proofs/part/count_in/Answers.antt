@@ -1,6 +1,5 @@
 -- A group that isn't given has no list.
 use Rattle.display.proofs.PartLaws.{count-given, count_none}
-use borrow.Author.Rules.{rules}
 use Rattle.display.proofs.part.count_in.Goals as goal
 
 pub returns-then-slot : goal.returns-then-slot

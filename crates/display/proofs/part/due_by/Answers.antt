@@ -1,9 +1,7 @@
 -- Those counted and those left are all that are due.
-use mathlib.Core.Path.{◌≡◌}
-use Prim.Native.Nat.{◌+◌, ◌-◌, ◌≤◌}
 use native.Mathlib.Omega.{arith}
-use lib.ListN.{length, length-take}
-use Rattle.display.proofs.PartLaws.{due_from, due-next, due-past}
+use lib.ListN.{length-take}
+use Rattle.display.proofs.PartLaws.{due-next, due-past}
 use borrow.Author.Rules.{rules}
 use Rattle.display.proofs.part.due_by.Goals as goal
 

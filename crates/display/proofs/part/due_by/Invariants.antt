@@ -1,10 +1,8 @@
 -- Those counted and those left are all that are due.
 use mathlib.Core.Path.{◌≡◌}
 use Prim.Native.Nat.{◌+◌, ◌-◌, ◌≤◌}
-use native.Mathlib.Omega.{arith}
-use lib.ListN.{length, length-take}
-use Rattle.display.proofs.PartLaws.{due_from, due-next, due-past}
-use borrow.Author.Rules.{rules}
+use lib.ListN.{length}
+use Rattle.display.proofs.PartLaws.{due_from}
 use Rattle.display.proofs.part.due_by.Given as goal
 
 abbrev pub invariant-loop-k : goal.invariant-loop-k

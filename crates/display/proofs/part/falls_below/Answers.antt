@@ -1,7 +1,6 @@
 -- Only where one doesn't fit.
 use mathlib.Core.Path.{refl}
 use Rattle.display.proofs.PartLaws.{below-cut, below-fits}
-use borrow.Author.Rules.{rules}
 use Rattle.display.proofs.part.falls_below.Goals as goal
 
 pub returns-then-share-count : goal.returns-then-share-count

@@ -2,7 +2,6 @@
 use mathlib.Core.Path.{sym, ◌∙◌}
 use Rattle.groups.specs.Groups.{list_of}
 use Rattle.display.proofs.PartLaws.{part-refused, part-shown}
-use borrow.Author.Rules.{rules}
 use Rattle.display.proofs.part.part_for.Goals as goal
 
 pub returns-then-falls_below : goal.returns-then-falls_below

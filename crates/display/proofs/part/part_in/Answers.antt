@@ -1,6 +1,5 @@
 -- A group that isn't given has no part.
 use Rattle.display.proofs.PartLaws.{part-given, part_none}
-use borrow.Author.Rules.{rules}
 use Rattle.display.proofs.part.part_in.Goals as goal
 
 pub returns-then-slot : goal.returns-then-slot

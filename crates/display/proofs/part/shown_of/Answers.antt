@@ -1,7 +1,6 @@
 -- By the arrival.
 use native.Mathlib.Omega.{arith}
 use Rattle.display.proofs.PartLaws.{shown-due, shown-late}
-use borrow.Author.Rules.{rules}
 use Rattle.display.proofs.part.shown_of.Goals as goal
 
 pub returns-then-j-window : goal.returns-then-j-window

@@ -1,11 +1,9 @@
 -- A second before the arrival of the first that doesn't fit, or the horizon.
-use mathlib.Core.Path.{◌≡◌}
 use Prim.Native.Nat.{◌<◌, ◌≤◌}
 use native.Mathlib.Omega.{arith}
 use lib.ListN.{length}
 use Rattle.groups.specs.Groups.{list_of}
 use Rattle.display.proofs.PartLaws.{window-cut, window-all}
-use borrow.Author.Rules.{rules}
 use Rattle.display.proofs.part.window_at.Goals as goal
 
 pub offset_bounds-journeys-share : goal.offset_bounds-journeys-share
