@@ -1,6 +1,6 @@
 -- The loop has found best over the journeys passed.
 use mathlib.Core.Path.{◌≡◌, sym, ◌∙◌}
-use mathlib.Core.Logic.{inl, inr, ⊎_elim}
+use mathlib.Core.Logic.{inl, inr}
 use Prim.Native.Nat.{◌≤◌, ◌-◌}
 use native.Mathlib.Omega.{arith}
 use borrow.Author.Rules.{rules}
@@ -11,9 +11,10 @@ use mir.Facts.{to_z-of_z}
 use Rattle.best.specs.Turn.{up_to}
 use Rattle.best.proofs.TurnLaws.{up-to-none, up-to-next, up-to-part}
 use Rattle.best.proofs.best_over.Goals as goal
+use Rattle.best.proofs.best_over.Goals.{then-count-lt64, else-count-lt64}
 
 pub loop-i-init : goal.loop-i-init
-loop-i-init c = (omega arith, ⊎_elim (λ w. omega arith) (λ w. omega arith) c.if-count-lt64.branch, search rules, sym (up-to-none _ _ _))
+loop-i-init c = (omega arith, elim c.if-count-lt64.branch [ then-count-lt64 w ↦ omega arith | else-count-lt64 w ↦ omega arith ], search rules, sym (up-to-none _ _ _))
 
 pub offset_bounds-journeys-i : goal.offset_bounds-journeys-i
 offset_bounds-journeys-i c = omega arith
@@ -35,4 +36,4 @@ loop-i-preserved c =
 pub returns : goal.returns
 returns c =
     let e = to_z-of_z c.ranges.second in
-    (rw e at c.loop-i.invariant.3) ∙ up-to-part _ _ _ c.args.count _ (⊎_elim (λ w. inl (omega arith)) (λ w. inr (omega arith, omega arith)) c.if-count-lt64.branch)
+    (rw e at c.loop-i.invariant.3) ∙ up-to-part _ _ _ c.args.count _ (elim c.if-count-lt64.branch [ then-count-lt64 w ↦ inl (omega arith) | else-count-lt64 w ↦ inr (omega arith, omega arith) ])

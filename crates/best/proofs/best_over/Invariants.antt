@@ -13,7 +13,7 @@ use Rattle.best.proofs.TurnLaws.{up-to-none, up-to-next, up-to-part}
 use Rattle.best.proofs.best_over.Given as goal
 
 abbrev pub invariant-loop-i : goal.invariant-loop-i
-invariant-loop-i l = (l.i ≤ l.n) × (l.n ≤ 64) × (length l.journeys ≡ 64) × (l.found ≡ up_to l.horizon (to_z w64 l.second) l.journeys l.i)
+invariant-loop-i l = (l.i ≤ l.n) × (l.n ≤ 64) × (length l.journeys ≡ 64) × (l.found ≡ up_to l.horizon l.second l.journeys l.i)
 
 abbrev pub decreases-loop-i : goal.decreases-loop-i
 decreases-loop-i l = l.n - l.i
