@@ -1,7 +1,7 @@
 -- What owning a load tells of it: its arrays have their lengths.
-use mathlib.Core.Path.{◌≡◌, sym, ◌∙◌}
+use mathlib.Core.Path.{◌≡◌}
 use mathlib.Core.List.{List}
-use lib.ListN.{length, length-map}
+use lib.ListN.{length}
 use mir.Val.{Val}
 use denote.Laws.{Is}
 use denote.Struct.Declared.{row}
@@ -9,10 +9,10 @@ use Rattle.load.specs.contracts.Load as L
 use Rattle.load.specs.declared.Load.{Load}
 
 pub stops-long : (x : Load) (vs : List Val) → Is (row L.the_type) x vs → length x.stops ≡ 128
-stops-long x vs g = sym (length-map x.stops _) ∙ g.1.1.1.0.1.0.1
+stops-long x vs g = g.1.1.1.0.1.0.1
 
 pub calls-long : (x : Load) (vs : List Val) → Is (row L.the_type) x vs → length x.calls ≡ 512
-calls-long x vs g = sym (length-map x.calls _) ∙ g.1.1.1.1.1.0.1.0.1
+calls-long x vs g = g.1.1.1.1.1.0.1.0.1
 
 pub rules-long : (x : Load) (vs : List Val) → Is (row L.the_type) x vs → length x.rules ≡ 128
-rules-long x vs g = sym (length-map x.rules _) ∙ g.1.1.1.1.1.1.1.0.1.0.1
+rules-long x vs g = g.1.1.1.1.1.1.1.0.1.0.1
