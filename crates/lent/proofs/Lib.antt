@@ -1,3 +1,2 @@
-pub mod Values
 pub mod Rows
 pub mod AgreesLaws

@@ -3,7 +3,7 @@ use mathlib.Core.List.{List, [], ◌∷◌}
 use Prim.Native.Nat.{ℕ, zero, suc, ◌+◌}
 use lib.ListN.{take}
 use seplogic.Ra.Ura.{Ura}
-use seplogic.Ra.TreeShare.{full_share}
+use base.Fraction.{full_share}
 use base.Logic.{ent, sep}
 use base.Fml.{Fml, ftrue}
 use types.Logic.{Logic, sem}
