@@ -1,7 +1,6 @@
 -- By the answer.
 use mathlib.Core.Path.{sym}
 use Rattle.lines.proofs.RideLaws.{taken-put, outside-put, refused-put}
-use borrow.Author.Rules.{rules}
 use Rattle.lines.proofs.answer_lines.Goals as goal
 
 pub returns-in-Taken : goal.returns-in-Taken

@@ -1,7 +1,8 @@
 -- The lines stand at the start of the buffer.
 use Rattle.lines.proofs.LineLaws.{plain_lines}
-use borrow.Author.Rules.{rules}
 use Rattle.lines.proofs.lines.Goals as goal
 
 pub returns : goal.returns
-returns c = plain_lines c.args.answer c.args.load c.known.ensures c.answer_lines.ensures
+returns c =
+    let p = plain_lines c.args.answer c.args.load c.known.ensures c.answer_lines.ensures in
+    record { out_after = p.0; counts = p.1 }

@@ -1,7 +1,6 @@
 -- The journeys' lines, then the last, and with rides one more.
 use native.Mathlib.Omega.{arith}
 use Rattle.lines.proofs.RideLaws.{most-room, with-rides, without}
-use borrow.Author.Rules.{rules}
 use Rattle.lines.proofs.load_lines.Goals as goal
 
 pub horizon_line-end-requires : goal.horizon_line-end-requires

@@ -1,7 +1,6 @@
 -- The word and the flag, one after the other.
 use Rattle.lines.specs.Rides.{searched_line}
 use Rattle.lines.proofs.BufferLaws.{put_then}
-use borrow.Author.Rules.{rules}
 use Rattle.lines.proofs.searched_line.Goals as goal
 
 pub returns : goal.returns

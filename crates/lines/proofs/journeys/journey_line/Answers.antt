@@ -2,7 +2,6 @@
 use Rattle.lines.specs.Lines.{journey_line_of}
 use Rattle.lines.specs.Rides.{ride_line, line_for, line_most}
 use Rattle.lines.proofs.BufferLaws.{put_then}
-use borrow.Author.Rules.{rules}
 use Rattle.lines.proofs.journeys.journey_line.Goals as goal
 
 pub returns-then-rides : goal.returns-then-rides

@@ -1,16 +1,10 @@
 -- Line after line.
-use mathlib.Core.Path.{◌≡◌, ap}
-use mathlib.Core.Logic.{inl, inr, ⊎_elim}
+use mathlib.Core.Path.{◌≡◌}
 use Prim.Native.Nat.{◌*◌, ◌≤◌, ◌-◌}
-use native.Mathlib.Omega.{arith}
 use lib.ListN.{length, take}
 use Rattle.laws.specs.Lists.{concat_map}
 use Rattle.lines.specs.Buffer.{Put}
 use Rattle.lines.specs.Rides.{line_for, line_most}
-use Rattle.lines.proofs.BufferLaws.{put-none, put-turn, put_as, put-within, put-long}
-use Rattle.lines.proofs.RideLaws.{most-room, most-all}
-use Rattle.best.proofs.TurnLaws.{take_same}
-use borrow.Author.Rules.{rules}
 use Rattle.lines.proofs.journeys.journey_lines.Given as goal
 
 abbrev pub invariant-loop-i : goal.invariant-loop-i

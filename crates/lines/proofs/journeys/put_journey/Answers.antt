@@ -3,7 +3,6 @@ use native.Mathlib.Omega.{arith}
 use Rattle.lines.specs.Decimal.{spaced}
 use Rattle.lines.specs.Lines.{journey_text}
 use Rattle.lines.proofs.BufferLaws.{put_then, put-three-then}
-use borrow.Author.Rules.{rules}
 use Rattle.lines.proofs.journeys.put_journey.Goals as goal
 
 pub put_three-requires : goal.put_three-requires

@@ -2,7 +2,6 @@
 use Rattle.lines.specs.Decimal.{spaced}
 use Rattle.lines.specs.Rides.{ride_text}
 use Rattle.lines.proofs.BufferLaws.{put_then, put-three-then}
-use borrow.Author.Rules.{rules}
 use Rattle.lines.proofs.journeys.put_ride.Goals as goal
 
 pub returns : goal.returns

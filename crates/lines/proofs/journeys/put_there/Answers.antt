@@ -1,7 +1,6 @@
 -- By whether it is there.
 use native.Mathlib.Omega.{arith}
 use Rattle.lines.proofs.BufferLaws.{put-none, put-within}
-use borrow.Author.Rules.{rules}
 use Rattle.lines.proofs.journeys.put_there.Goals as goal
 
 pub returns-then-there : goal.returns-then-there

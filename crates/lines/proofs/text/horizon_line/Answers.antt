@@ -1,7 +1,6 @@
 -- The two words and their numbers, one after the other.
 use Rattle.lines.specs.Lines.{horizon_line_of}
 use Rattle.lines.proofs.BufferLaws.{put_then}
-use borrow.Author.Rules.{rules}
 use Rattle.lines.proofs.text.horizon_line.Goals as goal
 
 pub returns : goal.returns

@@ -1,5 +1,4 @@
 -- By the flag.
-use borrow.Author.Rules.{rules}
 use Rattle.lines.proofs.text.put_flag.Goals as goal
 
 pub returns-then-flag : goal.returns-then-flag

@@ -1,7 +1,6 @@
 -- The space, then the digits.
 use Rattle.lines.specs.Decimal.{spaced}
 use Rattle.lines.proofs.BufferLaws.{put_then}
-use borrow.Author.Rules.{rules}
 use Rattle.lines.proofs.text.put_spaced.Goals as goal
 
 pub returns : goal.returns

@@ -1,6 +1,5 @@
 -- One after the other.
 use Rattle.lines.proofs.BufferLaws.{put_then}
-use borrow.Author.Rules.{rules}
 use Rattle.lines.proofs.text.put_three.Goals as goal
 
 pub returns : goal.returns

@@ -1,14 +1,10 @@
 -- Byte after byte.
-use mathlib.Core.Path.{◌≡◌, ◌∙◌}
+use mathlib.Core.Path.{◌≡◌}
 use mathlib.Core.List.{[], ◌∷◌}
 use Prim.Native.Nat.{ℕ, ◌*◌, ◌≤◌, ◌-◌}
-use native.Mathlib.Omega.{arith}
 use lib.ListN.{length, take}
-use lib.Seq.{take_all}
 use Rattle.laws.specs.Lists.{concat_map}
 use Rattle.lines.specs.Buffer.{Put}
-use Rattle.lines.proofs.BufferLaws.{put-none, put-turn, put_as, put-within, put-long, each-byte}
-use borrow.Author.Rules.{rules}
 use Rattle.lines.proofs.text.put_word.Given as goal
 
 abbrev pub invariant-loop-i : goal.invariant-loop-i

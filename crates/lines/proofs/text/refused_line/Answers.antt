@@ -1,7 +1,6 @@
 -- The word and the number, one after the other.
 use Rattle.lines.specs.Lines.{refused_line_of}
 use Rattle.lines.proofs.BufferLaws.{put_then}
-use borrow.Author.Rules.{rules}
 use Rattle.lines.proofs.text.refused_line.Goals as goal
 
 pub returns : goal.returns

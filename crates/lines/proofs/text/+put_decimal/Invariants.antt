@@ -1,0 +1,5 @@
+-- Each call has a smaller number.
+use Rattle.lines.proofs.text.+put_decimal.Given as goal
+
+abbrev pub decreases-put_decimal : goal.decreases-put_decimal
+decreases-put_decimal l = l.n
