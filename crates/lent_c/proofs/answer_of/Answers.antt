@@ -1,5 +1,4 @@
 -- `answer_of`: by the variant.
-use borrow.Author.Rules.{rules}
 use mathlib.Core.Path.{sym, ap}
 use Rattle.lent_c.specs.Plain.{answer_of}
 use Rattle.lent_c.proofs.answer_of.Goals as goal

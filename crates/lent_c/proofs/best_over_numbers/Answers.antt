@@ -1,5 +1,4 @@
 -- `best_over_numbers` meets its contract: by what its calls ensure.
-use borrow.Author.Rules.{rules}
 use mir.Facts.{to_z-of_z}
 use Rattle.lent_c.proofs.Answers.{answered}
 use Rattle.lent_c.proofs.best_over_numbers.Goals as goal

@@ -1,5 +1,4 @@
 -- `first_numbers` meets its contract: by what its calls ensure.
-use borrow.Author.Rules.{rules}
 use mir.Facts.{to_z-of_z}
 use Rattle.lent_c.proofs.Answers.{first-answered}
 use Rattle.lent_c.proofs.first_numbers.Goals as goal

@@ -1,5 +1,4 @@
 -- `journey_with`: each ride is the blank one.
-use borrow.Author.Rules.{rules}
 use Rattle.lent_c.proofs.journey_with.Goals as goal
 
 pub returns : goal.returns

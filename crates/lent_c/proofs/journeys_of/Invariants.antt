@@ -1,12 +1,9 @@
 -- The journeys passed are in place.
-use borrow.Author.Rules.{rules}
-use mathlib.Core.Path.{refl}
 use Prim.Native.Nat.{ℕ, ◌-◌, ◌≤◌}
-use native.Mathlib.Omega.{arith}
 use lib.ListN.{get_or}
-use Rattle.laws.proofs.Tables.{Filled, filled_none, filled_more, filled-all}
+use Rattle.laws.proofs.Tables.{Filled}
 use Rattle.profile.specs.Journeys.{no_journey}
-use Rattle.lent_c.specs.Plain.{journey_with, journeys_of}
+use Rattle.lent_c.specs.Plain.{journey_with}
 use Rattle.lent_c.proofs.journeys_of.Given as goal
 
 abbrev pub invariant-loop-i : goal.invariant-loop-i
