@@ -1,7 +1,6 @@
 -- The record as it is written.
 use mathlib.Core.Path.{refl}
 use Rattle.changes_c.specs.Plain.{stop_with}
-use borrow.Author.Rules.{rules}
 use Rattle.changes_c.proofs.stop_with.Goals as goal
 
 pub returns : goal.returns

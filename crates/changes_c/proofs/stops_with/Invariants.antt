@@ -1,11 +1,8 @@
 -- Each place is filled with its stop.
-use borrow.Author.Rules.{rules}
 use Prim.Native.Nat.{◌-◌, ◌≤◌}
-use native.Mathlib.Omega.{arith}
-use lib.ListN.{length-replicate}
-use Rattle.laws.proofs.Tables.{Filled, filled_none, filled_more, filled-all}
+use Rattle.laws.proofs.Tables.{Filled}
 use Rattle.stops.specs.Taken.{blank_stop}
-use Rattle.changes_c.specs.Plain.{plain_stop, stops_with}
+use Rattle.changes_c.specs.Plain.{plain_stop}
 use Rattle.changes_c.proofs.stops_with.Given as goal
 
 abbrev pub invariant-loop-i : goal.invariant-loop-i

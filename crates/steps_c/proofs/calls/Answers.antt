@@ -1,8 +1,7 @@
 -- What is left to hand in gives what all of it gives.
-use borrow.Author.Rules.{rules}
-use mathlib.Core.Path.{◌≡◌, refl}
+use mathlib.Core.Path.{refl}
 use native.Mathlib.Omega.{arith}
-use Rattle.steps_c.specs.Steps.{with_call, turns}
+use Rattle.steps_c.specs.Steps.{with_call}
 use Rattle.steps_c.proofs.TurnLaws.{next-turn, last_turn}
 use Rattle.steps_c.proofs.calls.Goals as goal
 

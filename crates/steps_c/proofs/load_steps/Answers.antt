@@ -1,5 +1,4 @@
 -- The load after all of them.
-use borrow.Author.Rules.{rules}
 use Rattle.steps_c.proofs.TurnLaws.{all-handed}
 use Rattle.steps_c.proofs.load_steps.Goals as goal
 

@@ -1,9 +1,6 @@
 -- What is left to hand in gives what all of it gives.
-use borrow.Author.Rules.{rules}
-use mathlib.Core.Path.{◌≡◌, refl}
-use native.Mathlib.Omega.{arith}
+use mathlib.Core.Path.{◌≡◌}
 use Rattle.steps_c.specs.Steps.{with_stop, turns}
-use Rattle.steps_c.proofs.TurnLaws.{next-turn, last_turn}
 use Rattle.steps_c.proofs.stops.Given as goal
 
 abbrev pub invariant-loop-left : goal.invariant-loop-left

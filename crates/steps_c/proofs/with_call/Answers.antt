@@ -1,5 +1,4 @@
 -- The load that the step returns.
-use borrow.Author.Rules.{rules}
 use mathlib.Core.Path.{ap}
 use Rattle.load.specs.declared.Stepped.{Stepped}
 use Rattle.steps_c.specs.Steps.{with_call}

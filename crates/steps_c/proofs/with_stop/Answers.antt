@@ -1,5 +1,4 @@
 -- The load that the step returns.
-use borrow.Author.Rules.{rules}
 use Rattle.steps_c.proofs.TurnLaws.{stop-handed}
 use Rattle.steps_c.proofs.with_stop.Goals as goal
 
