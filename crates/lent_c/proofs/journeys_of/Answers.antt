@@ -1,13 +1,9 @@
 -- The journeys passed are in place.
-use mathlib.Core.Path.{refl}
 use native.Mathlib.Omega.{arith}
-use Rattle.laws.proofs.Tables.{filled_none, filled_more, filled-all}
+use Rattle.laws.proofs.Tables.{filled_more, filled-all}
 use Rattle.profile.specs.Journeys.{no_journey}
 use Rattle.lent_c.specs.Plain.{journeys_of}
 use Rattle.lent_c.proofs.journeys_of.Goals as goal
-
-pub loop-i-init : goal.loop-i-init
-loop-i-init c = (omega arith, filled_none _ no_journey 64 _ refl)
 
 pub loop-i-preserved : goal.loop-i-preserved
 loop-i-preserved c =
