@@ -1,6 +1,6 @@
 -- Record after record.
 use mathlib.Core.Path.{◌≡◌, ap}
-use mathlib.Core.Logic.{inl, inr, ⊎_elim}
+use mathlib.Core.Logic.{inl, inr}
 use Prim.Native.Nat.{◌*◌, ◌≤◌, ◌-◌}
 use native.Mathlib.Omega.{arith}
 use lib.ListN.{length, take}
@@ -11,9 +11,10 @@ use Rattle.writer.proofs.PutLaws.{put-long, take_same}
 use Rattle.writer.specs.File.{call_file}
 use borrow.Author.Rules.{rules}
 use Rattle.writer.proofs.file.put_calls.Goals as goal
+use Rattle.writer.proofs.file.put_calls.Goals.{then-count-lt512, else-count-lt512}
 
 pub loop-i-init : goal.loop-i-init
-loop-i-init c = (omega arith, ⊎_elim (λ w. omega arith) (λ w. omega arith) c.if-count-lt512.branch, search rules, put-none _ _)
+loop-i-init c = (omega arith, elim c.if-count-lt512.branch [ then-count-lt512 w ↦ omega arith | else-count-lt512 w ↦ omega arith ], search rules, put-none _ _)
 
 pub loop-i-preserved : goal.loop-i-preserved
 loop-i-preserved c =
@@ -27,5 +28,5 @@ pub returns : goal.returns
 returns c =
     let L = c.loop-i in
     let a = c.args in
-    let e = take_same a.calls a.count L.i (⊎_elim (λ w. inl (omega arith)) (λ w. inr (omega arith, omega arith)) c.if-count-lt512.branch) in
+    let e = take_same a.calls a.count L.i (elim c.if-count-lt512.branch [ then-count-lt512 w ↦ inl (omega arith) | else-count-lt512 w ↦ inr (omega arith, omega arith) ]) in
     put_as (ap (concat_map call_file) e) (put-within 12288 (omega (arith, L.invariant.3.small)) L.invariant.3)

@@ -1,6 +1,6 @@
 -- Record after record.
 use mathlib.Core.Path.{◌≡◌, ap}
-use mathlib.Core.Logic.{inl, inr, ⊎_elim}
+use mathlib.Core.Logic.{inl, inr}
 use Prim.Native.Nat.{◌*◌, ◌≤◌, ◌-◌}
 use native.Mathlib.Omega.{arith}
 use lib.ListN.{length, take}
@@ -11,9 +11,10 @@ use Rattle.writer.proofs.PutLaws.{put-long, take_same, stop-at-file}
 use Rattle.writer.specs.File.{stop_file}
 use borrow.Author.Rules.{rules}
 use Rattle.writer.proofs.file.put_stops.Goals as goal
+use Rattle.writer.proofs.file.put_stops.Goals.{then-count-lt128, else-count-lt128}
 
 pub loop-i-init : goal.loop-i-init
-loop-i-init c = (omega arith, ⊎_elim (λ w. omega arith) (λ w. omega arith) c.if-count-lt128.branch, search rules, put-none _ _)
+loop-i-init c = (omega arith, elim c.if-count-lt128.branch [ then-count-lt128 w ↦ omega arith | else-count-lt128 w ↦ omega arith ], search rules, put-none _ _)
 
 pub loop-i-preserved : goal.loop-i-preserved
 loop-i-preserved c =
@@ -27,5 +28,5 @@ pub returns : goal.returns
 returns c =
     let L = c.loop-i in
     let a = c.args in
-    let e = take_same a.stops a.count L.i (⊎_elim (λ w. inl (omega arith)) (λ w. inr (omega arith, omega arith)) c.if-count-lt128.branch) in
+    let e = take_same a.stops a.count L.i (elim c.if-count-lt128.branch [ then-count-lt128 w ↦ inl (omega arith) | else-count-lt128 w ↦ inr (omega arith, omega arith) ]) in
     put_as (ap (concat_map (stop_file a.stops)) e) (put-within 101376 (omega (arith, L.invariant.3.small)) L.invariant.3)
