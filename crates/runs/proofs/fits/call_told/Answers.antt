@@ -1,6 +1,5 @@
 -- Whole, a call, and filled.
 use Rattle.runs.proofs.FitLaws.{whole-starts, where-other, where-unfit, where-fits, told_is}
-use borrow.Author.Rules.{rules}
 use Rattle.runs.proofs.fits.call_told.Goals as goal
 
 pub body_of-b-requires : goal.body_of-b-requires

@@ -1,6 +1,5 @@
 -- The tests in turn: whole and a rule, filled, taken.
 use Rattle.runs.proofs.FitLaws.{whole-starts, rule-other, rule-unfilled, rule-sent-back, rule-held}
-use borrow.Author.Rules.{rules}
 use Rattle.runs.proofs.fits.rule_told.Goals as goal
 
 pub body_of-b-requires : goal.body_of-b-requires

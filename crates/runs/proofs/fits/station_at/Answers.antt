@@ -1,6 +1,5 @@
 -- The station of the parent's text, if there is one.
 use Rattle.runs.proofs.FitLaws.{station-is, station-none}
-use borrow.Author.Rules.{rules}
 use Rattle.runs.proofs.fits.station_at.Goals as goal
 
 pub returns-then-has_at : goal.returns-then-has_at

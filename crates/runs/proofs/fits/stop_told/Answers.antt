@@ -1,6 +1,5 @@
 -- The tests in turn: whole and a stop, filled, taken.
 use Rattle.runs.proofs.FitLaws.{whole-starts, stop-other, stop-unfilled, stop-sent-back, stop-held}
-use borrow.Author.Rules.{rules}
 use Rattle.runs.proofs.fits.stop_told.Goals as goal
 
 pub body_of-b-requires : goal.body_of-b-requires

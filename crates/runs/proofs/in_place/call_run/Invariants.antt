@@ -2,12 +2,8 @@
 use Prim.Native.Nat.{◌-◌}
 use mathlib.Core.Path.{◌≡◌}
 use mathlib.Core.Bool.{false}
-use native.Mathlib.Omega.{arith}
-use borrow.Author.Rules.{rules}
 use lib.ListN.{length}
 use Rattle.runs.specs.Runs.{open_reader, Left}
-use Rattle.runs.proofs.LeftLaws.{left-first}
-use Rattle.runs.proofs.RunLaws.{call-space, call-in-on, call-outside-on}
 use Rattle.runs.proofs.in_place.call_run.Given as goal
 
 abbrev pub invariant-loop-at : goal.invariant-loop-at

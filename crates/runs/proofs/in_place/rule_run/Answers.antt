@@ -1,9 +1,5 @@
 -- Each turn stores one rule more; where the next record does not fit, the run ends.
-use Prim.Native.Nat.{◌-◌}
 use native.Mathlib.Omega.{arith}
-use borrow.Author.Rules.{rules}
-use lib.ListN.{length}
-use Rattle.runs.specs.Runs.{open_reader, Left}
 use Rattle.runs.proofs.LeftLaws.{left-first}
 use Rattle.runs.proofs.RunLaws.{rule-space, rule-on}
 use Rattle.runs.proofs.in_place.rule_run.Goals as goal
@@ -18,22 +14,22 @@ pub slice_bounds-size_of-count : goal.slice_bounds-size_of-count
 slice_bounds-size_of-count c = omega arith
 
 pub offset_bounds-next-n : goal.offset_bounds-next-n
-offset_bounds-next-n c = omega (arith, rule-space c.loop-at.invariant c.rule_told-told.ensures c.type_size.ensures c.if-told.true)
+offset_bounds-next-n c = omega (arith, rule-space c.loop-at.invariant c.rule_told-told.ensures c.size_of-size.ensures c.if-told.true)
 
 pub bounds-next-n : goal.bounds-next-n
-bounds-next-n c = rule-space c.loop-at.invariant c.rule_told-told.ensures c.type_size.ensures c.if-told.true
+bounds-next-n c = rule-space c.loop-at.invariant c.rule_told-told.ensures c.size_of-size.ensures c.if-told.true
 
 pub overflow_add-next : goal.overflow_add-next
-overflow_add-next c = omega (arith, rule-space c.loop-at.invariant c.rule_told-told.ensures c.type_size.ensures c.if-told.true)
+overflow_add-next c = omega (arith, rule-space c.loop-at.invariant c.rule_told-told.ensures c.size_of-size.ensures c.if-told.true)
 
 pub overflow_add-at : goal.overflow_add-at
-overflow_add-at c = omega (arith, (rule-on c.loop-at.invariant c.rule_told-told.ensures c.type_size.ensures c.if-told.true).room)
+overflow_add-at c = omega (arith, (rule-on c.loop-at.invariant c.rule_told-told.ensures c.size_of-size.ensures c.if-told.true).room)
 
 pub loop-at-smaller : goal.loop-at-smaller
-loop-at-smaller c = omega (arith, (rule-on c.loop-at.invariant c.rule_told-told.ensures c.type_size.ensures c.if-told.true).room, c.type_size.ensures)
+loop-at-smaller c = omega (arith, (rule-on c.loop-at.invariant c.rule_told-told.ensures c.size_of-size.ensures c.if-told.true).room, c.size_of-size.ensures)
 
 pub loop-at-preserved : goal.loop-at-preserved
-loop-at-preserved c = rule-on c.loop-at.invariant c.rule_told-told.ensures c.type_size.ensures c.if-told.true
+loop-at-preserved c = rule-on c.loop-at.invariant c.rule_told-told.ensures c.size_of-size.ensures c.if-told.true
 
 pub returns-else-told : goal.returns-else-told
 returns-else-told c = c.loop-at.invariant

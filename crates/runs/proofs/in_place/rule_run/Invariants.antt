@@ -1,11 +1,7 @@
 -- Each turn stores one rule more; where the next record does not fit, the run ends.
 use Prim.Native.Nat.{◌-◌}
-use native.Mathlib.Omega.{arith}
-use borrow.Author.Rules.{rules}
 use lib.ListN.{length}
 use Rattle.runs.specs.Runs.{open_reader, Left}
-use Rattle.runs.proofs.LeftLaws.{left-first}
-use Rattle.runs.proofs.RunLaws.{rule-space, rule-on}
 use Rattle.runs.proofs.in_place.rule_run.Given as goal
 
 abbrev pub invariant-loop-at : goal.invariant-loop-at

@@ -1,6 +1,5 @@
 -- By the kind of the next record.
 use Rattle.runs.proofs.LeftLaws.{left-first}
-use borrow.Author.Rules.{rules}
 use Rattle.runs.proofs.in_place.run.Goals as goal
 
 pub returns-then-kind-eq2 : goal.returns-then-kind-eq2
