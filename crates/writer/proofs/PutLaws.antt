@@ -8,7 +8,7 @@ use Prim.Native.Nat.{ℕ, zero, suc, ◌+◌, ◌-◌, ◌≤◌, ◌<◌}
 use native.Mathlib.Omega.{arith}
 use lib.IntN.{ℤ}
 use lib.ListN.{length, take, set}
-use lib.Seq.{sets, take_all, length-sets, sets-eq}
+use lib.Seq.{sets, take_all, sets-eq}
 use borrow.Author.Tests.{lt-ltb, le-ltb}
 use Rattle.laws.specs.Lists.{concat_map}
 use Rattle.refusal.specs.declared.Refusal.TheVariants.{LoadUnwritable, BufferShort}

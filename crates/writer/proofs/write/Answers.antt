@@ -7,7 +7,6 @@ use Rattle.refusal.specs.declared.Answer.TheVariants.{Taken}
 use Rattle.writer.specs.declared.Wrote.{Wrote}
 use Rattle.writer.specs.File.{write_spec_of}
 use Rattle.writer.proofs.PutLaws.{wrote-barred, wrote-short, wrote-all}
-use borrow.Author.Rules.{rules}
 use Rattle.writer.proofs.write.Goals as goal
 
 pub returns-then-is_unwritable : goal.returns-then-is_unwritable

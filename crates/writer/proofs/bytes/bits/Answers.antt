@@ -1,6 +1,5 @@
 -- A NaN differs from itself; every other float has its bits.
 use Rattle.writer.proofs.NumberLaws.{not-nan, nan-bits}
-use borrow.Author.Rules.{rules}
 use Rattle.writer.proofs.bytes.bits.Goals as goal
 
 pub float_to_bits-result : goal.float_to_bits-result

@@ -1,15 +1,10 @@
 -- Byte after byte, up to the end of the text or the number asked.
-use mathlib.Core.Path.{◌≡◌, ◌∙◌}
-use mathlib.Core.Logic.{inl, inr}
-use mathlib.Core.List.{List, [], ◌∷◌}
+use mathlib.Core.Path.{◌≡◌}
+use mathlib.Core.List.{[], ◌∷◌}
 use Prim.Native.Nat.{ℕ, ◌*◌, ◌≤◌, ◌-◌}
-use native.Mathlib.Omega.{arith}
 use lib.ListN.{take}
 use Rattle.laws.specs.Lists.{concat_map}
 use Rattle.lines.specs.Buffer.{Put}
-use Rattle.lines.proofs.BufferLaws.{put-none, put-turn, put_as, put-within, each-byte}
-use Rattle.writer.proofs.PutLaws.{put-long, take_same}
-use borrow.Author.Rules.{rules}
 use Rattle.writer.proofs.bytes.put_bytes.Given as goal
 
 abbrev pub invariant-loop-i : goal.invariant-loop-i

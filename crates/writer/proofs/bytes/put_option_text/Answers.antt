@@ -1,7 +1,6 @@
 -- The byte 1 and the text, or the byte 0.
 use native.Mathlib.Omega.{arith}
 use Rattle.lines.proofs.BufferLaws.{put_then, put-within}
-use borrow.Author.Rules.{rules}
 use Rattle.writer.proofs.bytes.put_option_text.Goals as goal
 
 pub returns-then-there : goal.returns-then-there

@@ -4,7 +4,6 @@ use mathlib.Core.List.{[], ◌∷◌, ◌++◌}
 use Prim.Native.Nat.{ℕ}
 use lib.ListN.{take}
 use Rattle.lines.proofs.BufferLaws.{put_then, put_as}
-use borrow.Author.Rules.{rules}
 use Rattle.writer.proofs.bytes.put_text.Goals as goal
 
 pub returns : goal.returns

@@ -1,7 +1,6 @@
 -- The higher half, then the lower.
 use Rattle.codec.specs.Shapes.{four_bytes}
 use Rattle.lines.proofs.BufferLaws.{put_then}
-use borrow.Author.Rules.{rules}
 use Rattle.writer.proofs.bytes.put_u32.Goals as goal
 
 pub returns : goal.returns

@@ -1,7 +1,6 @@
 -- The place behind all bytes.
 use mathlib.Core.Path.{◌∙◌}
 use native.Mathlib.Nat.{zero-add}
-use borrow.Author.Rules.{rules}
 use Rattle.writer.proofs.file.file_length.Goals as goal
 
 pub returns : goal.returns

@@ -1,15 +1,10 @@
 -- Record after record.
-use mathlib.Core.Path.{◌≡◌, ap}
-use mathlib.Core.Logic.{inl, inr, ⊎_elim}
+use mathlib.Core.Path.{◌≡◌}
 use Prim.Native.Nat.{◌*◌, ◌≤◌, ◌-◌}
-use native.Mathlib.Omega.{arith}
 use lib.ListN.{length, take}
 use Rattle.laws.specs.Lists.{concat_map}
 use Rattle.lines.specs.Buffer.{Put}
-use Rattle.lines.proofs.BufferLaws.{put-none, put-turn, put_as, put-within}
-use Rattle.writer.proofs.PutLaws.{put-long, take_same}
 use Rattle.writer.specs.File.{call_file}
-use borrow.Author.Rules.{rules}
 use Rattle.writer.proofs.file.put_calls.Given as goal
 
 abbrev pub invariant-loop-i : goal.invariant-loop-i

@@ -1,7 +1,6 @@
 -- The version, then record after record.
 use Rattle.lines.proofs.BufferLaws.{put_then, put_as}
 use Rattle.writer.proofs.PutLaws.{file-parts}
-use borrow.Author.Rules.{rules}
 use Rattle.writer.proofs.file.put_file.Goals as goal
 
 pub returns : goal.returns

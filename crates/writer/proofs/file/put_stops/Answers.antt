@@ -1,11 +1,8 @@
 -- Record after record.
-use mathlib.Core.Path.{◌≡◌, ap}
+use mathlib.Core.Path.{ap}
 use mathlib.Core.Logic.{inl, inr}
-use Prim.Native.Nat.{◌*◌, ◌≤◌, ◌-◌}
 use native.Mathlib.Omega.{arith}
-use lib.ListN.{length, take}
 use Rattle.laws.specs.Lists.{concat_map}
-use Rattle.lines.specs.Buffer.{Put}
 use Rattle.lines.proofs.BufferLaws.{put-none, put-turn, put_as, put-within}
 use Rattle.writer.proofs.PutLaws.{put-long, take_same, stop-at-file}
 use Rattle.writer.specs.File.{stop_file}

@@ -6,7 +6,6 @@ use lib.ListN.{length, get_or-eq_default}
 use Rattle.laws.proofs.Bounds.{get_d_any}
 use Rattle.stops.specs.Taken.{blank_stop}
 use Rattle.stops.specs.Sound.{stop_at}
-use borrow.Author.Rules.{rules}
 use Rattle.writer.proofs.file.stop_at.Goals as goal
 
 pub returns-then-k-lt128 : goal.returns-then-k-lt128

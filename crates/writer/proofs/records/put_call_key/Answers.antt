@@ -1,7 +1,6 @@
 -- One after the other.
 use Rattle.lines.proofs.BufferLaws.{put_then}
 use Rattle.writer.specs.Parts.{call_key}
-use borrow.Author.Rules.{rules}
 use Rattle.writer.proofs.records.put_call_key.Goals as goal
 
 pub returns : goal.returns

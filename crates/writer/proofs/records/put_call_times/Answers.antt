@@ -1,7 +1,6 @@
 -- One after the other.
 use Rattle.lines.proofs.BufferLaws.{put_then, put_as}
 use Rattle.writer.proofs.PutLaws.{times-parts}
-use borrow.Author.Rules.{rules}
 use Rattle.writer.proofs.records.put_call_times.Goals as goal
 
 pub returns : goal.returns

@@ -2,7 +2,6 @@
 use native.Mathlib.Omega.{arith}
 use Rattle.lines.proofs.BufferLaws.{put_then, put_as, put-within}
 use Rattle.writer.proofs.PutLaws.{degrees-there, degrees-none}
-use borrow.Author.Rules.{rules}
 use Rattle.writer.proofs.records.put_degrees.Goals as goal
 
 pub returns-then-located : goal.returns-then-located

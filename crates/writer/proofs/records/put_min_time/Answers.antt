@@ -1,7 +1,6 @@
 -- The byte 1 and the number, or the byte 0.
 use native.Mathlib.Omega.{arith}
 use Rattle.lines.proofs.BufferLaws.{put_then, put-within}
-use borrow.Author.Rules.{rules}
 use Rattle.writer.proofs.records.put_min_time.Goals as goal
 
 pub returns-then-timed : goal.returns-then-timed

@@ -1,7 +1,6 @@
 -- One after the other, and the length before them.
 use Rattle.lines.proofs.BufferLaws.{put_then, put_as}
 use Rattle.writer.proofs.PutLaws.{put-framed, rule-file}
-use borrow.Author.Rules.{rules}
 use Rattle.writer.proofs.records.put_rule.Goals as goal
 
 pub returns : goal.returns

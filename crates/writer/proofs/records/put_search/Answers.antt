@@ -2,7 +2,6 @@
 use native.Mathlib.Omega.{arith}
 use Rattle.lines.proofs.BufferLaws.{put_then, put-none, put_as, put-within}
 use Rattle.writer.proofs.PutLaws.{search-there, search-none}
-use borrow.Author.Rules.{rules}
 use Rattle.writer.proofs.records.put_search.Goals as goal
 
 pub returns-then-searched : goal.returns-then-searched

@@ -1,6 +1,5 @@
 -- The byte 1, then the number.
 use Rattle.lines.proofs.BufferLaws.{put_then}
-use borrow.Author.Rules.{rules}
 use Rattle.writer.proofs.records.put_seconds.Goals as goal
 
 pub returns : goal.returns

@@ -4,7 +4,6 @@ use mathlib.Core.Path.{ap}
 use Rattle.laws.proofs.Ints.{again}
 use Rattle.lines.proofs.BufferLaws.{put_then, put_as}
 use Rattle.writer.specs.Parts.{starts, settings_rest}
-use borrow.Author.Rules.{rules}
 use Rattle.writer.proofs.records.put_settings_rest.Goals as goal
 
 pub returns : goal.returns

@@ -1,7 +1,6 @@
 -- One after the other.
 use Rattle.lines.proofs.BufferLaws.{put_then}
 use Rattle.writer.specs.Parts.{settings_walks}
-use borrow.Author.Rules.{rules}
 use Rattle.writer.proofs.records.put_settings_walks.Goals as goal
 
 pub returns : goal.returns

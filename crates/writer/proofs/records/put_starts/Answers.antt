@@ -4,7 +4,6 @@ use Rattle.laws.proofs.Ints.{again}
 use Rattle.codec.specs.Kinds.{unsigned_of}
 use Rattle.lines.proofs.BufferLaws.{put_then, put_as}
 use Rattle.writer.proofs.PutLaws.{starts-are}
-use borrow.Author.Rules.{rules}
 use Rattle.writer.proofs.records.put_starts.Goals as goal
 
 pub returns : goal.returns

@@ -1,7 +1,6 @@
 -- The three parts, and the length before them.
 use Rattle.lines.proofs.BufferLaws.{put_then, put_as}
 use Rattle.writer.proofs.PutLaws.{put-framed, stop-file}
-use borrow.Author.Rules.{rules}
 use Rattle.writer.proofs.records.put_stop.Goals as goal
 
 pub returns : goal.returns

@@ -1,7 +1,6 @@
 -- One after the other.
 use Rattle.lines.proofs.BufferLaws.{put_then}
 use Rattle.writer.specs.Parts.{stop_texts}
-use borrow.Author.Rules.{rules}
 use Rattle.writer.proofs.records.put_stop_texts.Goals as goal
 
 pub returns : goal.returns
