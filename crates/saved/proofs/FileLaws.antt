@@ -193,57 +193,57 @@ module _ (l : Load) (w : Writable l) (unsearched : l.searched ≡ false) where
   empty-is : empty_load start ≡ stops_at 0
   unfolding empty_of
   empty-is =
-      λ t. load_of start (sym (up_none blank_stop 128 l.stops w.whole.own_val.sound.stops.long) t) 0 (sym (up_none blank_rule 128 l.rules w.whole.own_val.sound.rules.long) t) 0 (sym (up_none blank_call 512 l.calls w.whole.own_val.sound.table.long) t) 0
+      λ t. load_of start (sym (up_none blank_stop 128 l.stops w.whole.own.sound.stops.long) t) 0 (sym (up_none blank_rule 128 l.rules w.whole.own.sound.rules.long) t) 0 (sym (up_none blank_call 512 l.calls w.whole.own.sound.table.long) t) 0
 
   -- the fields that no record has
   no-journeys : l.journeys ≡ replicate 64 no_journey
-  no-journeys = let e = w.whole.own_val.sound.none_kept unsearched in subst (λ (n : ℕ). drop n l.journeys ≡ replicate (64 - n) no_journey) e w.whole.own_val.sound.blank
+  no-journeys = let e = w.whole.own.sound.none_kept unsearched in subst (λ (n : ℕ). drop n l.journeys ≡ replicate (64 - n) no_journey) e w.whole.own.sound.blank
 
   no-limits : l.table_limits ≡ 0
-  no-limits = w.whole.own_val.sound.table.limited ∙ ap (λ (h : ℕ). cond (eqb h 21600) 0 1) w.uncut
+  no-limits = w.whole.own.sound.table.limited ∙ ap (λ (h : ℕ). cond (eqb h 21600) 0 1) w.uncut
 
   load_is : calls_at l.call_count ≡ load_at_start l
   unfolding load_at_start
   load_is = λ t. record {
     settings = start;
-    stops = up-all blank_stop 128 l.stops w.whole.own_val.sound.stops.long l.stop_count w.whole.own_val.sound.stops.few w.whole.own_val.sound.stops.blank t;
+    stops = up-all blank_stop 128 l.stops w.whole.own.sound.stops.long l.stop_count w.whole.own.sound.stops.few w.whole.own.sound.stops.blank t;
     stop_count = l.stop_count;
-    calls = up-all blank_call 512 l.calls w.whole.own_val.sound.table.long l.call_count w.whole.own_val.sound.table.few w.whole.own_val.sound.table.blank t;
+    calls = up-all blank_call 512 l.calls w.whole.own.sound.table.long l.call_count w.whole.own.sound.table.few w.whole.own.sound.table.blank t;
     call_count = l.call_count;
-    rules = up-all blank_rule 128 l.rules w.whole.own_val.sound.rules.long l.rule_count w.whole.own_val.sound.rules.few w.whole.own_val.sound.rules.blank t;
+    rules = up-all blank_rule 128 l.rules w.whole.own.sound.rules.long l.rule_count w.whole.own.sound.rules.few w.whole.own.sound.rules.blank t;
     rule_count = l.rule_count;
     journeys = sym no-journeys t;
-    journey_count = sym (w.whole.own_val.sound.none_kept unsearched) t;
+    journey_count = sym (w.whole.own.sound.none_kept unsearched) t;
     table_horizon = sym w.uncut t;
     table_limits = sym no-limits t;
-    horizon = sym (w.whole.own_val.sound.same_horizon unsearched ∙ w.uncut) t;
-    limits = sym (w.whole.own_val.sound.same_limits unsearched ∙ no-limits) t;
+    horizon = sym (w.whole.own.sound.same_horizon unsearched ∙ w.uncut) t;
+    limits = sym (w.whole.own.sound.same_limits unsearched ∙ no-limits) t;
     searched = sym unsearched t;
     stopped = sym w.unstopped t;
-    limit = sym (w.whole.own_val.sound.no_limit w.unstopped) t;
-    week = sym (w.whole.own_val.sound.week.undated w.dateless) t;
+    limit = sym (w.whole.own.sound.no_limit w.unstopped) t;
+    week = sym (w.whole.own.sound.week.undated w.dateless) t;
   }
 
   stops-fed : Feeds (stops_at 0) (map (stop_record l.stops) (take l.stop_count l.stops)) (stops_at l.stop_count)
   unfolding stop_at
   stops-fed =
-      feeds-first (stop_record l.stops) l.stops blank_stop stops_at l.stop_count (omega (arith, w.whole.own_val.sound.stops.few, w.whole.own_val.sound.stops.long))
-      (λ k h. stop-takes l.stops l.stop_count k w.whole.own_val.sound.stops h (w.whole.kept.stops k h) start (up_to blank_rule 128 l.rules 0) 0 (up_to blank_call 512 l.calls 0) 0)
+      feeds-first (stop_record l.stops) l.stops blank_stop stops_at l.stop_count (omega (arith, w.whole.own.sound.stops.few, w.whole.own.sound.stops.long))
+      (λ k h. stop-takes l.stops l.stop_count k w.whole.own.sound.stops h (w.whole.kept.stops k h) start (up_to blank_rule 128 l.rules 0) 0 (up_to blank_call 512 l.calls 0) 0)
 
   rules-fed : Feeds (rules-at 0) (map rule_record (take l.rule_count l.rules)) (rules-at l.rule_count)
   unfolding rule_at
   rules-fed =
-      feeds-first rule_record l.rules blank_rule rules-at l.rule_count (omega (arith, w.whole.own_val.sound.rules.few, w.whole.own_val.sound.rules.long))
-      (λ k h. rule-takes l.stop_count l.rules l.rule_count k w.whole.own_val.sound.rules h (w.whole.kept.rules k h) start (up_to blank_stop 128 l.stops l.stop_count) (up_to blank_call 512 l.calls 0) 0)
+      feeds-first rule_record l.rules blank_rule rules-at l.rule_count (omega (arith, w.whole.own.sound.rules.few, w.whole.own.sound.rules.long))
+      (λ k h. rule-takes l.stop_count l.rules l.rule_count k w.whole.own.sound.rules h (w.whole.kept.rules k h) start (up_to blank_stop 128 l.stops l.stop_count) (up_to blank_call 512 l.calls 0) 0)
 
   calls-fed : Feeds (calls_at 0) (map call_record (take l.call_count l.calls)) (calls_at l.call_count)
   calls-fed =
-      let room : l.call_count ≤ length l.calls = omega (arith, w.whole.own_val.sound.table.few, w.whole.own_val.sound.table.long) in
+      let room : l.call_count ≤ length l.calls = omega (arith, w.whole.own.sound.table.few, w.whole.own.sound.table.long) in
       feeds-first call_record l.calls blank_call calls_at l.call_count room
-      (λ k h. call-takes l.settings l.stop_count l.calls k w.whole.own_val.sound.table.long (omega (arith, w.whole.own_val.sound.table.few))
-      (subst (λ (n : ℕ). CallSound n (get_or l.calls k blank_call)) w.uncut (all-at (CallSound l.table_horizon) l.calls blank_call l.call_count k h room w.whole.own_val.sound.table.each))
+      (λ k h. call-takes l.settings l.stop_count l.calls k w.whole.own.sound.table.long (omega (arith, w.whole.own.sound.table.few))
+      (subst (λ (n : ℕ). CallSound n (get_or l.calls k blank_call)) w.uncut (all-at (CallSound l.table_horizon) l.calls blank_call l.call_count k h room w.whole.own.sound.table.each))
       (all-at CallKept l.calls blank_call l.call_count k h room w.whole.kept.calls)
-      (all-at (AtStop l.stop_count) l.calls blank_call l.call_count k h room w.whole.own_val.sound.calls_known)
+      (all-at (AtStop l.stop_count) l.calls blank_call l.call_count k h room w.whole.own.sound.calls_known)
       (opening l.settings w.whole.kept.settings.opens).clock (up_to blank_stop 128 l.stops l.stop_count) (up_to blank_rule 128 l.rules l.rule_count) l.rule_count)
 
   pub all-fed : Feeds (empty_load start) (records_of l) (load_at_start l)

@@ -66,7 +66,7 @@ back-writable : (l : Load) → Writable l → Writable (unsearched_of l)
 unfolding unsearched_of
 back-writable l w = record {
   whole = record {
-    own = new-kept (unsearched_of l) (unsearched-sound l w.whole.own_val.sound) (unsearched-new l);
+    own = new-kept (unsearched_of l) (unsearched-sound l w.whole.own.sound) (unsearched-new l);
     kept = let k = w.whole.kept in record { settings = k.settings; stops = k.stops; rules = k.rules; calls = k.calls };
   };
   dateless = w.dateless;
@@ -99,7 +99,7 @@ searched-fed l w e =
     subst (λ (bs : List (List ℕ)). Feeds (empty_load (at_start l.settings)) bs (load_at_start l)) (records-are l e)
     (feeds-append
     (subst (λ (s : Settings). Feeds (empty_load (at_start s)) (records_of (unsearched_of l)) (load_at_start (unsearched_of l))) (same-settings l) (all-fed (unsearched_of l) (back-writable l w) (unsearched-new l)))
-    (more (search-takes (load_at_start (unsearched_of l)) (load_at_start l) (search-at (unsearched_of l) l (unsearched-new l) (own-finished l w.whole.own_val e w.unstopped)) (same_horizon l)) none))
+    (more (search-takes (load_at_start (unsearched_of l)) (load_at_start l) (search-at (unsearched_of l) l (unsearched-new l) (own-finished l w.whole.own e w.unstopped)) (same_horizon l)) none))
 
 pub records-taken : RecordsTaken
 records-taken l w = go l.searched refl
