@@ -1,7 +1,7 @@
 -- Withdrawing straight after taking gives back an unsearched load, if the table's horizon didn't fall.
 use Prim.Native.Nat.{ℕ, ◌<◌}
 use mathlib.Core.Path.{◌≡◌, sym, ap, subst, ◌∙◌}
-use mathlib.Core.Bool.{true, false, cond}
+use mathlib.Core.Bool.{true, false}
 use mathlib.Core.List.{List}
 use Rattle.laws.proofs.Bools.{cond-not}
 use Rattle.refusal.specs.declared.Answer.TheVariants.{Taken}

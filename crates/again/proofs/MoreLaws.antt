@@ -11,7 +11,7 @@ use Rattle.laws.specs.Lists.{filterb, take_while, concat_map}
 use Rattle.laws.specs.Tails.{over_tails}
 use Rattle.laws.specs.Sort.{insert_by}
 use Rattle.laws.proofs.Bools.{not-true}
-use Rattle.ways.specs.Rides.{Leg, First, leg, first_ride, rides, first_rides}
+use Rattle.ways.specs.Rides.{leg, first_ride, rides, first_rides}
 use Rattle.calls.specs.declared.Call.{Call}
 use Rattle.offers.specs.Order.{earlier, in_order_of, clashes, Rising}
 use Rattle.offers.specs.Offers.{Timetable, with_calls, same_run, origins_of, network_of}

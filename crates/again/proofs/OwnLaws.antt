@@ -1,7 +1,7 @@
 -- A searched load is the search of its own table: in full, or within the limit at which it was stopped.
 use Prim.Native.Nat.{ℕ, ◌≤◌}
 use mathlib.Core.Path.{◌≡◌, refl, sym, ap, subst, ◌∙◌}
-use mathlib.Core.Bool.{Bool, true, false, cond}
+use mathlib.Core.Bool.{Bool, true, false}
 use mathlib.Core.List.Permᴰ
 use mathlib.Core.List.{List, Permᴰ}
 use lib.ListN.{length, take}
@@ -31,7 +31,7 @@ use Rattle.search.specs.Within.{outcome_within, finishes_in, ran_within, within_
 use Rattle.search.proofs.RunLaws.{search-runs, taken-found}
 use Rattle.search.proofs.WithinLaws.{within-runs, taken-within, within-clear, within-taken, finished-is-search}
 use Rattle.again.specs.Again.{unsearched_of, researched}
-use Rattle.again.specs.Claims.{Own, Kept, Stops, OwnFinished, OwnStopped}
+use Rattle.again.specs.Claims.{Own, OwnFinished, OwnStopped}
 use Rattle.again.proofs.SortLaws.{sorted-again}
 use Rattle.again.proofs.SoundLaws.{unsearched-new}
 use Rattle.again.proofs.ResearchLaws.{research-cases, researched-within, researched-full}

@@ -2,45 +2,31 @@
 use Prim.Native.Nat.{ℕ, ◌≤◌}
 use mathlib.Core.Path.{◌≡◌, refl, sym, ap, subst, ◌∙◌}
 use mathlib.Core.Bool.{Bool, true, false, cond, ◌&&◌, true≢false}
-use mathlib.Core.List.{List, [], ◌∷◌, Permᴰ}
+use mathlib.Core.List.{List, [], ◌∷◌}
 use borrow.Author.Tests.{leb-true, le-leb}
 use lib.Dec.{leb}
-use lib.ListN.{length, take}
-use Rattle.laws.specs.Lists.{padded}
-use Rattle.laws.proofs.Sort.{sort-perm}
 use Rattle.laws.proofs.Bools.{cond-by, cond-not}
-use Rattle.refusal.specs.declared.Refusal.TheVariants.{AlreadySearched, SettingsRange, Neighbours, NoRoom}
+use Rattle.refusal.specs.declared.Refusal.TheVariants.{Neighbours, NoRoom}
 use Rattle.refusal.specs.declared.Answer.{Answer}
 use Rattle.refusal.specs.declared.Answer.TheVariants.{Taken, Refused}
 use Rattle.refusal.specs.First.{First, hit, miss, is_taken}
 use Rattle.profile.specs.declared.Journey.{Journey}
-use Rattle.profile.specs.Journeys.{no_journey}
-use Rattle.calls.specs.declared.Call.{Call}
-use Rattle.week.specs.declared.Week.{Week}
-use Rattle.offers.specs.Order.{earlier, in_order_of, clashes}
-use Rattle.offers.specs.Offers.{with_calls, sorted}
-use Rattle.offers.specs.Search.{Outcome, clashing, falling, found, answer_of, search_of}
-use Rattle.offers.proofs.OrderLaws.{sorted_front}
-use Rattle.offers.proofs.AnyOrder.{search-in-any-order}
+use Rattle.offers.specs.Order.{clashes}
+use Rattle.offers.specs.Offers.{sorted}
+use Rattle.offers.specs.Search.{found}
 use Rattle.offers.proofs.SearchLaws.{search-found}
-use Rattle.limited.specs.Limited.{finished_within, search_within}
-use Rattle.limited.proofs.LimitLaws.{within-in-any-order}
 use Rattle.load.specs.declared.Load.{Load}
 use Rattle.load.specs.declared.Stepped.{Stepped}
-use Rattle.load.specs.Load.{Seen, with_seen, with_week}
 use Rattle.load.specs.Sound.{Sound}
 use Rattle.search.specs.Timetable.{timetable_of}
-use Rattle.search.specs.Search.{outcome_of, with_found, with_journeys, settled, would_fall, search_spec}
-use Rattle.search.specs.Within.{outcome_within, finishes_in, within_found, settled_within, sent_back_of, ran_within, within_spec, step_of, would_fall_within}
-use Rattle.search.proofs.RunLaws.{search-runs, taken-found, untaken-stays}
+use Rattle.search.specs.Search.{outcome_of, with_found, would_fall, search_spec}
+use Rattle.search.specs.Within.{outcome_within, finishes_in, within_spec, step_of, would_fall_within}
+use Rattle.search.proofs.RunLaws.{taken-found, untaken-stays}
 use Rattle.search.proofs.AnswerLaws.{search-answered}
 use Rattle.search.proofs.SearchSound.{search-sound}
-use Rattle.search.proofs.WithinLaws.{within_first, ran-answer, within-cases, within-runs, taken-within, untaken-within, within-clear, within-sound, finished-is-search}
-use Rattle.again.specs.Again.{unsearched_of, is_limited, researched}
+use Rattle.search.proofs.WithinLaws.{within_first, ran-answer, within-runs, taken-within, untaken-within, within-clear, within-sound, finished-is-search}
+use Rattle.again.specs.Again.{is_limited, researched}
 use Rattle.again.specs.Causes.{falls_again}
-use Rattle.again.specs.Claims.{Own}
-use Rattle.again.proofs.SortLaws.{sorted-again}
-use Rattle.again.proofs.SoundLaws.{unsearched-new}
 
 -- one of at most one change, stopped before
 pub record Limits (b : Bool) (m : Load) : Type 0 where

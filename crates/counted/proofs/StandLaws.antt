@@ -1,5 +1,5 @@
 -- Events that stand for others: as many joins are tested, the search goes as far, and what is offered stands for what is offered.
-use mathlib.Core.Path.{◌≡◌, refl, ap, ◌∙◌}
+use mathlib.Core.Path.{◌≡◌, refl, ap}
 use mathlib.Core.List.{List, [], ◌∷◌, map}
 use Prim.Native.Nat.{ℕ, zero, suc}
 use Rattle.counted.specs.Events.{Event, tested, offered, joins_in, offers_of, up_to, finished}

@@ -4,14 +4,14 @@ use mathlib.Core.Logic.{inl, inr}
 use mathlib.Core.Bool.{Bool, true, false, cond}
 use mathlib.Core.List.Permᴰ
 use mathlib.Core.List.{List, ◌∷◌, Memᴰ, Permᴰ}
-use Prim.Native.Nat.{ℕ, suc}
+use Prim.Native.Nat.{suc}
 use native.Mathlib.Omega.{arith}
 use lib.Dec.{eqb}
 use lib.ListN.{length}
 use Rattle.laws.specs.Lists.{filterb}
 use Rattle.laws.proofs.Sort.{perm-mem}
 use Rattle.profile.specs.declared.Journey.{Journey}
-use Rattle.profile.specs.Best.{sooner, ordered}
+use Rattle.profile.specs.Best.{sooner}
 use Rattle.profile.specs.Journeys.{journey_figures}
 use Rattle.profile.proofs.ClaimLaws.{kept-is-front, put-in-order}
 use Rattle.offers.specs.Offers.{Timetable, offers}

@@ -26,7 +26,6 @@ use Rattle.limited.specs.Margin.{alightings, target_arrivals, least_of, earliest
 use Rattle.feed.specs.Feed as feed
 use Rattle.feed.specs.Feed.{call_at, target_walk_of}
 use Rattle.rides.specs.Rows as by
-use Rattle.rides.specs.Rows.{Sheet, Joins}
 use Rattle.rides.specs.Sheets.{joins_of, sheet_of}
 use Rattle.rides.specs.Agree.{Agree}
 use Rattle.rides.proofs.AgreeLaws.{target_below, place-below, same-network}

@@ -4,7 +4,7 @@ use mathlib.Core.List.{List, map, map-id}
 use Prim.Native.Nat.{ℕ}
 use Rattle.laws.specs.Lists.{span}
 use Rattle.laws.proofs.Flat.{map-agree}
-use Rattle.ways.specs.Images.{Images, Stand}
+use Rattle.ways.specs.Images.{Stand}
 use Rattle.calls.specs.declared.Call.{Call}
 use Rattle.profile.specs.declared.Row.{Row}
 use Rattle.profile.specs.declared.Journey.{Journey}
@@ -12,7 +12,7 @@ use Rattle.profile.specs.Journeys.{journey_figures, row_figures, row_of}
 use Rattle.profile.specs.Kept.{searched}
 use Rattle.profile.proofs.ClaimLaws.{search-maps}
 use Rattle.offers.specs.Offers.{Timetable, network_of, direct_by, change_by}
-use Rattle.offers.specs.Places.{journey_at, InPlaces}
+use Rattle.offers.specs.Places.{journey_at}
 use Rattle.offers.proofs.PlacesLaws.{row-figures}
 use Rattle.counted.specs.Events.{Event, offers_of, joins_in, up_to, finished}
 use Rattle.counted.specs.Joins.{Join, events, event_by}
@@ -26,7 +26,7 @@ use Rattle.rides.specs.Agree.{Agree}
 use Rattle.rides.proofs.AgreeLaws.{same-network, same_rows}
 use Rattle.limited_rides.specs.Runs.{RowEvent}
 use Rattle.search.specs.Rows.{feed_call, sheet_from, joins_from}
-use Rattle.search.specs.Events.{sheet_events, place_events, EventsByPlaces, WithinByRows, LimitByRows, SameEvents}
+use Rattle.search.specs.Events.{sheet_events, place_events, EventsByPlaces, LimitByRows, SameEvents}
 use Rattle.search.proofs.RowsLaws.{places}
 
 module _ (t : Timetable) (at : ℕ → Call) (n : ℕ) where

@@ -1,6 +1,6 @@
 -- The calls of a load in order, and the load that holds the rows of a state: what a search finds, in full or within a limit.
 use Prim.Native.Nat.{ℕ, ◌+◌, min}
-use mathlib.Core.Path.{◌≡◌, refl, sym, ap, subst, ◌∙◌}
+use mathlib.Core.Path.{◌≡◌, sym, ap, subst, ◌∙◌}
 use mathlib.Core.Bool.{Bool, true}
 use mathlib.Core.List.{List, map, Memᴰ}
 use native.Mathlib.Omega.{arith}

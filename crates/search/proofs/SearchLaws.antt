@@ -1,37 +1,26 @@
 -- The search by its tests: what is returned is what the definition says, from the state after every offer.
-use Prim.Native.Nat.{ℕ, ◌+◌, ◌-◌, ◌<◌, min}
-use mathlib.Core.Path.{◌≡◌, refl, sym, ap, subst, ◌∙◌}
+use Prim.Native.Nat.{ℕ, ◌-◌, ◌<◌, min}
+use mathlib.Core.Path.{◌≡◌, refl, sym, ap, ◌∙◌}
 use mathlib.Core.Bool.{Bool, true, false, not, true≢false}
-use mathlib.Core.List.{List, map, Memᴰ}
-use native.Mathlib.Omega.{arith}
-use lib.ListN.{length, take, drop, get_or, length-map, length-append, take-append-drop}
+use mathlib.Core.List.{List, map}
+use lib.ListN.{length, take, get_or}
 use Rattle.laws.specs.Lists.{padded}
-use Rattle.laws.specs.Sort.{sort}
-use Rattle.laws.proofs.Bounds.{take_min}
 use Rattle.laws.proofs.Bools.{of-not, cond-by, cond-not}
-use Rattle.laws.proofs.Sort.{length-sort, sort-mem}
 use Rattle.refusal.specs.declared.Refusal.TheVariants.{AlreadySearched, Neighbours, NoRoom}
 use Rattle.refusal.specs.declared.Answer.TheVariants.{Taken, Refused}
 use Rattle.calls.specs.declared.Call.{Call}
-use Rattle.calls.specs.Tables.{blank_call}
 use Rattle.profile.specs.declared.Row.{Row}
 use Rattle.profile.specs.declared.Journey.{Journey}
-use Rattle.profile.specs.Best.{sooner, ordered}
+use Rattle.profile.specs.Best.{ordered}
 use Rattle.profile.specs.Journeys.{no_journey, journey_figures, row_figures}
 use Rattle.profile.specs.Kept.{St, going, refused, searched, map_st}
 use Rattle.state.specs.View.{view, open_of, count_of, kept_of, horizon_of, limits_of}
-use Rattle.state.proofs.ViewLaws.{view-parts, view-is-refused}
-use Rattle.profile.proofs.ClaimLaws.{kept-is-front, front-unbeaten, ordered-maps}
-use Rattle.offers.specs.Order.{earlier, sort_first, clashes}
-use Rattle.offers.specs.Offers.{sorted}
-use Rattle.offers.specs.Places.{journey_at, InPlaces}
+use Rattle.state.proofs.ViewLaws.{view-is-refused}
+use Rattle.offers.specs.Order.{sort_first, clashes}
+use Rattle.offers.specs.Places.{journey_at}
 use Rattle.offers.specs.Search.{Outcome, clashing, falling, found, answer_of, found_by, search_of}
-use Rattle.offers.proofs.OrderLaws.{sorted_front}
-use Rattle.offers.proofs.PlacesLaws.{array-in-places, row-figures}
-use Rattle.read_back.specs.Kept.{Small, journey_of}
-use Rattle.read_back.proofs.KeptLaws.{journeys-right}
+use Rattle.read_back.specs.Kept.{journey_of}
 use Rattle.load.specs.declared.Load.{Load}
-use Rattle.load.specs.Load.{with_seen}
 use Rattle.load.specs.declared.Stepped.{Stepped}
 use Rattle.search.specs.Timetable.{timetable_of}
 use Rattle.search.specs.Rows.{sheet_from, joins_from, row_offers}

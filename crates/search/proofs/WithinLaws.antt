@@ -27,12 +27,11 @@ use Rattle.offers.specs.Search.{Outcome, clashing, falling, found, answer_of, en
 use Rattle.limited.specs.Limited.{offers_within, joins_within}
 use Rattle.limited.proofs.LimitLaws.{finished-is-full, within-by-offers, within-found}
 use Rattle.load.specs.declared.Load.{Load}
-use Rattle.load.specs.declared.Stepped.{Stepped}
 use Rattle.load.specs.Sound.{Sound}
 use Rattle.search.specs.declared.Limited.{Limited}
 use Rattle.search.specs.Timetable.{timetable_of}
 use Rattle.search.specs.Search.{outcome_of, with_found, with_journeys, settled, is_never, search_spec}
-use Rattle.search.specs.Within.{outcome_within, finishes_in, within_found, settled_within, sent_back_of, ran_within, within_spec, step_of, would_fall_within, within_tests, within_causes, WithinAnswered, FinishedIsSearch, WithinLeaves, WithinTaken, WithinSound}
+use Rattle.search.specs.Within.{outcome_within, finishes_in, within_found, settled_within, sent_back_of, ran_within, within_spec, step_of, would_fall_within, within_tests, within_causes, WithinAnswered, FinishedIsSearch, WithinTaken, WithinSound}
 use Rattle.search.proofs.RunLaws.{search-again, search-runs}
 use Rattle.search.proofs.SearchSound.{found-sound}
 

@@ -1,6 +1,5 @@
 -- The call on the unsearched load, and the search again.
 use Rattle.again.proofs.CodeLaws.{add-searched, add-unsearched}
-use borrow.Author.Rules.{rules}
 use Rattle.again.proofs.add.Goals as goal
 
 pub returns-then-load : goal.returns-then-load

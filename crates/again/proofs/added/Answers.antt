@@ -1,7 +1,6 @@
 -- Taken, outside with nothing cut, or cut.
 use mathlib.Core.Path.{sym, ◌∙◌}
 use Rattle.again.proofs.CodeLaws.{added-taken, added-stays, added-cut}
-use borrow.Author.Rules.{rules}
 use Rattle.again.proofs.added.Goals as goal
 
 pub returns-then-is_taken : goal.returns-then-is_taken

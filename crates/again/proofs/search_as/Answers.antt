@@ -1,6 +1,5 @@
 -- Within the limit, or in full.
 use Rattle.again.proofs.CodeLaws.{as-within, as-full}
-use borrow.Author.Rules.{rules}
 use Rattle.again.proofs.search_as.Goals as goal
 
 pub returns-then-is_limited : goal.returns-then-is_limited

@@ -1,7 +1,6 @@
 -- Refused, found, or refused by the search.
 use mathlib.Core.Path.{sym, ◌∙◌}
 use Rattle.again.proofs.CodeLaws.{again-refused, again-found, again-turned}
-use borrow.Author.Rules.{rules}
 use Rattle.again.proofs.searched_again.Goals as goal
 
 pub returns-then-is_refused : goal.returns-then-is_refused

@@ -1,7 +1,6 @@
 -- 9, 24, or the table without the call.
 use mathlib.Core.Path.{sym, ◌∙◌}
 use Rattle.again.proofs.CodeLaws.{out-unknown, out_none, out-there, counted}
-use borrow.Author.Rules.{rules}
 use Rattle.again.proofs.taken_out.Goals as goal
 
 pub returns-then-place-eq0 : goal.returns-then-place-eq0

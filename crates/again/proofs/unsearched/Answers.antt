@@ -1,6 +1,5 @@
 -- The blank journeys, and the table's horizon and mark.
 use Rattle.again.proofs.CodeLaws.{unsearched-made}
-use borrow.Author.Rules.{rules}
 use Rattle.again.proofs.unsearched.Goals as goal
 
 pub returns : goal.returns

@@ -1,6 +1,5 @@
 -- The withdrawal on the unsearched load, and the search again.
 use Rattle.again.proofs.CodeLaws.{withdraw-searched, withdraw-unsearched}
-use borrow.Author.Rules.{rules}
 use Rattle.again.proofs.withdraw.Goals as goal
 
 pub returns-then-load : goal.returns-then-load

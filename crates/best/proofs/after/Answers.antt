@@ -2,7 +2,6 @@
 use native.Mathlib.Omega.{arith}
 use Rattle.laws.proofs.Ints.{again}
 use Rattle.best.proofs.QueryLaws.{after_leave, after-second}
-use borrow.Author.Rules.{rules}
 use Rattle.best.proofs.after.Goals as goal
 
 pub returns-then-second-next : goal.returns-then-second-next

@@ -1,7 +1,6 @@
 -- A searched load answers over its kept journeys, any other none.
 use Rattle.laws.proofs.Ints.{again}
 use Rattle.best.proofs.QueryLaws.{best-searched, best-unsearched}
-use borrow.Author.Rules.{rules}
 use Rattle.best.proofs.best.Goals as goal
 
 pub returns-then-load : goal.returns-then-load

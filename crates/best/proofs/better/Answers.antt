@@ -1,6 +1,5 @@
 -- `better` meets its contract: a case for each way.
 use mathlib.Core.Path.{sym, ◌∙◌}
-use borrow.Author.Rules.{rules}
 use Rattle.best.proofs.TurnLaws.{better-stays, better-goes, better-first, better-early}
 use Rattle.best.proofs.better.Goals as goal
 

@@ -1,13 +1,12 @@
 -- What is left of the journeys has the first of all of them.
-use mathlib.Core.Path.{◌≡◌, refl, sym, ◌∙◌}
+use mathlib.Core.Path.{refl, sym, ◌∙◌}
 use mathlib.Core.Logic.{inl, inr}
 use Prim.Native.Nat.{◌-◌, ◌≤◌, ◌<◌}
 use native.Mathlib.Omega.{arith}
 use borrow.Author.Tests.{leb-true, leb-false}
-use lib.ListN.{length, get_or, take}
+use lib.ListN.{get_or}
 use Rattle.profile.specs.Journeys.{no_journey}
-use Rattle.best.specs.Best.{first_from}
-use Rattle.best.proofs.FirstLaws.{rest, first_past, first-here, first_next}
+use Rattle.best.proofs.FirstLaws.{first_past, first-here, first_next}
 use borrow.Author.Rules.{rules}
 use Rattle.best.proofs.first_from.Goals as goal
 

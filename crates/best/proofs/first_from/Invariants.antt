@@ -1,14 +1,9 @@
 -- What is left of the journeys has the first of all of them.
-use mathlib.Core.Path.{◌≡◌, refl, sym, ◌∙◌}
-use mathlib.Core.Logic.{inl, inr}
-use Prim.Native.Nat.{◌-◌, ◌≤◌, ◌<◌}
-use native.Mathlib.Omega.{arith}
-use borrow.Author.Tests.{leb-true, leb-false}
-use lib.ListN.{length, get_or, take}
-use Rattle.profile.specs.Journeys.{no_journey}
+use mathlib.Core.Path.{◌≡◌}
+use Prim.Native.Nat.{◌-◌, ◌≤◌}
+use lib.ListN.{length, take}
 use Rattle.best.specs.Best.{first_from}
-use Rattle.best.proofs.FirstLaws.{rest, first_past, first-here, first_next}
-use borrow.Author.Rules.{rules}
+use Rattle.best.proofs.FirstLaws.{rest}
 use Rattle.best.proofs.first_from.Given as goal
 
 abbrev pub invariant-loop-k : goal.invariant-loop-k

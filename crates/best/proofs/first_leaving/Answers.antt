@@ -2,7 +2,6 @@
 use mathlib.Core.Path.{◌∙◌}
 use Rattle.best.proofs.TurnLaws.{as-u64, as_is}
 use Rattle.best.proofs.FirstLaws.{first-before, first-after, first-within}
-use borrow.Author.Rules.{rules}
 use Rattle.best.proofs.first_leaving.Goals as goal
 
 pub returns-then-second-lt0 : goal.returns-then-second-lt0

@@ -5,7 +5,6 @@ use lib.IntN.{ℤ}
 use Rattle.laws.proofs.Ints.{again}
 use Rattle.best.specs.Best.{after_of}
 use Rattle.best.proofs.QueryLaws.{best-next}
-use borrow.Author.Rules.{rules}
 use Rattle.best.proofs.next_after.Goals as goal
 
 pub returns : goal.returns

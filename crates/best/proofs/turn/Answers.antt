@@ -1,6 +1,5 @@
 -- `turn` meets its contract: before 0, after the horizon, and between.
 use mathlib.Core.Path.{sym, ◌∙◌}
-use borrow.Author.Rules.{rules}
 use Rattle.best.proofs.TurnLaws.{turn-before, turn-after, turn-within, as-u64, as_is}
 use Rattle.best.proofs.turn.Goals as goal
 

@@ -2,7 +2,6 @@
 use mathlib.Core.Path.{refl}
 use borrow.Author.Tests.{le-leb, lt-leb}
 use Rattle.calendar.specs.Dates.{is_date, year_of, month_of, day_of}
-use borrow.Author.Rules.{rules}
 use Rattle.calendar.proofs.is_date.Goals as goal
 
 pub returns-then-y-lt1 : goal.returns-then-y-lt1

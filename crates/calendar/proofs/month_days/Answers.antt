@@ -1,7 +1,6 @@
 -- `month_days` meets its contract.
 use mathlib.Core.Path.{sym, ◌∙◌}
 use Rattle.calendar.proofs.Months.{days-none, days-past, days-february, days-other}
-use borrow.Author.Rules.{rules}
 use Rattle.calendar.proofs.month_days.Goals as goal
 
 pub returns-then-m-eq0 : goal.returns-then-m-eq0

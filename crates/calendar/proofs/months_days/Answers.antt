@@ -3,7 +3,6 @@ use mathlib.Core.Path.{sym, ◌∙◌}
 use Rattle.calendar.proofs.Years.{days-of}
 use Rattle.calendar.proofs.Months.{first_two, first_some, first-all}
 use native.Mathlib.Omega.{arith}
-use borrow.Author.Rules.{rules}
 use Rattle.calendar.proofs.months_days.Goals as goal
 
 pub returns-then-k-lt2 : goal.returns-then-k-lt2

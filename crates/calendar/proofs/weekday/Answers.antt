@@ -3,7 +3,6 @@ use mathlib.Core.Path.{refl, sym, ◌∙◌}
 use Rattle.calendar.specs.Dates.{weekday_of}
 use Rattle.calendar.proofs.Dates.{sizes}
 use native.Mathlib.Omega.{arith}
-use borrow.Author.Rules.{rules}
 use Rattle.calendar.proofs.weekday.Goals as goal
 
 pub overflow_sub-k : goal.overflow_sub-k

@@ -1,7 +1,6 @@
 -- `years_days` meets its contract.
 use mathlib.Core.Path.{sym}
 use Rattle.calendar.proofs.Years.{years-closed}
-use borrow.Author.Rules.{rules}
 use Rattle.calendar.proofs.years_days.Goals as goal
 
 pub returns : goal.returns

@@ -1,6 +1,5 @@
 -- By rows with the figures.
 use Rattle.listing.proofs.ListedLaws.{rows-cover}
-use borrow.Author.Rules.{rules}
 use Rattle.listing.proofs.covers_journey.Goals as goal
 
 pub returns : goal.returns

@@ -2,12 +2,12 @@
 use mathlib.Core.Path.{◌≡◌, refl, sym, ◌∙◌}
 use mathlib.Core.Bool.{true, false}
 use mathlib.Core.Logic.{inl, inr}
-use Prim.Native.Nat.{◌-◌, ◌≤◌}
+use Prim.Native.Nat.{◌-◌}
 use native.Mathlib.Omega.{arith}
-use lib.ListN.{length, get_or, take}
+use lib.ListN.{get_or}
 use Rattle.profile.specs.Journeys.{no_journey}
-use Rattle.listing.specs.Listed.{meets_as, place_from}
-use Rattle.listing.proofs.ListedLaws.{rest, place-past, place_here, place-next}
+use Rattle.listing.specs.Listed.{meets_as}
+use Rattle.listing.proofs.ListedLaws.{place-past, place_here, place-next}
 use borrow.Author.Rules.{rules}
 use Rattle.listing.proofs.first_place.Goals as goal
 

@@ -1,14 +1,9 @@
 -- What is left of the journeys has the first of all of them.
-use mathlib.Core.Path.{◌≡◌, refl, sym, ◌∙◌}
-use mathlib.Core.Bool.{true, false}
-use mathlib.Core.Logic.{inl, inr}
+use mathlib.Core.Path.{◌≡◌}
 use Prim.Native.Nat.{◌-◌, ◌≤◌}
-use native.Mathlib.Omega.{arith}
-use lib.ListN.{length, get_or, take}
-use Rattle.profile.specs.Journeys.{no_journey}
+use lib.ListN.{length, take}
 use Rattle.listing.specs.Listed.{meets_as, place_from}
-use Rattle.listing.proofs.ListedLaws.{rest, place-past, place_here, place-next}
-use borrow.Author.Rules.{rules}
+use Rattle.listing.proofs.ListedLaws.{rest}
 use Rattle.listing.proofs.first_place.Given as goal
 
 abbrev pub invariant-loop-i : goal.invariant-loop-i

@@ -1,6 +1,5 @@
 -- After the horizon, or by the list.
 use Rattle.listing.proofs.ListedLaws.{said-late, said-due}
-use borrow.Author.Rules.{rules}
 use Rattle.listing.proofs.judged.Goals as goal
 
 pub returns-then-horizon-due : goal.returns-then-horizon-due

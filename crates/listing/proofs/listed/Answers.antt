@@ -1,7 +1,6 @@
 -- Listed, as good, beaten, none.
 use lib.ListN.{take}
 use Rattle.listing.proofs.ListedLaws.{said-listed, said-good, said-beaten, said-none}
-use borrow.Author.Rules.{rules}
 use Rattle.listing.proofs.listed.Goals as goal
 
 pub returns-then-same-gt0 : goal.returns-then-same-gt0

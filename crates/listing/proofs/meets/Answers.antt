@@ -1,7 +1,6 @@
 -- The three ways.
 use mathlib.Core.Path.{◌∙◌}
 use Rattle.listing.proofs.ListedLaws.{meets-same, meets-equal, meets-cover}
-use borrow.Author.Rules.{rules}
 use Rattle.listing.proofs.meets.Goals as goal
 
 pub returns-then-kind-eq0 : goal.returns-then-kind-eq0

@@ -1,7 +1,6 @@
 -- The figures, and 0 elsewhere.
 use mathlib.Core.Path.{refl}
 use Rattle.listing.specs.Listed.{figures_row}
-use borrow.Author.Rules.{rules}
 use Rattle.listing.proofs.row_of.Goals as goal
 
 pub returns : goal.returns

@@ -1,7 +1,6 @@
 -- The empty load of blank settings.
 use mathlib.Core.Path.{◌∙◌}
 use Rattle.load.specs.Load.{empty_of}
-use borrow.Author.Rules.{rules}
 use Rattle.load.proofs.blank.Goals as goal
 
 pub returns : goal.returns

@@ -1,7 +1,6 @@
 -- The answer of the settings, else the dates'.
 use mathlib.Core.Path.{sym, ◌∙◌}
 use Rattle.load.proofs.StepLaws.{settings-refuse, dates-refuse, dates-pass}
-use borrow.Author.Rules.{rules}
 use Rattle.load.proofs.dated_answer.Goals as goal
 
 pub returns-then-is_refused : goal.returns-then-is_refused

@@ -1,6 +1,5 @@
 -- Every slot blank.
 use Rattle.load.proofs.StepLaws.{empty-made}
-use borrow.Author.Rules.{rules}
 use Rattle.load.proofs.empty.Goals as goal
 
 pub returns : goal.returns

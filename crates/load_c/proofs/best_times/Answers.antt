@@ -1,5 +1,4 @@
 -- The times of best.
-use borrow.Author.Rules.{rules}
 use mathlib.Core.Path.{ap, ◌∙◌}
 use Rattle.load_c.specs.Best.{times_of}
 use Rattle.load_c.proofs.best_times.Goals as goal

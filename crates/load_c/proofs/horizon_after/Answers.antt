@@ -1,5 +1,4 @@
 -- The horizon of the load that the search leaves.
-use borrow.Author.Rules.{rules}
 use mathlib.Core.Path.{ap}
 use Rattle.load.specs.declared.Stepped.{Stepped}
 use Rattle.load_c.specs.Searches.{horizon_after}

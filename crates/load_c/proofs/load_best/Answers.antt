@@ -1,5 +1,4 @@
 -- Best of what is read.
-use borrow.Author.Rules.{rules}
 use mathlib.Core.Path.{ap, ◌∙◌}
 use lib.IntN.{pos}
 use Rattle.file.specs.declared.Took.{Took}

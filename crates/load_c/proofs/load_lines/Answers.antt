@@ -1,5 +1,4 @@
 -- The lines of what is read.
-use borrow.Author.Rules.{rules}
 use mathlib.Core.Path.{ap, ◌∙◌}
 use Rattle.file.specs.declared.Took.{Took}
 use Rattle.lines.specs.Lines.{lines_of}

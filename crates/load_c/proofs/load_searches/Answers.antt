@@ -1,5 +1,4 @@
 -- The searches of what is read.
-use borrow.Author.Rules.{rules}
 use mathlib.Core.Path.{ap, ◌∙◌}
 use Rattle.file.specs.declared.Took.{Took}
 use Rattle.load_c.specs.Searches.{horizon_after, sum_of}

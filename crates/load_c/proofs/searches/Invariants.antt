@@ -1,10 +1,7 @@
 -- What is left to search adds what is left of the sum.
-use borrow.Author.Rules.{rules}
-use mathlib.Core.Path.{◌≡◌, ◌∙◌}
+use mathlib.Core.Path.{◌≡◌}
 use Prim.Native.Nat.{◌+◌, ◌*◌, ◌-◌, ◌≤◌}
-use native.Mathlib.Omega.{arith}
 use Rattle.load_c.specs.Searches.{horizon_after, sum_of}
-use Rattle.load_c.proofs.SearchesLaws.{next-turn, last_turn}
 use Rattle.load_c.proofs.searches.Given as goal
 
 abbrev pub invariant-loop-left : goal.invariant-loop-left

@@ -1,5 +1,4 @@
 -- Leave and arrival in one number; 2^32 for none.
-use borrow.Author.Rules.{rules}
 use Rattle.load_c.specs.Best.{times_of}
 use Rattle.load_c.proofs.times_of.Goals as goal
 

@@ -1,6 +1,5 @@
 -- `margin_of` meets its contract.
 use Rattle.margin.proofs.StoppedLaws.{margin-found, margin_nothing, margin_finished}
-use borrow.Author.Rules.{rules}
 use Rattle.margin.proofs.margin_of.Goals as goal
 
 pub returns-in-Best : goal.returns-in-Best

@@ -1,5 +1,4 @@
 -- `no_journey` meets its contract: every number is 0, and both rides are blank.
-use borrow.Author.Rules.{rules}
 use Rattle.profile.proofs.no_journey.Goals as goal
 
 pub returns : goal.returns

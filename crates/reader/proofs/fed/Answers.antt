@@ -1,9 +1,6 @@
 -- What is left of the bytes gives what all of them give.
 use Prim.Native.Nat.{◌-◌}
 use native.Mathlib.Omega.{arith}
-use borrow.Author.Rules.{rules}
-use lib.ListN.{length}
-use Rattle.runs.specs.Runs.{Left}
 use Rattle.runs.proofs.LeftLaws.{left-first, left-none}
 use Rattle.reader.proofs.ReadLaws.{left-refused, left-stops, left-on}
 use Rattle.reader.proofs.fed.Goals as goal

@@ -1,7 +1,6 @@
 -- The empty load of blank settings, not open.
 use mathlib.Core.Path.{ap}
 use mathlib.Core.Bool.{Bool, false}
-use borrow.Author.Rules.{rules}
 use Rattle.load.specs.declared.Load.{Load}
 use Rattle.file.specs.declared.Reader.{Reader}
 use Rattle.file.specs.Record.{fresh_reader}

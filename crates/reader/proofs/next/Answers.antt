@@ -1,6 +1,5 @@
 -- By whether the record is there whole.
 use Rattle.reader.proofs.ReadLaws.{next-whole, next-none}
-use borrow.Author.Rules.{rules}
 use Rattle.reader.proofs.next.Goals as goal
 
 pub returns-then-end-bytes : goal.returns-then-end-bytes

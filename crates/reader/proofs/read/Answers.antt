@@ -2,7 +2,6 @@
 use Prim.Native.Nat.{◌-◌}
 use mathlib.Core.Path.{ap, ◌∙◌}
 use Rattle.file.specs.Record.{fresh_reader}
-use borrow.Author.Rules.{rules}
 use Rattle.reader.proofs.ReadLaws.{version-room, used-room, read-refused, read-fed, read-ended}
 use Rattle.reader.proofs.read.Goals as goal
 

@@ -1,6 +1,5 @@
 -- A run that used bytes, or the next record.
 use Rattle.reader.proofs.ReadLaws.{next-turned, run-turned}
-use borrow.Author.Rules.{rules}
 use Rattle.reader.proofs.run_or_next.Goals as goal
 
 pub returns-then-used-gt0 : goal.returns-then-used-gt0

@@ -1,6 +1,5 @@
 -- By whether the load is opened; no opened reader is of version 2.
 use Rattle.reader.proofs.ReadLaws.{next-turned}
-use borrow.Author.Rules.{rules}
 use Rattle.reader.proofs.turn.Goals as goal
 
 pub returns-then-reader-2 : goal.returns-then-reader-2

@@ -1,7 +1,6 @@
 -- By byte 0.
 use mathlib.Core.Path.{refl, sym, ◌∙◌}
 use borrow.Author.Tests.{eq-eqb, ne_eqb}
-use borrow.Author.Rules.{rules}
 use Rattle.file.specs.File.{version_answer}
 use Rattle.reader.proofs.version.Goals as goal
 

@@ -1,7 +1,6 @@
 -- Each element by the array's type.
 use native.Mathlib.Omega.{arith}
 use Rattle.search.proofs.OfferedLaws.{none_below}
-use borrow.Author.Rules.{rules}
 use Rattle.search.proofs.bytes.Goals as goal
 
 pub returns-then-a-gt0 : goal.returns-then-a-gt0

@@ -2,7 +2,6 @@
 use mathlib.Core.Path.{refl}
 use Rattle.search.proofs.Known.{rules-long}
 use Rattle.search.proofs.OfferedLaws.{changes-are}
-use borrow.Author.Rules.{rules}
 use Rattle.search.proofs.changes_for.Goals as goal
 
 pub returns : goal.returns

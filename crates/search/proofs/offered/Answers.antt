@@ -2,7 +2,6 @@
 use mathlib.Core.Path.{refl}
 use Rattle.search.proofs.Known.{stops-long}
 use Rattle.search.proofs.OfferedLaws.{offered-is}
-use borrow.Author.Rules.{rules}
 use Rattle.search.proofs.offered.Goals as goal
 
 pub returns : goal.returns

@@ -1,7 +1,6 @@
 -- Each return is a law of `SearchLaws` at the tests on its way.
 use Rattle.search.proofs.Known.{calls-long}
 use Rattle.search.proofs.SearchLaws.{returned-again, returned-clash, returned-falling, returned-found}
-use borrow.Author.Rules.{rules}
 use Rattle.search.proofs.search.Goals as goal
 
 pub returns-then-load : goal.returns-then-load

@@ -2,7 +2,6 @@
 use mathlib.Core.Path.{refl, sym, ◌∙◌}
 use borrow.Author.Tests.{le-leb, lt-leb}
 use Rattle.services.specs.Runs.{by_week}
-use borrow.Author.Rules.{rules}
 use Rattle.services.proofs.by_week.Goals as goal
 
 pub returns-then-start-date : goal.returns-then-start-date

@@ -1,7 +1,6 @@
 -- `dates_wrong` meets its contract.
 use mathlib.Core.Path.{refl, sym, ◌∙◌}
 use Rattle.services.proofs.Dates.{three-dates}
-use borrow.Author.Rules.{rules}
 use Rattle.services.proofs.dates_wrong.Goals as goal
 
 pub returns-then-is_date-3 : goal.returns-then-is_date-3

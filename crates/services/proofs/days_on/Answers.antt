@@ -2,7 +2,6 @@
 use mathlib.Core.Path.{sym}
 use native.Mathlib.Omega.{arith}
 use Rattle.services.proofs.Digits.{mark-bound, three-days}
-use borrow.Author.Rules.{rules}
 use Rattle.services.proofs.days_on.Goals as goal
 
 pub overflow_mul-result : goal.overflow_mul-result

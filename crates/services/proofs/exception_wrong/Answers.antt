@@ -2,7 +2,6 @@
 use mathlib.Core.Path.{refl, sym, ◌∙◌}
 use borrow.Author.Tests.{eq-eqb, ne_eqb}
 use Rattle.services.specs.Wrong.{exception_wrong}
-use borrow.Author.Rules.{rules}
 use Rattle.services.proofs.exception_wrong.Goals as goal
 
 pub returns-then-kind-eq1 : goal.returns-then-kind-eq1

@@ -2,7 +2,6 @@
 use mathlib.Core.Path.{sym}
 use native.Mathlib.Omega.{arith}
 use Rattle.services.proofs.Digits.{digit_shift, digit-past}
-use borrow.Author.Rules.{rules}
 use Rattle.services.proofs.marked.Goals as goal
 
 pub returns-then-k-lt8 : goal.returns-then-k-lt8

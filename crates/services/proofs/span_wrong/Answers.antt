@@ -1,7 +1,6 @@
 -- `span_wrong` meets its contract.
 use mathlib.Core.Path.{refl, sym, ◌∙◌}
 use Rattle.services.specs.Wrong.{span_wrong}
-use borrow.Author.Rules.{rules}
 use Rattle.services.proofs.span_wrong.Goals as goal
 
 pub returns-then-is_date-2 : goal.returns-then-is_date-2

@@ -1,6 +1,5 @@
 -- The four clock times, one after another.
 use mir.Syntax.{w64}
-use borrow.Author.Rules.{rules}
 use mathlib.Core.Path.{ap, ◌∙◌}
 use Rattle.laws.proofs.Ints.{again}
 use Rattle.settings.specs.Settings.{near}

@@ -1,6 +1,5 @@
 -- The walks cut to their counts, the rest as given.
 use mir.Syntax.{w64}
-use borrow.Author.Rules.{rules}
 use Rattle.laws.proofs.Ints.{again}
 use Rattle.settings.proofs.Laws.{settings-made}
 use Rattle.settings.proofs.canonical.Goals as goal

@@ -1,6 +1,5 @@
 -- The answers to settings, test by test.
 use mir.Syntax.{w64}
-use borrow.Author.Rules.{rules}
 use mathlib.Core.Path.{sym, ◌∙◌}
 use Rattle.laws.proofs.Ints.{again}
 use Rattle.settings.proofs.Laws.{all-at, over, far, fine}

@@ -1,5 +1,4 @@
 -- Each walk by its place in the array.
-use borrow.Author.Rules.{rules}
 use Rattle.settings.proofs.Laws.{walks-made}
 use Rattle.settings.proofs.walks_of.Goals as goal
 

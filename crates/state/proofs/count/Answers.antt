@@ -1,6 +1,5 @@
 -- `count` meets its contract: the number stored, or 64.
 use Rattle.state.proofs.ViewLaws.{count_small, count-large}
-use borrow.Author.Rules.{rules}
 use Rattle.state.proofs.count.Goals as goal
 
 pub returns-then-c-lt64 : goal.returns-then-c-lt64

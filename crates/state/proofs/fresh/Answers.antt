@@ -1,7 +1,6 @@
 -- `fresh` meets its contract.
 use native.Mathlib.Omega.{arith}
 use Rattle.state.proofs.ViewLaws.{fresh-view}
-use borrow.Author.Rules.{rules}
 use Rattle.state.proofs.fresh.Goals as goal
 
 pub returns : goal.returns

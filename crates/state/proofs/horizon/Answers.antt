@@ -1,7 +1,6 @@
 -- `horizon` meets its contract.
 use mathlib.Core.Path.{refl}
 use Rattle.state.specs.View.{horizon_of}
-use borrow.Author.Rules.{rules}
 use Rattle.state.proofs.horizon.Goals as goal
 
 pub returns : goal.returns

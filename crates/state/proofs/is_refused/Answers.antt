@@ -1,7 +1,6 @@
 -- `is_refused` meets its contract.
 use mathlib.Core.Path.{refl}
 use Rattle.state.specs.View.{open_of}
-use borrow.Author.Rules.{rules}
 use Rattle.state.proofs.is_refused.Goals as goal
 
 pub returns : goal.returns

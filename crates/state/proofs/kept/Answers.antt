@@ -1,6 +1,5 @@
 -- `kept` meets its contract: a row below the count, and the blank row past it.
 use Rattle.state.proofs.ViewLaws.{kept_at, kept-past}
-use borrow.Author.Rules.{rules}
 use Rattle.state.proofs.kept.Goals as goal
 
 pub returns-then-i-count : goal.returns-then-i-count

@@ -1,6 +1,5 @@
 -- `limits` meets its contract: the number stored, or 255.
 use Rattle.state.proofs.ViewLaws.{limits-small, limits-large}
-use borrow.Author.Rules.{rules}
 use Rattle.state.proofs.limits.Goals as goal
 
 pub returns-then-l-lt255 : goal.returns-then-l-lt255

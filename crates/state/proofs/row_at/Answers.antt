@@ -1,7 +1,6 @@
 -- `row_at` meets its contract: a slot's row, and past the slots the blank row.
 use Rattle.state.specs.View.{row_at}
 use Rattle.state.proofs.RowLaws.{row_in, row-past}
-use borrow.Author.Rules.{rules}
 use Rattle.state.proofs.row_at.Goals as goal
 
 pub slot_at-requires : goal.slot_at-requires

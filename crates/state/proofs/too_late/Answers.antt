@@ -1,6 +1,5 @@
 -- `too_late` meets its contract: refused, or due after the horizon.
 use Rattle.state.proofs.ViewLaws.{late-refused, late-open}
-use borrow.Author.Rules.{rules}
 use Rattle.state.proofs.too_late.Goals as goal
 
 pub returns-then-st-ne0 : goal.returns-then-st-ne0

@@ -1,8 +1,7 @@
 -- A name without a hash, by the case of its key.
 use Prim.Native.Nat.{◌-◌}
-use mathlib.Core.Path.{refl, sym, ◌∙◌}
+use mathlib.Core.Path.{sym, ◌∙◌}
 use Rattle.stops.proofs.Names.{by_key}
-use borrow.Author.Rules.{rules}
 use Rattle.stop_answer.proofs.is_unusable.Goals as goal
 
 pub returns-in-Hash : goal.returns-in-Hash

@@ -1,9 +1,7 @@
 -- A stop of the load has the id.
-use Prim.Native.Nat.{◌-◌}
 use mathlib.Core.Path.{ap, ◌∙◌}
 use Rattle.stops.specs.Stops.{is_at}
 use Rattle.stops.specs.Answer.{is_known}
-use borrow.Author.Rules.{rules}
 use Rattle.stop_answer.proofs.known.Goals as goal
 
 pub returns : goal.returns

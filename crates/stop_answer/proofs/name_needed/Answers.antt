@@ -3,7 +3,6 @@ use mathlib.Core.Path.{ap, ◌∙◌}
 use borrow.Author.Tests.{eq-eqb, ne_eqb}
 use Rattle.place.specs.Positions.{is_usable}
 use Rattle.stops.specs.Answer.{name_needed}
-use borrow.Author.Rules.{rules}
 use Rattle.stop_answer.proofs.name_needed.Goals as goal
 
 pub returns-then-input-ne0 : goal.returns-then-input-ne0

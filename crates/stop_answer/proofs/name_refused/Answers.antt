@@ -1,7 +1,5 @@
 -- The name, by whether it is needed.
-use Prim.Native.Nat.{◌-◌}
 use mathlib.Core.Path.{refl, ◌∙◌}
-use borrow.Author.Rules.{rules}
 use Rattle.stop_answer.proofs.name_refused.Goals as goal
 
 pub returns : goal.returns

@@ -3,7 +3,6 @@ use Prim.Native.Nat.{◌-◌}
 use mathlib.Core.Path.{refl}
 use borrow.Author.Tests.{lt-ltb, le-ltb}
 use Rattle.stops.specs.Answer.{name_wrong}
-use borrow.Author.Rules.{rules}
 use Rattle.stop_answer.proofs.name_wrong.Goals as goal
 
 pub returns-then-name-gt64 : goal.returns-then-name-gt64

@@ -2,7 +2,6 @@
 use Prim.Native.Nat.{◌-◌}
 use mathlib.Core.Path.{refl, ◌∙◌}
 use Rattle.stops.specs.Answer.{station_of}
-use borrow.Author.Rules.{rules}
 use Rattle.stop_answer.proofs.parent_of.Goals as goal
 
 pub returns-then-has : goal.returns-then-has

@@ -2,7 +2,6 @@
 use mathlib.Core.Path.{sym, ap}
 use Rattle.connection.specs.declared.Told.{Told}
 use Rattle.verdict.specs.Verdicts.{judged_by}
-use borrow.Author.Rules.{rules}
 use Rattle.verdict.proofs.by_cause.Goals as goal
 
 pub returns-in-Because : goal.returns-in-Because

@@ -1,7 +1,6 @@
 -- The figures, and the list.
 use lib.ListN.{take}
 use Rattle.verdict.proofs.VerdictLaws.{journey-by}
-use borrow.Author.Rules.{rules}
 use Rattle.verdict.proofs.by_list.Goals as goal
 
 pub returns : goal.returns

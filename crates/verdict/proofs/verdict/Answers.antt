@@ -1,6 +1,5 @@
 -- A load with a finished search speaks, any other says nothing.
 use Rattle.verdict.proofs.VerdictLaws.{said-by, said-nothing}
-use borrow.Author.Rules.{rules}
 use Rattle.verdict.proofs.verdict.Goals as goal
 
 pub returns-then-is_finished : goal.returns-then-is_finished

@@ -1,7 +1,6 @@
 -- The week of a load with dates: every slot blank.
 use mathlib.Core.Path.{refl}
 use Rattle.week.specs.Weeks.{dated_week}
-use borrow.Author.Rules.{rules}
 use Rattle.week.proofs.dated.Goals as goal
 
 pub returns : goal.returns

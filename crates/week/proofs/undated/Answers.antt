@@ -1,7 +1,6 @@
 -- The week of a load without dates: every slot blank.
 use mathlib.Core.Path.{refl}
 use Rattle.week.specs.Weeks.{undated_week}
-use borrow.Author.Rules.{rules}
 use Rattle.week.proofs.undated.Goals as goal
 
 pub returns : goal.returns

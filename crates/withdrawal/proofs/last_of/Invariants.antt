@@ -1,13 +1,8 @@
 -- The loop looks for the key from the right.
 use Prim.Native.Nat.{◌≤◌, ◌-◌}
-use mathlib.Core.Path.{◌≡◌, refl, sym, ap, ◌∙◌}
-use mathlib.Core.Bool.{true, false}
-use native.Mathlib.Omega.{arith}
-use borrow.Author.Rules.{rules}
-use lib.ListN.{length, get_or, take}
-use Rattle.calls.specs.Tables.{blank_call}
+use mathlib.Core.Path.{◌≡◌}
+use lib.ListN.{take}
 use Rattle.withdrawal.specs.Removal.{last_of, has_key}
-use Rattle.withdrawal.proofs.RemovalLaws.{last-start, last_turn}
 use Rattle.withdrawal.proofs.last_of.Given as goal
 
 abbrev pub invariant-loop-n : goal.invariant-loop-n

@@ -1,11 +1,9 @@
 -- The loop moves the calls behind the place down.
 use Prim.Native.Nat.{◌≤◌, ◌-◌}
-use mathlib.Core.Path.{◌≡◌, refl, sym, ap, ◌∙◌}
-use native.Mathlib.Omega.{arith}
-use borrow.Author.Rules.{rules}
-use lib.ListN.{length, set, length-set}
+use mathlib.Core.Path.{◌≡◌}
+use lib.ListN.{length}
 use Rattle.calls.specs.Tables.{blank_call}
-use Rattle.withdrawal.proofs.RemovalLaws.{closing, closed_none, closed_some, closing-turn, closing_end}
+use Rattle.withdrawal.proofs.RemovalLaws.{closing}
 use Rattle.withdrawal.proofs.without.Given as goal
 
 abbrev pub invariant-loop-i : goal.invariant-loop-i

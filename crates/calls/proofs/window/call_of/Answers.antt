@@ -1,6 +1,5 @@
 -- The call as the window makes it, field by field.
 use Rattle.calls.proofs.WindowLaws.{seen-made}
-use borrow.Author.Rules.{rules}
 use Rattle.calls.proofs.window.call_of.Goals as goal
 
 pub returns : goal.returns

@@ -1,6 +1,5 @@
 -- A time held to 0..horizon, by its case.
 use borrow.Author.Tests.{le-leb, lt-leb}
-use borrow.Author.Rules.{rules}
 use Rattle.calls.proofs.window.held_to.Goals as goal
 
 pub returns-then-n-h : goal.returns-then-n-h

@@ -1,5 +1,4 @@
 -- A time after the horizon, by its case.
-use borrow.Author.Rules.{rules}
 use Rattle.calls.proofs.window.is_after.Goals as goal
 
 pub returns-in-At : goal.returns-in-At

@@ -1,5 +1,4 @@
 -- A time in 0..horizon, by its case.
-use borrow.Author.Rules.{rules}
 use Rattle.calls.proofs.window.is_within.Goals as goal
 
 pub returns-in-At : goal.returns-in-At

@@ -1,5 +1,4 @@
 -- Barred by type 1, or by a time that lay outside.
-use borrow.Author.Rules.{rules}
 use Rattle.calls.proofs.window.may.Goals as goal
 
 pub returns-then-inside : goal.returns-then-inside

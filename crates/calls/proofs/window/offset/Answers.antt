@@ -7,7 +7,6 @@ use mir.Val.{to_z, of_z, SFits}
 use Rattle.settings.specs.Settings.{near}
 use Rattle.laws.proofs.Ints.{again}
 use Rattle.calls.proofs.Ints.{far-epoch, far-now, time-early, time-late, not_negative, fits-size}
-use borrow.Author.Rules.{rules}
 use Rattle.calls.proofs.window.offset.Goals as goal
 use Rattle.calls.proofs.window.offset.Goals.{After-since-t}
 

@@ -1,6 +1,5 @@
 -- On request at types 2 and 3 of a call that is allowed.
 use borrow.Author.Tests.{eq-eqb, ne_eqb}
-use borrow.Author.Rules.{rules}
 use Rattle.calls.proofs.window.on_request.Goals as goal
 
 pub returns-then-kind-eq2 : goal.returns-then-kind-eq2

@@ -1,6 +1,5 @@
 -- The sum and the difference stay within an i64.
 use Rattle.calls.proofs.Ints.{sum_fits, gap-fits, gap_is}
-use borrow.Author.Rules.{rules}
 use Rattle.calls.proofs.window.since.Goals as goal
 
 pub overflow_add-result : goal.overflow_add-result

@@ -1,7 +1,6 @@
 -- Outside by departure, outside by arrival, or seen.
 use mathlib.Core.Path.{sym, ◌∙◌}
 use Rattle.calls.proofs.WindowLaws.{out-before, out-after, in_window}
-use borrow.Author.Rules.{rules}
 use Rattle.calls.proofs.window.view_of.Goals as goal
 
 pub returns-then-is_before : goal.returns-then-is_before

@@ -1,7 +1,6 @@
 -- Type 3, or no rule.
 use mathlib.Core.Path.{sym, ap}
 use Rattle.connection.specs.Changes.{forbids}
-use borrow.Author.Rules.{rules}
 use Rattle.connection.proofs.changes.forbids_rule.Goals as goal
 
 pub returns-in-By : goal.returns-in-By

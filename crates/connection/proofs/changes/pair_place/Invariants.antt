@@ -1,14 +1,10 @@
 -- The loop looks for the pair from the right.
 use Prim.Native.Nat.{◌≤◌, ◌-◌}
-use mathlib.Core.Path.{◌≡◌, refl, sym, ap, ◌∙◌}
-use mathlib.Core.Bool.{true, false}
-use native.Mathlib.Omega.{arith}
+use mathlib.Core.Path.{◌≡◌}
 use borrow.Author.Rules.{rules}
-use lib.ListN.{length, get_or, take}
-use Rattle.laws.proofs.Bounds.{least_under, take-least}
-use Rattle.rules.specs.Rules.{blank_rule, same_pair}
+use lib.ListN.{take}
+use Rattle.rules.specs.Rules.{same_pair}
 use Rattle.withdrawal.specs.Removal.{last_of}
-use Rattle.withdrawal.proofs.RemovalLaws.{last_turn}
 use Rattle.connection.proofs.changes.pair_place.Given as goal
 
 abbrev pub invariant-loop-n : goal.invariant-loop-n

@@ -1,6 +1,5 @@
 -- The tests in order.
 use Rattle.connection.proofs.TestLaws.{pair-chain}
-use borrow.Author.Rules.{rules}
 use Rattle.connection.proofs.changes.pair_told.Goals as goal
 
 pub returns : goal.returns

@@ -1,6 +1,5 @@
 -- The tests in order.
 use Rattle.connection.proofs.TestLaws.{end-chain}
-use borrow.Author.Rules.{rules}
 use Rattle.connection.proofs.ends.ends_told.Goals as goal
 
 pub returns : goal.returns

@@ -1,7 +1,6 @@
 -- Within the count, or past it.
 use mathlib.Core.Path.{◌∙◌}
 use Rattle.connection.proofs.TestLaws.{member-digit, member-past}
-use borrow.Author.Rules.{rules}
 use Rattle.connection.proofs.ends.is_member.Goals as goal
 
 pub returns-then-k-count : goal.returns-then-k-count

@@ -6,7 +6,6 @@ use Rattle.stops.specs.declared.Stop.{Stop}
 use Rattle.stops.specs.Taken.{blank_stop}
 use Rattle.stops.specs.Sound.{stop_at}
 use Rattle.laws.proofs.Bounds.{get_d_any}
-use borrow.Author.Rules.{rules}
 use Rattle.connection.proofs.ends.members_at.Goals as goal
 
 pub returns-then-i-lt128 : goal.returns-then-i-lt128

@@ -1,7 +1,6 @@
 -- The place of the last call with the key, and the call there.
 use native.Mathlib.Omega.{arith}
 use Rattle.connection.proofs.FindLaws.{place-within, find_none, find-some}
-use borrow.Author.Rules.{rules}
 use Rattle.connection.proofs.find.find.Goals as goal
 
 pub returns-then-at-eq0 : goal.returns-then-at-eq0

@@ -1,6 +1,5 @@
 -- Two calls.
 use Rattle.connection.specs.Find.{find_leg}
-use borrow.Author.Rules.{rules}
 use Rattle.connection.proofs.find.find_leg.Goals as goal
 
 pub returns : goal.returns

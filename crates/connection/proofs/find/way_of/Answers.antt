@@ -1,6 +1,5 @@
 -- Three legs.
 use Rattle.connection.specs.Find.{way_of}
-use borrow.Author.Rules.{rules}
 use Rattle.connection.proofs.find.way_of.Goals as goal
 
 pub returns : goal.returns

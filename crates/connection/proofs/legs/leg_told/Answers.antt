@@ -1,7 +1,6 @@
 -- The tests in order.
 use Rattle.connection.proofs.TestLaws.{asked-yes, asked-no, leg-chain}
 use Rattle.connection.specs.Legs.{leg_tests}
-use borrow.Author.Rules.{rules}
 use Rattle.connection.proofs.legs.leg_told.Goals as goal
 
 pub returns-then-asked : goal.returns-then-asked

@@ -1,6 +1,5 @@
 -- Leg by leg.
 use Rattle.connection.proofs.TestLaws.{legs-chain}
-use borrow.Author.Rules.{rules}
 use Rattle.connection.proofs.legs.legs_told.Goals as goal
 
 pub returns : goal.returns

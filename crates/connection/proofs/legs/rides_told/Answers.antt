@@ -3,7 +3,6 @@ use mathlib.Core.Path.{ap, ◌∙◌}
 use mathlib.Core.Bool.{Bool, cond, not}
 use Rattle.connection.specs.declared.Told.TheVariants.{Because}
 use Rattle.connection.specs.declared.Cause.TheVariants.{RideCount}
-use borrow.Author.Rules.{rules}
 use Rattle.connection.proofs.legs.rides_told.Goals as goal
 
 pub returns : goal.returns

@@ -2,7 +2,6 @@
 use mathlib.Core.Path.{sym, ap}
 use mathlib.Core.Bool.{not}
 use Rattle.laws.proofs.Bools.{cond-by}
-use borrow.Author.Rules.{rules}
 use Rattle.connection.proofs.tests.unless.Goals as goal
 
 pub returns : goal.returns

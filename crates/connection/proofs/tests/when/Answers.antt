@@ -1,7 +1,6 @@
 -- The cause, or the rest.
 use mathlib.Core.Path.{sym}
 use Rattle.laws.proofs.Bools.{cond-by}
-use borrow.Author.Rules.{rules}
 use Rattle.connection.proofs.tests.when.Goals as goal
 
 pub returns-then-holds : goal.returns-then-holds

@@ -1,5 +1,4 @@
 -- The call of the empty name.
-use borrow.Author.Rules.{rules}
 use Rattle.file.proofs.record.call_record.Goals as goal
 
 pub returns : goal.returns

@@ -1,7 +1,6 @@
 -- By the kind.
 use mathlib.Core.Path.{sym, ◌∙◌}
 use Rattle.file.proofs.KindLaws.{filled-as, filled-search}
-use borrow.Author.Rules.{rules}
 use Rattle.file.proofs.record.is_filled.Goals as goal
 
 pub returns-then-kind-eq1 : goal.returns-then-kind-eq1

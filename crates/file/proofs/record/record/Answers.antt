@@ -1,5 +1,4 @@
 -- The record's tests, then the load's answer.
-use borrow.Author.Rules.{rules}
 use Rattle.file.proofs.RecordLaws.{turned-away, sent_back, taken}
 use Rattle.file.proofs.record.record.Goals as goal
 

@@ -1,14 +1,10 @@
 -- The tests that were left are missed in turn, and the one that was taken is hit.
 use mathlib.Core.Path.{sym, ap, ◌∙◌}
-use mathlib.Core.Bool.{Bool, not}
-use mathlib.Core.List.{List}
+use mathlib.Core.Bool.{not}
 use borrow.Author.Tests.{eq-eqb, ne_eqb}
-use lib.ListN.{drop}
-use Rattle.refusal.specs.declared.Answer.{Answer}
-use Rattle.refusal.specs.First.{First, hit, miss, none}
+use Rattle.refusal.specs.First.{hit, miss, none}
 use Rattle.refusal.proofs.FirstLaws.{first-is-answer}
 use Rattle.file.specs.Record.{kind_right, record_tests}
-use borrow.Author.Rules.{rules}
 use Rattle.file.proofs.record.record_answer.Goals as goal
 
 pub returns-then-b-eq0 : goal.returns-then-b-eq0

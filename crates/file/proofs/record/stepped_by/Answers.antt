@@ -1,7 +1,6 @@
 -- By the kind, once a load is open.
 use mathlib.Core.Path.{sym, ◌∙◌}
 use Rattle.file.proofs.KindLaws.{stepped-settings, stepped-stop, stepped-call, stepped-rule, stepped-search}
-use borrow.Author.Rules.{rules}
 use Rattle.file.proofs.record.stepped_by.Goals as goal
 
 pub returns-then-kind-eq2 : goal.returns-then-kind-eq2

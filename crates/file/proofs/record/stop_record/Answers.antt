@@ -1,7 +1,6 @@
 -- The texts and what stands beside them are handed to the load.
 use mathlib.Core.Path.{◌∙◌}
 use Rattle.load.specs.Steps.{stop_spec}
-use borrow.Author.Rules.{rules}
 use Rattle.file.proofs.record.stop_record.Goals as goal
 
 pub returns : goal.returns

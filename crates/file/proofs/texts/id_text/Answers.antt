@@ -1,7 +1,6 @@
 -- From the second byte after the kind up to the name.
 use mathlib.Core.Path.{◌∙◌}
 use Rattle.file.proofs.StopLaws.{id-part}
-use borrow.Author.Rules.{rules}
 use Rattle.file.proofs.texts.id_text.Goals as goal
 
 pub returns : goal.returns

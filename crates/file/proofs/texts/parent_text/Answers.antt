@@ -1,7 +1,6 @@
 -- From its first byte up to the location type.
 use mathlib.Core.Path.{◌∙◌}
 use Rattle.file.proofs.StopLaws.{text-part}
-use borrow.Author.Rules.{rules}
 use Rattle.file.proofs.texts.parent_text.Goals as goal
 
 pub returns : goal.returns

@@ -1,7 +1,6 @@
 -- Both ends are moved to within the bytes.
 use native.Mathlib.Omega.{arith}
 use Rattle.file.proofs.StopLaws.{part_held}
-use borrow.Author.Rules.{rules}
 use Rattle.file.proofs.texts.part.Goals as goal
 
 pub slice_bounds-result-count : goal.slice_bounds-result-count

@@ -1,7 +1,6 @@
 -- By the byte before the text.
 use mathlib.Core.Path.{sym, ◌∙◌}
 use Rattle.laws.proofs.Bools.{cond-by, cond-not}
-use borrow.Author.Rules.{rules}
 use Rattle.file.proofs.texts.text_from.Goals as goal
 
 pub returns-then-has_at : goal.returns-then-has_at

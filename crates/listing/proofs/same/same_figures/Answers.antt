@@ -1,6 +1,5 @@
 -- Figure by figure.
 use Rattle.listing.proofs.SameLaws.{figures-chain}
-use borrow.Author.Rules.{rules}
 use Rattle.listing.proofs.same.same_figures.Goals as goal
 
 pub returns : goal.returns

@@ -1,6 +1,5 @@
 -- Part by part.
 use Rattle.listing.proofs.SameLaws.{journey-chain}
-use borrow.Author.Rules.{rules}
 use Rattle.listing.proofs.same.same_journey.Goals as goal
 
 pub returns : goal.returns

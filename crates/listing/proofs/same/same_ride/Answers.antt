@@ -1,6 +1,5 @@
 -- Part by part.
 use Rattle.listing.proofs.SameLaws.{ride-chain}
-use borrow.Author.Rules.{rules}
 use Rattle.listing.proofs.same.same_ride.Goals as goal
 
 pub returns : goal.returns

@@ -4,7 +4,6 @@ use mathlib.Core.Path.{refl, sym, ◌∙◌}
 use mathlib.Core.List.{[]}
 use native.Mathlib.Omega.{arith}
 use Rattle.load.proofs.StepLaws.{call-room, call-goes-in, call-outside, call-dated, call-undated}
-use borrow.Author.Rules.{rules}
 use Rattle.load.proofs.Load.call.Goals as goal
 use Rattle.load.proofs.Load.call.Goals.{In-In}
 

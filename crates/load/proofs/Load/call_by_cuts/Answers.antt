@@ -1,7 +1,6 @@
 -- The table that the call leaves, or the load as it was.
 use mathlib.Core.Path.{sym, ◌∙◌}
 use Rattle.load.proofs.StepLaws.{call-refused, call-taken}
-use borrow.Author.Rules.{rules}
 use Rattle.load.proofs.Load.call_by_cuts.Goals as goal
 
 pub returns-then-is_refused : goal.returns-then-is_refused

@@ -1,10 +1,8 @@
 -- The gate's answer; then, where it is taken, the call's own.
-use mathlib.Core.Path.{◌≡◌, sym, ap, ◌∙◌}
+use mathlib.Core.Path.{sym, ap, ◌∙◌}
 use Rattle.week.specs.declared.Running.{Running}
-use Rattle.week.specs.Weeks.{running}
 use Rattle.load.specs.Steps.{dated_call}
 use Rattle.load.proofs.StepLaws.{gate-refused, gate-outside, plain-refused, plain-answered}
-use borrow.Author.Rules.{rules}
 use Rattle.load.proofs.Load.call_dated.Goals as goal
 
 pub returns-then-is_refused : goal.returns-then-is_refused

@@ -1,7 +1,6 @@
 -- By the week: dated or not.
 use mathlib.Core.Path.{refl, sym, ◌∙◌}
 use Rattle.load.proofs.StepLaws.{call-dated, call-undated}
-use borrow.Author.Rules.{rules}
 use Rattle.load.proofs.Load.call_of.Goals as goal
 
 pub returns-then-self : goal.returns-then-self

@@ -1,7 +1,6 @@
 -- The load with the week that the step leaves.
 use mathlib.Core.Path.{refl}
 use Rattle.load.specs.Steps.{exception_spec}
-use borrow.Author.Rules.{rules}
 use Rattle.load.proofs.Load.exception.Goals as goal
 
 pub returns : goal.returns

@@ -3,7 +3,6 @@ use mathlib.Core.Path.{sym, ◌∙◌}
 use Rattle.load.specs.Load.{empty_of}
 use Rattle.load.specs.Steps.{undated}
 use Rattle.load.proofs.StepLaws.{open-refused, open-taken, undated-answer}
-use borrow.Author.Rules.{rules}
 use Rattle.load.proofs.Load.open.Goals as goal
 
 pub returns-then-is_refused : goal.returns-then-is_refused

@@ -3,7 +3,6 @@ use mathlib.Core.Path.{sym, ◌∙◌}
 use Rattle.load.specs.Load.{empty_of}
 use Rattle.load.specs.Steps.{dated}
 use Rattle.load.proofs.StepLaws.{open-refused, open-taken}
-use borrow.Author.Rules.{rules}
 use Rattle.load.proofs.Load.open_dated.Goals as goal
 
 pub returns-then-is_refused : goal.returns-then-is_refused

@@ -3,7 +3,6 @@ use Prim.Native.Nat.{◌<◌}
 use mathlib.Core.Path.{sym, ◌∙◌}
 use native.Mathlib.Omega.{arith}
 use Rattle.load.proofs.StepLaws.{rule-room, rule-taken, rule-refused}
-use borrow.Author.Rules.{rules}
 use Rattle.load.proofs.Load.rule.Goals as goal
 use Rattle.load.proofs.Load.rule.Goals.{After-rule_of}
 

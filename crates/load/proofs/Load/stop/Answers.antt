@@ -1,14 +1,12 @@
 -- One stop more, or the load as it was.
 use Prim.Native.Nat.{◌<◌}
-use mathlib.Core.Path.{◌≡◌, sym, ap, ◌∙◌}
+use mathlib.Core.Path.{sym, ap, ◌∙◌}
 use native.Mathlib.Omega.{arith}
 use Rattle.refusal.specs.First.{first_answer}
 use Rattle.stops.specs.declared.Found.{Found}
 use Rattle.stops.specs.Answer.{stop_tests}
 use Rattle.stops.specs.Taken.{stop_of}
-use Rattle.load.specs.Steps.{stop_answer}
 use Rattle.load.proofs.StepLaws.{stop-room, stop-taken, stop-refused}
-use borrow.Author.Rules.{rules}
 use Rattle.load.proofs.Load.stop.Goals as goal
 use Rattle.load.proofs.Load.stop.Goals.{After-stop_of}
 

@@ -1,7 +1,6 @@
 -- The field tests, then the service's own answer.
 use mathlib.Core.Path.{sym, ap, ◌∙◌}
 use Rattle.load.proofs.StepLaws.{told_of, gate-searched, gate-wrong, gate-told}
-use borrow.Author.Rules.{rules}
 use Rattle.load.proofs.calling.gate_answer.Goals as goal
 
 pub returns-then-searched : goal.returns-then-searched

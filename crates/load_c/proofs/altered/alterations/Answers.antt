@@ -1,9 +1,8 @@
 -- What is left to do adds what is left of the sum.
-use borrow.Author.Rules.{rules}
-use mathlib.Core.Path.{◌≡◌, ◌∙◌}
-use Prim.Native.Nat.{◌+◌, ◌*◌, ◌-◌, ◌≤◌}
+use mathlib.Core.Path.{◌∙◌}
+use Prim.Native.Nat.{◌-◌}
 use native.Mathlib.Omega.{arith}
-use Rattle.load_c.specs.Searches.{horizon_altered, sum_of}
+use Rattle.load_c.specs.Searches.{horizon_altered}
 use Rattle.load_c.proofs.SearchesLaws.{next-turn, last_turn}
 use Rattle.load_c.proofs.altered.alterations.Goals as goal
 

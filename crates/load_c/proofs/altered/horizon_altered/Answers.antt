@@ -1,5 +1,4 @@
 -- Added, or withdrawn.
-use borrow.Author.Rules.{rules}
 use Rattle.load_c.proofs.SearchesLaws.{when-added, when-withdrawn}
 use Rattle.load_c.proofs.altered.horizon_altered.Goals as goal
 

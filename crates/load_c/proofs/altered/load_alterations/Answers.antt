@@ -1,5 +1,4 @@
 -- What is done to the load that is read.
-use borrow.Author.Rules.{rules}
 use mathlib.Core.Path.{ap, ◌∙◌}
 use Rattle.file.specs.declared.Took.{Took}
 use Rattle.load_c.proofs.SearchesLaws.{same-turns}

@@ -7,7 +7,6 @@ use Rattle.stops.proofs.Texts.{past}
 use Rattle.places.proofs.Laws.{entry-parts, within_in}
 use Rattle.places.proofs.Laws.{past as pastEntry}
 use Rattle.places.proofs.entries.entries_of.Goals as goal
-use Rattle.places.proofs.entries.entries_of.Goals.{After-within_of-at}
 
 pub loop-i-init : goal.loop-i-init
 loop-i-init c = (omega arith, omega arith, filled_none _ pastEntry 128 _ refl)

@@ -1,6 +1,5 @@
 -- `covers` meets its contract, test by test.
 use Rattle.profile.proofs.CoverLaws.{cov-early, cov-sooner, cov-later, cov-tie}
-use borrow.Author.Rules.{rules}
 use Rattle.profile.proofs.figures.covers.Goals as goal
 
 pub returns-then-a-b : goal.returns-then-a-b

@@ -1,5 +1,4 @@
 -- `preferred` meets its contract: three levels of `lexb`, one call each.
-use borrow.Author.Rules.{rules}
 use Rattle.profile.proofs.figures.preferred.Goals as goal
 
 pub returns : goal.returns

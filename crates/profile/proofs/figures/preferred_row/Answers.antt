@@ -1,5 +1,4 @@
 -- As `preferred`.
-use borrow.Author.Rules.{rules}
 use Rattle.profile.proofs.figures.preferred_row.Goals as goal
 
 pub returns : goal.returns

@@ -1,7 +1,6 @@
 -- `earliest_arrival` meets its contract.
 use Rattle.search.proofs.Known.{stops-long, calls-long}
 use Rattle.search.proofs.EarliestLaws.{earliest-is}
-use borrow.Author.Rules.{rules}
 use Rattle.search.proofs.earliest.earliest_arrival.Goals as goal
 
 pub returns : goal.returns

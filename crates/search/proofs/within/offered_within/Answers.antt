@@ -2,7 +2,6 @@
 use mathlib.Core.Path.{refl}
 use Rattle.search.proofs.Known.{stops-long}
 use Rattle.search.proofs.OfferedLaws.{within-is}
-use borrow.Author.Rules.{rules}
 use Rattle.search.proofs.within.offered_within.Goals as goal
 
 pub returns : goal.returns

@@ -2,7 +2,6 @@
 use native.Mathlib.Omega.{arith}
 use Rattle.search.proofs.Known.{calls-long}
 use Rattle.search.proofs.LimitedLaws.{within-again, within-settings, within-clash, within-falling, within-found}
-use borrow.Author.Rules.{rules}
 use Rattle.search.proofs.within.search_within.Goals as goal
 
 pub returns-then-load : goal.returns-then-load

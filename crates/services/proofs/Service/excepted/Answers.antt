@@ -1,7 +1,6 @@
 -- `excepted` meets its contract.
 use mathlib.Core.Path.{refl}
 use Rattle.services.specs.Exceptions.{excepted_of}
-use borrow.Author.Rules.{rules}
 use Rattle.services.proofs.Service.excepted.Goals as goal
 
 pub returns : goal.returns

@@ -1,7 +1,6 @@
 -- `runs` meets its contract.
 use mathlib.Core.Path.{refl, sym, ◌∙◌}
 use Rattle.services.specs.Runs.{runs_of, runs_by_of}
-use borrow.Author.Rules.{rules}
 use Rattle.services.proofs.Service.runs.Goals as goal
 
 pub returns-then-marked : goal.returns-then-marked

@@ -1,7 +1,6 @@
 -- The calls packed at the smaller horizon.
 use mathlib.Core.Path.{refl}
 use Rattle.calls.specs.Tables.{cut}
-use borrow.Author.Rules.{rules}
 use Rattle.table.proofs.cuts.cut_to.Goals as goal
 
 pub returns : goal.returns

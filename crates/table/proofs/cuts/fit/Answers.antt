@@ -1,7 +1,6 @@
 -- Each turn ends in an answer, or cuts the table and tries the same call anew.
-use mathlib.Core.Path.{◌≡◌, refl, sym, ap, ◌∙◌}
+use mathlib.Core.Path.{refl, sym, ap, ◌∙◌}
 use native.Mathlib.Omega.{arith}
-use borrow.Author.Rules.{rules}
 use Rattle.calls.specs.declared.Table.{Table}
 use Rattle.calls.specs.Tables.{fitted}
 use Rattle.calls.proofs.FitLaws as law

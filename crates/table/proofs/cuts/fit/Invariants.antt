@@ -1,8 +1,5 @@
 -- Each turn ends in an answer, or cuts the table and tries the same call anew.
-use mathlib.Core.Path.{◌≡◌, refl, sym, ap, ◌∙◌}
-use native.Mathlib.Omega.{arith}
-use borrow.Author.Rules.{rules}
-use Rattle.calls.specs.declared.Table.{Table}
+use mathlib.Core.Path.{◌≡◌}
 use Rattle.calls.specs.Tables.{fitted}
 use Rattle.calls.proofs.FitLaws as law
 use Rattle.table.proofs.cuts.fit.Given as goal

@@ -1,13 +1,11 @@
 -- The loop packs the calls due by the horizon, trimmed, and leaves blanks.
-use Prim.Native.Nat.{◌≤◌, ◌-◌, ◌<◌}
+use Prim.Native.Nat.{◌-◌, ◌<◌}
 use mathlib.Core.Path.{◌≡◌, sym, ap, ◌∙◌}
-use mathlib.Core.Logic.{⊎_elim}
 use native.Mathlib.Omega.{arith}
-use borrow.Author.Rules.{rules}
 use lib.ListN.{length, get_or, take, set, length-take}
 use lib.Seq.{get_or-take}
-use Rattle.calls.specs.Tables.{due_by, trim, blank_call}
-use Rattle.laws.proofs.Pack.{Packs, packs-none, packs-keep, packs-drop, packs-all}
+use Rattle.calls.specs.Tables.{blank_call}
+use Rattle.laws.proofs.Pack.{packs-none, packs-keep, packs-drop, packs-all}
 use Rattle.table.proofs.cuts.kept.Goals as goal
 use Rattle.table.proofs.cuts.kept.Goals.{then-due, else-due}
 

@@ -2,7 +2,6 @@
 use mathlib.Core.Path.{sym, ◌∙◌}
 use borrow.Author.Tests.{lt-ltb, le-ltb}
 use Rattle.calls.proofs.CallLaws as law
-use borrow.Author.Rules.{rules}
 use Rattle.table.proofs.step.call_check.Goals as goal
 
 pub returns-then-searched : goal.returns-then-searched

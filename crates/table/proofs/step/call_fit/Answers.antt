@@ -1,6 +1,5 @@
 -- The two times of the call, then the table.
 use Rattle.table.proofs.StepLaws.{fits-call}
-use borrow.Author.Rules.{rules}
 use Rattle.table.proofs.step.call_fit.Goals as goal
 
 pub returns : goal.returns

@@ -1,7 +1,6 @@
 -- The answer of the tests, then that of the table.
 use mathlib.Core.Path.{sym, ◌∙◌}
 use Rattle.calls.proofs.CallLaws.{no_room, changed, sent_back, sent-outside}
-use borrow.Author.Rules.{rules}
 use Rattle.table.proofs.step.call_on.Goals as goal
 
 pub returns-then-is_refused : goal.returns-then-is_refused

@@ -1,6 +1,5 @@
 -- The five ranges, one after another.
 use Rattle.table.proofs.StepLaws as law
-use borrow.Author.Rules.{rules}
 use Rattle.table.proofs.step.is_known.Goals as goal
 
 pub returns-then-stops-input : goal.returns-then-stops-input

@@ -3,7 +3,6 @@ use mir.Syntax.{w64}
 use mathlib.Core.Path.{◌∙◌}
 use Rattle.table.proofs.StepLaws.{time-made}
 use Rattle.laws.proofs.Ints.{again}
-use borrow.Author.Rules.{rules}
 use Rattle.table.proofs.step.time_of.Goals as goal
 
 pub returns : goal.returns

@@ -1,6 +1,5 @@
 -- By the answer of the tests.
 use Rattle.table.proofs.UncutWays.{uncut-taken, uncut-outside, uncut-refused}
-use borrow.Author.Rules.{rules}
 use Rattle.table.proofs.step.uncut.Goals as goal
 
 pub returns-in-Taken : goal.returns-in-Taken

@@ -3,7 +3,6 @@ use mathlib.Core.Path.{◌≡◌, sym, ◌∙◌}
 use Rattle.calls.specs.Calls.{call_seen}
 use Rattle.table.proofs.StepLaws.{seen-call}
 use Rattle.table.proofs.UncutWays.{view_out, view_in, view-full}
-use borrow.Author.Rules.{rules}
 use Rattle.table.proofs.step.uncut_view.Goals as goal
 use Rattle.table.proofs.step.uncut_view.Goals.{After-view_of-view}
 

@@ -1,6 +1,5 @@
 -- The ends.
 use Rattle.verdict.proofs.CauseLaws.{ends-chain}
-use borrow.Author.Rules.{rules}
 use Rattle.verdict.proofs.causes.start_told.Goals as goal
 
 pub returns : goal.returns

@@ -1,6 +1,5 @@
 -- None, or the last leg.
 use Rattle.verdict.proofs.VerdictLaws.{last_none, last_some}
-use borrow.Author.Rules.{rules}
 use Rattle.verdict.proofs.figures.last_ride.Goals as goal
 
 pub returns-then-n-eq1 : goal.returns-then-n-eq1

@@ -1,6 +1,5 @@
 -- The second leg, or none.
 use Rattle.verdict.proofs.VerdictLaws.{middle-some, middle-none}
-use borrow.Author.Rules.{rules}
 use Rattle.verdict.proofs.figures.middle_ride.Goals as goal
 
 pub returns-then-n-eq3 : goal.returns-then-n-eq3

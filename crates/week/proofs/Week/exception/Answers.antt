@@ -4,7 +4,6 @@ use mathlib.Core.Path.{sym, ◌∙◌}
 use native.Mathlib.Omega.{arith}
 use Rattle.week.proofs.Known.{services-long}
 use Rattle.week.proofs.StepLaws.{place-below, exception-passed, exception-taken, exception-refused}
-use borrow.Author.Rules.{rules}
 use Rattle.week.proofs.Week.exception.Goals as goal
 use Rattle.week.proofs.Week.exception.Goals.{After-excepted}
 

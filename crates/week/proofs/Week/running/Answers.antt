@@ -3,7 +3,6 @@ use mathlib.Core.Path.{sym, ap, ◌∙◌}
 use mathlib.Core.Bool.{Bool, cond}
 use Rattle.week.specs.declared.Running.TheVariants.{Rests, Runs}
 use Rattle.week.proofs.StepLaws.{runs-undated, runs-unknown, runs-known}
-use borrow.Author.Rules.{rules}
 use Rattle.week.proofs.Week.running.Goals as goal
 
 pub returns-then-runs : goal.returns-then-runs

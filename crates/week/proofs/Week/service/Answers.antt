@@ -3,7 +3,6 @@ use Prim.Native.Nat.{◌<◌}
 use mathlib.Core.Path.{sym, ◌∙◌}
 use native.Mathlib.Omega.{arith}
 use Rattle.week.proofs.StepLaws.{service-passed, service-taken, service-refused}
-use borrow.Author.Rules.{rules}
 use Rattle.week.proofs.Week.service.Goals as goal
 use Rattle.week.proofs.Week.service.Goals.{After-service_of}
 

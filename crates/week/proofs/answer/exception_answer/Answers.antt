@@ -1,11 +1,7 @@
 -- The tests that were left are missed in turn, and the one that was taken is hit.
 use mathlib.Core.Path.{sym, ap, ◌∙◌}
-use mathlib.Core.List.{List}
-use mathlib.Core.Bool.{Bool, not}
-use borrow.Author.Rules.{rules}
-use lib.ListN.{drop}
-use Rattle.refusal.specs.declared.Answer.{Answer}
-use Rattle.refusal.specs.First.{First, hit, miss, none}
+use mathlib.Core.Bool.{not}
+use Rattle.refusal.specs.First.{hit, miss, none}
 use Rattle.refusal.proofs.FirstLaws.{first-is-answer}
 use Rattle.week.specs.Weeks.{exception_tests}
 use Rattle.week.proofs.answer.exception_answer.Goals as goal

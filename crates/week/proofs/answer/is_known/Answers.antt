@@ -3,7 +3,6 @@ use mathlib.Core.Path.{◌≡◌}
 use native.Mathlib.Omega.{arith}
 use lib.ListN.{length}
 use Rattle.week.proofs.PlaceLaws.{place-known, place-unknown}
-use borrow.Author.Rules.{rules}
 use Rattle.week.proofs.answer.is_known.Goals as goal
 
 pub returns-then-at-lt64 : goal.returns-then-at-lt64

@@ -3,7 +3,6 @@ use Prim.Native.Nat.{ℕ}
 use mathlib.Core.Path.{ap, ◌∙◌}
 use lib.ListN.{take}
 use Rattle.stops.specs.Texts.{same_bytes_of}
-use borrow.Author.Rules.{rules}
 use Rattle.week.proofs.answer.is_named.Goals as goal
 
 pub returns : goal.returns

@@ -1,12 +1,8 @@
 -- The loop looks for the service among the first `count`.
 use Prim.Native.Nat.{◌+◌, ◌-◌, ◌≤◌}
-use mathlib.Core.Path.{◌≡◌, sym, ◌∙◌}
-use mathlib.Core.Bool.{true, false}
-use native.Mathlib.Omega.{arith}
-use lib.ListN.{length, get_or, take, drop, length-take}
+use mathlib.Core.Path.{◌≡◌}
+use lib.ListN.{take, drop}
 use Rattle.week.specs.Weeks.{named, place_of}
-use Rattle.week.proofs.PlaceLaws.{place_here, place-on, place-past, past}
-use borrow.Author.Rules.{rules}
 use Rattle.week.proofs.answer.place_of.Given as goal
 
 abbrev pub invariant-loop-i : goal.invariant-loop-i

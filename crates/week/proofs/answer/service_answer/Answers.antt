@@ -1,12 +1,7 @@
 -- The tests that were left are missed in turn, and the one that was taken is hit.
 use mathlib.Core.Path.{sym, ◌∙◌}
-use mathlib.Core.List.{List}
-use mathlib.Core.Bool.{Bool}
-use borrow.Author.Rules.{rules}
 use borrow.Author.Tests.{le-leb, lt-leb}
-use lib.ListN.{drop}
-use Rattle.refusal.specs.declared.Answer.{Answer}
-use Rattle.refusal.specs.First.{First, hit, miss, none}
+use Rattle.refusal.specs.First.{hit, miss, none}
 use Rattle.refusal.proofs.FirstLaws.{first-is-answer}
 use Rattle.week.specs.Weeks.{service_tests}
 use Rattle.week.proofs.answer.service_answer.Goals as goal

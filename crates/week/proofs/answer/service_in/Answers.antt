@@ -6,7 +6,6 @@ use lib.ListN.{length, get_or, get_or-eq_default}
 use Rattle.laws.proofs.Bounds.{get_d_any}
 use Rattle.week.specs.Weeks.{blank_service}
 use Rattle.week.proofs.PlaceLaws.{past}
-use borrow.Author.Rules.{rules}
 use Rattle.week.proofs.answer.service_in.Goals as goal
 
 pub returns-then-at-lt64 : goal.returns-then-at-lt64

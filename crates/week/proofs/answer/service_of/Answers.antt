@@ -1,7 +1,6 @@
 -- The record, field by field.
 use mathlib.Core.Path.{refl}
 use Rattle.week.specs.Weeks.{service_of}
-use borrow.Author.Rules.{rules}
 use Rattle.week.proofs.answer.service_of.Goals as goal
 
 pub returns : goal.returns

@@ -2,7 +2,6 @@
 use mathlib.Core.Path.{◌≡◌, sym}
 use native.Mathlib.Omega.{arith}
 use lib.ListN.{length, get_or-eq_default}
-use borrow.Author.Rules.{rules}
 use Rattle.week.proofs.step.date_of.Goals as goal
 
 pub returns : goal.returns
