@@ -2,11 +2,11 @@
 use mathlib.Core.Path.{◌≡◌, refl, ap, ◌∙◌}
 use mathlib.Core.Bool.{Bool, true, false, false≢true}
 use mathlib.Core.List.{List, [], ◌∷◌}
-use Prim.Native.Nat.{ℕ, zero, suc, ◌+◌, ◌≤◌, ◌<◌}
+use Prim.Native.Nat.{ℕ, zero, suc, ◌≤◌, ◌<◌}
 use native.Mathlib.Omega.{arith}
 use native.Mathlib.Numerals.{add-one}
 use lib.Dec.{ltb, leb}
-use lib.IntN.{ℤ, pos, ◌+ℤ◌, ◌-ℤ◌, +ℤ_comm, +ℤ-neg_ℤ_cancel}
+use lib.IntN.{ℤ, pos, ◌-ℤ◌, +ℤ_comm, +ℤ-neg_ℤ_cancel}
 use lib.ListN.{length, get_or, take}
 use borrow.Author.Tests.{lt-ltb, le-leb, le-ltb}
 use Rattle.refusal.specs.declared.Answer.TheVariants.{Taken}
