@@ -8,6 +8,9 @@ use Rattle.reader.proofs.read.Goals as goal
 pub returns-then-is_refused : goal.returns-then-is_refused
 returns-then-is_refused c = read-refused _ c.version-answer.ensures c.is_refused.ensures c.if-is_refused.true (c.fresh.ensures ∙ ap fresh_reader c.is_second-second.ensures)
 
+pub slice_bounds-fed-start : goal.slice_bounds-fed-start
+slice_bounds-fed-start c = version-room _ c.version-answer.ensures c.is_refused.ensures c.if-is_refused.false
+
 pub slice_bounds-fed-count : goal.slice_bounds-fed-count
 slice_bounds-fed-count c = version-room _ c.version-answer.ensures c.is_refused.ensures c.if-is_refused.false
 
