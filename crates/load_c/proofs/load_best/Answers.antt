@@ -9,4 +9,4 @@ use Rattle.load_c.proofs.load_best.Goals as goal
 pub returns : goal.returns
 returns c =
     c.best_times.ensures
-    ∙ ap (λ (t : Took). times_of (best_spec t.reader-1.load (pos 0))) c.read-t.ensures
+    ∙ ap (λ (t : Took). times_of (best_spec t.reader.load (pos 0))) c.read-t.ensures

@@ -5,4 +5,4 @@ use Rattle.lines.specs.Lines.{lines_of}
 use Rattle.load_c.proofs.load_lines.Goals as goal
 
 pub returns : goal.returns
-returns c = c.lines.ensures.out_after ∙ ap (λ (t : Took). lines_of t.answer t.reader-1.load) c.read-t.ensures
+returns c = c.lines.ensures.out_after ∙ ap (λ (t : Took). lines_of t.answer t.reader.load) c.read-t.ensures

@@ -5,4 +5,4 @@ use Rattle.load_c.specs.Searches.{horizon_after, sum_of}
 use Rattle.load_c.proofs.load_searches.Goals as goal
 
 pub returns : goal.returns
-returns c = c.searches.ensures ∙ ap (λ (t : Took). sum_of horizon_after c.args.times t.reader-1.load) c.read-t.ensures
+returns c = c.searches.ensures ∙ ap (λ (t : Took). sum_of horizon_after c.args.times t.reader.load) c.read-t.ensures

@@ -6,4 +6,4 @@ use Rattle.load_c.proofs.altered.load_alterations.Goals as goal
 
 pub returns : goal.returns
 returns c =
-    c.alterations.ensures ∙ same-turns _ _ c.call.ensures (ap (λ (t : Took). t.reader-1.load) c.read-t.ensures)
+    c.alterations.ensures ∙ same-turns _ _ c.call.ensures (ap (λ (t : Took). t.reader.load) c.read-t.ensures)
