@@ -11,6 +11,7 @@ use file::Reader;
 use groups::{Group, group_at, group_of, no_group};
 use load::Load;
 use refusal::Answer;
+use std::io::Stdout;
 use stdio::out;
 
 // The groups set aside for the next display, and the last display with its groups.
@@ -61,10 +62,10 @@ fn with_group(board: Board, group: Group) -> Board {
     next
 }
 
-fn stopped(out: &mut [u8; 65536], at: usize, board: Board) -> Boarded
+fn stopped(stdout: Stdout, out: &mut [u8; 65536], at: usize, board: Board) -> Boarded
     ensures { result.to ≤ 65536 }
 {
-    let to = malformed(out, at);
+    let to = malformed(stdout, out, at);
     Boarded {
         going: false,
         to,
@@ -72,10 +73,17 @@ fn stopped(out: &mut [u8; 65536], at: usize, board: Board) -> Boarded
     }
 }
 
-fn set_aside(out: &mut [u8; 65536], at: usize, load: Load, board: Board, b: &[u8]) -> Boarded
+fn set_aside(
+    stdout: Stdout,
+    out: &mut [u8; 65536],
+    at: usize,
+    load: Load,
+    board: Board,
+    b: &[u8],
+) -> Boarded
     ensures { result.to ≤ 65536 }
 {
-    let to = word(out, at, b"aside");
+    let to = word(stdout, out, at, b"aside");
     let next = with_group(board, group_of(u8_at(b, 1), load));
     Boarded {
         going: true,
@@ -126,7 +134,7 @@ fn part_text(out: &mut [u8; 65536], at: usize, start: usize, number: u64, part: 
     }
 }
 
-fn display_line(out: &mut [u8; 65536], at: usize, display: Display) -> usize
+fn display_line(stdout: Stdout, out: &mut [u8; 65536], at: usize, display: Display) -> usize
     ensures { result ≤ 65536 }
 {
     let start = out::least(at, 65536);
@@ -134,28 +142,28 @@ fn display_line(out: &mut [u8; 65536], at: usize, display: Display) -> usize
     let b = part_text(out, a, start, 1, part_of(display, 1));
     let c = part_text(out, b, start, 2, part_of(display, 2));
     let d = part_text(out, c, start, 3, part_of(display, 3));
-    out::line(out, d)
+    out::line(stdout, out, d)
 }
 
-fn told(out: &mut [u8; 65536], at: usize, display: Display) -> usize
+fn told(stdout: Stdout, out: &mut [u8; 65536], at: usize, display: Display) -> usize
     ensures { result ≤ 65536 }
 {
     let answer = display.answer;
     match answer {
-        Answer::Taken => display_line(out, at, display),
-        Answer::Outside => display_line(out, at, display),
-        Answer::Refused(r) => refused(out, at, r),
+        Answer::Taken => display_line(stdout, out, at, display),
+        Answer::Outside => display_line(stdout, out, at, display),
+        Answer::Refused(r) => refused(stdout, out, at, r),
     }
 }
 
 // A display of the groups set aside; nothing is set aside after it.
-fn dealt(out: &mut [u8; 65536], at: usize, board: Board) -> Boarded
+fn dealt(stdout: Stdout, out: &mut [u8; 65536], at: usize, board: Board) -> Boarded
     ensures { result.to ≤ 65536 }
 {
     let given = board.aside;
     let count = board.held;
     let display = display::deal(given, count);
-    let to = told(out, at, display);
+    let to = told(stdout, out, at, display);
     Boarded {
         going: true,
         to,
@@ -185,10 +193,10 @@ fn query(board: Board, b: &[u8]) -> Found {
     next_of_group(group, part, i64_at(b, 2), missed)
 }
 
-fn asked(out: &mut [u8; 65536], at: usize, board: Board, b: &[u8]) -> Boarded
+fn asked(stdout: Stdout, out: &mut [u8; 65536], at: usize, board: Board, b: &[u8]) -> Boarded
     ensures { result.to ≤ 65536 }
 {
-    let to = found(out, at, query(board, b));
+    let to = found(stdout, out, at, query(board, b));
     Boarded {
         going: true,
         to,
@@ -237,6 +245,7 @@ fn way_of(opened: bool, held: usize, b: &[u8]) -> Way {
 
 // The record, without its length.
 pub fn display_step(
+    stdout: Stdout,
     out: &mut [u8; 65536],
     at: usize,
     reader: Reader,
@@ -248,10 +257,10 @@ pub fn display_step(
     match way_of(reader.opened, board.held, b) {
         Way::Aside => {
             let load = reader.load;
-            set_aside(out, at, load, board, b)
+            set_aside(stdout, out, at, load, board, b)
         }
-        Way::Display => dealt(out, at, board),
-        Way::Query => asked(out, at, board, b),
-        Way::Malformed => stopped(out, at, board),
+        Way::Display => dealt(stdout, out, at, board),
+        Way::Query => asked(stdout, out, at, board, b),
+        Way::Malformed => stopped(stdout, out, at, board),
     }
 }

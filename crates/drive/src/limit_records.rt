@@ -9,6 +9,7 @@ use margin::{Margin, margin_of};
 use profile::Journey;
 use refusal::Answer;
 use search::{Limited, search_within};
+use std::io::Stdout;
 use stdio::load_lines::figures;
 use stdio::out;
 
@@ -23,68 +24,75 @@ pub fn step(load: Load, b: &[u8]) -> Limited {
 }
 
 // How it ended, and how many joins it tested.
-fn ended(out: &mut [u8; 65536], at: usize, joins: u64, finished: bool) -> usize
+fn ended(stdout: Stdout, out: &mut [u8; 65536], at: usize, joins: u64, finished: bool) -> usize
     ensures { result ≤ 65536 }
 {
     if finished {
         let a = out::text(out, at, b"finished");
         let b = out::spaced(out, a, joins);
-        return out::line(out, b);
+        return out::line(stdout, out, b);
     }
     let a = out::text(out, at, b"stopped");
     let b = out::spaced(out, a, joins);
-    out::line(out, b)
+    out::line(stdout, out, b)
 }
 
-pub fn told(out: &mut [u8; 65536], at: usize, a: Answer, joins: u64, finished: bool) -> usize
+pub fn told(
+    stdout: Stdout,
+    out: &mut [u8; 65536],
+    at: usize,
+    a: Answer,
+    joins: u64,
+    finished: bool,
+) -> usize
     ensures { result ≤ 65536 }
 {
     match a {
-        Answer::Taken => ended(out, at, joins, finished),
-        Answer::Outside => ended(out, at, joins, finished),
-        Answer::Refused(r) => refused(out, at, r),
+        Answer::Taken => ended(stdout, out, at, joins, finished),
+        Answer::Outside => ended(stdout, out, at, joins, finished),
+        Answer::Refused(r) => refused(stdout, out, at, r),
     }
 }
 
 // ---- best
 
-fn journey(out: &mut [u8; 65536], at: usize, j: Journey, margin: u16) -> usize
+fn journey(stdout: Stdout, out: &mut [u8; 65536], at: usize, j: Journey, margin: u16) -> usize
     ensures { result ≤ 65536 }
 {
     let a = out::text(out, at, b"journey");
     let b = figures(out, a, j);
     let c = out::text(out, b, b" margin");
     let d = out::spaced(out, c, margin as u64);
-    out::line(out, d)
+    out::line(stdout, out, d)
 }
 
-fn with_margin(out: &mut [u8; 65536], at: usize, f: Found, margin: u16) -> usize
+fn with_margin(stdout: Stdout, out: &mut [u8; 65536], at: usize, f: Found, margin: u16) -> usize
     ensures { result ≤ 65536 }
 {
     match f {
-        Found::Best(j) => journey(out, at, j, margin),
-        Found::Nothing => word(out, at, b"none"),
+        Found::Best(j) => journey(stdout, out, at, j, margin),
+        Found::Nothing => word(stdout, out, at, b"none"),
     }
 }
 
 // Best at second 0.
-fn best_first(out: &mut [u8; 65536], at: usize, load: Load) -> usize
+fn best_first(stdout: Stdout, out: &mut [u8; 65536], at: usize, load: Load) -> usize
     ensures { result ≤ 65536 }
 {
     let f = best(load, 0);
     match margin_of(load) {
-        Margin::Is(m) => with_margin(out, at, f, m),
-        Margin::Nothing => found(out, at, f),
+        Margin::Is(m) => with_margin(stdout, out, at, f, m),
+        Margin::Nothing => found(stdout, out, at, f),
     }
 }
 
 // Best at the second.
-pub fn best_record(out: &mut [u8; 65536], at: usize, load: Load, b: &[u8]) -> usize
+pub fn best_record(stdout: Stdout, out: &mut [u8; 65536], at: usize, load: Load, b: &[u8]) -> usize
     ensures { result ≤ 65536 }
 {
     let second = i64_at(b, 1);
     if second == 0 {
-        return best_first(out, at, load);
+        return best_first(stdout, out, at, load);
     }
-    found(out, at, best(load, second))
+    found(stdout, out, at, best(load, second))
 }

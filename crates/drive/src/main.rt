@@ -13,6 +13,7 @@ mod settings_record;
 mod week_records;
 mod write_record;
 
+use std::io::{Stdin, Stdout};
 use stdio::{input, out};
 
 // As long as the longest file.
@@ -29,50 +30,52 @@ fn is_step_file(buf: &[u8], got: usize) -> bool {
 }
 
 // The first `size` bytes of the buffer as a step file; malformed, if it isn't so long.
-fn file(out: &mut [u8; 65536], buf: &[u8], size: usize) -> usize {
+fn file(stdout: Stdout, out: &mut [u8; 65536], buf: &[u8], size: usize) -> usize {
     if size <= buf.len() {
-        return run::file(out, &buf[..size]);
+        return run::file(stdout, out, &buf[..size]);
     }
-    records::malformed(out, 0)
+    records::malformed(stdout, out, 0)
 }
 
 // The whole input as one step file. If it fills the buffer, it may be longer.
-fn one(out: &mut [u8; 65536], buf: &mut [u8], got: usize) {
-    let size = input::rest(buf, got);
+fn one(stdin: Stdin, stdout: Stdout, out: &mut [u8; 65536], buf: &mut [u8], got: usize) {
+    let size = input::rest(stdin, buf, got);
     if size < buf.len() {
-        let to = file(out, buf, size);
-        out::end(out, to);
+        let to = file(stdout, out, buf, size);
+        out::end(stdout, out, to);
         return;
     }
-    let to = records::malformed(out, 0);
-    out::end(out, to);
+    let to = records::malformed(stdout, out, 0);
+    out::end(stdout, out, to);
 }
 
 // The file whose length is in the buffer; whether there is another.
-fn turn(out: &mut [u8; 65536], buf: &mut [u8]) -> bool {
-    let size = input::body(buf);
+fn turn(stdin: Stdin, stdout: Stdout, out: &mut [u8; 65536], buf: &mut [u8]) -> bool {
+    let size = input::body(stdin, buf);
     if size > buf.len() {
         return false;
     }
-    let to = file(out, buf, size);
-    out::end_file(out, to);
-    input::head(buf) == 4
+    let to = file(stdout, out, buf, size);
+    out::end_file(stdout, out, to);
+    input::head(stdin, buf) == 4
 }
 
-fn main() {
+fn main(rt: HostRuntime) {
+    let stdin = rt.stdin();
+    let stdout = rt.stdout();
     let mut out = [0u8; 65536];
     let mut bytes = buffer();
     let buf: &mut [u8] = &mut bytes;
-    let got = input::head(buf);
+    let got = input::head(stdin, buf);
     if is_step_file(buf, got) {
-        one(&mut out, buf, got);
+        one(stdin, stdout, &mut out, buf, got);
         return;
     }
     let mut more = got == 4;
     let mut turns: u64 = 18446744073709551615;
     while turns > 0 {
         if more {
-            more = turn(&mut out, buf);
+            more = turn(stdin, stdout, &mut out, buf);
             turns -= 1;
         } else {
             return;

@@ -13,6 +13,7 @@ use load::{Load, Stepped};
 use profile::Journey;
 use refusal::{Answer, Refusal};
 use search::Limited;
+use std::io::Stdout;
 use stdio::load_lines::figures;
 use stdio::out;
 
@@ -24,42 +25,42 @@ pub struct Turned {
     pub reader: Reader,
 }
 
-pub fn word(out: &mut [u8; 65536], at: usize, word: &[u8]) -> usize
+pub fn word(stdout: Stdout, out: &mut [u8; 65536], at: usize, word: &[u8]) -> usize
     ensures { result ≤ 65536 }
 {
     let a = out::text(out, at, word);
-    out::line(out, a)
+    out::line(stdout, out, a)
 }
 
 // The line of an answer; `good` is the word where the step was taken.
-fn told(out: &mut [u8; 65536], at: usize, a: Answer, good: &[u8]) -> usize
+fn told(stdout: Stdout, out: &mut [u8; 65536], at: usize, a: Answer, good: &[u8]) -> usize
     ensures { result ≤ 65536 }
 {
     match a {
-        Answer::Taken => word(out, at, good),
-        Answer::Outside => word(out, at, b"outside"),
-        Answer::Refused(r) => refused(out, at, r),
+        Answer::Taken => word(stdout, out, at, good),
+        Answer::Outside => word(stdout, out, at, b"outside"),
+        Answer::Refused(r) => refused(stdout, out, at, r),
     }
 }
 
-pub fn refused(out: &mut [u8; 65536], at: usize, r: Refusal) -> usize
+pub fn refused(stdout: Stdout, out: &mut [u8; 65536], at: usize, r: Refusal) -> usize
     ensures { result ≤ 65536 }
 {
     let a = out::text(out, at, b"refused");
     let b = out::spaced(out, a, refusal::number(r) as u64);
-    out::line(out, b)
+    out::line(stdout, out, b)
 }
 
-pub fn malformed(out: &mut [u8; 65536], at: usize) -> usize
+pub fn malformed(stdout: Stdout, out: &mut [u8; 65536], at: usize) -> usize
     ensures { result ≤ 65536 }
 {
-    word(out, at, b"malformed")
+    word(stdout, out, at, b"malformed")
 }
 
-fn stopped(out: &mut [u8; 65536], at: usize, reader: Reader) -> Turned
+fn stopped(stdout: Stdout, out: &mut [u8; 65536], at: usize, reader: Reader) -> Turned
     ensures { result.to ≤ 65536 }
 {
-    let to = malformed(out, at);
+    let to = malformed(stdout, out, at);
     Turned {
         going: false,
         to,
@@ -68,11 +69,11 @@ fn stopped(out: &mut [u8; 65536], at: usize, reader: Reader) -> Turned
 }
 
 // An opening: another load in place of this one, unless it is refused.
-fn opening(out: &mut [u8; 65536], at: usize, reader: Reader, s: Stepped) -> Turned
+fn opening(stdout: Stdout, out: &mut [u8; 65536], at: usize, reader: Reader, s: Stepped) -> Turned
     ensures { result.to ≤ 65536 }
 {
     let answer = s.answer;
-    let to = told(out, at, answer, b"opened");
+    let to = told(stdout, out, at, answer, b"opened");
     if refusal::is_refused(answer) {
         return Turned {
             going: true,
@@ -110,15 +111,15 @@ fn is_malformed(a: Answer) -> bool {
 }
 
 // A stop, rule or search, as a load file has it.
-fn filling(out: &mut [u8; 65536], at: usize, reader: Reader, b: &[u8]) -> Turned
+fn filling(stdout: Stdout, out: &mut [u8; 65536], at: usize, reader: Reader, b: &[u8]) -> Turned
     ensures { result.to ≤ 65536 }
 {
     let t = record(reader, b);
     let answer = t.answer;
     if is_malformed(answer) {
-        return stopped(out, at, reader);
+        return stopped(stdout, out, at, reader);
     }
-    let to = told(out, at, answer, b"taken");
+    let to = told(stdout, out, at, answer, b"taken");
     let after = t.reader;
     Turned {
         going: true,
@@ -128,11 +129,11 @@ fn filling(out: &mut [u8; 65536], at: usize, reader: Reader, b: &[u8]) -> Turned
 }
 
 // A step on the open load: a service, an exception, a call or a withdrawal.
-fn stepped(out: &mut [u8; 65536], at: usize, s: Stepped) -> Turned
+fn stepped(stdout: Stdout, out: &mut [u8; 65536], at: usize, s: Stepped) -> Turned
     ensures { result.to ≤ 65536 }
 {
     let answer = s.answer;
-    let to = told(out, at, answer, b"taken");
+    let to = told(stdout, out, at, answer, b"taken");
     let load = s.load;
     Turned {
         going: true,
@@ -146,11 +147,11 @@ fn stepped(out: &mut [u8; 65536], at: usize, s: Stepped) -> Turned
 }
 
 // A search within a limit.
-fn searched_within(out: &mut [u8; 65536], at: usize, w: Limited) -> Turned
+fn searched_within(stdout: Stdout, out: &mut [u8; 65536], at: usize, w: Limited) -> Turned
     ensures { result.to ≤ 65536 }
 {
     let answer = w.answer;
-    let to = limit_records::told(out, at, answer, w.joins, w.finished);
+    let to = limit_records::told(stdout, out, at, answer, w.joins, w.finished);
     let load = w.load;
     Turned {
         going: true,
@@ -163,51 +164,56 @@ fn searched_within(out: &mut [u8; 65536], at: usize, w: Limited) -> Turned
     }
 }
 
-pub fn found(out: &mut [u8; 65536], at: usize, f: Found) -> usize
+pub fn found(stdout: Stdout, out: &mut [u8; 65536], at: usize, f: Found) -> usize
     ensures { result ≤ 65536 }
 {
     match f {
-        Found::Best(j) => journey(out, at, j),
-        Found::Nothing => word(out, at, b"none"),
+        Found::Best(j) => journey(stdout, out, at, j),
+        Found::Nothing => word(stdout, out, at, b"none"),
     }
 }
 
-fn journey(out: &mut [u8; 65536], at: usize, j: Journey) -> usize
+fn journey(stdout: Stdout, out: &mut [u8; 65536], at: usize, j: Journey) -> usize
     ensures { result ≤ 65536 }
 {
     let a = out::text(out, at, b"journey");
     let b = figures(out, a, j);
-    out::line(out, b)
+    out::line(stdout, out, b)
 }
 
 // Next after the leave, at the second. Of a journey missed only its leave counts.
-fn next_record(out: &mut [u8; 65536], at: usize, load: Load, b: &[u8]) -> usize
+fn next_record(stdout: Stdout, out: &mut [u8; 65536], at: usize, load: Load, b: &[u8]) -> usize
     ensures { result ≤ 65536 }
 {
     let mut missed = profile::no_journey();
     missed.leave = u16_at(b, 9);
-    found(out, at, best::next_after(load, i64_at(b, 1), missed))
+    found(
+        stdout,
+        out,
+        at,
+        best::next_after(load, i64_at(b, 1), missed),
+    )
 }
 
 // A query, or the load written: both leave it as it is.
-fn query(out: &mut [u8; 65536], at: usize, load: Load, b: &[u8]) -> usize
+fn query(stdout: Stdout, out: &mut [u8; 65536], at: usize, load: Load, b: &[u8]) -> usize
     ensures { result ≤ 65536 }
 {
     let kind = kind_of(b);
     if kind == 12 {
-        return best_record(out, at, load, b);
+        return best_record(stdout, out, at, load, b);
     }
     if kind == 14 {
-        return write_record(out, at, load, b);
+        return write_record(stdout, out, at, load, b);
     }
-    next_record(out, at, load, b)
+    next_record(stdout, out, at, load, b)
 }
 
-fn asked(out: &mut [u8; 65536], at: usize, reader: Reader, b: &[u8]) -> Turned
+fn asked(stdout: Stdout, out: &mut [u8; 65536], at: usize, reader: Reader, b: &[u8]) -> Turned
     ensures { result.to ≤ 65536 }
 {
     let load = reader.load;
-    let to = query(out, at, load, b);
+    let to = query(stdout, out, at, load, b);
     Turned {
         going: true,
         to,
@@ -271,17 +277,23 @@ fn limit_step(reader: Reader, b: &[u8]) -> Limited {
 }
 
 // The record, without its length.
-pub fn step(out: &mut [u8; 65536], at: usize, reader: Reader, b: &[u8]) -> Turned
+pub fn step(stdout: Stdout, out: &mut [u8; 65536], at: usize, reader: Reader, b: &[u8]) -> Turned
     ensures { result.to ≤ 65536 }
 {
     match way_of(reader.opened, b) {
-        Way::Opening => opening(out, at, reader, Load::open(settings_record::given(b))),
-        Way::Dated => opening(out, at, reader, week_records::dated_opening(b)),
-        Way::Filling => filling(out, at, reader, b),
-        Way::OfWeek => stepped(out, at, week_records::step(reader, b)),
-        Way::Calling => stepped(out, at, call_records::step(reader, b)),
-        Way::Limited => searched_within(out, at, limit_step(reader, b)),
-        Way::Query => asked(out, at, reader, b),
-        Way::Malformed => stopped(out, at, reader),
+        Way::Opening => opening(
+            stdout,
+            out,
+            at,
+            reader,
+            Load::open(settings_record::given(b)),
+        ),
+        Way::Dated => opening(stdout, out, at, reader, week_records::dated_opening(b)),
+        Way::Filling => filling(stdout, out, at, reader, b),
+        Way::OfWeek => stepped(stdout, out, at, week_records::step(reader, b)),
+        Way::Calling => stepped(stdout, out, at, call_records::step(reader, b)),
+        Way::Limited => searched_within(stdout, out, at, limit_step(reader, b)),
+        Way::Query => asked(stdout, out, at, reader, b),
+        Way::Malformed => stopped(stdout, out, at, reader),
     }
 }

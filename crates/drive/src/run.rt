@@ -7,27 +7,28 @@ use fields::layout::{kind_of, length_of};
 use file::Reader;
 use load::Load;
 use reader::fresh;
+use std::io::Stdout;
 use stdio::load_lines::{horizon, journeys, table};
 use stdio::out;
 
 // A load at the end.
-fn load_lines(out: &mut [u8; 65536], at: usize, load: Load) -> usize {
+fn load_lines(stdout: Stdout, out: &mut [u8; 65536], at: usize, load: Load) -> usize {
     let calls = load.calls;
     let kept = load.journeys;
-    let a = table(out, at, calls, load.call_count);
-    let b = journeys(out, a, kept, load.journey_count);
-    let c = horizon(out, b, load.horizon, load.limits);
+    let a = table(stdout, out, at, calls, load.call_count);
+    let b = journeys(stdout, out, a, kept, load.journey_count);
+    let c = horizon(stdout, out, b, load.horizon, load.limits);
     let d = out::text(out, c, b"searched");
     let e = out::flag(out, d, load.searched);
     let f = out::text(out, e, b" stopped");
     let g = out::flag(out, f, load.stopped);
-    out::line(out, g)
+    out::line(stdout, out, g)
 }
 
-fn last_lines(out: &mut [u8; 65536], at: usize, reader: Reader) -> usize {
+fn last_lines(stdout: Stdout, out: &mut [u8; 65536], at: usize, reader: Reader) -> usize {
     if reader.opened {
         let load = reader.load;
-        return load_lines(out, at, load);
+        return load_lines(stdout, out, at, load);
     }
     at
 }
@@ -58,9 +59,16 @@ struct Run {
 }
 
 // A record of a display, or one of the load.
-fn record(out: &mut [u8; 65536], at: usize, reader: Reader, board: Board, b: &[u8]) -> Run {
+fn record(
+    stdout: Stdout,
+    out: &mut [u8; 65536],
+    at: usize,
+    reader: Reader,
+    board: Board,
+    b: &[u8],
+) -> Run {
     if is_display(kind_of(b)) {
-        let t = display_step(out, at, reader, board, b);
+        let t = display_step(stdout, out, at, reader, board, b);
         let next = t.board;
         return Run {
             going: t.going,
@@ -69,7 +77,7 @@ fn record(out: &mut [u8; 65536], at: usize, reader: Reader, board: Board, b: &[u
             board: next,
         };
     }
-    let t = step(out, at, reader, b);
+    let t = step(stdout, out, at, reader, b);
     let after = t.reader;
     Run {
         going: t.going,
@@ -80,13 +88,20 @@ fn record(out: &mut [u8; 65536], at: usize, reader: Reader, board: Board, b: &[u
 }
 
 // A record with its length before it.
-fn whole(out: &mut [u8; 65536], at: usize, reader: Reader, board: Board, b: &[u8]) -> Run {
+fn whole(
+    stdout: Stdout,
+    out: &mut [u8; 65536],
+    at: usize,
+    reader: Reader,
+    board: Board,
+    b: &[u8],
+) -> Run {
     let from = out::least(2, b.len());
-    record(out, at, reader, board, &b[from..])
+    record(stdout, out, at, reader, board, &b[from..])
 }
 
 // The records after the first byte, up to one that is malformed; then the load.
-fn records(out: &mut [u8; 65536], bytes: &[u8]) -> usize {
+fn records(stdout: Stdout, out: &mut [u8; 65536], bytes: &[u8]) -> usize {
     let mut to: usize = 0;
     let mut reader = fresh(true);
     let mut board = empty_board();
@@ -94,9 +109,9 @@ fn records(out: &mut [u8; 65536], bytes: &[u8]) -> usize {
     while at < bytes.len() {
         let end = record_end(bytes, at);
         if end <= at {
-            return malformed(out, to);
+            return malformed(stdout, out, to);
         }
-        let t = whole(out, to, reader, board, &bytes[at..end]);
+        let t = whole(stdout, out, to, reader, board, &bytes[at..end]);
         to = t.to;
         if t.going {
             let after = t.reader;
@@ -108,18 +123,18 @@ fn records(out: &mut [u8; 65536], bytes: &[u8]) -> usize {
             return to;
         }
     }
-    last_lines(out, to, reader)
+    last_lines(stdout, out, to, reader)
 }
 
 // A file that doesn't begin with byte 83 is no step file.
-pub fn file(out: &mut [u8; 65536], bytes: &[u8]) -> usize
+pub fn file(stdout: Stdout, out: &mut [u8; 65536], bytes: &[u8]) -> usize
     ensures { result ≤ 65536 }
 {
     if bytes.len() == 0 {
-        return malformed(out, 0);
+        return malformed(stdout, out, 0);
     }
     if kind_of(bytes) == 83 {
-        return out::least(records(out, &bytes[1..]), 65536);
+        return out::least(records(stdout, out, &bytes[1..]), 65536);
     }
-    malformed(out, 0)
+    malformed(stdout, out, 0)
 }

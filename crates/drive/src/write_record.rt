@@ -6,6 +6,7 @@ use crate::records::refused;
 use key::key;
 use load::Load;
 use refusal::Answer;
+use std::io::Stdout;
 use stdio::out;
 use stdio::out::least;
 use writer::{Wrote, write};
@@ -52,23 +53,23 @@ fn sixteen(out: &mut [u8; 65536], at: usize, n: u64) -> usize
     eight(out, a, (n % 4294967296) as u32)
 }
 
-fn written(out: &mut [u8; 65536], at: usize, file: &[u8]) -> usize
+fn written(stdout: Stdout, out: &mut [u8; 65536], at: usize, file: &[u8]) -> usize
     ensures { result ≤ 65536 }
 {
     let a = out::text(out, at, b"written");
     let b = out::spaced(out, a, file.len() as u64);
     let c = out::put(out, b, b' ');
     let d = sixteen(out, c, key(file));
-    out::line(out, d)
+    out::line(stdout, out, d)
 }
 
-fn told(out: &mut [u8; 65536], at: usize, answer: Answer, file: &[u8]) -> usize
+fn told(stdout: Stdout, out: &mut [u8; 65536], at: usize, answer: Answer, file: &[u8]) -> usize
     ensures { result ≤ 65536 }
 {
     match answer {
-        Answer::Taken => written(out, at, file),
-        Answer::Outside => written(out, at, file),
-        Answer::Refused(r) => refused(out, at, r),
+        Answer::Taken => written(stdout, out, at, file),
+        Answer::Outside => written(stdout, out, at, file),
+        Answer::Refused(r) => refused(stdout, out, at, r),
     }
 }
 
@@ -88,11 +89,11 @@ fn front(buf: &[u8], n: usize) -> &[u8] {
     buf
 }
 
-pub fn write_record(out: &mut [u8; 65536], at: usize, load: Load, b: &[u8]) -> usize
+pub fn write_record(stdout: Stdout, out: &mut [u8; 65536], at: usize, load: Load, b: &[u8]) -> usize
     ensures { result ≤ 65536 }
 {
     let mut buf = buffer();
     let w = put(load, &mut buf, u32_at(b, 1) as usize);
     let answer = w.answer;
-    told(out, at, answer, front(&buf, w.length))
+    told(stdout, out, at, answer, front(&buf, w.length))
 }

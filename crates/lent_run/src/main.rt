@@ -6,33 +6,33 @@ mod lists;
 mod rows;
 
 use best::Found;
-use libc::STDOUT_FILENO;
 use rows::{at, part};
+use std::io::Stdout;
 
-fn text(s: &[u8]) {
-    io::write_all(STDOUT_FILENO, s);
+fn text(stdout: Stdout, s: &[u8]) {
+    let _ = stdout.write_all(s);
 }
 
-fn number(n: u64) {
-    io::print_decimal(STDOUT_FILENO, n);
+fn number(stdout: Stdout, n: u64) {
+    let _ = print!(stdout; "{n}");
 }
 
-fn show(f: Found) {
+fn show(stdout: Stdout, f: Found) {
     match f {
         Found::Best(j) => {
-            number(j.first.trip as u64);
-            text(b" (");
-            number(j.leave as u64);
-            text(b" ");
-            number(j.arrival as u64);
-            text(b" ");
-            number(j.rides as u64);
-            text(b" ");
-            number(j.walk as u64);
-            text(b")");
+            number(stdout, j.first.trip as u64);
+            text(stdout, b" (");
+            number(stdout, j.leave as u64);
+            text(stdout, b" ");
+            number(stdout, j.arrival as u64);
+            text(stdout, b" ");
+            number(stdout, j.rides as u64);
+            text(stdout, b" ");
+            number(stdout, j.walk as u64);
+            text(stdout, b")");
         }
         Found::Nothing => {
-            text(b"-");
+            text(stdout, b"-");
         }
     }
 }
@@ -53,25 +53,26 @@ fn second(digits: &[u8]) -> i64 {
     (at(digits, 0) % 4294967296) as i64
 }
 
-fn answers(list: &[u8], count: usize, horizon: u16, second: i64) {
+fn answers(stdout: Stdout, list: &[u8], count: usize, horizon: u16, second: i64) {
     let js = lists::list(list);
-    show(best::best_over(js, count, horizon, second));
-    text(b" | ");
-    show(lent::best_lent(js, count, horizon, second));
-    text(b"\n");
+    show(stdout, best::best_over(js, count, horizon, second));
+    text(stdout, b" | ");
+    show(stdout, lent::best_lent(js, count, horizon, second));
+    text(stdout, b"\n");
 }
 
 // A question is written by how many journeys are asked, the horizon and the second.
-fn ask(name: &[u8], list: &[u8], question: &[u8]) {
-    text(name);
-    text(b" at ");
-    text(part(question, b' ', 2));
-    text(b", first ");
-    text(part(question, b' ', 0));
-    text(b", up to ");
-    text(part(question, b' ', 1));
-    text(b": ");
+fn ask(stdout: Stdout, name: &[u8], list: &[u8], question: &[u8]) {
+    text(stdout, name);
+    text(stdout, b" at ");
+    text(stdout, part(question, b' ', 2));
+    text(stdout, b", first ");
+    text(stdout, part(question, b' ', 0));
+    text(stdout, b", up to ");
+    text(stdout, part(question, b' ', 1));
+    text(stdout, b": ");
     answers(
+        stdout,
         list,
         at(question, 0) as usize,
         (at(question, 1) % 65536) as u16,
@@ -80,16 +81,16 @@ fn ask(name: &[u8], list: &[u8], question: &[u8]) {
 }
 
 // Question k of a row: a name, a list, and at most eight questions of it.
-fn asked(row: &[u8], k: usize) {
+fn asked(stdout: Stdout, row: &[u8], k: usize) {
     let question = part(part(row, b'|', 2), b',', k);
     if question.len() > 0 {
-        ask(part(row, b'|', 0), part(row, b'|', 1), question);
+        ask(stdout, part(row, b'|', 0), part(row, b'|', 1), question);
     }
 }
 
-fn each(rows: &[u8]) {
+fn each(stdout: Stdout, rows: &[u8]) {
     for k in 0usize..104 {
-        asked(part(rows, b'\n', k / 8), k % 8);
+        asked(stdout, part(rows, b'\n', k / 8), k % 8);
     }
 }
 
@@ -97,8 +98,10 @@ fn each(rows: &[u8]) {
 // a tie in arrival, with fewer rides; and in rides, with the shorter walk; and in walk, with the later leave; the preferred leaves
 // first; figures at the ends of their types; 64 equal journeys; the same with the best in the last slot.
 // Past all but the last two stands a journey that best would take.
-fn main() {
+fn main(rt: HostRuntime) {
+    let stdout = rt.stdout();
     each(
+        stdout,
         b"none|99 65535 0 0 0|0 21600 0,0 65535 9223372036854775807
 single|99 65535 0 0 0,0 300 1320 1 5|1 21600 300,1 21600 301,1 0 0,1 65535 -9223372036854775808,1 65535 9223372036854775807
 pair|99 65535 0 0 0,0 300 1319 2 5,1 300 1319 2 5|2 21600 0,2 65535 300

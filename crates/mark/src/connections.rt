@@ -7,6 +7,7 @@ use crate::numbers::{u8_at, u16_at, u32_at};
 use crate::text;
 use connection::{Connection, Leg};
 use load::Load;
+use std::io::Stdout;
 use stdio::out;
 use verdict::verdict;
 
@@ -39,21 +40,35 @@ fn connection_at(b: &[u8], at: usize) -> Connection {
     connection_in(&b[from..])
 }
 
-fn line(out: &mut [u8; 65536], at: usize, load: Load, b: &[u8], from: usize) -> usize
+fn line(
+    stdout: Stdout,
+    out: &mut [u8; 65536],
+    at: usize,
+    load: Load,
+    b: &[u8],
+    from: usize,
+) -> usize
     ensures { result ≤ 24576 }
 {
     let v = verdict(load, connection_at(b, from));
-    text::verdict_line(out, at, v)
+    text::verdict_line(stdout, out, at, v)
 }
 
 // A line for each connection of the first `size` bytes, up to as many as the longest part holds.
-pub fn verdicts(out: &mut [u8; 65536], at: usize, load: Load, b: &[u8], size: usize) -> usize
+pub fn verdicts(
+    stdout: Stdout,
+    out: &mut [u8; 65536],
+    at: usize,
+    load: Load,
+    b: &[u8],
+    size: usize,
+) -> usize
     ensures { result ≤ 65536 }
 {
     let n = out::least(size / 36, 29127);
     let mut to = out::least(at, 65536);
     for i in 0usize..n {
-        to = line(out, to, load, b, i * 36);
+        to = line(stdout, out, to, load, b, i * 36);
     }
     to
 }

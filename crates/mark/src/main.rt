@@ -11,6 +11,7 @@ use file::Took;
 use load::Load;
 use reader::read;
 use refusal::{Answer, is_refused};
+use std::io::{Stdin, Stdout};
 use stdio::{input, out};
 
 // As long as the longest file.
@@ -18,23 +19,28 @@ fn buffer() -> [u8; 1048576] {
     [0u8; 1048576]
 }
 
+// As long as the longest list.
+fn said() -> [u8; 4096] {
+    [0u8; 4096]
+}
+
 // The next part, put at the start of the buffer; its size, or 4294967296 where there is none.
-fn part(buf: &mut [u8]) -> usize {
-    if input::head(buf) < 4 {
+fn part(stdin: Stdin, buf: &mut [u8]) -> usize {
+    if input::head(stdin, buf) < 4 {
         return 4294967296;
     }
-    input::body(buf)
+    input::body(stdin, buf)
 }
 
 // The list, or the refusal.
 fn list(out: &mut [u8; 65536], answer: Answer, load: Load) -> usize {
-    let mut lines = io::buffer();
+    let mut lines = said();
     let n = lines::lines(&mut lines, answer, load);
     out::text(out, 0, &lines[..n])
 }
 
 // What is said of a load file and the connections in the first `size` bytes.
-fn item(out: &mut [u8; 65536], t: Took, b: &[u8], size: usize) -> usize {
+fn item(stdout: Stdout, out: &mut [u8; 65536], t: Took, b: &[u8], size: usize) -> usize {
     let answer = t.answer;
     let reader = t.reader;
     let load = reader.load;
@@ -42,7 +48,7 @@ fn item(out: &mut [u8; 65536], t: Took, b: &[u8], size: usize) -> usize {
     if is_refused(answer) {
         return at;
     }
-    connections::verdicts(out, at, load, b, size)
+    connections::verdicts(stdout, out, at, load, b, size)
 }
 
 fn file(bytes: &[u8], size: usize) -> Took {
@@ -53,33 +59,35 @@ fn file(bytes: &[u8], size: usize) -> Took {
 }
 
 // The connections in the buffer, after their file; whether there may be another pair.
-fn second(out: &mut [u8; 65536], buf: &mut [u8], t: Took) -> bool {
-    let size = part(buf);
+fn second(stdin: Stdin, stdout: Stdout, out: &mut [u8; 65536], buf: &mut [u8], t: Took) -> bool {
+    let size = part(stdin, buf);
     if size > buf.len() {
         return false;
     }
-    let at = item(out, t, buf, size);
-    out::end_file(out, at);
+    let at = item(stdout, out, t, buf, size);
+    out::end_file(stdout, out, at);
     true
 }
 
 // One pair; whether there may be another.
-fn turn(out: &mut [u8; 65536], buf: &mut [u8]) -> bool {
-    let size = part(buf);
+fn turn(stdin: Stdin, stdout: Stdout, out: &mut [u8; 65536], buf: &mut [u8]) -> bool {
+    let size = part(stdin, buf);
     if size > buf.len() {
         return false;
     }
     let t = file(buf, size);
-    second(out, buf, t)
+    second(stdin, stdout, out, buf, t)
 }
 
-fn main() {
+fn main(rt: HostRuntime) {
+    let stdin = rt.stdin();
+    let stdout = rt.stdout();
     let mut out = [0u8; 65536];
     let mut bytes = buffer();
     let buf: &mut [u8] = &mut bytes;
     let mut turns: u64 = 18446744073709551615;
     while turns > 0 {
-        if turn(&mut out, buf) {
+        if turn(stdin, stdout, &mut out, buf) {
             turns -= 1;
         } else {
             return;

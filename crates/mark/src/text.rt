@@ -21,6 +21,7 @@ ghost use Rattle.std.specs.Prelude.{◌≤◌};
 
 use connection::Cause;
 use listing::Verdict;
+use std::io::Stdout;
 use stdio::out;
 
 // A word and a number.
@@ -83,9 +84,9 @@ fn words(out: &mut [u8; 65536], at: usize, v: Verdict) -> usize {
     }
 }
 
-pub fn verdict_line(out: &mut [u8; 65536], at: usize, v: Verdict) -> usize
+pub fn verdict_line(stdout: Stdout, out: &mut [u8; 65536], at: usize, v: Verdict) -> usize
     ensures { result ≤ 24576 }
 {
     let a = words(out, at, v);
-    out::line(out, a)
+    out::line(stdout, out, a)
 }

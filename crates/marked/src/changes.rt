@@ -2,6 +2,7 @@
 // platform 4; 5 and 6 are of one place, 7 of none of theirs. The change time is 180 seconds.
 use crate::show;
 use rules::{Rule, blank_rule};
+use std::io::Stdout;
 use transfer::Change;
 use transfer::copied::flat_rules;
 use transfer::pair::{join, transfer};
@@ -52,55 +53,57 @@ fn taken() -> [u16; 640] {
     flat_rules(rules)
 }
 
-fn change(label: &[u8], from: u16, to: u16) {
-    show::asked(b"transfer", label);
+fn change(stdout: Stdout, label: &[u8], from: u16, to: u16) {
+    show::asked(stdout, b"transfer", label);
     match transfer(&taken(), 10, &parents(), &places(), from, to, 180) {
-        Change::Takes(seconds) => show::number(seconds as u64),
-        Change::Never => show::text(b"none\n"),
+        Change::Takes(seconds) => show::number(stdout, seconds as u64),
+        Change::Never => show::text(stdout, b"none\n"),
     }
 }
 
-fn joined(label: &[u8], from: u16, one_run: bool, departure: u16) {
+fn joined(stdout: Stdout, label: &[u8], from: u16, one_run: bool, departure: u16) {
     let by = transfer(&taken(), 10, &parents(), &places(), from, 7, 180);
-    show::asked(b"join", label);
-    show::yes(join(by, one_run, 1000, departure));
+    show::asked(stdout, b"join", label);
+    show::yes(stdout, join(by, one_run, 1000, departure));
 }
 
-fn by_rule() {
-    change(b"both sides exact", 1, 4);
-    change(b"two half-exact rules", 2, 4);
-    change(b"one side exact before neither", 4, 1);
-    change(b"neither side exact", 4, 2);
-    change(b"type 3 between two stations", 0, 3);
-    change(b"type 3 between two of one place", 5, 6);
-    change(b"type 0 with 600 seconds", 7, 5);
-    change(b"type 1 with 600 seconds", 7, 6);
-    change(b"type 2 with 60 seconds", 6, 7);
+fn by_rule(stdout: Stdout) {
+    change(stdout, b"both sides exact", 1, 4);
+    change(stdout, b"two half-exact rules", 2, 4);
+    change(stdout, b"one side exact before neither", 4, 1);
+    change(stdout, b"neither side exact", 4, 2);
+    change(stdout, b"type 3 between two stations", 0, 3);
+    change(stdout, b"type 3 between two of one place", 5, 6);
+    change(stdout, b"type 0 with 600 seconds", 7, 5);
+    change(stdout, b"type 1 with 600 seconds", 7, 6);
+    change(stdout, b"type 2 with 60 seconds", 6, 7);
 }
 
-fn by_nearness() {
-    change(b"one stop", 7, 7);
-    change(b"one parent", 1, 2);
-    change(b"one place", 6, 5);
-    change(b"neither", 7, 1);
-    change(b"a platform and its station", 1, 0);
+fn by_nearness(stdout: Stdout) {
+    change(stdout, b"one stop", 7, 7);
+    change(stdout, b"one parent", 1, 2);
+    change(stdout, b"one place", 6, 5);
+    change(stdout, b"neither", 7, 1);
+    change(stdout, b"a platform and its station", 1, 0);
 }
 
-pub fn run() {
-    by_rule();
-    by_nearness();
+pub fn run(stdout: Stdout) {
+    by_rule(stdout);
+    by_nearness(stdout);
     joined(
+        stdout,
         b"same stop, arrival 1000 and departure 1180",
         7,
         false,
         1180,
     );
     joined(
+        stdout,
         b"same stop, arrival 1000 and departure 1179",
         7,
         false,
         1179,
     );
-    joined(b"one trip and day", 7, true, 1180);
-    joined(b"no change", 1, false, 1180);
+    joined(stdout, b"one trip and day", 7, true, 1180);
+    joined(stdout, b"no change", 1, false, 1180);
 }

@@ -6,10 +6,11 @@ mod places;
 mod show;
 mod texts;
 
-fn main() {
-    texts::hashes();
-    texts::names();
-    texts::times();
-    places::run();
-    changes::run();
+fn main(rt: HostRuntime) {
+    let stdout = rt.stdout();
+    texts::hashes(stdout);
+    texts::names(stdout);
+    texts::times(stdout);
+    places::run(stdout);
+    changes::run(stdout);
 }

@@ -1,9 +1,10 @@
 // The scope's marked places: pairs of positions at the edge of the place test, microdegrees, and a place key of each kind.
 use crate::show;
 use place::{Micro, PlaceKey, Position};
+use std::io::Stdout;
 
 // Whether two positions of one name are one place.
-fn same(label: &[u8], alat: i32, alon: i32, blat: i32, blon: i32) {
+fn same(stdout: Stdout, label: &[u8], alat: i32, alon: i32, blat: i32, blon: i32) {
     let a = PlaceKey {
         tag: b'N',
         hash: 7,
@@ -16,40 +17,42 @@ fn same(label: &[u8], alat: i32, alon: i32, blat: i32, blon: i32) {
         lat: blat,
         lon: blon,
     };
-    show::asked(b"same place", label);
-    show::yes(place::same_place_keys(a, b));
+    show::asked(stdout, b"same place", label);
+    show::yes(stdout, place::same_place_keys(a, b));
 }
 
 // Whether the latitude, at longitude 0, is so many microdegrees.
-fn micro(label: &[u8], latitude: f64, lat: i32) {
-    show::asked(b"micro", label);
+fn micro(stdout: Stdout, label: &[u8], latitude: f64, lat: i32) {
+    show::asked(stdout, b"micro", label);
     match place::coordinates(Position::Given(latitude, 0.0)) {
-        Micro::At(n, _) => show::yes(n == lat),
-        Micro::Nowhere => show::text(b"nowhere\n"),
+        Micro::At(n, _) => show::yes(stdout, n == lat),
+        Micro::Nowhere => show::text(stdout, b"nowhere\n"),
     }
 }
 
 // The key of the stop "U1 Mitte" with the parent "S", or of the same without a parent.
-fn key(label: &[u8], parent: bool, position: Position, named: bool) {
+fn key(stdout: Stdout, label: &[u8], parent: bool, position: Position, named: bool) {
     let k = place::place_key(parent, b"S", position, named, b"Stadt  Mitte", b"U1 Mitte");
-    show::asked(b"place key", label);
-    show::text(&[k.tag, b' ']);
-    show::hash(k.hash);
+    show::asked(stdout, b"place key", label);
+    show::text(stdout, &[k.tag, b' ']);
+    show::hash(stdout, k.hash);
 }
 
-fn edges() {
-    same(b"latitudes 0 and 1124", 0, 0, 1124, 0);
-    same(b"latitudes 0 and 1125", 0, 0, 1125, 0);
+fn edges(stdout: Stdout) {
+    same(stdout, b"latitudes 0 and 1124", 0, 0, 1124, 0);
+    same(stdout, b"latitudes 0 and 1125", 0, 0, 1125, 0);
     same(
+        stdout,
         b"longitudes 179999500 and -179999500",
         0,
         179999500,
         0,
         -179999500,
     );
-    same(b"longitudes 0 and 1124", 0, 0, 0, 1124);
-    same(b"longitudes 0 and 1125", 0, 0, 0, 1125);
+    same(stdout, b"longitudes 0 and 1124", 0, 0, 0, 1124);
+    same(stdout, b"longitudes 0 and 1125", 0, 0, 0, 1125);
     same(
+        stdout,
         b"latitude 60, longitudes 0 and 2248",
         60000000,
         0,
@@ -57,6 +60,7 @@ fn edges() {
         2248,
     );
     same(
+        stdout,
         b"latitude 60, longitudes 0 and 2249",
         60000000,
         0,
@@ -65,24 +69,30 @@ fn edges() {
     );
 }
 
-fn degrees() {
-    micro(b"-0.0000019 is -1", -0.0000019, -1);
-    micro(b"90 is 90000000", 90.0, 90000000);
-    micro(b"-90.00000000000001", -90.00000000000001, 0);
-    micro(b"-0.0 is 0", -0.0, 0);
+fn degrees(stdout: Stdout) {
+    micro(stdout, b"-0.0000019 is -1", -0.0000019, -1);
+    micro(stdout, b"90 is 90000000", 90.0, 90000000);
+    micro(stdout, b"-90.00000000000001", -90.00000000000001, 0);
+    micro(stdout, b"-0.0 is 0", -0.0, 0);
 }
 
-fn keys() {
+fn keys(stdout: Stdout) {
     let here = Position::Given(52.5, 13.4);
-    key(b"parent", true, here, true);
-    key(b"name at a position", false, here, true);
-    key(b"no name", false, here, false);
-    key(b"no position", false, Position::Absent, true);
-    key(b"not usable", false, Position::Given(91.0, 13.4), true);
+    key(stdout, b"parent", true, here, true);
+    key(stdout, b"name at a position", false, here, true);
+    key(stdout, b"no name", false, here, false);
+    key(stdout, b"no position", false, Position::Absent, true);
+    key(
+        stdout,
+        b"not usable",
+        false,
+        Position::Given(91.0, 13.4),
+        true,
+    );
 }
 
-pub fn run() {
-    edges();
-    degrees();
-    keys();
+pub fn run(stdout: Stdout) {
+    edges(stdout);
+    degrees(stdout);
+    keys(stdout);
 }

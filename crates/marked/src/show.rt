@@ -1,54 +1,54 @@
-// The pieces of a line on standard output.
-use libc::STDOUT_FILENO;
+// The pieces of a line on standard output. A write that fails goes unsaid.
+use std::io::Stdout;
 
-pub fn text(s: &[u8]) {
-    io::write_all(STDOUT_FILENO, s);
+pub fn text(stdout: Stdout, s: &[u8]) {
+    let _ = stdout.write_all(s);
 }
 
 // A byte as it is written in a byte string.
-fn byte(b: u8) {
+fn byte(stdout: Stdout, b: u8) {
     match b {
-        0 => text(b"\\0"),
-        9 => text(b"\\t"),
-        10 => text(b"\\n"),
-        13 => text(b"\\r"),
-        32..=126 => text(&[b]),
+        0 => text(stdout, b"\\0"),
+        9 => text(stdout, b"\\t"),
+        10 => text(stdout, b"\\n"),
+        13 => text(stdout, b"\\r"),
+        32..=126 => text(stdout, &[b]),
         _ => {
-            text(b"\\x");
-            io::print_hex(STDOUT_FILENO, b as u64, 2);
+            text(stdout, b"\\x");
+            let _ = print!(stdout; "{b:02x}");
         }
     }
 }
 
-fn bytes(s: &[u8]) {
+fn bytes(stdout: Stdout, s: &[u8]) {
     let n = s.len();
     for i in 0usize..n {
-        byte(s[i]);
+        byte(stdout, s[i]);
     }
 }
 
 // What is asked: its kind, and the text that it is asked of.
-pub fn asked(kind: &[u8], label: &[u8]) {
-    text(kind);
-    text(b" \"");
-    bytes(label);
-    text(b"\" ");
+pub fn asked(stdout: Stdout, kind: &[u8], label: &[u8]) {
+    text(stdout, kind);
+    text(stdout, b" \"");
+    bytes(stdout, label);
+    text(stdout, b"\" ");
 }
 
-pub fn hash(h: u64) {
-    io::print_hex(STDOUT_FILENO, h, 16);
-    text(b"\n");
+pub fn hash(stdout: Stdout, h: u64) {
+    let _ = print!(stdout; "{h:016x}");
+    text(stdout, b"\n");
 }
 
-pub fn number(n: u64) {
-    io::print_decimal(STDOUT_FILENO, n);
-    text(b"\n");
+pub fn number(stdout: Stdout, n: u64) {
+    let _ = print!(stdout; "{n}");
+    text(stdout, b"\n");
 }
 
-pub fn yes(b: bool) {
+pub fn yes(stdout: Stdout, b: bool) {
     if b {
-        text(b"yes\n");
+        text(stdout, b"yes\n");
     } else {
-        text(b"no\n");
+        text(stdout, b"no\n");
     }
 }

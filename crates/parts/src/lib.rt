@@ -5,9 +5,10 @@
 ghost use Rattle.std.specs.Prelude.{◌≡◌, ◌≤◌, length};
 
 use file::{Reader, Took};
-use libc::{STDERR_FILENO, STDIN_FILENO, STDOUT_FILENO};
 use reader::{ended, fed, fresh, is_second, version};
 use refusal::{Answer, is_refused};
+use std::io;
+use std::io::{Read, Stderr, Stdin, Stdout};
 
 // How many bytes the buffer holds, and whether a read failed.
 #[derive(Clone, Copy)]
@@ -36,11 +37,12 @@ pub struct Ended {
 }
 
 // One read into the buffer from `held` on.
-fn more(buf: &mut [u8], held: usize) -> isize
+fn more(stdin: Stdin, buf: &mut [u8], held: usize) -> io::Result<usize>
     requires { held ≤ length buf.old }
     ensures same { length buf.new ≡ length buf.old }
 {
-    libc::read(STDIN_FILENO, &mut buf[held..])
+    let mut from = stdin;
+    from.read(&mut buf[held..])
 }
 
 // The smaller of two; it is taken so that every place stays within the buffer.
@@ -51,22 +53,31 @@ fn smaller(a: usize, b: usize) -> usize
 }
 
 // The buffer filled from `held` on, until it is full, the file has ended or a read failed.
-fn fill(buf: &mut [u8], held: usize) -> Filled
+fn fill(stdin: Stdin, buf: &mut [u8], held: usize) -> Filled
     requires { held ≤ length buf.old }
     ensures held_in_bounds { result.held ≤ length buf.new }
     ensures same { length buf.new ≡ length buf.old }
 {
     let mut n = held;
     while n < buf.len() {
-        let got = more(buf, n);
-        let k = smaller(io::count(got, buf), buf.len() - n);
-        if k == 0 {
-            return Filled {
-                held: n,
-                failed: got < 0,
-            };
+        match more(stdin, buf, n) {
+            Ok(got) => {
+                let k = smaller(got, buf.len() - n);
+                if k == 0 {
+                    return Filled {
+                        held: n,
+                        failed: false,
+                    };
+                }
+                n += k;
+            }
+            Err(_) => {
+                return Filled {
+                    held: n,
+                    failed: true,
+                };
+            }
         }
-        n += k;
     }
     Filled {
         held: n,
@@ -98,10 +109,10 @@ fn begun(bytes: &[u8]) -> Took {
 }
 
 // The version; the records begin after it.
-fn first(buf: &mut [u8]) -> Part
+fn first(stdin: Stdin, buf: &mut [u8]) -> Part
     ensures { result.held ≤ length buf.new }
 {
-    let f = fill(buf, 0);
+    let f = fill(stdin, buf, 0);
     let held = f.held;
     let t = begun(&buf[..held]);
     let answer = t.answer;
@@ -125,7 +136,7 @@ fn is_over(failed: bool, answer: Answer) -> bool {
 }
 
 // The whole records that the buffer holds; then the end, or more bytes.
-fn turn(buf: &mut [u8], r: Part) -> Part
+fn turn(stdin: Stdin, buf: &mut [u8], r: Part) -> Part
     ensures { result.held ≤ length buf.new }
 {
     let held = smaller(r.held, buf.len());
@@ -157,7 +168,7 @@ fn turn(buf: &mut [u8], r: Part) -> Part
         };
     }
     let left = move_down(buf, from, held);
-    let next = fill(buf, left);
+    let next = fill(stdin, buf, left);
     Part {
         over: next.failed,
         at: 0,
@@ -179,15 +190,15 @@ fn end_of(part: Part, failed: bool) -> Ended {
 }
 
 // Reads standard input to its end. A file that doesn't end in 2^64 parts counts as one that can't be read.
-pub fn read_input() -> Ended {
+pub fn read_input(stdin: Stdin) -> Ended {
     let mut buf = [0u8; 131072];
-    let mut part = first(&mut buf);
+    let mut part = first(stdin, &mut buf);
     let mut turns: u64 = 18446744073709551615;
     while turns > 0 {
         if part.over {
             return end_of(part, part.failed);
         }
-        let next = turn(&mut buf, part);
+        let next = turn(stdin, &mut buf, part);
         part = next;
         turns -= 1;
     }
@@ -195,14 +206,14 @@ pub fn read_input() -> Ended {
 }
 
 // Says on standard error that standard input can't be read.
-pub fn tell_unread() {
-    io::write_all(STDERR_FILENO, b"standard input can't be read\n");
+pub fn tell_unread(stderr: Stderr) {
+    let _ = stderr.write_all(b"standard input can't be read\n");
 }
 
 // Writes to standard output; if that fails, says so on standard error.
-pub fn print(bytes: &[u8]) {
-    if io::write_all(STDOUT_FILENO, bytes) {
+pub fn print(stdout: Stdout, stderr: Stderr, bytes: &[u8]) {
+    if stdout.write_all(bytes).is_ok() {
         return;
     }
-    io::write_all(STDERR_FILENO, b"standard output can't be written\n");
+    let _ = stderr.write_all(b"standard output can't be written\n");
 }

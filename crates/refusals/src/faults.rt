@@ -10,6 +10,7 @@ use calls::CallInput;
 use load::{Load, Stepped};
 use place::Degrees;
 use rules::RuleInput;
+use std::io::Stdout;
 use stops::StopInput;
 
 // Whether n is one of the two.
@@ -182,24 +183,24 @@ fn stepped(step: u8, load: Load, a: u8, b: u8) -> Stepped {
     load.rule(rule(a, b))
 }
 
-fn tried(step: u8, a: u8, b: u8) {
+fn tried(stdout: Stdout, step: u8, a: u8, b: u8) {
     if b == NOTHING {
         return;
     }
     if apart(step, a, b) {
         return;
     }
-    show::faults(step, a, b);
-    loads::then(step, stepped(step, load_of(step, a, b), a, b));
+    show::faults(stdout, step, a, b);
+    loads::then(stdout, step, stepped(step, load_of(step, a, b), a, b));
 }
 
 // Each two of the faults in their order; the first is nothing, so each alone too.
-pub fn each(step: u8, faults: [u8; 9]) {
+pub fn each(stdout: Stdout, step: u8, faults: [u8; 9]) {
     for k in 0usize..81 {
         let i = k / 9;
         let j = k % 9;
         if i < j {
-            tried(step, faults[i], faults[j]);
+            tried(stdout, step, faults[i], faults[j]);
         }
     }
 }

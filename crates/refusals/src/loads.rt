@@ -13,6 +13,7 @@ use place::Degrees;
 use refusal::Answer;
 use rules::{MinTime, RuleInput};
 use settings::Settings;
+use std::io::Stdout;
 use stops::StopInput;
 
 // The start is 1000; days 0 and 1 start with it, and day 2 at 0.
@@ -226,9 +227,9 @@ fn after(step: u8, s: Stepped) -> Answer {
 }
 
 // Writes what a step is answered, and a good step on the load that it returns.
-pub fn then(step: u8, s: Stepped) {
+pub fn then(stdout: Stdout, step: u8, s: Stepped) {
     let answer = s.answer;
-    show::both(answer, after(step, s));
+    show::both(stdout, answer, after(step, s));
 }
 
 // One of two texts.

@@ -6,6 +6,7 @@ use crate::{loads, show};
 use again::{add, withdraw};
 use calls::CallInput;
 use load::{Load, Stepped};
+use std::io::Stdout;
 use withdrawal::CallKey;
 
 fn with(load: Load, trip: u16, sequence: u32, stop: u16, time: u32) -> Load {
@@ -110,9 +111,10 @@ pub fn stepped(step: u8, load: Load, a: u8, b: u8) -> Stepped {
 
 // ---- told in words
 
-fn key(label: &[u8], load: Load, trip: u16, day: u8, sequence: u32) {
-    show::words(WITHDRAWAL, label);
+fn key(stdout: Stdout, label: &[u8], load: Load, trip: u16, day: u8, sequence: u32) {
+    show::words(stdout, WITHDRAWAL, label);
     loads::then(
+        stdout,
         WITHDRAWAL,
         withdraw(
             load,
@@ -138,15 +140,16 @@ fn without(load: Load) -> Load {
     s.load
 }
 
-pub fn keys() {
+pub fn keys(stdout: Stdout) {
     let load = hiding(0, 0);
-    key(b"of the first call", load, 0, 0, 0);
-    key(b"of day 2", load, 0, 2, 1);
-    key(b"of day 3", load, 0, 3, 1);
-    key(b"of trip 65534", load, 65534, 0, 1);
-    key(b"of one withdrawn", without(load), 0, 0, 1);
-    key(b"of one of two", with(load, 0, 1, 1, 800), 0, 0, 1);
+    key(stdout, b"of the first call", load, 0, 0, 0);
+    key(stdout, b"of day 2", load, 0, 2, 1);
+    key(stdout, b"of day 3", load, 0, 3, 1);
+    key(stdout, b"of trip 65534", load, 65534, 0, 1);
+    key(stdout, b"of one withdrawn", without(load), 0, 0, 1);
+    key(stdout, b"of one of two", with(load, 0, 1, 1, 800), 0, 0, 1);
     key(
+        stdout,
         b"of the other of two",
         without(with(load, 0, 1, 1, 800)),
         0,

@@ -1,6 +1,6 @@
 // A line for each step: what is wrong with it, its answer, and the answer of a good step on the load that it returns.
-use libc::STDOUT_FILENO;
 use refusal::Answer;
+use std::io::Stdout;
 
 // The steps
 pub const OPEN: u8 = 0;
@@ -43,84 +43,84 @@ pub const RESTS: u8 = 102;
 
 pub const FALLS: u8 = 103;
 
-fn text(s: &[u8]) {
-    io::write_all(STDOUT_FILENO, s);
+fn text(stdout: Stdout, s: &[u8]) {
+    let _ = stdout.write_all(s);
 }
 
-fn step(n: u8) {
+fn step(stdout: Stdout, n: u8) {
     match n {
-        OPEN => text(b"open"),
-        STOP => text(b"stop"),
-        CALL => text(b"call"),
-        RULE => text(b"rule"),
-        SERVICE => text(b"service"),
-        EXCEPTION => text(b"exception"),
-        CALL_OF => text(b"call of a service"),
-        ADDED => text(b"call after the search"),
-        ADDED_OF => text(b"call of a service after the search"),
-        WITHDRAWAL => text(b"withdrawal"),
-        WITHDRAWN => text(b"withdrawal after the search"),
-        LIMITED => text(b"limited search"),
-        _ => text(b"search"),
+        OPEN => text(stdout, b"open"),
+        STOP => text(stdout, b"stop"),
+        CALL => text(stdout, b"call"),
+        RULE => text(stdout, b"rule"),
+        SERVICE => text(stdout, b"service"),
+        EXCEPTION => text(stdout, b"exception"),
+        CALL_OF => text(stdout, b"call of a service"),
+        ADDED => text(stdout, b"call after the search"),
+        ADDED_OF => text(stdout, b"call of a service after the search"),
+        WITHDRAWAL => text(stdout, b"withdrawal"),
+        WITHDRAWN => text(stdout, b"withdrawal after the search"),
+        LIMITED => text(stdout, b"limited search"),
+        _ => text(stdout, b"search"),
     }
 }
 
-fn cause(n: u8) {
+fn cause(stdout: Stdout, n: u8) {
     match n {
-        ABSENT => text(b"absent"),
-        OUTSIDE => text(b"outside"),
-        RESTS => text(b"rests"),
-        FALLS => text(b"list falls"),
+        ABSENT => text(stdout, b"absent"),
+        OUTSIDE => text(stdout, b"outside"),
+        RESTS => text(stdout, b"rests"),
+        FALLS => text(stdout, b"list falls"),
         _ => {
-            io::print_decimal(STDOUT_FILENO, n as u64);
+            let _ = print!(stdout; "{n}");
         }
     }
 }
 
-fn answer(a: Answer) {
+fn answer(stdout: Stdout, a: Answer) {
     match a {
-        Answer::Taken => text(b"taken"),
-        Answer::Outside => text(b"outside"),
-        Answer::Refused(r) => cause(refusal::number(r)),
+        Answer::Taken => text(stdout, b"taken"),
+        Answer::Outside => text(stdout, b"outside"),
+        Answer::Refused(r) => cause(stdout, refusal::number(r)),
     }
 }
 
 // A step with one thing wrong, or two.
-pub fn faults(n: u8, a: u8, b: u8) {
-    step(n);
-    text(b" ");
+pub fn faults(stdout: Stdout, n: u8, a: u8, b: u8) {
+    step(stdout, n);
+    text(stdout, b" ");
     if a != NOTHING {
-        cause(a);
-        text(b"+");
+        cause(stdout, a);
+        text(stdout, b"+");
     }
-    cause(b);
-    text(b": ");
+    cause(stdout, b);
+    text(stdout, b": ");
 }
 
 // A step told in words.
-pub fn words(n: u8, label: &[u8]) {
-    step(n);
-    text(b" ");
-    text(label);
-    text(b": ");
+pub fn words(stdout: Stdout, n: u8, label: &[u8]) {
+    step(stdout, n);
+    text(stdout, b" ");
+    text(stdout, label);
+    text(stdout, b": ");
 }
 
-pub fn only(a: Answer) {
-    answer(a);
-    text(b"\n");
+pub fn only(stdout: Stdout, a: Answer) {
+    answer(stdout, a);
+    text(stdout, b"\n");
 }
 
 // What a step is answered, and a good step after it.
-pub fn both(a: Answer, next: Answer) {
-    answer(a);
-    text(b", then ");
-    only(next);
+pub fn both(stdout: Stdout, a: Answer, next: Answer) {
+    answer(stdout, a);
+    text(stdout, b", then ");
+    only(stdout, next);
 }
 
 // How many a full load holds.
-pub fn held(n: u8, count: usize) {
-    step(n);
-    text(b"s held: ");
-    io::print_decimal(STDOUT_FILENO, count as u64);
-    text(b"\n");
+pub fn held(stdout: Stdout, n: u8, count: usize) {
+    step(stdout, n);
+    text(stdout, b"s held: ");
+    let _ = print!(stdout; "{count}");
+    text(stdout, b"\n");
 }

@@ -2,6 +2,7 @@
 use crate::load_lines;
 use reader::{fresh, is_second, next, read, version};
 use refusal::{Answer, is_refused};
+use std::io::Stdout;
 use stdio::out;
 
 // The letter of a call's answer.
@@ -22,10 +23,10 @@ fn cause(a: Answer) -> u8 {
 }
 
 // The line of a file that is refused, in place of its answers.
-fn refused(out: &mut [u8; 65536], a: Answer) -> usize {
+fn refused(stdout: Stdout, out: &mut [u8; 65536], a: Answer) -> usize {
     let to = out::text(out, 0, b"refused");
     let end = out::spaced(out, to, cause(a) as u64);
-    out::line(out, end)
+    out::line(stdout, out, end)
 }
 
 // Whether the bytes start with a call's record.
@@ -77,19 +78,19 @@ fn records(out: &mut [u8; 65536], second: bool, bytes: &[u8]) -> usize {
 }
 
 // The answers are those of the records handed in one by one; all else is of the file read whole, which goes by runs.
-pub fn file(out: &mut [u8; 65536], bytes: &[u8]) -> usize {
+pub fn file(stdout: Stdout, out: &mut [u8; 65536], bytes: &[u8]) -> usize {
     let second = is_second(bytes);
     let first = version(bytes);
     if is_refused(first) {
-        return refused(out, first);
+        return refused(stdout, out, first);
     }
     let noted = records(out, second, &bytes[1..]);
     let t = read(bytes);
     let answer = t.answer;
     if is_refused(answer) {
-        return refused(out, answer);
+        return refused(stdout, out, answer);
     }
-    let to = out::line(out, noted);
+    let to = out::line(stdout, out, noted);
     let reader = t.reader;
-    load_lines::lines(out, to, reader.load)
+    load_lines::lines(stdout, out, to, reader.load)
 }

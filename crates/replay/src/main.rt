@@ -7,6 +7,7 @@ mod answers;
 mod load_lines;
 mod queries;
 
+use std::io::{Stdin, Stdout};
 use stdio::{input, out};
 
 // As long as the longest file: so many bytes hold at most 62,500 calls, of 16 bytes at least, and a letter for each fits in a line.
@@ -15,26 +16,28 @@ fn buffer() -> [u8; 1000000] {
 }
 
 // One file; whether there may be another.
-fn turn(out: &mut [u8; 65536], buf: &mut [u8]) -> bool {
-    if input::head(buf) < 4 {
+fn turn(stdin: Stdin, stdout: Stdout, out: &mut [u8; 65536], buf: &mut [u8]) -> bool {
+    if input::head(stdin, buf) < 4 {
         return false;
     }
-    let size = input::body(buf);
+    let size = input::body(stdin, buf);
     if size > buf.len() {
         return false;
     }
-    let at = answers::file(out, &buf[..size]);
-    out::end_file(out, at);
+    let at = answers::file(stdout, out, &buf[..size]);
+    out::end_file(stdout, out, at);
     true
 }
 
-fn main() {
+fn main(rt: HostRuntime) {
+    let stdin = rt.stdin();
+    let stdout = rt.stdout();
     let mut out = [0u8; 65536];
     let mut bytes = buffer();
     let buf: &mut [u8] = &mut bytes;
     let mut turns: u64 = 18446744073709551615;
     while turns > 0 {
-        if turn(&mut out, buf) {
+        if turn(stdin, stdout, &mut out, buf) {
             turns -= 1;
         } else {
             return;

@@ -5,6 +5,7 @@ ghost use Rattle.std.specs.Prelude.{◌≤◌};
 use best::Found;
 use load::Load;
 use profile::Journey;
+use std::io::Stdout;
 use stdio::load_lines::figures;
 use stdio::out;
 use stdio::out::least;
@@ -12,15 +13,15 @@ use stdio::out::least;
 // Past every second that is asked.
 const NONE: u32 = 65537;
 
-fn found(out: &mut [u8; 65536], at: usize, f: Found) -> usize {
+fn found(stdout: Stdout, out: &mut [u8; 65536], at: usize, f: Found) -> usize {
     match f {
         Found::Best(j) => {
             let a = figures(out, at, j);
-            out::line(out, a)
+            out::line(stdout, out, a)
         }
         Found::Nothing => {
             let a = out::text(out, at, b" none");
-            out::line(out, a)
+            out::line(stdout, out, a)
         }
     }
 }
@@ -60,37 +61,37 @@ fn asked(kept: [Journey; 64], count: usize, horizon: u16, from: u32) -> u32
     soonest
 }
 
-fn best_at(out: &mut [u8; 65536], at: usize, load: Load, second: u32) -> usize {
+fn best_at(stdout: Stdout, out: &mut [u8; 65536], at: usize, load: Load, second: u32) -> usize {
     let a = out::text(out, at, b"best");
     let b = out::spaced(out, a, second as u64);
-    found(out, b, best::best(load, second as i64))
+    found(stdout, out, b, best::best(load, second as i64))
 }
 
-pub fn bests(out: &mut [u8; 65536], at: usize, load: Load) -> usize {
+pub fn bests(stdout: Stdout, out: &mut [u8; 65536], at: usize, load: Load) -> usize {
     let kept = load.journeys;
     let a = out::text(out, at, b"best -1");
-    let mut to = found(out, a, best::best(load, -1));
+    let mut to = found(stdout, out, a, best::best(load, -1));
     let mut second = asked(kept, load.journey_count, load.horizon, 0);
     while second < NONE {
-        to = best_at(out, to, load, second);
+        to = best_at(stdout, out, to, load, second);
         second = asked(kept, load.journey_count, load.horizon, second + 1);
     }
     to
 }
 
-fn next_of(out: &mut [u8; 65536], at: usize, load: Load, j: Journey) -> usize {
+fn next_of(stdout: Stdout, out: &mut [u8; 65536], at: usize, load: Load, j: Journey) -> usize {
     let a = out::text(out, at, b"next");
     let b = out::spaced(out, a, j.leave as u64);
-    found(out, b, best::next_after(load, 0, j))
+    found(stdout, out, b, best::next_after(load, 0, j))
 }
 
-pub fn nexts(out: &mut [u8; 65536], at: usize, load: Load) -> usize {
+pub fn nexts(stdout: Stdout, out: &mut [u8; 65536], at: usize, load: Load) -> usize {
     let kept = load.journeys;
     let n = least(load.journey_count, 64);
     let mut to = at;
     for i in 0usize..n {
         let j = kept[i];
-        to = next_of(out, to, load, j);
+        to = next_of(stdout, out, to, load, j);
     }
     to
 }

@@ -3,10 +3,10 @@
 #![tactic(auto)]
 
 use file::Took;
-use libc::{STDERR_FILENO, STDOUT_FILENO};
 use load::Load;
 use reader::read;
 use refusal::{Answer, is_refused};
+use std::io::{Stderr, Stdout};
 use stdio::input;
 use writer::write;
 
@@ -20,27 +20,32 @@ fn room() -> [u8; 33588] {
     [0u8; 33588]
 }
 
-fn tell(answer: Answer, load: Load) {
-    let mut out = io::buffer();
-    let n = lines::lines(&mut out, answer, load);
-    io::write_all(STDERR_FILENO, &out[..n]);
+// As long as the longest list.
+fn said() -> [u8; 4096] {
+    [0u8; 4096]
 }
 
-fn put(file: &[u8], n: usize) {
+fn tell(stderr: Stderr, answer: Answer, load: Load) {
+    let mut out = said();
+    let n = lines::lines(&mut out, answer, load);
+    let _ = stderr.write_all(&out[..n]);
+}
+
+fn put(stdout: Stdout, file: &[u8], n: usize) {
     if n <= file.len() {
-        io::write_all(STDOUT_FILENO, &file[..n]);
+        let _ = stdout.write_all(&file[..n]);
     }
 }
 
-fn save(load: Load) {
+fn save(stdout: Stdout, stderr: Stderr, load: Load) {
     let mut out = room();
     let w = write(load, &mut out);
     let answer = w.answer;
     if is_refused(answer) {
-        tell(answer, load);
+        tell(stderr, answer, load);
         return;
     }
-    put(&out, w.length);
+    put(stdout, &out, w.length);
 }
 
 fn file(bytes: &[u8], size: usize) -> Took {
@@ -50,16 +55,19 @@ fn file(bytes: &[u8], size: usize) -> Took {
     read(bytes)
 }
 
-fn main() {
+fn main(rt: HostRuntime) {
+    let stdin = rt.stdin();
+    let stdout = rt.stdout();
+    let stderr = rt.stderr();
     let mut buf = buffer();
-    let held = input::rest(&mut buf, 0);
+    let held = input::rest(stdin, &mut buf, 0);
     let t = file(&buf, held);
     let answer = t.answer;
     let reader = t.reader;
     let load = reader.load;
     if is_refused(answer) {
-        tell(answer, load);
+        tell(stderr, answer, load);
         return;
     }
-    save(load);
+    save(stdout, stderr, load);
 }

@@ -5,21 +5,27 @@
 use load::Load;
 use parts::{print, read_input, tell_unread};
 use refusal::Answer;
+use std::io::{Stderr, Stdout};
 
-fn print_lines(answer: Answer, load: Load) {
-    let mut out = io::buffer();
-    let n = lines::lines(&mut out, answer, load);
-    print(&out[..n]);
+// As long as the longest list.
+fn buffer() -> [u8; 4096] {
+    [0u8; 4096]
 }
 
-fn main() {
-    let end = read_input();
+fn print_lines(stdout: Stdout, stderr: Stderr, answer: Answer, load: Load) {
+    let mut out = buffer();
+    let n = lines::lines(&mut out, answer, load);
+    print(stdout, stderr, &out[..n]);
+}
+
+fn main(rt: HostRuntime) {
+    let end = read_input(rt.stdin());
     if end.failed {
-        tell_unread();
+        tell_unread(rt.stderr());
         return;
     }
     let reader = end.reader;
     let load = reader.load;
     let answer = end.answer;
-    print_lines(answer, load);
+    print_lines(rt.stdout(), rt.stderr(), answer, load);
 }

@@ -10,6 +10,7 @@ use groups::{Group, group_of, no_group};
 use load::Load;
 use reader::read;
 use refusal::Answer;
+use std::io::{Stdin, Stdout};
 use stdio::input;
 
 // The groups read so far; `refused` once a file was, `more` while files may follow.
@@ -70,11 +71,11 @@ fn file(bytes: &[u8], size: usize) -> Took {
 }
 
 // A file as the next group; its refusal is printed.
-fn taken(out: &mut [u8; 65536], r: Reading, t: Took) -> Reading {
+fn taken(stdout: Stdout, out: &mut [u8; 65536], r: Reading, t: Took) -> Reading {
     let answer = t.answer;
     match answer {
         Answer::Refused(cause) => {
-            text::file_refused(out, r.count, cause);
+            text::file_refused(stdout, out, r.count, cause);
             ended(r, true)
         }
         Answer::Taken => {
@@ -91,40 +92,54 @@ fn taken(out: &mut [u8; 65536], r: Reading, t: Took) -> Reading {
 }
 
 // The next file of the batch, if there may be one.
-fn turn(out: &mut [u8; 65536], buf: &mut [u8], r: Reading) -> Reading {
+fn turn(
+    stdin: Stdin,
+    stdout: Stdout,
+    out: &mut [u8; 65536],
+    buf: &mut [u8],
+    r: Reading,
+) -> Reading {
     if r.more {
-        return read_next(out, buf, r);
+        return read_next(stdin, stdout, out, buf, r);
     }
     r
 }
 
-fn read_next(out: &mut [u8; 65536], buf: &mut [u8], r: Reading) -> Reading {
-    if input::head(buf) < 4 {
+fn read_next(
+    stdin: Stdin,
+    stdout: Stdout,
+    out: &mut [u8; 65536],
+    buf: &mut [u8],
+    r: Reading,
+) -> Reading {
+    if input::head(stdin, buf) < 4 {
         return ended(r, false);
     }
-    let size = input::body(buf);
+    let size = input::body(stdin, buf);
     if size > buf.len() {
         return ended(r, false);
     }
     let t = file(buf, size);
-    taken(out, r, t)
+    taken(stdout, out, r, t)
 }
 
-fn print(out: &mut [u8; 65536], r: Reading) {
+fn print(stdout: Stdout, out: &mut [u8; 65536], r: Reading) {
     if r.refused {
         return;
     }
     let groups = r.groups;
-    text::display(out, groups, r.count);
+    text::display(stdout, out, groups, r.count);
 }
 
-fn main() {
+fn main(rt: HostRuntime) {
+    let stdin = rt.stdin();
+    let stdout = rt.stdout();
     let mut out = [0u8; 65536];
     let mut bytes = buffer();
     let buf: &mut [u8] = &mut bytes;
-    let a = turn(&mut out, buf, first());
-    let b = turn(&mut out, buf, a);
-    let c = turn(&mut out, buf, b);
-    let d = turn(&mut out, buf, c);
-    print(&mut out, d);
+    let a = turn(stdin, stdout, &mut out, buf, first());
+    let b = turn(stdin, stdout, &mut out, buf, a);
+    let c = turn(stdin, stdout, &mut out, buf, b);
+    let d = turn(stdin, stdout, &mut out, buf, c);
+    print(stdout, &mut out, d);
 }

@@ -5,8 +5,9 @@ use crate::out;
 use calls::Call;
 use order::sorted;
 use profile::{Journey, Ride};
+use std::io::Stdout;
 
-fn call(out: &mut [u8; 65536], at: usize, c: Call) -> usize
+fn call(stdout: Stdout, out: &mut [u8; 65536], at: usize, c: Call) -> usize
     ensures { result ≤ 24576 }
 {
     let a = out::text(out, at, b"call");
@@ -20,11 +21,17 @@ fn call(out: &mut [u8; 65536], at: usize, c: Call) -> usize
     let j = out::flag(out, i, c.alight);
     let k = out::flag(out, j, c.board_request);
     let l = out::flag(out, k, c.alight_request);
-    out::line(out, l)
+    out::line(stdout, out, l)
 }
 
 // The table by trip, day, sequence, equals as taken.
-pub fn table(out: &mut [u8; 65536], at: usize, given: [Call; 512], count: usize) -> usize
+pub fn table(
+    stdout: Stdout,
+    out: &mut [u8; 65536],
+    at: usize,
+    given: [Call; 512],
+    count: usize,
+) -> usize
     ensures { result ≤ 65536 }
 {
     let calls = sorted(given, count);
@@ -32,7 +39,7 @@ pub fn table(out: &mut [u8; 65536], at: usize, given: [Call; 512], count: usize)
     let mut to = out::least(at, 65536);
     for i in 0usize..n {
         let c = calls[i];
-        to = call(out, to, c);
+        to = call(stdout, out, to, c);
     }
     to
 }
@@ -78,7 +85,7 @@ fn last_ride(out: &mut [u8; 65536], at: usize, j: Journey) -> usize {
     at
 }
 
-fn journey(out: &mut [u8; 65536], at: usize, j: Journey) -> usize
+fn journey(stdout: Stdout, out: &mut [u8; 65536], at: usize, j: Journey) -> usize
     ensures { result ≤ 24576 }
 {
     let a = out::text(out, at, b"journey");
@@ -87,28 +94,34 @@ fn journey(out: &mut [u8; 65536], at: usize, j: Journey) -> usize
     let c = ride(out, b, first);
     let d = middle_ride(out, c, j);
     let e = last_ride(out, d, j);
-    out::line(out, e)
+    out::line(stdout, out, e)
 }
 
 // The kept journeys, each with its rides in order.
-pub fn journeys(out: &mut [u8; 65536], at: usize, kept: [Journey; 64], count: usize) -> usize
+pub fn journeys(
+    stdout: Stdout,
+    out: &mut [u8; 65536],
+    at: usize,
+    kept: [Journey; 64],
+    count: usize,
+) -> usize
     ensures { result ≤ 65536 }
 {
     let n = out::least(count, 64);
     let mut to = out::least(at, 65536);
     for i in 0usize..n {
         let j = kept[i];
-        to = journey(out, to, j);
+        to = journey(stdout, out, to, j);
     }
     to
 }
 
-pub fn horizon(out: &mut [u8; 65536], at: usize, horizon: u16, limits: u8) -> usize
+pub fn horizon(stdout: Stdout, out: &mut [u8; 65536], at: usize, horizon: u16, limits: u8) -> usize
     ensures { result ≤ 24576 }
 {
     let a = out::text(out, at, b"horizon");
     let b = out::spaced(out, a, horizon as u64);
     let c = out::text(out, b, b" limits");
     let d = out::spaced(out, c, limits as u64);
-    out::line(out, d)
+    out::line(stdout, out, d)
 }

@@ -1,7 +1,8 @@
 // Text is gathered in a buffer, and written out by lines. What doesn't fit is left out; each line starts with room for 40,000 bytes.
 ghost use Rattle.std.specs.Prelude.{◌≤◌};
 
-use libc::STDOUT_FILENO;
+use itoa::Buffer;
+use std::io::Stdout;
 
 pub fn put(out: &mut [u8; 65536], at: usize, byte: u8) -> usize
     ensures { result ≤ 65536 }
@@ -34,9 +35,8 @@ pub fn text(out: &mut [u8; 65536], at: usize, word: &[u8]) -> usize
 fn number(out: &mut [u8; 65536], at: usize, n: u64) -> usize
     ensures { result ≤ 65536 }
 {
-    let mut digits = [0u8; 20];
-    let k = io::decimal(n, &mut digits);
-    text(out, at, &digits[..k])
+    let mut digits = Buffer::new();
+    text(out, at, digits.format(n).as_bytes())
 }
 
 // A space and a number.
@@ -57,43 +57,43 @@ pub fn flag(out: &mut [u8; 65536], at: usize, b: bool) -> usize
     text(out, at, b" 0")
 }
 
-// Writes the first n bytes.
-fn write(bytes: &[u8], n: usize) {
+// Writes the first n bytes. A write that fails goes unsaid.
+fn write(stdout: Stdout, bytes: &[u8], n: usize) {
     if n <= bytes.len() {
-        io::write_all(STDOUT_FILENO, &bytes[..n]);
+        let _ = stdout.write_all(&bytes[..n]);
     }
 }
 
 // Writes what was gathered.
-fn flush(out: &mut [u8; 65536], n: usize) {
-    write(out, n);
+fn flush(stdout: Stdout, out: &mut [u8; 65536], n: usize) {
+    write(stdout, out, n);
 }
 
 // Ends a line; writes what was gathered if it is much.
-pub fn line(out: &mut [u8; 65536], at: usize) -> usize
+pub fn line(stdout: Stdout, out: &mut [u8; 65536], at: usize) -> usize
     ensures { result ≤ 24576 }
 {
     let a = put(out, at, b'\n');
     if a > 24576 {
-        flush(out, a);
+        flush(stdout, out, a);
         return 0;
     }
     a
 }
 
 // Writes what was gathered; nothing is left.
-pub fn end(out: &mut [u8; 65536], at: usize) -> usize
+pub fn end(stdout: Stdout, out: &mut [u8; 65536], at: usize) -> usize
     ensures { result ≤ 0 }
 {
-    flush(out, at);
+    flush(stdout, out, at);
     0
 }
 
 // A line `.`, which ends what is said of a file of a batch, and all that was gathered written.
-pub fn end_file(out: &mut [u8; 65536], at: usize) -> usize
+pub fn end_file(stdout: Stdout, out: &mut [u8; 65536], at: usize) -> usize
     ensures { result ≤ 0 }
 {
     let a = text(out, at, b".");
-    let b = line(out, a);
-    end(out, b)
+    let b = line(stdout, out, a);
+    end(stdout, out, b)
 }
