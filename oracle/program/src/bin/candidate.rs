@@ -6,7 +6,6 @@ use std::hint::black_box;
 use std::time::Instant;
 
 const SLOTS: usize = 784;
-const WIDTH: usize = 12;
 const COUNT: usize = 780;
 const HORIZON: usize = 781;
 const LIMITS: usize = 782;
@@ -111,7 +110,7 @@ impl Both {
     }
 }
 fn rows(st: &[u16; SLOTS]) -> Vec<(u16, u16, u8)> {
-    st.chunks(WIDTH).take(usize::from(st[COUNT])).map(|row| (row[0], row[1], row[2] as u8)).collect()
+    st.chunks(10).take(usize::from(st[COUNT])).map(|row| (row[0], row[1], row[2] as u8)).collect()
 }
 
 /// The list, what is offered, to how many states each, and how many are kept after it.
