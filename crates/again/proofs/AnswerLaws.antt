@@ -1,4 +1,6 @@
 -- A call and a withdrawal are answered by the first of their tests that holds, and a refused load comes back unchanged: of any load.
+use Rattle.refusal.specs.declared.Accepted.TheVariants.{Taken, Outside}
+use Rattle.std.specs.Prelude.{Option, Err, Ok}
 use Prim.Native.Nat.{ℕ, ◌≤◌}
 use mathlib.Core.Path.{◌≡◌, refl, sym, ap, subst, ◌∙◌}
 use mathlib.Core.Bool.{Bool, true, false, cond, not, ◌&&◌, true≢false, false≢true}
@@ -9,13 +11,10 @@ use lib.Dec.{eqb, ltb}
 use Rattle.laws.specs.Lists.{anyb}
 use Rattle.laws.proofs.Bools.{cond-by, cond-not}
 use Rattle.refusal.specs.declared.Refusal.TheVariants.{FieldRange, NoRoom, CallUnknown}
-use Rattle.refusal.specs.declared.Answer.{Answer}
-use Rattle.refusal.specs.declared.Answer.TheVariants.{Taken, Outside, Refused}
-use Rattle.refusal.specs.First.{First, none, hit, miss, AllFail, first_answer, is_refused, is_taken}
+use Rattle.refusal.specs.First.{First, none, hit, miss, AllFail, first_answer, is_refused, is_taken, Answer}
 use Rattle.refusal.proofs.FirstLaws.{answer-is-first, first_taken, first-append, first_past, taken_is}
 use Rattle.calls.specs.declared.Call.{Call}
 use Rattle.calls.specs.declared.CallInput.{CallInput}
-use Rattle.calls.specs.declared.Offset.{Offset}
 use Rattle.calls.specs.declared.Table.{Table}
 use Rattle.calls.specs.declared.Fitted.{Fitted}
 use Rattle.calls.specs.Windows.{outside, seen_call}
@@ -81,18 +80,18 @@ again-same l r q = go (is_refused r.answer) (is_taken (researched l.stopped l.li
     go false false e q = refl
 
 pub refused-not-taken : (a : Answer) → is_refused a ≡ true → is_taken a ≡ false
-refused-not-taken Taken e = absurd (false≢true e)
-refused-not-taken Outside e = refl
-refused-not-taken (Refused r) e = refl
+refused-not-taken (Ok Taken) e = absurd (false≢true e)
+refused-not-taken (Ok Outside) e = refl
+refused-not-taken (Err r) e = refl
 
 -- ---- withdrawal
 
-not_refused : (x y : Bool) → is_refused (cond x (Refused FieldRange) (cond y (Refused CallUnknown) Taken)) ≡ false → cond x (Refused FieldRange) (cond y (Refused CallUnknown) Taken) ≡ Taken
+not_refused : (x y : Bool) → is_refused (cond x (Err FieldRange) (cond y (Err CallUnknown) (Ok Taken))) ≡ false → cond x (Err FieldRange) (cond y (Err CallUnknown) (Ok Taken)) ≡ Ok Taken
 not_refused true y e = absurd (true≢false e)
 not_refused false true e = absurd (true≢false e)
 not_refused false false e = refl
 
-pub tests-taken : (l : Load) (k : CallKey) → is_refused (withdraw_answer l k) ≡ false → withdraw_answer l k ≡ Taken
+pub tests-taken : (l : Load) (k : CallKey) → is_refused (withdraw_answer l k) ≡ false → withdraw_answer l k ≡ Ok Taken
 unfolding first_answer
 tests-taken l k e = not_refused (not (key_known k)) (not (anyb (has_key k) (table_calls (table_of l)))) e
 
@@ -120,7 +119,7 @@ again-first l u k new = go (is_refused (taken_out u k).answer) refl
     go : (b : Bool) → is_refused r.answer ≡ b → First (cond {A = Stepped} b (record { answer = r.answer; load = l }) (searched_as l r.answer (researched l.stopped l.limit r.load))).answer (ts ++ search_tests l r.load)
     go true e = first-append r.answer ts (search_tests l r.load) first (λ q. true≢false (sym e ∙ ap is_refused q))
     go false e =
-        let t : r.answer ≡ Taken = out-answer u k ∙ tests-taken u k (ap is_refused (sym (out-answer u k)) ∙ e) in
+        let t : r.answer ≡ (Ok Taken) = out-answer u k ∙ tests-taken u k (ap is_refused (sym (out-answer u k)) ∙ e) in
         let all : AllFail (withdraw_tests u k) = first_taken r.answer (withdraw_tests u k) refl first t in
         first_past (searched_as l r.answer (researched l.stopped l.limit r.load)).answer ts (search_tests l r.load) all
         (searched-first l r.load (taken-out-searched u k ∙ new) r.answer [] (subst (λ (a : Answer). First a []) (sym t) none))
@@ -150,7 +149,7 @@ made u f = record { answer = f.answer; load = call_load u f }
 -- what it comes to on the table r that the cuts of t reach, by whether the call is outside there and r has no room
 abbrev fits : Table → Table → Call → Bool → Bool → Fitted
 fits t r c o f =
-    let a = cond o Outside (cond f (Refused NoRoom) Taken) in
+    let a = cond o (Ok Outside) (cond f (Err NoRoom) (Ok Taken)) in
     ended t (record { answer = a; table = cond (is_taken a) (put r c) r })
 
 -- a plain call's horizon
@@ -170,10 +169,10 @@ module _ (l : Load) (i : CallInput) where
   abbrev tests : List (Bool × Answer)
   tests = call_tests false l.stop_count i
 
-  abbrev a : Offset
+  abbrev a : Option ℕ
   a = call_time l.settings i i.arrival
 
-  abbrev d : Offset
+  abbrev d : Option ℕ
   d = call_time l.settings i i.departure
 
   abbrev r : Table
@@ -187,9 +186,9 @@ module _ (l : Load) (i : CallInput) where
   unfolding plain_call call_on unsearched_of
   sent x e = ap (λ (y : Answer). made u (goes_on_of l.settings (table_of l) i y)) e
 
-  passed-by : first_answer tests ≡ Taken → plain_call u i ≡ made u (fits (table_of l) r c (outside r.horizon a d) (no_room_of r))
+  passed-by : first_answer tests ≡ Ok Taken → plain_call u i ≡ made u (fits (table_of l) r c (outside r.horizon a d) (no_room_of r))
   unfolding call_fit first_answer
-  passed-by e = sent Taken e ∙ ap (λ (f : Fitted). made u (ended (table_of l) f)) (fitted-reached (table_of l) a d i)
+  passed-by e = sent (Ok Taken) e ∙ ap (λ (f : Fitted). made u (ended (table_of l) f)) (fitted-reached (table_of l) a d i)
 
   -- an unsearched load has its table's horizon and mark
   same-table : with_table u (table_of l) ≡ u
@@ -218,7 +217,7 @@ module _ (l : Load) (i : CallInput) where
       (first-append x tests (again_tests l a d r u) (subst (λ (y : Answer). First y tests) e (answer-is-first tests)) (λ q. false≢true (sym n ∙ ap is_taken q)))
 
   -- outside at the table reached
-  outside-first : AllFail tests → outside r.horizon a d ≡ true → r.horizon ≤ l.table_horizon → Goal (record { answer = Outside; load = with_table u r })
+  outside-first : AllFail tests → outside r.horizon a d ≡ true → r.horizon ≤ l.table_horizon → Goal (record { answer = Ok Outside; load = with_table u r })
   unfolding added_to again
   outside-first p o low = go (eqb r.horizon l.table_horizon) refl
     where
@@ -226,32 +225,32 @@ module _ (l : Load) (i : CallInput) where
       m = with_table u r
 
       go : (b : Bool) → eqb r.horizon l.table_horizon ≡ b
-          → First (cond {A = Stepped} b (record { answer = Outside; load = with_week l (with_table u r).week }) (searched_as l Outside (researched l.stopped l.limit (with_table u r)))).answer (tests ++ again_tests l a d r (with_table u r))
+          → First (cond {A = Stepped} b (record { answer = Ok Outside; load = with_week l (with_table u r).week }) (searched_as l (Ok Outside) (researched l.stopped l.limit (with_table u r)))).answer (tests ++ again_tests l a d r (with_table u r))
       go true e =
           let h : ltb r.horizon l.table_horizon ≡ false = le-ltb r.horizon l.table_horizon (omega (arith, eqb-true r.horizon l.table_horizon e)) in
-          first_past Outside tests (again_tests l a d r (with_table u r)) p (hit (rw (o, h) refl))
+          first_past (Ok Outside) tests (again_tests l a d r (with_table u r)) p (hit (rw (o, h) refl))
       go false e =
           let h : ltb r.horizon l.table_horizon ≡ true = lt-ltb r.horizon l.table_horizon (omega (arith, low, eqb-false r.horizon l.table_horizon e)) in
           first_past _ tests (again_tests l a d r (with_table u r)) p
-          (miss (rw (o, h) refl) (miss (rw o refl) (searched-first l (with_table u r) (new-with r) Outside ((outside r.horizon a d, Outside) ∷ []) (hit o))))
+          (miss (rw (o, h) refl) (miss (rw o refl) (searched-first l (with_table u r) (new-with r) (Ok Outside) ((outside r.horizon a d, Ok Outside) ∷ []) (hit o))))
 
   -- the horizon of the table reached, where the call is outside there
-  reached-low : plain_call u i ≡ record { answer = Outside; load = with_table u r } → r.horizon ≤ l.table_horizon
+  reached-low : plain_call u i ≡ record { answer = Ok Outside; load = with_table u r } → r.horizon ≤ l.table_horizon
   unfolding unsearched_of
   reached-low e = omega (arith, plain-low u i, ap (λ (x : Stepped). x.load.table_horizon) e)
 
-  full-first : AllFail tests → outside r.horizon a d ≡ false → no_room_of r ≡ true → Goal (record { answer = Refused NoRoom; load = u })
+  full-first : AllFail tests → outside r.horizon a d ≡ false → no_room_of r ≡ true → Goal (record { answer = Err NoRoom; load = u })
   full-first p o f =
-      subst (λ (y : Answer). First y (tests ++ again_tests l a d r u)) (sym (ap (λ (s : Stepped). s.answer) (stands (Refused NoRoom) refl)))
-      (first_past (Refused NoRoom) tests (again_tests l a d r u) p (miss (rw o refl) (hit (rw (o, f) refl))))
+      subst (λ (y : Answer). First y (tests ++ again_tests l a d r u)) (sym (ap (λ (s : Stepped). s.answer) (stands (Err NoRoom) refl)))
+      (first_past (Err NoRoom) tests (again_tests l a d r u) p (miss (rw o refl) (hit (rw (o, f) refl))))
 
-  taken-first : AllFail tests → outside r.horizon a d ≡ false → no_room_of r ≡ false → Goal (record { answer = Taken; load = with_table u (put r c) })
+  taken-first : AllFail tests → outside r.horizon a d ≡ false → no_room_of r ≡ false → Goal (record { answer = Ok Taken; load = with_table u (put r c) })
   unfolding added_to again
   taken-first p o f =
       first_past _ tests (again_tests l a d r (with_table u (put r c))) p
-      (miss (rw o refl) (miss (rw (o, f) refl) (searched-first l (with_table u (put r c)) (new-with (put r c)) Taken ((outside r.horizon a d, Outside) ∷ []) (miss o none))))
+      (miss (rw o refl) (miss (rw (o, f) refl) (searched-first l (with_table u (put r c)) (new-with (put r c)) (Ok Taken) ((outside r.horizon a d, Ok Outside) ∷ []) (miss o none))))
 
-  passed_first : first_answer tests ≡ Taken → Goal (plain_call u i)
+  passed_first : first_answer tests ≡ Ok Taken → Goal (plain_call u i)
   passed_first e = go (outside r.horizon a d) (no_room_of r) refl refl (passed-by e)
     where
       p : AllFail tests
@@ -266,9 +265,9 @@ module _ (l : Load) (i : CallInput) where
   searched-call-first = go (first_answer tests) refl
     where
       go : (x : Answer) → first_answer tests ≡ x → Goal (plain_call u i)
-      go Taken e = passed_first e
-      go Outside e = subst Goal (sym (sent Outside e ∙ ap (λ (m : Load). record { answer = Outside; load = m }) same-table)) (sent-first Outside e refl)
-      go (Refused w) e = subst Goal (sym (sent (Refused w) e)) (sent-first (Refused w) e refl)
+      go (Ok Taken) e = passed_first e
+      go (Ok Outside) e = subst Goal (sym (sent (Ok Outside) e ∙ ap (λ (m : Load). record { answer = Ok Outside; load = m }) same-table)) (sent-first (Ok Outside) e refl)
+      go (Err w) e = subst Goal (sym (sent (Err w) e)) (sent-first (Err w) e refl)
 
 -- ---- and of any service
 
@@ -341,9 +340,9 @@ module _ (l : Load) (name : List ℕ) (i : CallInput) where
           week-rest : (m : Load) (v : Week) (y : Answer) → First y (field_tests false l.stop_count i ++ running_tests runs ++ time_tests i ++ rest m)
               → First y (field_tests false l.stop_count i ++ running_tests runs ++ time_tests i ++ rest (with_week m v))
           week-rest m v y f = subst (λ (ts : List (Bool × Answer)). First y (field_tests false l.stop_count i ++ running_tests runs ++ time_tests i
-              ++ ((outside (r l i).horizon (a l i) (d l i) && not (ltb (r l i).horizon l.table_horizon), Outside)
-              ∷ (not (outside (r l i).horizon (a l i) (d l i)) && no_room_of (r l i), Refused NoRoom)
-              ∷ ts ++ ((outside (r l i).horizon (a l i) (d l i), Outside) ∷ [])))) (sym (search-tests-week l m v)) f
+              ++ ((outside (r l i).horizon (a l i) (d l i) && not (ltb (r l i).horizon l.table_horizon), Ok Outside)
+              ∷ (not (outside (r l i).horizon (a l i) (d l i)) && no_room_of (r l i), Err NoRoom)
+              ∷ ts ++ ((outside (r l i).horizon (a l i) (d l i), Ok Outside) ∷ [])))) (sym (search-tests-week l m v)) f
 
   -- sent back or outside by its service
   gate-answers : (y : Answer) (w : Week) → gate_answer false l.stop_count runs i ≡ y → is_taken y ≡ false → Answers (record { answer = y; load = with_week (u l i) w })
@@ -365,8 +364,8 @@ module _ (l : Load) (name : List ℕ) (i : CallInput) where
       go : (x : Stepped) → Called (u l i) name i x → Answers x
       go _ (without e) = plain-answers (undated-runs e)
       go _ (goes_on e f) = closing-answers (gate-passed false l.stop_count i _ f).1.1
-      go _ (stays_out e f) = gate-answers Outside (closed_week l.week) f refl
-      go _ (sent_back e x f) = gate-answers (Refused x) l.week f refl
+      go _ (stays_out e f) = gate-answers (Ok Outside) (closed_week l.week) f refl
+      go _ (sent_back e x f) = gate-answers (Err x) l.week f refl
 
   -- a refused call leaves the week
   refused-week : is_refused (call_spec (u l i) name i).answer ≡ true → (call_spec (u l i) name i).load.week ≡ l.week
@@ -383,7 +382,7 @@ added-same l r h q = go (leaves_table_of l r) q
 
 -- 15 is no test of a call, whose load is not searched where it is done
 abbrev called_by : Load → List ℕ → CallInput → Bool → List (Bool × Answer)
-called_by l name i b = (not (known l.stop_count i), Refused FieldRange) ∷ running_tests (running l.week name i.day) ++ time_tests i ++ later_tests b l name i
+called_by l name i b = (not (known l.stop_count i), Err FieldRange) ∷ running_tests (running l.week name i.day) ++ time_tests i ++ later_tests b l name i
 
 pub add-answered : AddAnswered
 unfolding add_spec_of

@@ -1,10 +1,11 @@
 -- Withdrawing straight after taking gives back an unsearched load, if the table's horizon didn't fall.
+use Rattle.refusal.specs.declared.Accepted.TheVariants.{Taken}
+use Rattle.std.specs.Prelude.{Ok}
 use Prim.Native.Nat.{ℕ, ◌<◌}
 use mathlib.Core.Path.{◌≡◌, sym, ap, subst, ◌∙◌}
 use mathlib.Core.Bool.{true, false}
 use mathlib.Core.List.{List}
 use Rattle.laws.proofs.Bools.{cond-not}
-use Rattle.refusal.specs.declared.Answer.TheVariants.{Taken}
 use Rattle.refusal.specs.First.{is_refused}
 use Rattle.calls.specs.declared.Call.{Call}
 use Rattle.calls.specs.declared.CallInput.{CallInput}
@@ -38,12 +39,12 @@ pub record Put (l : Load) (name : List ℕ) (i : CallInput) : Type 0 where
   pub known-key : key_known (key_of i) ≡ true
   pub sound : TableSound (put (table_of l) call)
 
-pub call-put : (l : Load) (name : List ℕ) (i : CallInput) → Sound l → (call_spec l name i).answer ≡ Taken
+pub call-put : (l : Load) (name : List ℕ) (i : CallInput) → Sound l → (call_spec l name i).answer ≡ Ok Taken
     → (call_spec l name i).load.table_horizon ≡ l.table_horizon → Put l name i
 unfolding plain_call
 call-put l name i s q h =
     let plain = taken-is-plain l name i s q in
-    let t : (call_fitted l i).answer ≡ Taken = sym (ap (λ (r : Stepped). r.answer) plain) ∙ q in
+    let t : (call_fitted l i).answer ≡ (Ok Taken) = sym (ap (λ (r : Stepped). r.answer) plain) ∙ q in
     let in_table : (plain_call l i).load ≡ with_table l (call_fitted l i).table = cond-not _ _ (ap is_refused t) in
     let is : (call_spec l name i).load ≡ closed_load (with_table l (call_fitted l i).table) = ap (λ (r : Stepped). r.load) plain ∙ ap closed_load in_table in
     let w = call-entered l.settings l.searched l.stop_count (table_of l) i t (sym (ap (λ (m : Load). m.table_horizon) is) ∙ h) in
@@ -58,14 +59,14 @@ call-put l name i s q h =
 
 -- the call put in goes again
 put-goes : (l : Load) (c : Call) (k : CallKey) → Sound l → l.searched ≡ false → l.call_count < 512 → key_known k ≡ true → has_key k c ≡ true
-    → TableSound (put (table_of l) c) → taken_out (with_table l (put (table_of l) c)) k ≡ record { answer = Taken; load = l }
+    → TableSound (put (table_of l) c) → taken_out (with_table l (put (table_of l) c)) k ≡ record { answer = Ok Taken; load = l }
 put-goes l c k s u r e f v =
     there-goes (with_table l (put (table_of l) c)) k e (put-there (table_of l) s.table c k r f)
-    ∙ ap (λ (t : Table). record { answer = Taken; load = with_table l t }) (put_back (table_of l) s.table c k r f v)
-    ∙ ap (λ (m : Load). record { answer = Taken; load = m }) (table-back l s u)
+    ∙ ap (λ (t : Table). record { answer = Ok Taken; load = with_table l t }) (put_back (table_of l) s.table c k r f v)
+    ∙ ap (λ (m : Load). record { answer = Ok Taken; load = m }) (table-back l s u)
 
-pub taken-back-new : (l : Load) (name : List ℕ) (i : CallInput) → Kept l → l.searched ≡ false → (add_spec_of l name i).answer ≡ Taken
-    → (add_spec_of l name i).load.table_horizon ≡ l.table_horizon → withdraw_spec (add_spec_of l name i).load (key_of i) ≡ record { answer = Taken; load = closed_load l }
+pub taken-back-new : (l : Load) (name : List ℕ) (i : CallInput) → Kept l → l.searched ≡ false → (add_spec_of l name i).answer ≡ Ok Taken
+    → (add_spec_of l name i).load.table_horizon ≡ l.table_horizon → withdraw_spec (add_spec_of l name i).load (key_of i) ≡ record { answer = Ok Taken; load = closed_load l }
 unfolding add_spec_of withdraw_spec
 taken-back-new l name i kept u q h =
     let s = kept.sound in

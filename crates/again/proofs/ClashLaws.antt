@@ -1,4 +1,6 @@
 -- Calls with no clash have none after one is taken out, so a withdrawal is never answered 14.
+use Rattle.refusal.specs.declared.Accepted.TheVariants.{Taken}
+use Rattle.std.specs.Prelude.{Ok}
 use Prim.Native.Nat.{◌≤◌}
 use mathlib.Core.Path.{◌≡◌, refl, sym, ap, subst, ◌∙◌}
 use mathlib.Core.Logic.{◌⊎◌, inl, inr}
@@ -10,7 +12,6 @@ use borrow.Author.Tests.{eqb-true, ltb-true, le-ltb, ne_eqb}
 use lib.Dec.{eqb, ltb}
 use Rattle.laws.specs.Lists.{anyb}
 use Rattle.laws.specs.Sort.{Ordered}
-use Rattle.refusal.specs.declared.Answer.TheVariants.{Taken}
 use Rattle.calls.specs.declared.Call.{Call}
 use Rattle.calls.specs.Shown.{table_calls}
 use Rattle.offers.specs.Order.{earlier, in_order_of, clash, clashes, Run, Follows, Rising}
@@ -90,7 +91,7 @@ clear_apart : (l : List Call) → AllApart l → clashes (in_order_of l) ≡ fal
 clear_apart l a = ap clashes (ordered-sort earlier l (apart-ordered l a)) ∙ apart-clear l a
 
 -- the calls of a searched load
-own-apart : (l : Load) → Sound l → researched l.stopped l.limit (unsearched_of l) ≡ record { answer = Taken; load = l } → AllApart (table_calls (table_of l))
+own-apart : (l : Load) → Sound l → researched l.stopped l.limit (unsearched_of l) ≡ record { answer = Ok Taken; load = l } → AllApart (table_calls (table_of l))
 unfolding timetable_of
 own-apart l s e =
     let clear = own-clear l e in

@@ -1,4 +1,6 @@
 -- Each return of the code is a law at the tests on its way.
+use Rattle.refusal.specs.declared.Accepted.TheVariants.{Taken}
+use Rattle.std.specs.Prelude.{Err, Ok}
 use Prim.Native.Nat.{ℕ, ◌-◌, ◌≤◌}
 use mathlib.Core.Path.{◌≡◌, refl, sym, ap, ◌∙◌}
 use mathlib.Core.Bool.{Bool, true, false, not, ◌&&◌}
@@ -10,7 +12,6 @@ use lib.ListN.{replicate}
 use Rattle.laws.specs.Lists.{anyb}
 use Rattle.laws.proofs.Bools.{cond-by, cond-not}
 use Rattle.refusal.specs.declared.Refusal.TheVariants.{FieldRange, CallUnknown}
-use Rattle.refusal.specs.declared.Answer.TheVariants.{Taken, Refused}
 use Rattle.refusal.specs.First.{first_answer, is_refused, is_taken}
 use Rattle.profile.specs.declared.Journey.{Journey}
 use Rattle.profile.specs.Journeys.{no_journey}
@@ -97,23 +98,23 @@ module _ (l : Load) (name : List ℕ) (i : CallInput) where
 -- ---- a withdrawal
 
 module _ (l : Load) (k : CallKey) where
-  pub out-unknown : key_known k ≡ false → ◌≡◌ {A = Stepped} (record { answer = Refused FieldRange; load = l }) (taken_out l k)
+  pub out-unknown : key_known k ≡ false → ◌≡◌ {A = Stepped} (record { answer = Err FieldRange; load = l }) (taken_out l k)
   unfolding taken_out first_answer
   out-unknown e = rw e refl
 
-  pub out_none : (n : ℕ) → n ≡ last_of (has_key k) (table_calls (table_of l)) → key_known k ≡ true → n ≡ 0 → ◌≡◌ {A = Stepped} (record { answer = Refused CallUnknown; load = l }) (taken_out l k)
+  pub out_none : (n : ℕ) → n ≡ last_of (has_key k) (table_calls (table_of l)) → key_known k ≡ true → n ≡ 0 → ◌≡◌ {A = Stepped} (record { answer = Err CallUnknown; load = l }) (taken_out l k)
   unfolding taken_out first_answer
   out_none n is e z =
       let none : not (anyb (has_key k) (table_calls (table_of l))) ≡ true = sym (place-tells (has_key k) (table_calls (table_of l))) ∙ eq-eqb _ 0 (sym is ∙ z) in
       rw (e, none) refl
 
   pub out-there : (n : ℕ) (cs : List Call) → n ≡ last_of (has_key k) (table_calls (table_of l)) → key_known k ≡ true → (n ≡ 0 → ⊥) → cs ≡ closed_up blank_call (n - 1) l.calls
-      → ◌≡◌ {A = Stepped} (record { answer = Taken; load = with_table l (record { calls = cs; count = l.call_count - 1; horizon = l.table_horizon; limits = l.table_limits }) }) (taken_out l k)
+      → ◌≡◌ {A = Stepped} (record { answer = Ok Taken; load = with_table l (record { calls = cs; count = l.call_count - 1; horizon = l.table_horizon; limits = l.table_limits }) }) (taken_out l k)
   unfolding taken_out first_answer withdrawn
   out-there n cs is e z ec =
       let some : not (anyb (has_key k) (table_calls (table_of l))) ≡ false = sym (place-tells (has_key k) (table_calls (table_of l))) ∙ ne_eqb _ 0 (λ q. z (is ∙ q)) in
       let array : cs ≡ closed_up blank_call (last_of (has_key k) (table_calls (table_of l)) - 1) l.calls = ec ∙ ap (λ (m : ℕ). closed_up blank_call (m - 1) l.calls) is in
-      ap (λ (x : List Call). record { answer = Taken; load = with_table l (record { calls = x; count = l.call_count - 1; horizon = l.table_horizon; limits = l.table_limits }) }) array
+      ap (λ (x : List Call). record { answer = Ok Taken; load = with_table l (record { calls = x; count = l.call_count - 1; horizon = l.table_horizon; limits = l.table_limits }) }) array
       ∙ rw (e, some) refl
 
   -- a call is there to be taken off

@@ -1,4 +1,6 @@
 -- After each step a searched load is the search of its own table, and the table's horizon has not risen; when a withdrawal is answered 24.
+use Rattle.refusal.specs.declared.Accepted.TheVariants.{Taken}
+use Rattle.std.specs.Prelude.{Err, Ok}
 use Prim.Native.Nat.{ℕ, ◌≤◌}
 use mathlib.Core.Path.{◌≡◌, refl, sym, ap, subst, ◌∙◌}
 use mathlib.Core.Bool.{Bool, true, false, cond, true≢false}
@@ -7,9 +9,7 @@ use native.Mathlib.Omega.{arith}
 use Rattle.laws.specs.Lists.{anyb}
 use Rattle.laws.proofs.Bools.{not-true}
 use Rattle.refusal.specs.declared.Refusal.TheVariants.{Neighbours, NoRoom, CallUnknown}
-use Rattle.refusal.specs.declared.Answer.{Answer}
-use Rattle.refusal.specs.declared.Answer.TheVariants.{Taken, Refused}
-use Rattle.refusal.specs.First.{First, none, hit, miss, is_refused, is_taken, answer_number}
+use Rattle.refusal.specs.First.{First, none, hit, miss, is_refused, is_taken, answer_number, Answer}
 use Rattle.calls.specs.declared.CallInput.{CallInput}
 use Rattle.calls.specs.Shown.{table_calls}
 use Rattle.withdrawal.specs.declared.CallKey.{CallKey}
@@ -115,7 +115,7 @@ withdraw-kept l k w = go l.searched refl
 pub taken_back : TakenBack
 taken_back l name i w q h = go l.searched refl
   where
-    go : (b : Bool) → l.searched ≡ b → withdraw_spec (add_spec_of l name i).load (key_of i) ≡ record { answer = Taken; load = closed_load l }
+    go : (b : Bool) → l.searched ≡ b → withdraw_spec (add_spec_of l name i).load (key_of i) ≡ record { answer = Ok Taken; load = closed_load l }
     go true e = searched-taken-back l name i w e q h
     go false e = taken-back-new l name i w e q h
 
@@ -163,20 +163,20 @@ never_wider l name i k = (add-lower l name i, withdraw-same l k)
 -- ---- 24
 
 -- no search is answered 24
-first-number : (a : Answer) (x y : Bool) → First a ((x, Refused Neighbours) ∷ (y, Refused NoRoom) ∷ []) → a ≡ Refused CallUnknown → ⊥
+first-number : (a : Answer) (x y : Bool) → First a ((x, Err Neighbours) ∷ (y, Err NoRoom) ∷ []) → a ≡ Err CallUnknown → ⊥
 first-number _ x y (hit h) e = let n = ap answer_number e in omega (arith, n)
 first-number _ x y (miss h (hit k)) e = let n = ap answer_number e in omega (arith, n)
 first-number _ x y (miss h (miss k none)) e = let n = ap answer_number e in omega (arith, n)
 
-search-number : (b : Bool) (n : ℕ) (m : Load) → m.searched ≡ false → (researched b n m).answer ≡ Refused CallUnknown → ⊥
+search-number : (b : Bool) (n : ℕ) (m : Load) → m.searched ≡ false → (researched b n m).answer ≡ Err CallUnknown → ⊥
 search-number b n m new e = first-number _ _ _ (research-first b n m new) e
 
 -- nor is the search again of a step that is taken
-again-number : (l m : Load) → m.searched ≡ false → (again l (record { answer = Taken; load = m })).answer ≡ Refused CallUnknown → ⊥
+again-number : (l m : Load) → m.searched ≡ false → (again l (record { answer = Ok Taken; load = m })).answer ≡ Err CallUnknown → ⊥
 unfolding again
 again-number l m n q = go (is_taken (researched l.stopped l.limit m).answer) q
   where
-    go : (c : Bool) → (cond {A = Stepped} c (record { answer = Taken; load = (researched l.stopped l.limit m).load }) (record { answer = (researched l.stopped l.limit m).answer; load = l })).answer ≡ Refused CallUnknown → ⊥
+    go : (c : Bool) → (cond {A = Stepped} c (record { answer = Ok Taken; load = (researched l.stopped l.limit m).load }) (record { answer = (researched l.stopped l.limit m).answer; load = l })).answer ≡ Err CallUnknown → ⊥
     go true e = let z = ap answer_number e in omega (arith, z)
     go false e = search-number l.stopped l.limit m n e
 
@@ -185,19 +185,19 @@ module _ (l : Load) (k : CallKey) (known : key_known k ≡ true) where
   unfolding unsearched_of
   same-calls = refl
 
-  to : anyb (has_key k) (table_calls (table_of l)) ≡ false → (withdraw_spec l k).answer ≡ Refused CallUnknown
+  to : anyb (has_key k) (table_calls (table_of l)) ≡ false → (withdraw_spec l k).answer ≡ Err CallUnknown
   unfolding withdraw_spec again
   to e = go l.searched
     where
-      go : (b : Bool) → (cond b (again l (taken_out (unsearched_of l) k)) (taken_out l k)).answer ≡ Refused CallUnknown
+      go : (b : Bool) → (cond b (again l (taken_out (unsearched_of l) k)) (taken_out l k)).answer ≡ Err CallUnknown
       go true = ap (λ (r : Stepped). (again l r).answer) (none_stays (unsearched_of l) k known (ap (anyb (has_key k)) same-calls ∙ e))
       go false = ap (λ (r : Stepped). r.answer) (none_stays l k known e)
 
-  there : anyb (has_key k) (table_calls (table_of l)) ≡ true → (withdraw_spec l k).answer ≡ Refused CallUnknown → ⊥
+  there : anyb (has_key k) (table_calls (table_of l)) ≡ true → (withdraw_spec l k).answer ≡ Err CallUnknown → ⊥
   unfolding withdraw_spec withdrawn
   there e q = go l.searched q
     where
-      go : (b : Bool) → (cond b (again l (taken_out (unsearched_of l) k)) (taken_out l k)).answer ≡ Refused CallUnknown → ⊥
+      go : (b : Bool) → (cond b (again l (taken_out (unsearched_of l) k)) (taken_out l k)).answer ≡ Err CallUnknown → ⊥
       go true q =
           let is = there-goes (unsearched_of l) k known (ap (anyb (has_key k)) same-calls ∙ e) in
           again-number l (with_table (unsearched_of l) (withdrawn (table_of (unsearched_of l)) k)) (unsearched-new l) (sym (ap (λ (r : Stepped). (again l r).answer) is) ∙ q)

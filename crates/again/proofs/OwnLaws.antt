@@ -1,4 +1,6 @@
 -- A searched load is the search of its own table: in full, or within the limit at which it was stopped.
+use Rattle.refusal.specs.declared.Accepted.TheVariants.{Taken}
+use Rattle.std.specs.Prelude.{Ok}
 use Prim.Native.Nat.{ℕ, ◌≤◌}
 use mathlib.Core.Path.{◌≡◌, refl, sym, ap, subst, ◌∙◌}
 use mathlib.Core.Bool.{Bool, true, false}
@@ -8,7 +10,6 @@ use lib.ListN.{length, take}
 use Rattle.laws.specs.Lists.{padded}
 use Rattle.laws.proofs.Sort.{sort-perm}
 use Rattle.laws.proofs.Bools.{cond-not}
-use Rattle.refusal.specs.declared.Answer.TheVariants.{Taken}
 use Rattle.refusal.specs.First.{is_taken}
 use Rattle.profile.specs.declared.Journey.{Journey}
 use Rattle.profile.specs.Journeys.{no_journey}
@@ -77,16 +78,16 @@ unfolding unsearched_of
 same-change m = refl
 
 own-full : (m : Load) (ks : List Journey) (h k : ℕ) → Sound m → outcome_of m ≡ found ks h k
-    → researched false 0 (unsearched_of (with_journeys m ks h k)) ≡ record { answer = Taken; load = with_journeys m ks h k }
+    → researched false 0 (unsearched_of (with_journeys m ks h k)) ≡ record { answer = Ok Taken; load = with_journeys m ks h k }
 own-full m ks h k s e =
     let x : Load = unsearched_of (with_journeys m ks h k) in
     researched-full false 0 (unsearched_of (with_journeys m ks h k)) refl
     ∙ search-runs (unsearched_of (with_journeys m ks h k)) (unsearched-new (with_journeys m ks h k))
     ∙ ap (λ (o : Outcome). record { answer = answer_of o; load = settled (unsearched_of (with_journeys m ks h k)) o }) (sym (same_outcome m ks h k false 0 s) ∙ e)
-    ∙ ap (λ (l : Load). record { answer = Taken; load = l }) (same_load m ks h k false 0 s)
+    ∙ ap (λ (l : Load). record { answer = Ok Taken; load = l }) (same_load m ks h k false 0 s)
 
 stopped-is : (m : Load) (n : ℕ) (ks : List Journey) (h k : ℕ) → Sound m → m.settings.max_transfers ≤ 1 → outcome_within m n ≡ found ks h k → finishes_in m n ≡ false
-    → researched true n (unsearched_of (with_found m ks h k true n)) ≡ record { answer = Taken; load = with_found m ks h k true n }
+    → researched true n (unsearched_of (with_found m ks h k true n)) ≡ record { answer = Ok Taken; load = with_found m ks h k true n }
 stopped-is m n ks h k s one e f =
     let u : Load = unsearched_of (with_found m ks h k true n) in
     let few : (unsearched_of (with_found m ks h k true n)).settings.max_transfers ≤ 1 = subst (λ (x : ℕ). x ≤ 1) (sym (same-change (with_found m ks h k true n))) one in
@@ -94,19 +95,19 @@ stopped-is m n ks h k s one e f =
     researched-within true n (unsearched_of (with_found m ks h k true n)) refl few
     ∙ ap step_of (within-runs (unsearched_of (with_found m ks h k true n)) n (unsearched-new (with_found m ks h k true n)) few)
     ∙ ap (λ (o : Outcome). step_of (ran_within (unsearched_of (with_found m ks h k true n)) n o)) (sym (same-within m ks h k true n s) ∙ e)
-    ∙ ap (λ (l : Load). record { answer = Taken; load = l }) (cond-not _ _ (sym (same-finishes m ks h k true n s clear) ∙ f) ∙ same_load m ks h k true n s)
+    ∙ ap (λ (l : Load). record { answer = Ok Taken; load = l }) (cond-not _ _ (sym (same-finishes m ks h k true n s clear) ∙ f) ∙ same_load m ks h k true n s)
 
 -- the load that an accepted search leaves
 pub found-own : (m : Load) → Sound m → is_taken (search_spec m).answer ≡ true → Own (search_spec m).load
 found-own m s t d =
     let w = taken-found m t in
-    subst (λ (l : Load). researched l.stopped l.limit (unsearched_of l) ≡ record { answer = Taken; load = l }) (sym (ap (λ (r : Stepped). r.load) w.is))
+    subst (λ (l : Load). researched l.stopped l.limit (unsearched_of l) ≡ record { answer = Ok Taken; load = l }) (sym (ap (λ (r : Stepped). r.load) w.is))
     (own-full m w.kept w.to w.mark s w.outcome)
 
 stopped-own : (m : Load) (n : ℕ) → Sound m → finishes_in m n ≡ false → is_taken (within_spec m n).answer ≡ true → Own (within_spec m n).load
 stopped-own m n s f t d =
     let w = taken-within m n t in
-    subst (λ (l : Load). researched l.stopped l.limit (unsearched_of l) ≡ record { answer = Taken; load = l })
+    subst (λ (l : Load). researched l.stopped l.limit (unsearched_of l) ≡ record { answer = Ok Taken; load = l })
     (sym (ap (λ (r : Limited). r.load) w.is ∙ cond-not _ _ f))
     (stopped-is m n w.kept w.to w.mark s w.one w.outcome f)
 
@@ -125,9 +126,9 @@ researched-own b n m s = research-cases b n m (λ r. is_taken r.answer ≡ true 
 -- ---- what that says of a finished load, and of one that was stopped
 
 abbrev Is : Load → Type 0
-Is l = researched l.stopped l.limit (unsearched_of l) ≡ record { answer = Taken; load = l }
+Is l = researched l.stopped l.limit (unsearched_of l) ≡ record { answer = Ok Taken; load = l }
 
-own-within : (l : Load) → Sound l → Is l → l.stopped ≡ true → step_of (within_spec (unsearched_of l) l.limit) ≡ record { answer = Taken; load = l }
+own-within : (l : Load) → Sound l → Is l → l.stopped ≡ true → step_of (within_spec (unsearched_of l) l.limit) ≡ record { answer = Ok Taken; load = l }
 own-within l s o e =
     let few : (unsearched_of l).settings.max_transfers ≤ 1 = subst (λ (x : ℕ). x ≤ 1) (sym (same-change l)) (s.stopped_change e) in
     sym (researched-within l.stopped l.limit (unsearched_of l) e few) ∙ o

@@ -1,4 +1,6 @@
 -- The search again, within a limit or in full: its tests, what it finds, and that it leaves a sound load.
+use Rattle.refusal.specs.declared.Accepted.TheVariants.{Taken}
+use Rattle.std.specs.Prelude.{Err, Ok}
 use Prim.Native.Nat.{ℕ, ◌≤◌}
 use mathlib.Core.Path.{◌≡◌, refl, sym, ap, subst, ◌∙◌}
 use mathlib.Core.Bool.{Bool, true, false, cond, ◌&&◌, true≢false}
@@ -7,9 +9,7 @@ use borrow.Author.Tests.{leb-true, le-leb}
 use lib.Dec.{leb}
 use Rattle.laws.proofs.Bools.{cond-by, cond-not}
 use Rattle.refusal.specs.declared.Refusal.TheVariants.{Neighbours, NoRoom}
-use Rattle.refusal.specs.declared.Answer.{Answer}
-use Rattle.refusal.specs.declared.Answer.TheVariants.{Taken, Refused}
-use Rattle.refusal.specs.First.{First, hit, miss, is_taken}
+use Rattle.refusal.specs.First.{First, hit, miss, is_taken, Answer}
 use Rattle.profile.specs.declared.Journey.{Journey}
 use Rattle.offers.specs.Order.{clashes}
 use Rattle.offers.specs.Offers.{sorted}
@@ -68,15 +68,15 @@ past_one (hit e) q = absurd (true≢false (sym e ∙ q))
 past_one (miss e f) q = f
 
 pub research-first : (b : Bool) (n : ℕ) (m : Load) → m.searched ≡ false
-    → First (researched b n m).answer ((clashes (sorted (timetable_of m)), Refused Neighbours) ∷ (falls_again b n m, Refused NoRoom) ∷ [])
+    → First (researched b n m).answer ((clashes (sorted (timetable_of m)), Err Neighbours) ∷ (falls_again b n m, Err NoRoom) ∷ [])
 unfolding researched
 research-first b n m new = go (is_limited b m) refl
   where
     go : (c : Bool) → is_limited b m ≡ c
-        → First (cond c (step_of (within_spec m n)) (search_spec m)).answer ((clashes (sorted (timetable_of m)), Refused Neighbours) ∷ (cond c (would_fall_within m n) (would_fall m), Refused NoRoom) ∷ [])
+        → First (cond c (step_of (within_spec m n)) (search_spec m)).answer ((clashes (sorted (timetable_of m)), Err Neighbours) ∷ (cond c (would_fall_within m n) (would_fall m), Err NoRoom) ∷ [])
     go true e =
         let q = within-runs m n new (limits b m e).one in
-        subst (λ (a : Answer). First a ((clashes (sorted (timetable_of m)), Refused Neighbours) ∷ (would_fall_within m n, Refused NoRoom) ∷ []))
+        subst (λ (a : Answer). First a ((clashes (sorted (timetable_of m)), Err Neighbours) ∷ (would_fall_within m n, Err NoRoom) ∷ []))
         (sym (ap (λ (w : Stepped). w.answer) (ap step_of q) ∙ ran-answer m n (outcome_within m n))) (within_first m n)
     go false e = past_one (search-answered m).first new
 
@@ -90,7 +90,7 @@ pub record Researched (b : Bool) (n : ℕ) (m : Load) : Type 0 where
   pub mark : ℕ
   pub stop : Bool
   pub at : ℕ
-  pub is : researched b n m ≡ record { answer = Taken; load = with_found m kept to mark stop at }
+  pub is : researched b n m ≡ record { answer = Ok Taken; load = with_found m kept to mark stop at }
   pub clear : clashes (sorted (timetable_of m)) ≡ false
 
 full-clear : (m : Load) (h k : ℕ) (ks : List Journey) → outcome_of m ≡ found ks h k → clashes (sorted (timetable_of m)) ≡ false
@@ -113,7 +113,7 @@ module _ (b : Bool) (n : ℕ) (m : Load) where
         mark = w.mark;
         stop = true;
         at = n;
-        is = q ∙ ap step_of w.is ∙ ap (λ (x : Load). record { answer = Taken; load = x }) (cond-not _ _ e);
+        is = q ∙ ap step_of w.is ∙ ap (λ (x : Load). record { answer = Ok Taken; load = x }) (cond-not _ _ e);
         clear = within-clear m n w.kept w.to w.mark w.outcome;
       }
 

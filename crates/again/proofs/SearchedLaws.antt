@@ -1,4 +1,6 @@
 -- Withdrawing straight after taking gives back a searched load too, if the table's horizon didn't fall.
+use Rattle.refusal.specs.declared.Accepted.TheVariants.{Taken}
+use Rattle.std.specs.Prelude.{Ok}
 use Prim.Native.Nat.{ℕ, ◌+◌, ◌≤◌, ◌<◌}
 use mathlib.Core.Path.{◌≡◌, refl, sym, ap, subst, ◌∙◌}
 use mathlib.Core.Bool.{Bool, true, false, cond, not, ◌&&◌, true≢false, false≢true}
@@ -7,7 +9,6 @@ use lib.Dec.{eqb}
 use lib.ListN.{take, set}
 use Rattle.laws.specs.Lists.{anyb}
 use Rattle.laws.proofs.Bools.{cond-by, cond-not}
-use Rattle.refusal.specs.declared.Answer.TheVariants.{Taken}
 use Rattle.refusal.specs.First.{is_refused, is_taken}
 use Rattle.calls.specs.declared.Call.{Call}
 use Rattle.calls.specs.declared.CallInput.{CallInput}
@@ -48,7 +49,7 @@ use Rattle.again.proofs.BackLaws.{call-put}
 -- ---- a call that a searched load takes is taken by the unsearched one, and the search of that is accepted
 
 record Adds (l : Load) (r : Stepped) (n : Load) : Type 0 where
-  answer : r.answer ≡ Taken
+  answer : r.answer ≡ Ok Taken
   accepted : is_taken (researched l.stopped l.limit r.load).answer ≡ true
   is : n ≡ (researched l.stopped l.limit r.load).load
 
@@ -62,11 +63,11 @@ added_by l r b c d = cond b (record { answer = r.answer; load = with_week l r.lo
     (cond d (record { answer = r.answer; load = (researched l.stopped l.limit r.load).load })
     (record { answer = (researched l.stopped l.limit r.load).answer; load = l })))
 
-added : (l : Load) (r : Stepped) → (added_to l r).answer ≡ Taken → Adds l r (added_to l r).load
+added : (l : Load) (r : Stepped) → (added_to l r).answer ≡ Ok Taken → Adds l r (added_to l r).load
 unfolding added_to again
 added l r q = go (leaves_table_of l r) (is_refused r.answer) (is_taken (researched l.stopped l.limit r.load).answer) refl refl refl q
   where
-    go : (b c d : Bool) → leaves_table_of l r ≡ b → is_refused r.answer ≡ c → is_taken (researched l.stopped l.limit r.load).answer ≡ d → (added_by l r b c d).answer ≡ Taken → Adds l r (added_by l r b c d).load
+    go : (b c d : Bool) → leaves_table_of l r ≡ b → is_refused r.answer ≡ c → is_taken (researched l.stopped l.limit r.load).answer ≡ d → (added_by l r b c d).answer ≡ Ok Taken → Adds l r (added_by l r b c d).load
     go true c d e f g q = absurd (not-both (is_taken r.answer) (eqb r.load.table_horizon l.table_horizon) (ap is_taken q) e)
     go false true d e f g q = absurd (true≢false (sym f ∙ ap is_refused q))
     go false false true e f g q = record { answer = q; accepted = g; is = refl }
@@ -74,7 +75,7 @@ added l r q = go (leaves_table_of l r) (is_refused r.answer) (is_taken (research
 
 -- ---- the calls of a searched load are in order
 
-pub own-sorted : (l : Load) → researched l.stopped l.limit (unsearched_of l) ≡ record { answer = Taken; load = l } → table_calls (table_of l) ≡ in_order_of (table_calls (table_of l))
+pub own-sorted : (l : Load) → researched l.stopped l.limit (unsearched_of l) ≡ record { answer = Ok Taken; load = l } → table_calls (table_of l) ≡ in_order_of (table_calls (table_of l))
 unfolding unsearched_of
 own-sorted l e =
     let w = taken-researched l.stopped l.limit (unsearched_of l) (ap (λ (r : Stepped). is_taken r.answer) e) in
@@ -82,7 +83,7 @@ own-sorted l e =
     ap (take l.call_count) same ∙ sorted_front l.call_count l.calls
 
 -- and none clash
-pub own-clear : (l : Load) → researched l.stopped l.limit (unsearched_of l) ≡ record { answer = Taken; load = l } → clashes (in_order_of (table_calls (table_of l))) ≡ false
+pub own-clear : (l : Load) → researched l.stopped l.limit (unsearched_of l) ≡ record { answer = Ok Taken; load = l } → clashes (in_order_of (table_calls (table_of l))) ≡ false
 unfolding timetable_of unsearched_of
 own-clear l e = (taken-researched l.stopped l.limit (unsearched_of l) (ap (λ (r : Stepped). is_taken r.answer) e)).clear
 
@@ -96,7 +97,7 @@ kept-count l h = h
 
 -- u is unsearched, c was put into its table, and the search of that found ks and was stopped as l's was; the key of c is taken out again
 module _ (l : Load) (s : Sound l) (c : Call) (k : CallKey) (room : l.call_count < 512) (known : key_known k ≡ true) (key : has_key k c ≡ true)
-    (own : researched l.stopped l.limit (unsearched_of l) ≡ record { answer = Taken; load = l }) (ks : List Journey) (h m : ℕ) where
+    (own : researched l.stopped l.limit (unsearched_of l) ≡ record { answer = Ok Taken; load = l }) (ks : List Journey) (h m : ℕ) where
   abbrev u : Load
   u = unsearched_of l
 
@@ -120,18 +121,18 @@ module _ (l : Load) (s : Sound l) (c : Call) (k : CallKey) (room : l.call_count 
   unfolding timetable_of unsearched_of
   clear-with e = ap (λ (ys : List Call). clashes (in_order_of ys)) (sym calls-with) ∙ e
 
-  goes_back : Sound n → clashes (sorted (timetable_of with-c)) ≡ false → taken_out (unsearched_of n) k ≡ record { answer = Taken; load = u }
+  goes_back : Sound n → clashes (sorted (timetable_of with-c)) ≡ false → taken_out (unsearched_of n) k ≡ record { answer = Ok Taken; load = u }
   unfolding unsearched_of
   goes_back sn e =
       let clear = clear-with e in
       let left : without_last (has_key k) (table_calls (table_of (unsearched_of n))) ≡ table_calls (table_of u) = ap (without_last (has_key k)) calls-sorted ∙ sorted-gone cs c clear k key ∙ sym (own-sorted l own) in
       let there : anyb (has_key k) (table_calls (table_of (unsearched_of n))) ≡ true = ap (anyb (has_key k)) calls-sorted ∙ sorted-there cs c clear k key in
       there-goes (unsearched_of n) k known there
-      ∙ ap (λ (t : Table). record { answer = Taken; load = with_table (unsearched_of n) t }) (left_back (table_of u) s.table (table_of (unsearched_of n)) k sn.table there left refl refl)
+      ∙ ap (λ (t : Table). record { answer = Ok Taken; load = with_table (unsearched_of n) t }) (left_back (table_of u) s.table (table_of (unsearched_of n)) k sn.table there left refl refl)
 
-  back : Sound n → clashes (sorted (timetable_of with-c)) ≡ false → withdraw_spec n k ≡ record { answer = Taken; load = l }
+  back : Sound n → clashes (sorted (timetable_of with-c)) ≡ false → withdraw_spec n k ≡ record { answer = Ok Taken; load = l }
   unfolding withdraw_spec again
-  back sn e = ap (again n) (goes_back sn e) ∙ ap (searched_as n Taken) own
+  back sn e = ap (again n) (goes_back sn e) ∙ ap (searched_as n (Ok Taken)) own
 
   -- a search of it within l's limit is stopped again: there are no fewer joins
   stops-again : l.stopped ≡ true → clashes (sorted (timetable_of with-c)) ≡ false → finishes_in u l.limit ≡ false → finishes_in with-c l.limit ≡ false
@@ -155,7 +156,7 @@ record Same (b : Bool) (n : ℕ) (m : Load) : Type 0 where
   kept : List Journey
   to : ℕ
   mark : ℕ
-  is : researched b n m ≡ record { answer = Taken; load = with_found m kept to mark b n }
+  is : researched b n m ≡ record { answer = Ok Taken; load = with_found m kept to mark b n }
   clear : clashes (sorted (timetable_of m)) ≡ false
 
 stopped-same : (b : Bool) (n : ℕ) (m : Load) → (b ≡ false → n ≡ 0) → (b ≡ true → m.settings.max_transfers ≤ 1)
@@ -167,7 +168,7 @@ stopped-same false n m z one stays t =
       kept = w.kept;
       to = w.to;
       mark = w.mark;
-      is = q ∙ w.is ∙ (λ i. record { answer = Taken; load = with_found m w.kept w.to w.mark false (sym (z refl) i) });
+      is = q ∙ w.is ∙ (λ i. record { answer = Ok Taken; load = with_found m w.kept w.to w.mark false (sym (z refl) i) });
       clear = (taken-researched false n m t).clear;
     }
 stopped-same true n m z one stays t =
@@ -178,12 +179,12 @@ stopped-same true n m z one stays t =
       kept = w.kept;
       to = w.to;
       mark = w.mark;
-      is = q ∙ ap step_of w.is ∙ ap (λ (x : Load). record { answer = Taken; load = x }) (cond-not _ _ (stays refl clear));
+      is = q ∙ ap step_of w.is ∙ ap (λ (x : Load). record { answer = Ok Taken; load = x }) (cond-not _ _ (stays refl clear));
       clear = clear;
     }
 
-pub searched-taken-back : (l : Load) (name : List ℕ) (i : CallInput) → Kept l → l.searched ≡ true → (add_spec_of l name i).answer ≡ Taken
-    → (add_spec_of l name i).load.table_horizon ≡ l.table_horizon → withdraw_spec (add_spec_of l name i).load (key_of i) ≡ record { answer = Taken; load = closed_load l }
+pub searched-taken-back : (l : Load) (name : List ℕ) (i : CallInput) → Kept l → l.searched ≡ true → (add_spec_of l name i).answer ≡ Ok Taken
+    → (add_spec_of l name i).load.table_horizon ≡ l.table_horizon → withdraw_spec (add_spec_of l name i).load (key_of i) ≡ record { answer = Ok Taken; load = closed_load l }
 unfolding add_spec_of
 searched-taken-back l name i kept d q h =
     let u : Load = unsearched_of l in

@@ -1,10 +1,11 @@
 -- The unsearched load, and one without a call, are sound.
+use Rattle.refusal.specs.declared.Accepted.TheVariants.{Taken}
+use Rattle.std.specs.Prelude.{Err, Ok}
 use mathlib.Core.Path.{◌≡◌, refl, sym, subst}
 use mathlib.Core.Bool.{Bool, true, false, false≢true}
 use native.Mathlib.Omega.{arith}
 use Rattle.laws.specs.Lists.{anyb}
 use Rattle.refusal.specs.declared.Refusal.TheVariants.{FieldRange, CallUnknown}
-use Rattle.refusal.specs.declared.Answer.TheVariants.{Taken, Refused}
 use Rattle.refusal.specs.First.{first_answer}
 use Rattle.calls.specs.Shown.{table_calls}
 use Rattle.withdrawal.specs.declared.CallKey.{CallKey}
@@ -46,28 +47,28 @@ unsearched-sound l s = record {
 pub record Goes (l : Load) (k : CallKey) : Type 0 where
   pub known : key_known k ≡ true
   pub there : anyb (has_key k) (table_calls (table_of l)) ≡ true
-  pub is : taken_out l k ≡ record { answer = Taken; load = with_table l (withdrawn (table_of l) k) }
+  pub is : taken_out l k ≡ record { answer = Ok Taken; load = with_table l (withdrawn (table_of l) k) }
 
 module _ (l : Load) (k : CallKey) where
   -- a call that is there goes
   pub there-goes : key_known k ≡ true → anyb (has_key k) (table_calls (table_of l)) ≡ true
-      → taken_out l k ≡ record { answer = Taken; load = with_table l (withdrawn (table_of l) k) }
+      → taken_out l k ≡ record { answer = Ok Taken; load = with_table l (withdrawn (table_of l) k) }
   unfolding taken_out first_answer
   there-goes e f = rw (e, f) refl
 
-  pub unknown-stays : key_known k ≡ false → taken_out l k ≡ record { answer = Refused FieldRange; load = l }
+  pub unknown-stays : key_known k ≡ false → taken_out l k ≡ record { answer = Err FieldRange; load = l }
   unfolding taken_out first_answer
   unknown-stays e = rw e refl
 
-  pub none_stays : key_known k ≡ true → anyb (has_key k) (table_calls (table_of l)) ≡ false → taken_out l k ≡ record { answer = Refused CallUnknown; load = l }
+  pub none_stays : key_known k ≡ true → anyb (has_key k) (table_calls (table_of l)) ≡ false → taken_out l k ≡ record { answer = Err CallUnknown; load = l }
   unfolding taken_out first_answer
   none_stays e f = rw (e, f) refl
 
   -- of any property of what is returned, by the three cases
   pub out_cases : (P : Stepped → Type 0)
-      → (key_known k ≡ false → P (record { answer = Refused FieldRange; load = l }))
-      → (key_known k ≡ true → anyb (has_key k) (table_calls (table_of l)) ≡ false → P (record { answer = Refused CallUnknown; load = l }))
-      → (Goes l k → P (record { answer = Taken; load = with_table l (withdrawn (table_of l) k) }))
+      → (key_known k ≡ false → P (record { answer = Err FieldRange; load = l }))
+      → (key_known k ≡ true → anyb (has_key k) (table_calls (table_of l)) ≡ false → P (record { answer = Err CallUnknown; load = l }))
+      → (Goes l k → P (record { answer = Ok Taken; load = with_table l (withdrawn (table_of l) k) }))
       → P (taken_out l k)
   out_cases P nine none goes = by (key_known k) refl (anyb (has_key k) (table_calls (table_of l))) refl
     where

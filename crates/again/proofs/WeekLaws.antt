@@ -1,4 +1,6 @@
 -- The week stands beside what a search, a withdrawal and a plain call read; an answered call closes the services and does no more to it.
+use Rattle.refusal.specs.declared.Accepted.TheVariants.{Taken}
+use Rattle.std.specs.Prelude.{Err, Ok}
 use Prim.Native.Nat.{ℕ}
 use mathlib.Core.Path.{◌≡◌, refl, sym, ap, ◌∙◌}
 use mathlib.Core.Logic.{inl, inr}
@@ -7,7 +9,6 @@ use mathlib.Core.List.{List}
 use lib.Dec.{ltb}
 use Rattle.laws.proofs.Bools.{cond-not}
 use Rattle.refusal.specs.declared.Refusal.TheVariants.{SettingsRange, AlreadySearched}
-use Rattle.refusal.specs.declared.Answer.TheVariants.{Taken, Refused}
 use Rattle.refusal.specs.First.{is_refused, is_taken}
 use Rattle.calls.specs.declared.CallInput.{CallInput}
 use Rattle.profile.specs.declared.Journey.{Journey}
@@ -38,8 +39,8 @@ pub search-week : (m : Load) (w : Week) → search_spec (with_week m w) ≡ reco
 unfolding search_spec outcome_of timetable_of
 search-week m w = go m.searched (outcome_of m)
   where
-    go : (b : Bool) (o : Outcome) → cond {A = Stepped} b (record { answer = Refused AlreadySearched; load = with_week m w }) (record { answer = answer_of o; load = settled (with_week m w) o })
-        ≡ with_week_of w (cond {A = Stepped} b (record { answer = Refused AlreadySearched; load = m }) (record { answer = answer_of o; load = settled m o }))
+    go : (b : Bool) (o : Outcome) → cond {A = Stepped} b (record { answer = Err AlreadySearched; load = with_week m w }) (record { answer = answer_of o; load = settled (with_week m w) o })
+        ≡ with_week_of w (cond {A = Stepped} b (record { answer = Err AlreadySearched; load = m }) (record { answer = answer_of o; load = settled m o }))
     go true o = refl
     go false clashing = refl
     go false falling = refl
@@ -55,13 +56,13 @@ unfolding within_spec outcome_within finishes_in timetable_of
 within-week m n w = go m.searched (ltb 1 m.settings.max_transfers) (outcome_within m n)
   where
     go : (b c : Bool) (o : Outcome)
-        → step_of (cond b (sent_back_of (with_week m w) (Refused AlreadySearched)) (cond c (sent_back_of (with_week m w) (Refused SettingsRange)) (ran_within (with_week m w) n o)))
-        ≡ with_week_of w (step_of (cond b (sent_back_of m (Refused AlreadySearched)) (cond c (sent_back_of m (Refused SettingsRange)) (ran_within m n o))))
+        → step_of (cond b (sent_back_of (with_week m w) (Err AlreadySearched)) (cond c (sent_back_of (with_week m w) (Err SettingsRange)) (ran_within (with_week m w) n o)))
+        ≡ with_week_of w (step_of (cond b (sent_back_of m (Err AlreadySearched)) (cond c (sent_back_of m (Err SettingsRange)) (ran_within m n o))))
     go true c o = refl
     go false true o = refl
     go false false clashing = refl
     go false false falling = refl
-    go false false (found ks h k) = ap (λ (x : Load). record { answer = Taken; load = x }) (found-week m n w ks h k (finishes_in m n))
+    go false false (found ks h k) = ap (λ (x : Load). record { answer = Ok Taken; load = x }) (found-week m n w ks h k (finishes_in m n))
 
 pub research-week : (b : Bool) (n : ℕ) (m : Load) (w : Week) → researched b n (with_week m w) ≡ record { answer = (researched b n m).answer; load = with_week (researched b n m).load w }
 unfolding researched
@@ -113,11 +114,11 @@ without_is l i s d =
     λ j. record { answer = (plain_call l i).answer; load = with_week (plain_call l i).load (sym w j) }
 
 -- a call that is taken is the plain call, and the services are closed
-pub taken-is-plain : (l : Load) (name : List ℕ) (i : CallInput) → Sound l → (call_spec l name i).answer ≡ Taken
+pub taken-is-plain : (l : Load) (name : List ℕ) (i : CallInput) → Sound l → (call_spec l name i).answer ≡ Ok Taken
     → call_spec l name i ≡ record { answer = (plain_call l i).answer; load = closed_load (plain_call l i).load }
 taken-is-plain l name i s q = go _ (called l name i) q
   where
-    go : (r : Stepped) → Called l name i r → r.answer ≡ Taken → r ≡ record { answer = (plain_call l i).answer; load = closed_load (plain_call l i).load }
+    go : (r : Stepped) → Called l name i r → r.answer ≡ Ok Taken → r ≡ record { answer = (plain_call l i).answer; load = closed_load (plain_call l i).load }
     go _ (without d) q = without_is l i s d
     go _ (goes_on d e) q = closing-is l i (ap is_refused q)
     go _ (stays_out d e) q = absurd (false≢true (ap is_taken q))

@@ -1,12 +1,10 @@
 -- A call added to a load, or withdrawn from it. On a searched load it goes back to the unsearched load, with the table's horizon and
 -- mark, is done there, and the load is searched again: "A call added to or withdrawn from a stopped load has it searched within the same
 -- limit, and any other searched load in full". A refusal, also of that search, leaves the searched load.
-use Rattle.std.specs.Prelude.{ℕ, Bool, false, cond, not, ◌&&◌, List, [], ◌∷◌, leb, eqb, replicate}
+use Rattle.std.specs.Prelude.{ℕ, Bool, false, cond, not, ◌&&◌, List, [], ◌∷◌, leb, eqb, replicate, Err}
 use Rattle.laws.specs.Lists.{anyb}
 use Rattle.refusal.specs.declared.Refusal.TheVariants.{FieldRange, CallUnknown}
-use Rattle.refusal.specs.declared.Answer.{Answer}
-use Rattle.refusal.specs.declared.Answer.TheVariants.{Refused}
-use Rattle.refusal.specs.First.{first_answer, is_refused, is_taken}
+use Rattle.refusal.specs.First.{first_answer, is_refused, is_taken, Answer}
 use Rattle.profile.specs.Journeys.{no_journey}
 use Rattle.calls.specs.declared.CallInput.{CallInput}
 use Rattle.calls.specs.Shown.{table_calls}
@@ -68,8 +66,8 @@ add_spec_of l name i = cond l.searched (added_to l (call_spec (unsearched_of l) 
 
 abbrev pub withdraw_tests : Load → CallKey → List (Bool × Answer)
 withdraw_tests l k =
-    (not (key_known k), Refused FieldRange)
-    ∷ (not (anyb (has_key k) (table_calls (table_of l))), Refused CallUnknown)
+    (not (key_known k), Err FieldRange)
+    ∷ (not (anyb (has_key k) (table_calls (table_of l))), Err CallUnknown)
     ∷ []
 
 abbrev pub withdraw_answer : Load → CallKey → Answer

@@ -1,13 +1,11 @@
 -- The tests of a call and of a withdrawal, each with its answer, in order. 14 and 11 of the search again are asked of the load that is
 -- searched again.
-use Rattle.std.specs.Prelude.{ℕ, ◌≡◌, ◌↔◌, Bool, true, false, cond, not, ◌&&◌, List, [], ◌∷◌, ◌++◌, ltb}
+use Rattle.refusal.specs.declared.Accepted.TheVariants.{Taken, Outside}
+use Rattle.std.specs.Prelude.{ℕ, ◌≡◌, ◌↔◌, Bool, true, false, cond, not, ◌&&◌, List, [], ◌∷◌, ◌++◌, ltb, Option, Err, Ok}
 use Rattle.laws.specs.Lists.{anyb}
 use Rattle.refusal.specs.declared.Refusal.TheVariants.{FieldRange, Neighbours, NoRoom, CallUnknown}
-use Rattle.refusal.specs.declared.Answer.{Answer}
-use Rattle.refusal.specs.declared.Answer.TheVariants.{Taken, Outside, Refused}
-use Rattle.refusal.specs.First.{First, AllFail, is_refused}
+use Rattle.refusal.specs.First.{First, AllFail, is_refused, Answer}
 use Rattle.calls.specs.declared.CallInput.{CallInput}
-use Rattle.calls.specs.declared.Offset.{Offset}
 use Rattle.calls.specs.declared.Table.{Table}
 use Rattle.calls.specs.Windows.{outside}
 use Rattle.calls.specs.Tables.{less}
@@ -34,7 +32,7 @@ falls_again stopped n m = cond (is_limited stopped m) (would_fall_within m n) (w
 
 -- of the search again of m, what a step made of l's unsearched load: 14, 11
 abbrev pub search_tests : Load → Load → List (Bool × Answer)
-search_tests l m = (clashes (sorted (timetable_of m)), Refused Neighbours) ∷ (falls_again l.stopped l.limit m, Refused NoRoom) ∷ []
+search_tests l m = (clashes (sorted (timetable_of m)), Err Neighbours) ∷ (falls_again l.stopped l.limit m, Err NoRoom) ∷ []
 
 -- a full table whose horizon would fall below 3600
 abbrev pub no_room_of : Table → Bool
@@ -43,11 +41,11 @@ no_room_of r = is_full r && ltb (less r.horizon) 3600
 -- of a call with arrival a and departure d on a searched load l: r is the table that the cuts reach, m what the call leaves of the
 -- unsearched load. A call that is outside only after a cut has the load searched again, so 14 and 11 of that search
 -- come before its outside
-abbrev pub again_tests : Load → Offset → Offset → Table → Load → List (Bool × Answer)
+abbrev pub again_tests : Load → Option ℕ → Option ℕ → Table → Load → List (Bool × Answer)
 again_tests l a d r m =
-    (outside r.horizon a d && not (ltb r.horizon l.table_horizon), Outside)
-    ∷ (not (outside r.horizon a d) && no_room_of r, Refused NoRoom)
-    ∷ search_tests l m ++ ((outside r.horizon a d, Outside) ∷ [])
+    (outside r.horizon a d && not (ltb r.horizon l.table_horizon), Ok Outside)
+    ∷ (not (outside r.horizon a d) && no_room_of r, Err NoRoom)
+    ∷ search_tests l m ++ ((outside r.horizon a d, Ok Outside) ∷ [])
 
 -- after the tests that every call meets
 abbrev pub later_tests : Bool → Load → List ℕ → CallInput → List (Bool × Answer)
@@ -60,7 +58,7 @@ later_tests searched l name i =
 -- 9, 21, not running, absent time, 10, and then those; 15 is no longer one
 abbrev pub add_causes : Load → List ℕ → CallInput → List (Bool × Answer)
 add_causes l name i =
-    (not (known l.stop_count i), Refused FieldRange)
+    (not (known l.stop_count i), Err FieldRange)
     ∷ running_tests (running l.week name i.day) ++ time_tests i ++ later_tests l.searched l name i
 
 -- 9, 24; on a searched load then 14, which no load that steps make meets, and 11
@@ -72,7 +70,7 @@ withdraw_causes l k =
 
 pub record Answered (r : Stepped) (l : Load) (ts : List (Bool × Answer)) : Type 0 where
   pub first : First r.answer ts
-  pub taken : r.answer ≡ Taken → AllFail ts
+  pub taken : r.answer ≡ Ok Taken → AllFail ts
   pub unchanged : is_refused r.answer ≡ true → r.load ≡ l
 
 abbrev pub AddAnswered : Type 0
@@ -84,4 +82,4 @@ WithdrawAnswered = (l : Load) (k : CallKey) → Answered (withdraw_spec l k) l (
 -- 24 exactly if a call can have the key and the table has no such call
 abbrev pub UnknownExactly : Type 0
 UnknownExactly = (l : Load) (k : CallKey) → key_known k ≡ true
-    → ((withdraw_spec l k).answer ≡ Refused CallUnknown) ↔ (anyb (has_key k) (table_calls (table_of l)) ≡ false)
+    → ((withdraw_spec l k).answer ≡ Err CallUnknown) ↔ (anyb (has_key k) (table_calls (table_of l)) ≡ false)

@@ -1,6 +1,6 @@
 -- What is claimed of calls added to and withdrawn from a load.
-use Rattle.std.specs.Prelude.{ℕ, ◌≤◌, ◌≡◌, ◌⊎◌, true, false, List, [], ◌∷◌, ◌++◌}
-use Rattle.refusal.specs.declared.Answer.TheVariants.{Taken}
+use Rattle.refusal.specs.declared.Accepted.TheVariants.{Taken}
+use Rattle.std.specs.Prelude.{ℕ, ◌≤◌, ◌≡◌, ◌⊎◌, true, false, List, [], ◌∷◌, ◌++◌, Ok}
 use Rattle.calls.specs.declared.Call.{Call}
 use Rattle.calls.specs.declared.CallInput.{CallInput}
 use Rattle.offers.specs.Order.{in_order_of, clashes}
@@ -19,7 +19,7 @@ use Rattle.again.specs.Again.{unsearched_of, researched, add_spec_of, taken_out,
 -- a searched load is the search of its own table: the list is the one that a fresh search of the load gives, in full or, where it was stopped,
 -- within its limit
 abbrev pub Own : Load → Type 0
-Own l = l.searched ≡ true → researched l.stopped l.limit (unsearched_of l) ≡ record { answer = Taken; load = l }
+Own l = l.searched ≡ true → researched l.stopped l.limit (unsearched_of l) ≡ record { answer = Ok Taken; load = l }
 
 -- a load that steps make: sound, and where it is searched the search of its own table
 pub record Kept (l : Load) : Type 0 where
@@ -41,11 +41,11 @@ WithdrawKept = (l : Load) (k : CallKey) → Kept l → Kept (withdraw_spec l k).
 
 -- so a finished searched load is the full search of its own table; and of one that was stopped the search within its limit is not finished
 abbrev pub OwnFinished : Type 0
-OwnFinished = (l : Load) → Kept l → l.searched ≡ true → l.stopped ≡ false → search_spec (unsearched_of l) ≡ record { answer = Taken; load = l }
+OwnFinished = (l : Load) → Kept l → l.searched ≡ true → l.stopped ≡ false → search_spec (unsearched_of l) ≡ record { answer = Ok Taken; load = l }
 
 pub record Stops (l : Load) : Type 0 where
   pub is : within_spec (unsearched_of l) l.limit
-      ≡ record { answer = Taken; load = l; joins = joins_within l.limit (timetable_of l); finished = false }
+      ≡ record { answer = Ok Taken; load = l; joins = joins_within l.limit (timetable_of l); finished = false }
   pub unfinished : finishes_in l l.limit ≡ false
 
 abbrev pub OwnStopped : Type 0
@@ -59,8 +59,8 @@ MoreJoins = (t : Timetable) (c : Call) → clashes (in_order_of (t.calls ++ c �
 -- horizon didn't fall
 abbrev pub TakenBack : Type 0
 TakenBack = (l : Load) (name : List ℕ) (i : CallInput) → Kept l
-    → (add_spec_of l name i).answer ≡ Taken → (add_spec_of l name i).load.table_horizon ≡ l.table_horizon
-    → withdraw_spec (add_spec_of l name i).load (key_of i) ≡ record { answer = Taken; load = closed_load l }
+    → (add_spec_of l name i).answer ≡ Ok Taken → (add_spec_of l name i).load.table_horizon ≡ l.table_horizon
+    → withdraw_spec (add_spec_of l name i).load (key_of i) ≡ record { answer = Ok Taken; load = closed_load l }
 
 -- a load without dates has its services closed from the start, and so has one that has answered a call: they are given back exactly
 abbrev pub ClosedSame : Type 0

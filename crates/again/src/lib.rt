@@ -7,8 +7,9 @@ ghost use Rattle.again.specs.Again.{unsearched_of, researched, again, added_to, 
 
 use calls::CallInput;
 use load::{Load, Stepped};
+use prefix::first;
 use profile::no_journey;
-use refusal::{Answer, Refusal, is_refused, is_taken};
+use refusal::{Accepted, Refusal, is_refused, is_taken};
 use search::{search, search_within};
 use withdrawal::{CallKey, is_known, last_of, without};
 
@@ -112,28 +113,27 @@ fn taken_out(load: Load, key: CallKey) -> Stepped
     ensures { result ≡ taken_out load key }
 {
     if is_known(key) {
-        let calls = load.calls;
-        let count = load.call_count;
-        let place = last_of(calls, count, key);
-        if place == 0 {
+        let held = first(&load.calls, load.call_count);
+        let Some(place) = last_of(held, key) else {
             return Stepped {
-                answer: Answer::Refused(Refusal::CallUnknown),
+                answer: Err(Refusal::CallUnknown),
                 load,
             };
-        }
-        let left = without(calls, place - 1);
+        };
+        let calls = load.calls;
+        let left = without(calls, place);
         let mut next = load;
         next.calls = left;
-        next.call_count = count - 1;
+        next.call_count = load.call_count - 1;
         next.horizon = load.table_horizon;
         next.limits = load.table_limits;
         return Stepped {
-            answer: Answer::Taken,
+            answer: Ok(Accepted::Taken),
             load: next,
         };
     }
     Stepped {
-        answer: Answer::Refused(Refusal::FieldRange),
+        answer: Err(Refusal::FieldRange),
         load,
     }
 }

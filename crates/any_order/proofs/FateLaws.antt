@@ -1,4 +1,6 @@
 -- What becomes of a call, told without the stored calls; and that the step follows it where the table has room.
+use Rattle.refusal.specs.declared.Accepted.TheVariants.{Taken, Outside}
+use Rattle.std.specs.Prelude.{None, Option, Some, Err, Ok}
 use Prim.Native.Nat.{ℕ, ◌≤◌, ◌<◌}
 use mathlib.Core.Path.{◌≡◌, refl, sym, ap, subst, ◌∙◌}
 use mathlib.Core.Logic.{◌⊎◌, inl, inr}
@@ -11,17 +13,12 @@ use Rattle.laws.specs.Lists.{All}
 use Rattle.laws.proofs.Bools.{cond-by, cond-not, or-true-left, or_true_right}
 use Rattle.refusal.specs.declared.Refusal.{Refusal}
 use Rattle.refusal.specs.declared.Refusal.TheVariants.{NoRoom}
-use Rattle.refusal.specs.declared.Answer.{Answer}
-use Rattle.refusal.specs.declared.Answer.TheVariants.{Taken, Outside, Refused}
-use Rattle.refusal.specs.First.{first_answer, is_refused, answer_number}
+use Rattle.refusal.specs.First.{first_answer, is_refused, answer_number, Answer}
 use Rattle.settings.specs.declared.Settings.{Settings}
 use Rattle.calls.specs.declared.Call.{Call}
 use Rattle.calls.specs.declared.CallInput.{CallInput}
-use Rattle.calls.specs.declared.Offset.{Offset}
 use Rattle.calls.specs.declared.Table.{Table}
 use Rattle.calls.specs.declared.Fitted.{Fitted}
-use Rattle.calls.specs.declared.View.{View}
-use Rattle.calls.specs.declared.View.TheVariants.{In, Out}
 use Rattle.calls.specs.declared.Uncut.TheVariants.{Outside as Beyond}
 use Rattle.calls.specs.Windows.{seen}
 use Rattle.calls.specs.Tables.{put}
@@ -50,15 +47,15 @@ pub data Fate : Type 0 where
   out : Fate
   goes : Call → Fate
 
-abbrev seen_fate : View → Fate
-seen_fate Out = out
-seen_fate (In k) = goes k
+abbrev seen_fate : Option Call → Fate
+seen_fate None = out
+seen_fate (Some k) = goes k
 
 -- the answer of the tests, or what comes after them
 abbrev test_fate : Answer → Fate → Fate
-test_fate Taken f = f
-test_fate Outside f = out
-test_fate (Refused r) f = sent r
+test_fate (Ok Taken) f = f
+test_fate (Ok Outside) f = out
+test_fate (Err r) f = sent r
 
 abbrev plain_fate : Load → CallInput → Fate
 plain_fate l i = test_fate (first_answer (call_tests l.searched l.stop_count i)) (seen_fate (call_seen l.settings l.table_horizon i))
@@ -71,9 +68,9 @@ fate l c = cond l.week.dated (test_fate (gate_of l c) (plain_fate l c.1)) (plain
 
 -- the answer, and the load that is left: an answered call closes the services
 abbrev pub said : Fate → Answer
-said (sent r) = Refused r
-said out = Outside
-said (goes k) = Taken
+said (sent r) = Err r
+said out = Ok Outside
+said (goes k) = Ok Taken
 
 abbrev pub stored : Load → Call → Load
 stored l k = with_seen l (put (table_of l) k) (seen_of l)
@@ -102,7 +99,7 @@ fate-left l (goes k) c = refl
 abbrev Down : Table → Table → Type 0
 Down t u = (u ≡ t) ⊎ (u.horizon < t.horizon)
 
-down-keeps : (a d : Offset) (i : CallInput) (t : Table) → Keeps (Down t) a d i
+down-keeps : (a d : Option ℕ) (i : CallInput) (t : Table) → Keeps (Down t) a d i
 down-keeps a d i t u c p e f l = inr (go p (cut-shrinks u _ refl l))
   where
     go : {h : ℕ} → Down t u → h < u.horizon → h < t.horizon
@@ -110,24 +107,24 @@ down-keeps a d i t u c p e f l = inr (go p (cut-shrinks u _ refl l))
     go (inr q) m = omega arith
 
 module _ (s : Settings) (b : Bool) (n : ℕ) (t : Table) (i : CallInput) (k : Call) where
-  abbrev arr : Offset
+  abbrev arr : Option ℕ
   arr = call_time s i i.arrival
 
-  abbrev dep : Offset
+  abbrev dep : Option ℕ
   dep = call_time s i i.departure
 
   -- 11, or the horizon falls
   abbrev Turned : Fitted → Type 0
-  Turned f = (f.answer ≡ Refused NoRoom) ⊎ (f.table.horizon < t.horizon)
+  Turned f = (f.answer ≡ Err NoRoom) ⊎ (f.table.horizon < t.horizon)
 
-  turns : seen t.horizon arr dep i ≡ In k → 512 ≤ t.count → (f : Fitted) → Ends (Down t) arr dep i f → Turned (ended t f)
+  turns : seen t.horizon arr dep i ≡ Some k → 512 ≤ t.count → (f : Fitted) → Ends (Down t) arr dep i f → Turned (ended t f)
   turns e h _ (stands u (inl q) o) = let z : ◌≡◌ {A = ℕ} 0 1 = cc in absurd (omega arith)
   turns e h _ (stands u (inr q) o) = inr q
   turns e h _ (enters u c (inl q) o m) = absurd (omega (arith, ap (λ (x : Table). x.count) q))
   turns e h _ (enters u c (inr q) o m) = inr q
   turns e h _ (turned u c p o m g) = inl refl
 
-  full-turns : first_answer (call_tests b n i) ≡ Taken → call_seen s t.horizon i ≡ In k → 512 ≤ t.count → Turned (call_on s b n t i)
+  full-turns : first_answer (call_tests b n i) ≡ Ok Taken → call_seen s t.horizon i ≡ Some k → 512 ≤ t.count → Turned (call_on s b n t i)
   unfolding call_on call_fit
   full-turns q e h = subst (λ (a : Answer). Turned (goes_on_of s t i a)) (sym q) (turns e h _ (ends (Down t) arr dep i (down-keeps arr dep i t) t (inl refl)))
 
@@ -157,10 +154,10 @@ module _ (l : Load) (i : CallInput) (s : Sound l) where
       (record { journeys = l.journeys; count = l.journey_count; horizon = sym (s.same_horizon u) k; limits = sym (s.same_limits u) k; searched = l.searched; stopped = l.stopped; limit = l.limit })
 
   is-outside : l.searched ≡ false → uncut_on l.settings l.searched l.stop_count l.call_count l.table_horizon i ≡ Beyond
-      → plain_call l i ≡ record { answer = Outside; load = l }
-  is-outside u e = call-outside l i e ∙ (λ k. record { answer = Outside; load = as_seen u l.calls l.call_count k })
+      → plain_call l i ≡ record { answer = Ok Outside; load = l }
+  is-outside u e = call-outside l i e ∙ (λ k. record { answer = Ok Outside; load = as_seen u l.calls l.call_count k })
 
-  unsearched-outside : tested ≡ Outside → l.searched ≡ false
+  unsearched-outside : tested ≡ Ok Outside → l.searched ≡ false
   unfolding call_tests first_answer
   unsearched-outside q = go l.searched refl
     where
@@ -168,7 +165,7 @@ module _ (l : Load) (i : CallInput) (s : Sound l) where
       go false e = e
       go true e = absurd (true≢false (ap is_refused (fields.searched l.searched l.stop_count i e ∙ q)))
 
-  full-cramps : (k : Call) → tested ≡ Taken → call_seen l.settings l.table_horizon i ≡ In k → 512 ≤ l.call_count → cramps l (plain_call l i) ≡ true
+  full-cramps : (k : Call) → tested ≡ Ok Taken → call_seen l.settings l.table_horizon i ≡ Some k → 512 ≤ l.call_count → cramps l (plain_call l i) ≡ true
   unfolding plain_call
   full-cramps k q e h = go (full-turns l.settings l.searched l.stop_count (table_of l) i k q e h)
     where
@@ -177,27 +174,27 @@ module _ (l : Load) (i : CallInput) (s : Sound l) where
       falls m true z = absurd (omega (arith, m, ap (λ (t : Table). t.horizon) (refused-same l.settings l.searched l.stop_count (table_of l) i z)))
       falls m false z = lt-ltb (call_fitted l i).table.horizon l.table_horizon m
 
-      go : ((call_fitted l i).answer ≡ Refused NoRoom) ⊎ ((call_fitted l i).table.horizon < l.table_horizon) → cramps l (plain_call l i) ≡ true
+      go : ((call_fitted l i).answer ≡ Err NoRoom) ⊎ ((call_fitted l i).table.horizon < l.table_horizon) → cramps l (plain_call l i) ≡ true
       go (inl a) = or-true-left (eqb (answer_number (call_fitted l i).answer) 11) (ltb (plain_call l i).load.table_horizon l.table_horizon) (ap (λ (x : Answer). eqb (answer_number x) 11) a)
       go (inr m) = or_true_right (eqb (answer_number (call_fitted l i).answer) 11) (ltb (plain_call l i).load.table_horizon l.table_horizon) (falls m (is_refused (call_fitted l i).answer) refl)
 
-  by-view : tested ≡ Taken → (v : View) → call_seen l.settings l.table_horizon i ≡ v → Comes l (plain_call l i) (seen_fate v) (plain_left l (seen_fate v))
+  by-view : tested ≡ Ok Taken → (v : Option Call) → call_seen l.settings l.table_horizon i ≡ v → Comes l (plain_call l i) (seen_fate v) (plain_left l (seen_fate v))
   unfolding uncut_on
-  by-view q Out e = roomy l (plain_call l i) out l refl (is-outside (passed _ _ i q).unsearched (λ k. uncut_by (q k) (uncut_view l.call_count (e k))))
-  by-view q (In c) e = record { room = λ h. goes_in h; full = λ h. full-cramps c q e (ltb-false _ _ h) }
+  by-view q None e = roomy l (plain_call l i) out l refl (is-outside (passed _ _ i q).unsearched (λ k. uncut_by (q k) (uncut_view l.call_count (e k))))
+  by-view q (Some c) e = record { room = λ h. goes_in h; full = λ h. full-cramps c q e (ltb-false _ _ h) }
     where
-      goes_in : ltb l.call_count 512 ≡ true → plain_call l i ≡ record { answer = Taken; load = stored l c }
+      goes_in : ltb l.call_count 512 ≡ true → plain_call l i ≡ record { answer = Ok Taken; load = stored l c }
       goes_in h =
           call-goes-in l i c ((λ k. uncut_by (q k) (uncut_view l.call_count (e k))) ∙ cond-by _ _ h)
-          ∙ (λ k. record { answer = Taken; load = as_seen (passed _ _ i q).unsearched (put (table_of l) c).calls (put (table_of l) c).count k })
+          ∙ (λ k. record { answer = Ok Taken; load = as_seen (passed _ _ i q).unsearched (put (table_of l) c).calls (put (table_of l) c).count k })
 
   by_tests : (a : Answer) → tested ≡ a
       → (let f = test_fate a (seen_fate (call_seen l.settings l.table_horizon i)) in Comes l (plain_call l i) f (plain_left l f))
   unfolding uncut_on
-  by_tests Taken q = by-view q _ refl
-  by_tests Outside q = roomy l (plain_call l i) out l refl (is-outside (unsearched-outside q) (λ k. uncut_by (q k) (uncut_view l.call_count (call_seen l.settings l.table_horizon i))))
-  by_tests (Refused r) q =
-      roomy l (plain_call l i) (sent r) l refl (sym (call-refused l i _ (fields.sent_back l.settings l.searched l.stop_count (table_of l) i (Refused r) r (sym q) refl) refl))
+  by_tests (Ok Taken) q = by-view q _ refl
+  by_tests (Ok Outside) q = roomy l (plain_call l i) out l refl (is-outside (unsearched-outside q) (λ k. uncut_by (q k) (uncut_view l.call_count (call_seen l.settings l.table_horizon i))))
+  by_tests (Err r) q =
+      roomy l (plain_call l i) (sent r) l refl (sym (call-refused l i _ (fields.sent_back l.settings l.searched l.stop_count (table_of l) i (Err r) r (sym q) refl) refl))
 
   plain-comes : Comes l (plain_call l i) (plain_fate l i) (plain_left l (plain_fate l i))
   plain-comes = by_tests tested refl
@@ -259,17 +256,17 @@ first-not (t ∷ ts) p = go t.0 (first-not ts p.1)
     go false r = r
 
 test-not : (a : Answer) (f : Fate) → not11 a → not11 (said f) → not11 (said (test_fate a f))
-test-not Taken f p q = q
-test-not Outside f p q = refl
-test-not (Refused r) f p q = p
+test-not (Ok Taken) f p q = q
+test-not (Ok Outside) f p q = refl
+test-not (Err r) f p q = p
 
 fate-not : (l : Load) (c : Named) → not11 (said (fate l c))
 unfolding fate gate_answer call_tests
 fate-not l c = go l.week.dated
   where
-    view : (v : View) → not11 (said (seen_fate v))
-    view Out = refl
-    view (In k) = refl
+    view : (v : Option Call) → not11 (said (seen_fate v))
+    view None = refl
+    view (Some k) = refl
 
     plain : not11 (said (plain_fate l c.1))
     plain = test-not (first_answer (call_tests l.searched l.stop_count c.1)) (seen_fate (call_seen l.settings l.table_horizon c.1)) (first-not (call_tests l.searched l.stop_count c.1) (refl, (refl, (refl, (refl, tt))))) (view (call_seen l.settings l.table_horizon c.1))

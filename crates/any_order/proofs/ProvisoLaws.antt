@@ -1,4 +1,6 @@
 -- 513 calls by which two orders differ. What is stored follows from the laws; one stop, one call and one cut are computed.
+use Rattle.refusal.specs.declared.Accepted.TheVariants.{Taken, Outside}
+use Rattle.std.specs.Prelude.{None, Some, Ok}
 use Prim.Native.Nat.{ℕ, zero, suc, ◌+◌, ◌≤◌, ◌<◌}
 use mathlib.Core.Path.{◌≡◌, refl, sym, ap, subst, ◌∙◌}
 use mathlib.Core.Bool.{Bool, true, false}
@@ -6,9 +8,7 @@ use mathlib.Core.List.{List, [], ◌∷◌, ◌++◌, map}
 use native.Mathlib.Omega.{arith}
 use lib.ListN.{length, take, replicate}
 use Rattle.laws.proofs.Bools.{cond-not}
-use Rattle.refusal.specs.declared.Answer.{Answer}
-use Rattle.refusal.specs.declared.Answer.TheVariants.{Taken, Outside}
-use Rattle.refusal.specs.First.{first_answer}
+use Rattle.refusal.specs.First.{first_answer, Answer}
 use Rattle.settings.specs.declared.Settings.{Settings}
 use Rattle.settings.specs.Settings.{near, walks_of, canonical_of}
 use Rattle.stops.specs.Answer.{station_of, id_wrong, is_known, type_wrong, name_needed, name_wrong, stop_tests}
@@ -19,7 +19,6 @@ use Rattle.calls.specs.declared.Call.{Call}
 use Rattle.calls.specs.declared.CallInput.{CallInput}
 use Rattle.calls.specs.declared.Table.{Table}
 use Rattle.calls.specs.declared.Fitted.{Fitted}
-use Rattle.calls.specs.declared.View.TheVariants.{In, Out}
 use Rattle.calls.specs.Windows.{time_after, seen_call, seen}
 use Rattle.calls.specs.Tables.{due_by, trim_all, cut, less, put, fitted}
 use Rattle.calls.specs.Calls.{known, call_tests, call_time, call_seen, call_fit, call_on}
@@ -57,24 +56,24 @@ map-all f (suc n) a = ap (λ (bs : List _). f a ∷ bs) (map-all f n a)
 
 -- ---- a call that meets a full table, which is cut once
 
-module _ (s : Settings) (n : ℕ) (t : Table) (i : CallInput) (k : Call) (q : first_answer (call_tests false n i) ≡ Taken) (e : call_seen s t.horizon i ≡ In k) (full : 512 ≤ t.count) (above : 3600 ≤ less t.horizon) where
-  then-taken : (j : Call) → call_seen s (less t.horizon) i ≡ In j → length (trim_all (less t.horizon) (take t.count t.calls)) < 512 → (call_on s false n t i).answer ≡ Taken
+module _ (s : Settings) (n : ℕ) (t : Table) (i : CallInput) (k : Call) (q : first_answer (call_tests false n i) ≡ Ok Taken) (e : call_seen s t.horizon i ≡ Some k) (full : 512 ≤ t.count) (above : 3600 ≤ less t.horizon) where
+  then-taken : (j : Call) → call_seen s (less t.horizon) i ≡ Some j → length (trim_all (less t.horizon) (take t.count t.calls)) < 512 → (call_on s false n t i).answer ≡ Ok Taken
   unfolding call_fit cut
   then-taken j o r =
       let c = cut (less t.horizon) t in
       let a = call_time s i i.arrival in
       let d = call_time s i i.departure in
-      let f : ◌≡◌ {A = Fitted} (record { answer = Taken; table = put c j }) (call_fit s t i) = fit.room a d i c j o r ∙ fit.cuts a d i t k e full above in
-      sym (ap (λ (x : Fitted). x.answer) (changed s false n t i (record { answer = Taken; table = put c j }) (sym q) f refl))
+      let f : ◌≡◌ {A = Fitted} (record { answer = Ok Taken; table = put c j }) (call_fit s t i) = fit.room a d i c j o r ∙ fit.cuts a d i t k e full above in
+      sym (ap (λ (x : Fitted). x.answer) (changed s false n t i (record { answer = Ok Taken; table = put c j }) (sym q) f refl))
 
-  then-outside : call_seen s (less t.horizon) i ≡ Out → (call_on s false n t i).answer ≡ Outside
+  then-outside : call_seen s (less t.horizon) i ≡ None → (call_on s false n t i).answer ≡ Ok Outside
   unfolding call_fit cut
   then-outside o =
       let c = cut (less t.horizon) t in
       let a = call_time s i i.arrival in
       let d = call_time s i i.departure in
-      let f : ◌≡◌ {A = Fitted} (record { answer = Outside; table = c }) (call_fit s t i) = fit.outside a d i c o ∙ fit.cuts a d i t k e full above in
-      sym (ap (λ (x : Fitted). x.answer) (changed s false n t i (record { answer = Outside; table = c }) (sym q) f refl))
+      let f : ◌≡◌ {A = Fitted} (record { answer = Ok Outside; table = c }) (call_fit s t i) = fit.outside a d i c o ∙ fit.cuts a d i t k e full above in
+      sym (ap (λ (x : Fitted). x.answer) (changed s false n t i (record { answer = Ok Outside; table = c }) (sym q) f refl))
 
 -- ---- the load with one stop
 
@@ -88,14 +87,14 @@ record Computed : Type 0 where
   none_yet : one_stop.call_count ≡ 0
   early-goes : fate one_stop (at 1000) ≡ goes (call_at 1000)
   late-goes : fate one_stop (at 20000) ≡ goes (call_at 20000)
-  late-taken : (calling one_stop (at 20000)).answer ≡ Taken
+  late-taken : (calling one_stop (at 20000)).answer ≡ Ok Taken
   asks : (cs : List Call) (b : Bool) (c : Named) → (calling (made_of one_stop cs 512 b) c).answer ≡ (call_on blank_settings false 1 (full_table cs) c.1).answer
-  early-passes : first_answer (call_tests false 1 (at 1000).1) ≡ Taken
-  late-passes : first_answer (call_tests false 1 (at 20000).1) ≡ Taken
-  early-seen : call_seen blank_settings 21600 (at 1000).1 ≡ In (call_at 1000)
-  early-then : call_seen blank_settings 16200 (at 1000).1 ≡ In (call_at 1000)
-  late-seen : call_seen blank_settings 21600 (at 20000).1 ≡ In (call_at 20000)
-  late-then : call_seen blank_settings 16200 (at 20000).1 ≡ Out
+  early-passes : first_answer (call_tests false 1 (at 1000).1) ≡ Ok Taken
+  late-passes : first_answer (call_tests false 1 (at 20000).1) ≡ Ok Taken
+  early-seen : call_seen blank_settings 21600 (at 1000).1 ≡ Some (call_at 1000)
+  early-then : call_seen blank_settings 16200 (at 1000).1 ≡ Some (call_at 1000)
+  late-seen : call_seen blank_settings 21600 (at 20000).1 ≡ Some (call_at 20000)
+  late-then : call_seen blank_settings 16200 (at 20000).1 ≡ None
   late-cut : due_by 16200 (call_at 20000) ≡ false
 
 computed : Computed
@@ -148,7 +147,7 @@ lates = replicate 512 (at 20000)
 late-all : entering one_stop lates ≡ replicate 512 (call_at 20000)
 late-all = enter-all 512 one_stop (at 20000) (call_at 20000) computed.late-goes
 
-taken-last : (calling (called one_stop lates) (at 1000)).answer ≡ Taken
+taken-last : (calling (called one_stop lates) (at 1000)).answer ≡ Ok Taken
 taken-last =
     let t = full_table (called one_stop lates).calls in
     let none : trim_all 16200 (take 512 (called one_stop lates).calls) ≡ [] =
@@ -157,7 +156,7 @@ taken-last =
     asked lates (replicate 512 (call_at 20000)) late-all refl refl (at 1000)
     ∙ then-taken blank_settings 1 t (at 1000).1 (call_at 1000) computed.early-passes computed.early-seen (omega arith) (omega arith) (call_at 1000) computed.early-then (omega arith)
 
-outside-last : (calling (called one_stop (at 1000 ∷ replicate 511 (at 20000))) (at 20000)).answer ≡ Outside
+outside-last : (calling (called one_stop (at 1000 ∷ replicate 511 (at 20000))) (at 20000)).answer ≡ Ok Outside
 outside-last =
     let cs = at 1000 ∷ replicate 511 (at 20000) in
     let e = enter-first 511 one_stop (at 1000) (at 20000) (call_at 1000) (call_at 20000) computed.early-goes computed.late-goes in

@@ -11,8 +11,7 @@ use lib.ListN.{length, take, drop, set}
 use lib.Seq.{take-suc-set, drop-set-lt}
 use Rattle.laws.specs.Lists.{anyb, concat_map}
 use Rattle.laws.proofs.Bools.{or-by, or-not, or-false-left, or-false-right}
-use Rattle.refusal.specs.declared.Answer.{Answer}
-use Rattle.refusal.specs.First.{is_refused}
+use Rattle.refusal.specs.First.{is_refused, Answer}
 use Rattle.calls.specs.declared.Call.{Call}
 use Rattle.week.specs.Weeks.{closed_week}
 use Rattle.load.specs.declared.Load.{Load}

@@ -1,4 +1,5 @@
 -- A search takes no notice of the stored order: the calls of an accepted search have one order alone.
+use Rattle.std.specs.Prelude.{Err}
 use Prim.Native.Nat.{ℕ}
 use mathlib.Core.Path.{◌≡◌, refl, sym, ap, subst, ◌∙◌}
 use mathlib.Core.Bool.{Bool, true, false, cond, true≢false}
@@ -6,7 +7,6 @@ use mathlib.Core.List.{List, ◌++◌, Permᴰ}
 use lib.Dec.{ltb}
 use lib.ListN.{take, drop}
 use Rattle.refusal.specs.declared.Refusal.TheVariants.{SettingsRange, AlreadySearched}
-use Rattle.refusal.specs.declared.Answer.TheVariants.{Refused}
 use Rattle.refusal.specs.First.{is_refused}
 use Rattle.calls.specs.declared.Call.{Call}
 use Rattle.profile.specs.declared.Journey.{Journey}
@@ -108,7 +108,7 @@ module _ (a : Load) (cs : List Call) where
 
       -- by its tests, of loads with one outcome
       abbrev by : Load → Bool → Bool → Outcome → Limited
-      by l b c o = cond b (sent_back_of l (Refused AlreadySearched)) (cond c (sent_back_of l (Refused SettingsRange)) (ran_within l j o))
+      by l b c o = cond b (sent_back_of l (Err AlreadySearched)) (cond c (sent_back_of l (Err SettingsRange)) (ran_within l j o))
 
       abbrev wide : Bool
       wide = ltb 1 a.settings.max_transfers

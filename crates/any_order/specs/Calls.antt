@@ -1,7 +1,6 @@
 -- Calls handed to a load one after another: the load that they leave, what each is answered, and whether one met 11 or shrank the horizon.
 use Rattle.std.specs.Prelude.{ℕ, Bool, false, ◌||◌, List, [], ◌∷◌, eqb, ltb}
-use Rattle.refusal.specs.declared.Answer.{Answer}
-use Rattle.refusal.specs.First.{answer_number}
+use Rattle.refusal.specs.First.{answer_number, Answer}
 use Rattle.calls.specs.declared.CallInput.{CallInput}
 use Rattle.load.specs.declared.Load.{Load}
 use Rattle.load.specs.declared.Stepped.{Stepped}

@@ -1,9 +1,8 @@
 -- What the proviso is for: 513 calls, of which one is answered otherwise in another order.
-use Rattle.std.specs.Prelude.{ℕ, ◌≡◌, false, List, [], ◌∷◌, replicate}
+use Rattle.refusal.specs.declared.Accepted.TheVariants.{Taken, Outside}
+use Rattle.std.specs.Prelude.{ℕ, ◌≡◌, false, List, [], ◌∷◌, replicate, Some, Ok}
 use Rattle.std.specs.Float.{binary64}
 use Rattle.std.specs.Float.Ieee.{of_bits}
-use Rattle.refusal.specs.declared.Answer.TheVariants.{Taken, Outside}
-use Rattle.calls.specs.declared.Seconds.TheVariants.{Given}
 use Rattle.load.specs.declared.Load.{Load}
 use Rattle.load.specs.Load.{blank_settings}
 use Rattle.load.specs.Steps.{undated, opened}
@@ -27,11 +26,11 @@ one_stop = filled_by (opened (undated blank_settings)) stop_alone
 
 -- a call there, at so many seconds
 abbrev pub at : ℕ → Named
-at n = ([], record { trip = 1; day = 0; sequence = 1; stop = 0; arrival = Given n; departure = Given n; pickup = 0; drop_off = 0 })
+at n = ([], record { trip = 1; day = 0; sequence = 1; stop = 0; arrival = Some n; departure = Some n; pickup = 0; drop_off = 0 })
 
 pub record ProvisoNeeded : Type 0 where
   -- 512 calls at 20000 are taken; then one at 1000 meets a full table, whose horizon falls to 16200, and is taken too
-  pub late_first : answers one_stop (replicate 512 (at 20000)) ≡ replicate 512 (at 20000, Taken)
-  pub early_last : (calling (called one_stop (replicate 512 (at 20000))) (at 1000)).answer ≡ Taken
+  pub late_first : answers one_stop (replicate 512 (at 20000)) ≡ replicate 512 (at 20000, Ok Taken)
+  pub early_last : (calling (called one_stop (replicate 512 (at 20000))) (at 1000)).answer ≡ Ok Taken
   -- that one first: the last of the others meets the full table, and is outside once the horizon fell
-  pub early_first : (calling (called one_stop (at 1000 ∷ replicate 511 (at 20000))) (at 20000)).answer ≡ Outside
+  pub early_first : (calling (called one_stop (at 1000 ∷ replicate 511 (at 20000))) (at 20000)).answer ≡ Ok Outside

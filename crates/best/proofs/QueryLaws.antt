@@ -1,4 +1,5 @@
 -- Best of a load by whether it is searched, and the second of next after.
+use Rattle.std.specs.Prelude.{None, Option}
 use mathlib.Core.Path.{◌≡◌, sym, ap, ◌∙◌}
 use mathlib.Core.Bool.{true, false}
 use Prim.Native.Nat.{ℕ, ◌+◌, ◌<◌, ◌^◌}
@@ -13,26 +14,25 @@ use Rattle.profile.specs.declared.Journey.{Journey}
 use Rattle.profile.specs.Journeys.{journey_figures}
 use Rattle.profile.proofs.ClaimLaws.{best-in-order}
 use Rattle.load.specs.declared.Load.{Load}
-use Rattle.best.specs.declared.Found.{Found}
-use Rattle.best.specs.Best.{found_of, first_leaving, kept_of, best_spec, after_of, next_spec, BestOfAll}
+use Rattle.best.specs.Best.{first_leaving, kept_of, best_spec, after_of, next_spec, BestOfAll}
 
 module _ (l : Load) (s : ℤ) where
-  pub best-searched : {r : Found} {x : ℤ} → l.searched ≡ true → x ≡ s → r ≡ first_leaving (kept_of l) l.horizon x → r ≡ best_spec l s
+  pub best-searched : {r : Option Journey} {x : ℤ} → l.searched ≡ true → x ≡ s → r ≡ first_leaving (kept_of l) l.horizon x → r ≡ best_spec l s
   unfolding best_spec
   best-searched e q h = h ∙ ap (first_leaving (kept_of l) l.horizon) q ∙ sym (cond-by _ _ e)
 
-  pub best-unsearched : l.searched ≡ false → Found.Nothing ≡ best_spec l s
+  pub best-unsearched : l.searched ≡ false → None ≡ best_spec l s
   unfolding best_spec
   best-unsearched e = sym (cond-not _ _ e)
 
-  pub best-next : (j : Journey) {r : Found} {x y : ℤ} → y ≡ x → x ≡ after_of s j.leave → r ≡ best_spec l y → r ≡ next_spec l s j
+  pub best-next : (j : Journey) {r : Option Journey} {x y : ℤ} → y ≡ x → x ≡ after_of s j.leave → r ≡ best_spec l y → r ≡ next_spec l s j
   unfolding next_spec
   best-next j p q h = h ∙ ap (best_spec l) (p ∙ q)
 
 -- of a list in order it is the full read's
 pub best-of-all : BestOfAll
 unfolding best_spec first_leaving
-best-of-all l e o s = cond-by _ _ e ∙ ap found_of (best-in-order journey_figures (kept_of l) o l.horizon s)
+best-of-all l e o s = cond-by _ _ e ∙ best-in-order journey_figures (kept_of l) o l.horizon s
 
 -- a second and the one after a leave
 leave-later : (n : ℕ) → n < 65536 → to_z w64 (n + 1) ≡ pos (n + 1)

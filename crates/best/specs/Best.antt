@@ -1,49 +1,38 @@
 -- `Cache::best` and `next_after`: none before 0 or after the horizon; else, of kept journeys leaving at or after the second, least
 -- arrival, then rides, then walk, then latest leave. A load's list stands in that order, so its best is the first that leaves in time.
-use Rattle.std.specs.Prelude.{◌≡◌, true, cond, List, ℕ, ◌+◌, leb, take, ℤ, pos}
-use Rattle.std.proofs.Math.Option.{Option, none, some}
+use Rattle.std.specs.Prelude.{◌≡◌, true, cond, List, ℕ, ◌+◌, take, ℤ, pos, None, Some, Option}
 use Rattle.std.specs.Int.Signed.{lt_z}
-use Rattle.laws.specs.Lists.{firstb}
 use Rattle.profile.specs.declared.Journey.{Journey}
 use Rattle.profile.specs.Journeys.{journey_figures}
 use Rattle.profile.specs.Best.{bestℤ, firstℤ, Ordered}
 use Rattle.load.specs.declared.Load.{Load}
-use Rattle.best.specs.declared.Found.{Found}
-
-unfoldable pub found_of : Option Journey → Found
-found_of none = Found.Nothing
-found_of (some j) = Found.Best j
 
 -- the scope's value of each case: a journey, or none
-abbrev pub answer_of : Found → Option Journey
-answer_of (Found.Best j) = some j
-answer_of Found.Nothing = none
+abbrev pub answer_of : Option Journey → Option Journey
+answer_of (Some j) = Some j
+answer_of None = None
 
 -- over a list in any order, up to a horizon, by reading all of it; of full ties the first
-abbrev pub best_of_of : List Journey → ℕ → ℤ → Found
-best_of_of ks h s = found_of (bestℤ journey_figures ks h s)
+abbrev pub best_of_of : List Journey → ℕ → ℤ → Option Journey
+best_of_of ks h s = bestℤ journey_figures ks h s
 
 -- the kept journeys of a load
 abbrev pub kept_of : Load → List Journey
 kept_of l = take l.journey_count l.journeys
 
--- the first of a list that leaves at t or later
-unfoldable pub first_from : ℕ → List Journey → Found
-first_from t ks = found_of (firstb (λ k. leb t k.leave) ks)
-
--- the same at any second: none before 0 and after the horizon
-unfoldable pub first_leaving : List Journey → ℕ → ℤ → Found
-first_leaving ks h s = found_of (firstℤ journey_figures ks h s)
+-- the first of a list that leaves at the second or later: none before 0 and after the horizon
+unfoldable pub first_leaving : List Journey → ℕ → ℤ → Option Journey
+first_leaving ks h s = firstℤ journey_figures ks h s
 
 -- an unsearched load answers none
-unfoldable pub best_spec : Load → ℤ → Found
-best_spec l s = cond l.searched (first_leaving (kept_of l) l.horizon s) Found.Nothing
+unfoldable pub best_spec : Load → ℤ → Option Journey
+best_spec l s = cond l.searched (first_leaving (kept_of l) l.horizon s) None
 
 -- the larger of the second and the given leave + 1
 unfoldable pub after_of : ℤ → ℕ → ℤ
 after_of s leave = cond (lt_z s (pos (leave + 1))) (pos (leave + 1)) s
 
-unfoldable pub next_spec : Load → ℤ → Journey → Found
+unfoldable pub next_spec : Load → ℤ → Journey → Option Journey
 next_spec l s j = best_spec l (after_of s j.leave)
 
 -- of a searched load whose list is in order, best is that of the whole list, at every second

@@ -1,4 +1,6 @@
 -- The horizon falls only when a call inside the window meets a full table.
+use Rattle.refusal.specs.declared.Accepted.TheVariants.{Taken, Outside}
+use Rattle.std.specs.Prelude.{None, Option, Some, Err, Ok}
 use Prim.Native.Nat.{ℕ, ◌≤◌}
 use mathlib.Core.Path.{◌≡◌, refl, ap, subst, ◌∙◌, sym}
 use mathlib.Core.Logic.{◌⊎◌, inl, inr}
@@ -7,16 +9,12 @@ use native.Mathlib.Omega.{arith}
 use Rattle.settings.specs.declared.Settings.{Settings}
 use Rattle.calls.specs.declared.Call.{Call}
 use Rattle.calls.specs.declared.CallInput.{CallInput}
-use Rattle.calls.specs.declared.Offset.{Offset}
-use Rattle.calls.specs.declared.View.TheVariants.{In, Out}
 use Rattle.calls.specs.declared.Table.{Table}
 use Rattle.calls.specs.declared.Fitted.{Fitted}
-use Rattle.refusal.specs.declared.Answer.{Answer}
 use Rattle.refusal.specs.declared.Refusal.TheVariants.{AlreadySearched, FieldRange, TimesReversed, NoRoom}
-use Rattle.refusal.specs.declared.Answer.TheVariants.{Taken, Outside, Refused}
 use Rattle.calls.specs.Windows.{seen}
 use Rattle.calls.specs.Tables.{cut, less}
-use Rattle.refusal.specs.First.{first_answer}
+use Rattle.refusal.specs.First.{first_answer, Answer}
 use Rattle.calls.specs.Calls.{un_timed, reversed, known, call_tests, call_time, call_seen, call_fit, call_on, ended, goes_on_of}
 use Rattle.calls.specs.Shown.{Meets, FallsOnlyFull, NeverRises, FullOnlyFull, OutsideSame}
 use Rattle.calls.proofs.Fits.{Ends, stands, enters, turned, Keeps, ends}
@@ -25,20 +23,20 @@ use Rattle.calls.proofs.SoundLaws.{passed}
 use Rattle.calls.proofs.ShownLaws.{window-seen}
 
 -- a call that is seen at the full table t
-record Met (a d : Offset) (i : CallInput) (t : Table) : Type 0 where
+record Met (a d : Option ℕ) (i : CallInput) (t : Table) : Type 0 where
   call : Call
-  inside : seen t.horizon a d i ≡ In call
+  inside : seen t.horizon a d i ≡ Some call
   full : 512 ≤ t.count
 
 -- what t has come to: itself, or something lower, for a call that met it full
-record Came (a d : Offset) (i : CallInput) (t u : Table) : Type 0 where
+record Came (a d : Option ℕ) (i : CallInput) (t u : Table) : Type 0 where
   how : (u ≡ t) ⊎ Met a d i t
   low : u.horizon ≤ t.horizon
 
 lower : (h k : ℕ) → h ≤ k → less h ≤ k
 lower h k e = omega arith
 
-came-keeps : (a d : Offset) (i : CallInput) (t : Table) → Keeps (Came a d i t) a d i
+came-keeps : (a d : Option ℕ) (i : CallInput) (t : Table) → Keeps (Came a d i t) a d i
 unfolding cut
 came-keeps a d i t u c p e f l = record { how = inr (go p.how); low = lower u.horizon t.horizon p.low }
   where
@@ -59,10 +57,10 @@ came-ends s t i =
     ends (Came a d i t) a d i (came-keeps a d i t) t (record { how = inl refl; low = omega arith })
 
 module _ (s : Settings) (t : Table) (i : CallInput) (present : un_timed i ≡ false) where
-  abbrev a : Offset
+  abbrev a : Option ℕ
   a = call_time s i i.arrival
 
-  abbrev d : Offset
+  abbrev d : Option ℕ
   d = call_time s i i.departure
 
   met : Met a d i t → Meets s t i
@@ -78,7 +76,7 @@ module _ (s : Settings) (t : Table) (i : CallInput) (present : un_timed i ≡ fa
   ended-lower _ (turned u c p e h m) = record { why = inl refl; low = omega arith }
 
   -- refused at a full table: the call met the first table full already
-  ended-full : (f : Fitted) → Ends (Came a d i t) a d i f → f.answer ≡ Refused NoRoom → Meets s t i
+  ended-full : (f : Fitted) → Ends (Came a d i t) a d i f → f.answer ≡ Err NoRoom → Meets s t i
   ended-full _ (stands u p e) q = let z : ◌≡◌ {A = ℕ} 0 1 = cc in absurd (omega arith)
   ended-full _ (enters u c p e h) q = let z : ◌≡◌ {A = ℕ} 0 1 = cc in absurd (omega arith)
   ended-full _ (turned u c p e h m) q = go p.how
@@ -95,9 +93,9 @@ call-lower s b n t i = go (first_answer (call_tests b n i)) refl
     stays = record { why = inl refl; low = omega arith }
 
     go : (a : Answer) → first_answer (call_tests b n i) ≡ a → Lower s t i (goes_on_of s t i a).table.horizon
-    go (Refused w) e = stays
-    go Outside e = stays
-    go Taken e = ended-lower s t i (passed b n i e).present _ (came-ends s t i)
+    go (Err w) e = stays
+    go (Ok Outside) e = stays
+    go (Ok Taken) e = ended-lower s t i (passed b n i e).present _ (came-ends s t i)
 
 pub never-rises : NeverRises
 never-rises s b n t i = (call-lower s b n t i).low
@@ -110,11 +108,11 @@ falls-only-full s b n t i h = go (call-lower s b n t i).why
     go (inr m) = m
 
 -- the tests before the table never answer 11
-tests-not-full : (b : Bool) (n : ℕ) (i : CallInput) → first_answer (call_tests b n i) ≡ Refused NoRoom → ⊥
+tests-not-full : (b : Bool) (n : ℕ) (i : CallInput) → first_answer (call_tests b n i) ≡ Err NoRoom → ⊥
 unfolding call_tests first_answer
 tests-not-full b n i e = go b (not (known n i)) (un_timed i) (reversed i) e
   where
-    go : (b1 b2 b3 b4 : Bool) → cond b1 (Refused AlreadySearched) (cond b2 (Refused FieldRange) (cond b3 Outside (cond b4 (Refused TimesReversed) Taken))) ≡ Refused NoRoom → ⊥
+    go : (b1 b2 b3 b4 : Bool) → cond b1 (Err AlreadySearched) (cond b2 (Err FieldRange) (cond b3 (Ok Outside) (cond b4 (Err TimesReversed) (Ok Taken)))) ≡ Err NoRoom → ⊥
     go true b2 b3 b4 q = let z : ◌≡◌ {A = ℕ} 0 1 = cc in omega arith
     go false true b3 b4 q = let z : ◌≡◌ {A = ℕ} 0 1 = cc in omega arith
     go false false true b4 q = let z : ◌≡◌ {A = ℕ} 0 1 = cc in omega arith
@@ -125,18 +123,18 @@ pub full-only-full : FullOnlyFull
 unfolding call_on
 full-only-full s b n t i h = go (first_answer (call_tests b n i)) refl h
   where
-    go : (a : Answer) → first_answer (call_tests b n i) ≡ a → (goes_on_of s t i a).answer ≡ Refused NoRoom → Meets s t i
-    go (Refused w) e q = absurd (tests-not-full b n i (e ∙ q))
-    go Outside e q = let z : ◌≡◌ {A = ℕ} 0 1 = cc in absurd (omega arith)
-    go Taken e q = ended-full s t i (passed b n i e).present _ (came-ends s t i) q
+    go : (a : Answer) → first_answer (call_tests b n i) ≡ a → (goes_on_of s t i a).answer ≡ Err NoRoom → Meets s t i
+    go (Err w) e q = absurd (tests-not-full b n i (e ∙ q))
+    go (Ok Outside) e q = let z : ◌≡◌ {A = ℕ} 0 1 = cc in absurd (omega arith)
+    go (Ok Taken) e q = ended-full s t i (passed b n i e).present _ (came-ends s t i) q
 
 pub outside-same : OutsideSame
 unfolding call_on call_fit
 outside-same s b n t i o = go (first_answer (call_tests b n i)) refl
   where
     go : (a : Answer) → first_answer (call_tests b n i) ≡ a → (goes_on_of s t i a).table ≡ t
-    go (Refused w) e = refl
-    go Outside e = refl
-    go Taken e =
-        let v : call_seen s t.horizon i ≡ Out = sym (window-seen s t.horizon i (passed b n i e).present) ∙ o in
+    go (Err w) e = refl
+    go (Ok Outside) e = refl
+    go (Ok Taken) e =
+        let v : call_seen s t.horizon i ≡ None = sym (window-seen s t.horizon i (passed b n i e).present) ∙ o in
         ap (λ (f : Fitted). (ended t f).table) (sym (outside (call_time s i i.arrival) (call_time s i i.departure) i t v))

@@ -1,4 +1,6 @@
 -- A call put into the table: a law for each way on, and that a cut and a new try are the same try.
+use Rattle.refusal.specs.declared.Accepted.TheVariants.{Taken, Outside}
+use Rattle.std.specs.Prelude.{None, Option, Some, Err, Ok}
 use Prim.Native.Nat.{ℕ, zero, suc, ◌<◌, ◌≤◌}
 use mathlib.Core.Path.{◌≡◌, refl, sym, ap, ◌∙◌}
 use mathlib.Core.Bool.{cond, Bool, true, false}
@@ -7,13 +9,9 @@ use lib.Dec.{ltb}
 use borrow.Author.Tests.{lt-ltb, le-ltb, ltb-false}
 use Rattle.calls.specs.declared.Call.{Call}
 use Rattle.calls.specs.declared.CallInput.{CallInput}
-use Rattle.calls.specs.declared.Offset.{Offset}
-use Rattle.calls.specs.declared.View.{View}
-use Rattle.calls.specs.declared.View.TheVariants.{In, Out}
 use Rattle.calls.specs.declared.Table.{Table}
 use Rattle.calls.specs.declared.Fitted.{Fitted}
 use Rattle.refusal.specs.declared.Refusal.TheVariants.{NoRoom}
-use Rattle.refusal.specs.declared.Answer.TheVariants.{Taken, Outside, Refused}
 use Rattle.calls.specs.Windows.{seen}
 use Rattle.calls.specs.Tables.{cut, less, put, entered, fitted_in, fitted}
 
@@ -26,11 +24,11 @@ shrinks h q = omega arith
 pub spent : (h : ℕ) → h ≤ 0 → less h < 3600
 spent h p = omega arith
 
-module _ (a d : Offset) (i : CallInput) where
+module _ (a d : Option ℕ) (i : CallInput) where
   abbrev full : Table → Fitted
-  full t = record { answer = Refused NoRoom; table = t }
+  full t = record { answer = Err NoRoom; table = t }
 
-  abbrev view : Table → View
+  abbrev view : Table → Option Call
   view t = seen t.horizon a d i
 
   -- as many cuts as the horizon has seconds are enough
@@ -52,37 +50,37 @@ module _ (a d : Offset) (i : CallInput) where
           f (falls t.horizon n p k) (falls t.horizon m q k)
 
   module _ (t : Table) where
-    out-in : (n : ℕ) → view t ≡ Out → ◌≡◌ {A = Fitted} (record { answer = Outside; table = t }) (fitted_in n t a d i)
-    out-in zero e = ap (λ (v : View). entered t v (full t)) (sym e)
-    out-in (suc n) e = ap (λ (v : View). entered t v (cond (ltb (less t.horizon) 3600) (full t) (fitted_in n (cut (less t.horizon) t) a d i))) (sym e)
+    out-in : (n : ℕ) → view t ≡ None → ◌≡◌ {A = Fitted} (record { answer = Ok Outside; table = t }) (fitted_in n t a d i)
+    out-in zero e = ap (λ (v : Option Call). entered t v (full t)) (sym e)
+    out-in (suc n) e = ap (λ (v : Option Call). entered t v (cond (ltb (less t.horizon) 3600) (full t) (fitted_in n (cut (less t.horizon) t) a d i))) (sym e)
 
     -- a call that is seen: the table has room for it or not
-    seen-in : (n : ℕ) (c : Call) (b : Bool) → view t ≡ In c → ltb t.count 512 ≡ b
-        → cond b (record { answer = Taken; table = put t c }) (cond (ltb (less t.horizon) 3600) (full t) (fitted_in n (cut (less t.horizon) t) a d i)) ≡ fitted_in (suc n) t a d i
+    seen-in : (n : ℕ) (c : Call) (b : Bool) → view t ≡ Some c → ltb t.count 512 ≡ b
+        → cond b (record { answer = Ok Taken; table = put t c }) (cond (ltb (less t.horizon) 3600) (full t) (fitted_in n (cut (less t.horizon) t) a d i)) ≡ fitted_in (suc n) t a d i
     seen-in n c b e h =
-        ap (λ (x : Bool). cond x (record { answer = Taken; table = put t c }) (cond (ltb (less t.horizon) 3600) (full t) (fitted_in n (cut (less t.horizon) t) a d i))) (sym h) ∙ ap (λ (v : View). entered t v (cond (ltb (less t.horizon) 3600) (full t) (fitted_in n (cut (less t.horizon) t) a d i))) (sym e)
+        ap (λ (x : Bool). cond x (record { answer = Ok Taken; table = put t c }) (cond (ltb (less t.horizon) 3600) (full t) (fitted_in n (cut (less t.horizon) t) a d i))) (sym h) ∙ ap (λ (v : Option Call). entered t v (cond (ltb (less t.horizon) 3600) (full t) (fitted_in n (cut (less t.horizon) t) a d i))) (sym e)
 
     -- one cut more is allowed than needed
     one_more : fitted_in (suc t.horizon) t a d i ≡ fitted t a d i
     unfolding fitted
     one_more = enough (suc t.horizon) t.horizon t (omega arith) (omega arith)
 
-    pub outside : view t ≡ Out → ◌≡◌ {A = Fitted} (record { answer = Outside; table = t }) (fitted t a d i)
+    pub outside : view t ≡ None → ◌≡◌ {A = Fitted} (record { answer = Ok Outside; table = t }) (fitted t a d i)
     unfolding fitted
     outside e = out-in t.horizon e
 
-    pub room : (c : Call) → view t ≡ In c → t.count < 512 → ◌≡◌ {A = Fitted} (record { answer = Taken; table = put t c }) (fitted t a d i)
+    pub room : (c : Call) → view t ≡ Some c → t.count < 512 → ◌≡◌ {A = Fitted} (record { answer = Ok Taken; table = put t c }) (fitted t a d i)
     room c e h = seen-in t.horizon c true e (lt-ltb _ _ h) ∙ one_more
 
-    no_room : (c : Call) (b : Bool) → view t ≡ In c → 512 ≤ t.count → ltb (less t.horizon) 3600 ≡ b
+    no_room : (c : Call) (b : Bool) → view t ≡ Some c → 512 ≤ t.count → ltb (less t.horizon) 3600 ≡ b
         → cond b (full t) (fitted_in t.horizon (cut (less t.horizon) t) a d i) ≡ fitted t a d i
     no_room c b e h l =
         ap (λ (x : Bool). cond x (full t) (fitted_in t.horizon (cut (less t.horizon) t) a d i)) (sym l) ∙ seen-in t.horizon c false e (le-ltb _ _ h) ∙ one_more
 
-    pub refuses : (c : Call) → view t ≡ In c → 512 ≤ t.count → less t.horizon < 3600 → full t ≡ fitted t a d i
+    pub refuses : (c : Call) → view t ≡ Some c → 512 ≤ t.count → less t.horizon < 3600 → full t ≡ fitted t a d i
     refuses c e h l = no_room c true e h (lt-ltb _ _ l)
 
-    pub cuts : (c : Call) → view t ≡ In c → 512 ≤ t.count → 3600 ≤ less t.horizon → fitted (cut (less t.horizon) t) a d i ≡ fitted t a d i
+    pub cuts : (c : Call) → view t ≡ Some c → 512 ≤ t.count → 3600 ≤ less t.horizon → fitted (cut (less t.horizon) t) a d i ≡ fitted t a d i
     unfolding fitted cut
     cuts c e h l =
         enough (less t.horizon) t.horizon (cut (less t.horizon) t) (omega arith) (omega arith) ∙ no_room c false e h (le-ltb _ _ l)

@@ -1,5 +1,3 @@
-pub mod Ints
-pub mod WindowLaws
 pub mod CallLaws
 pub mod FitLaws
 pub mod UncutLaws

@@ -1,4 +1,6 @@
 -- A call is answered, and the table left, as the table that its cuts reach says.
+use Rattle.refusal.specs.declared.Accepted.TheVariants.{Taken, Outside}
+use Rattle.std.specs.Prelude.{Option, Err, Ok}
 use Prim.Native.Nat.{ℕ, zero, suc, ◌<◌, ◌≤◌}
 use mathlib.Core.Path.{◌≡◌, refl, sym, subst, ◌∙◌}
 use mathlib.Core.List.{List, ◌++◌}
@@ -9,12 +11,9 @@ use borrow.Author.Tests.{leb-true, leb-false, lt-ltb, le-ltb}
 use Rattle.laws.proofs.Bools.{and-true-left, and-true-right, and-by, cond-by, cond-not}
 use Rattle.settings.specs.declared.Settings.{Settings}
 use Rattle.refusal.specs.declared.Refusal.TheVariants.{NoRoom}
-use Rattle.refusal.specs.declared.Answer.{Answer}
-use Rattle.refusal.specs.declared.Answer.TheVariants.{Taken, Outside, Refused}
-use Rattle.refusal.specs.First.{First, first_answer}
+use Rattle.refusal.specs.First.{First, first_answer, Answer}
 use Rattle.refusal.proofs.FirstLaws.{answer-is-first, first-append, first_past}
 use Rattle.calls.specs.declared.CallInput.{CallInput}
-use Rattle.calls.specs.declared.Offset.{Offset}
 use Rattle.calls.specs.declared.Table.{Table}
 use Rattle.calls.specs.declared.Fitted.{Fitted}
 use Rattle.calls.specs.Windows.{outside, seen}
@@ -24,9 +23,9 @@ use Rattle.calls.specs.Reached.{is_full, meets_full, reached_in, reached, Reache
 use Rattle.calls.proofs.FitLaws.{falls, spent}
 use Rattle.calls.proofs.SoundLaws.{call-tests-fail}
 
-module _ (a d : Offset) (i : CallInput) where
+module _ (a d : Option ℕ) (i : CallInput) where
   abbrev no_room_of : Table → Fitted
-  no_room_of t = record { answer = Refused NoRoom; table = t }
+  no_room_of t = record { answer = Err NoRoom; table = t }
 
   -- at a table that is not cut
   here : (t : Table) (more : Fitted) → (meets_full t a d ≡ true → more ≡ no_room_of t) → (meets_full t a d ≡ true → less t.horizon < 3600)
@@ -71,7 +70,7 @@ module _ (a d : Offset) (i : CallInput) where
           low : meets_full t a d ≡ true → less t.horizon < 3600
           low f = leb-false _ _ (sym (and-by (leb 3600 (less t.horizon)) f) ∙ e)
 
-module _ (a d : Offset) where
+module _ (a d : Option ℕ) where
   -- as many cuts as the horizon has seconds are enough
   stops-in : (n : ℕ) (t : Table) → t.horizon ≤ n → meets_full (reached_in n t a d) a d ≡ true → less (reached_in n t a d).horizon < 3600
   unfolding cut
@@ -108,9 +107,9 @@ module _ (s : Settings) (b : Bool) (n : ℕ) (t : Table) (i : CallInput) where
       subst (λ (f : Fitted). First f.answer then) (sym (fitted-reached t (call_time s i i.arrival) (call_time s i i.departure) i)) (answer-is-first then)
 
   on-first : (x : Answer) → first_answer tests ≡ x → First (goes_on_of s t i x).answer (tests ++ then)
-  on-first (Refused w) e = first-append (Refused w) tests then (tested (Refused w) e) (λ q. let z : ◌≡◌ {A = ℕ} 0 1 = cc in omega arith)
-  on-first Outside e = first-append Outside tests then (tested Outside e) (λ q. let z : ◌≡◌ {A = ℕ} 0 1 = cc in omega arith)
-  on-first Taken e = first_past (call_fit s t i).answer tests then (call-tests-fail b n i e) fit-first
+  on-first (Err w) e = first-append (Err w) tests then (tested (Err w) e) (λ q. let z : ◌≡◌ {A = ℕ} 0 1 = cc in omega arith)
+  on-first (Ok Outside) e = first-append (Ok Outside) tests then (tested (Ok Outside) e) (λ q. let z : ◌≡◌ {A = ℕ} 0 1 = cc in omega arith)
+  on-first (Ok Taken) e = first_past (call_fit s t i).answer tests then (call-tests-fail b n i e) fit-first
 
 pub call-answered : CallAnswered
 unfolding call_on

@@ -1,4 +1,6 @@
 -- The table lemma: cutting and then reading is reading at the smaller horizon.
+use Rattle.refusal.specs.declared.Accepted.TheVariants.{Taken, Outside}
+use Rattle.std.specs.Prelude.{None, Option, Some, Err, Ok}
 use Prim.Native.Nat.{ℕ, ◌≤◌, ◌<◌}
 use mathlib.Core.Path.{◌≡◌, refl, sym, ap, ◌∙◌}
 use mathlib.Core.List.{List, [], ◌∷◌, ◌++◌, append_assoc, append-nil}
@@ -10,17 +12,11 @@ use lib.ListN.{take}
 use Rattle.settings.specs.declared.Settings.{Settings}
 use Rattle.calls.specs.declared.Call.{Call}
 use Rattle.calls.specs.declared.CallInput.{CallInput}
-use Rattle.calls.specs.declared.Offset.{Offset}
-use Rattle.calls.specs.declared.Offset.TheVariants.{Before, At}
-use Rattle.calls.specs.declared.View.{View}
-use Rattle.calls.specs.declared.View.TheVariants.{In, Out}
 use Rattle.calls.specs.declared.Table.{Table}
 use Rattle.calls.specs.declared.Fitted.{Fitted}
-use Rattle.refusal.specs.declared.Answer.{Answer}
-use Rattle.refusal.specs.declared.Answer.TheVariants.{Taken, Outside, Refused}
 use Rattle.calls.specs.Windows.{within, held, allowed, asked, seen_call, seen}
 use Rattle.calls.specs.Tables.{due_by, trim, trim_all, cut, less}
-use Rattle.refusal.specs.First.{first_answer, is_refused, is_taken}
+use Rattle.refusal.specs.First.{first_answer, is_refused, is_taken, Answer}
 use Rattle.calls.specs.Calls.{un_timed, call_tests, call_time, call_seen, window, call_fit, call_on, ended, goes_on_of}
 use Rattle.calls.specs.Sound.{TableSound}
 use Rattle.calls.specs.Shown.{shown, windowed, Shows, StepShows}
@@ -59,35 +55,35 @@ module _ (g h : ℕ) (le : g ≤ h) (i : CallInput) where
     alight_request = asked (allowed wa i.drop_off) i.drop_off;
   }
 
-  trim-seen : (a : Offset) (n : ℕ) → held h a ≡ held g a → within h a ≡ within g a → trim g (seen_call h a (At n) i) ≡ seen_call g a (At n) i
+  trim-seen : (a : Option ℕ) (n : ℕ) → held h a ≡ held g a → within h a ≡ within g a → trim g (seen_call h a (Some n) i) ≡ seen_call g a (Some n) i
   unfolding trim seen_call
-  trim-seen a n ea wa = depart (λ x b. built (held h a) x b (within h a)) g h n le ∙ (λ k. built (ea k) (held g (At n)) (leb n g) (wa k))
+  trim-seen a n ea wa = depart (λ x b. built (held h a) x b (within h a)) g h n le ∙ (λ k. built (ea k) (held g (Some n)) (leb n g) (wa k))
 
   -- a call that arrives at m ≤ h
-  arrives : (m n : ℕ) → leb m h ≡ true → trim_all g (seen_call h (At m) (At n) i ∷ []) ≡ cond (leb m g) (trim g (seen_call h (At m) (At n) i) ∷ []) []
+  arrives : (m n : ℕ) → leb m h ≡ true → trim_all g (seen_call h (Some m) (Some n) i ∷ []) ≡ cond (leb m g) (trim g (seen_call h (Some m) (Some n) i) ∷ []) []
   unfolding seen_call
-  arrives m n e = ap (λ (b : Bool). cond (leb (cond b m h) g) (trim g (seen_call h (At m) (At n) i) ∷ []) []) e
+  arrives m n e = ap (λ (b : Bool). cond (leb (cond b m h) g) (trim g (seen_call h (Some m) (Some n) i) ∷ []) []) e
 
-  reseen : (a d : Offset) → trim_all g (shown (seen h a d i)) ≡ shown (seen g a d i)
+  reseen : (a d : Option ℕ) → trim_all g (shown (seen h a d i)) ≡ shown (seen g a d i)
   unfolding seen seen_call
-  reseen a Before = refl
-  reseen Before (At n) = ap (λ (b : Bool). cond b (trim g (seen_call h Before (At n) i) ∷ []) []) (leb-zero g) ∙ ap (λ (c : Call). c ∷ []) (trim-seen Before n refl refl)
-  reseen (At m) (At n) = go (ltb h m) refl
+  reseen a None = refl
+  reseen None (Some n) = ap (λ (b : Bool). cond b (trim g (seen_call h None (Some n) i) ∷ []) []) (leb-zero g) ∙ ap (λ (c : Call). c ∷ []) (trim-seen None n refl refl)
+  reseen (Some m) (Some n) = go (ltb h m) refl
     where
-      inner : leb m h ≡ true → (b : Bool) → leb m g ≡ b → cond b (trim g (seen_call h (At m) (At n) i) ∷ []) [] ≡ shown (cond (ltb g m) Out (In (seen_call g (At m) (At n) i)))
+      inner : leb m h ≡ true → (b : Bool) → leb m g ≡ b → cond b (trim g (seen_call h (Some m) (Some n) i) ∷ []) [] ≡ shown (cond (ltb g m) None (Some (seen_call g (Some m) (Some n) i)))
       inner e true f =
           let q : ltb g m ≡ false = le-ltb g m (leb-true m g f) in
-          let x : trim g (seen_call h (At m) (At n) i) ≡ seen_call g (At m) (At n) i = trim-seen (At m) n ((λ k. cond (e k) m h) ∙ (λ k. cond (sym f k) m g)) (e ∙ sym f) in
-          ap (λ (c : Call). c ∷ []) x ∙ ap (λ (b : Bool). shown (cond b Out (In (seen_call g (At m) (At n) i)))) (sym q)
+          let x : trim g (seen_call h (Some m) (Some n) i) ≡ seen_call g (Some m) (Some n) i = trim-seen (Some m) n ((λ k. cond (e k) m h) ∙ (λ k. cond (sym f k) m g)) (e ∙ sym f) in
+          ap (λ (c : Call). c ∷ []) x ∙ ap (λ (b : Bool). shown (cond b None (Some (seen_call g (Some m) (Some n) i)))) (sym q)
       inner e false f =
           let q : ltb g m ≡ true = lt-ltb g m (leb-false m g f) in
-          ap (λ (b : Bool). shown (cond b Out (In (seen_call g (At m) (At n) i)))) (sym q)
+          ap (λ (b : Bool). shown (cond b None (Some (seen_call g (Some m) (Some n) i)))) (sym q)
 
-      go : (b : Bool) → ltb h m ≡ b → trim_all g (shown (cond b Out (In (seen_call h (At m) (At n) i)))) ≡ shown (cond (ltb g m) Out (In (seen_call g (At m) (At n) i)))
+      go : (b : Bool) → ltb h m ≡ b → trim_all g (shown (cond b None (Some (seen_call h (Some m) (Some n) i)))) ≡ shown (cond (ltb g m) None (Some (seen_call g (Some m) (Some n) i)))
       go true e =
           let k : h < m = ltb-true h m e in
           let q : ltb g m ≡ true = lt-ltb g m (omega arith) in
-          ap (λ (b : Bool). shown (cond b Out (In (seen_call g (At m) (At n) i)))) (sym q)
+          ap (λ (b : Bool). shown (cond b None (Some (seen_call g (Some m) (Some n) i)))) (sym q)
       go false e =
           let q : leb m h ≡ true = le-leb m h (ltb-false h m e) in
           arrives m n q ∙ inner q (leb m g) refl
@@ -96,7 +92,7 @@ module _ (g h : ℕ) (le : g ≤ h) (i : CallInput) where
   unfolding window
   rewindow s = go (un_timed i)
     where
-      go : (b : Bool) → trim_all g (shown (cond b Out (call_seen s h i))) ≡ shown (cond b Out (call_seen s g i))
+      go : (b : Bool) → trim_all g (shown (cond b None (call_seen s h i))) ≡ shown (cond b None (call_seen s g i))
       go true = refl
       go false = reseen (call_time s i i.arrival) (call_time s i i.departure)
 
@@ -115,17 +111,17 @@ module _ (s : Settings) (h : ℕ) where
   windowed-append (x ∷ xs) ys =
       ap (λ (r : List Call). shown (window s h x) ++ r) (windowed-append xs ys) ∙ sym (append_assoc (shown (window s h x)) (windowed s h xs) (windowed s h ys))
 
-  windowed-one : (xs : List CallInput) (i : CallInput) (v : View) → window s h i ≡ v → windowed s h (xs ++ (i ∷ [])) ≡ windowed s h xs ++ shown v
+  windowed-one : (xs : List CallInput) (i : CallInput) (v : Option Call) → window s h i ≡ v → windowed s h (xs ++ (i ∷ [])) ≡ windowed s h xs ++ shown v
   windowed-one xs i v e =
       windowed-append xs (i ∷ []) ∙ ap (λ (r : List Call). windowed s h xs ++ r) (append-nil (shown (window s h i)) ∙ ap shown e)
 
   pub window-seen : (i : CallInput) → un_timed i ≡ false → window s h i ≡ call_seen s h i
   unfolding window
-  window-seen i e = ap (λ (b : Bool). cond b Out (call_seen s h i)) e
+  window-seen i e = ap (λ (b : Bool). cond b None (call_seen s h i)) e
 
-  pub window-absent : (i : CallInput) → un_timed i ≡ true → window s h i ≡ Out
+  pub window-absent : (i : CallInput) → un_timed i ≡ true → window s h i ≡ None
   unfolding window
-  window-absent i e = ap (λ (b : Bool). cond b Out (call_seen s h i)) e
+  window-absent i e = ap (λ (b : Bool). cond b None (call_seen s h i)) e
 
 -- ---- the step
 pub record Showing (s : Settings) (is : List CallInput) (t : Table) : Type 0 where
@@ -135,7 +131,7 @@ pub record Showing (s : Settings) (is : List CallInput) (t : Table) : Type 0 whe
 lower : (h : ℕ) → less h ≤ h
 lower h = omega arith
 
-pub showing-keeps : (s : Settings) (is : List CallInput) (a d : Offset) (i : CallInput) → Keeps (Showing s is) a d i
+pub showing-keeps : (s : Settings) (is : List CallInput) (a d : Option ℕ) (i : CallInput) → Keeps (Showing s is) a d i
 unfolding cut
 showing-keeps s is a d i t c p e f l = record {
   sound = sound-keeps a d i t c p.sound e f l;
@@ -147,7 +143,7 @@ module _ (s : Settings) (u : Table) (i : CallInput) (is : List CallInput) (q : S
   ended-shows _ (stands t p e) = p.shows ∙ ap (windowed s t.horizon) (sym (append-nil is))
   ended-shows _ (enters t c p e h) =
       put-calls t c p.sound h ∙ ap (λ (x : List Call). x ++ (c ∷ [])) p.shows
-      ∙ sym (windowed-one s t.horizon is i (In c) (window-seen s t.horizon i present ∙ e))
+      ∙ sym (windowed-one s t.horizon is i (Some c) (window-seen s t.horizon i present ∙ e))
   ended-shows _ (turned t c p e h m) = q ∙ ap (windowed s u.horizon) (sym (append-nil is))
 
 pub step-shows : StepShows
@@ -155,9 +151,9 @@ unfolding call_on call_fit
 step-shows s b n t i is sound q = go (first_answer (call_tests b n i)) refl
   where
     go : (a : Answer) → first_answer (call_tests b n i) ≡ a → Shows s (goes_on_of s t i a).table (is ++ cond (is_taken (goes_on_of s t i a).answer) (i ∷ []) [])
-    go (Refused w) e = q ∙ ap (windowed s t.horizon) (sym (append-nil is))
-    go Outside e = q ∙ ap (windowed s t.horizon) (sym (append-nil is))
-    go Taken e =
+    go (Err w) e = q ∙ ap (windowed s t.horizon) (sym (append-nil is))
+    go (Ok Outside) e = q ∙ ap (windowed s t.horizon) (sym (append-nil is))
+    go (Ok Taken) e =
         ended-shows s t i is q (passed b n i e).present _
         (ends (Showing s is) (call_time s i i.arrival) (call_time s i i.departure) i
         (showing-keeps s is (call_time s i i.arrival) (call_time s i i.departure) i)
@@ -169,6 +165,6 @@ unfolding call_on
 refused-same s b n t i = go (first_answer (call_tests b n i))
   where
     go : (a : Answer) → is_refused (goes_on_of s t i a).answer ≡ true → (goes_on_of s t i a).table ≡ t
-    go (Refused w) e = refl
-    go Outside e = refl
-    go Taken e = cond-by _ _ e
+    go (Err w) e = refl
+    go (Ok Outside) e = refl
+    go (Ok Taken) e = cond-by _ _ e

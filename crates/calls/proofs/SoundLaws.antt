@@ -1,4 +1,7 @@
 -- The call step keeps a table sound.
+use Rattle.std.specs.Option.{unwrap_or}
+use Rattle.refusal.specs.declared.Accepted.TheVariants.{Taken, Outside}
+use Rattle.std.specs.Prelude.{None, Option, Some, Err, Ok, is_none}
 use Prim.Native.Nat.{ℕ, suc, ◌+◌, ◌-◌, ◌≤◌, ◌<◌}
 use mathlib.Core.Path.{◌≡◌, refl, sym, ap, subst, ◌∙◌}
 use mathlib.Core.List.{List, [], ◌∷◌, ◌++◌, tail-eq_of_cons-eq}
@@ -12,20 +15,15 @@ use lib.Seq.{drop-cons, drop-set-lt, take-suc-set, take-append_seam, drop-append
 use lib.IntN.{ℤ, pos, negsuc, neg_ℤ, ◌+ℤ◌, ◌-ℤ◌, +ℤ_assoc, +ℤ_comm}
 use Rattle.calls.specs.declared.Call.{Call}
 use Rattle.calls.specs.declared.CallInput.{CallInput}
-use Rattle.calls.specs.declared.Offset.{Offset}
-use Rattle.calls.specs.declared.Offset.TheVariants.{Before, At}
-use Rattle.calls.specs.declared.View.TheVariants.{In, Out}
 use Rattle.calls.specs.declared.Table.{Table}
 use Rattle.calls.specs.declared.Fitted.{Fitted}
-use Rattle.refusal.specs.declared.Answer.{Answer}
-use Rattle.refusal.specs.declared.Answer.TheVariants.{Taken, Outside, Refused}
-use Rattle.calls.specs.Windows.{time_of, time_after, before, after, within, held, allowed, seen_call, seen}
+use Rattle.calls.specs.Windows.{time_of, time_after, after, within, held, allowed, seen_call, seen}
 use Rattle.calls.specs.Tables.{blank_call, due_by, trim, trim_all, cut, less, put}
 use Rattle.laws.proofs.Bools.{and-true-left}
-use Rattle.refusal.specs.First.{first_answer, AllFail}
+use Rattle.refusal.specs.First.{first_answer, AllFail, Answer}
 use Rattle.refusal.proofs.FirstLaws.{taken-all-fail}
 use Rattle.settings.specs.Settings.{near}
-use Rattle.calls.specs.Calls.{un_timed, seconds_of, known, call_tests, call_time, call_fit, call_on, ended, goes_on_of}
+use Rattle.calls.specs.Calls.{un_timed, known, call_tests, call_time, call_fit, call_on, ended, goes_on_of}
 use Rattle.calls.specs.Sound.{All, one_of, horizons, CallSound, TableSound, EmptySound, CallKeepsSound}
 use Rattle.laws.proofs.Pack.{length-gather}
 use Rattle.laws.proofs.Every.{one-of}
@@ -132,9 +130,9 @@ held-top h n = go (leb n h) refl
     go true p = leb-true n h p
     go false p = omega arith
 
-pub held-due : (h : ℕ) (t : Offset) → held h t ≤ h
-held-due h Before = omega arith
-held-due h (At n) = held-top h n
+pub held-due : (h : ℕ) (t : Option ℕ) → held h t ≤ h
+held-due h None = omega arith
+held-due h (Some n) = held-top h n
 
 zero-least : (n : ℕ) → 0 ≤ n
 zero-least n = omega arith
@@ -160,20 +158,20 @@ held-mono h e n a b q = go (near e && near n)
     same : e +ℤ pos b -ℤ n ≡ (e +ℤ pos a -ℤ n) +ℤ pos (b - a)
     same = ap (λ (x : ℕ). e +ℤ pos x -ℤ n) (sym sum) ∙ moved e n a (b - a)
 
-    go : (c : Bool) → held h (cond c (time_of (e +ℤ pos a -ℤ n)) Before) ≤ held h (cond c (time_of (e +ℤ pos b -ℤ n)) Before)
+    go : (c : Bool) → held h (cond c (time_of (e +ℤ pos a -ℤ n)) None) ≤ held h (cond c (time_of (e +ℤ pos b -ℤ n)) None)
     go true = subst (λ (z : ℤ). held h (time_of (e +ℤ pos a -ℤ n)) ≤ held h (time_of z)) (sym same) (later h (e +ℤ pos a -ℤ n) (b - a))
     go false = zero-least 0
 
 -- what is seen is the call held to the horizon
-pub seen-is : (h : ℕ) (a d : Offset) (i : CallInput) (c : Call) → seen h a d i ≡ In c → seen_call h a d i ≡ c
+pub seen-is : (h : ℕ) (a d : Option ℕ) (i : CallInput) (c : Call) → seen h a d i ≡ Some c → seen_call h a d i ≡ c
 unfolding seen
-seen-is h a d i c e = go (before d || after h a) e
+seen-is h a d i c e = go (is_none d || after h a) e
   where
-    go : (b : Bool) → cond b Out (In (seen_call h a d i)) ≡ In c → seen_call h a d i ≡ c
+    go : (b : Bool) → cond b None (Some (seen_call h a d i)) ≡ Some c → seen_call h a d i ≡ c
     go true q = let z : ◌≡◌ {A = ℕ} 0 1 = cc in absurd (omega arith)
     go false q = cc
 
-module _ (h : ℕ) (a d : Offset) (i : CallInput) where
+module _ (h : ℕ) (a d : Option ℕ) (i : CallInput) where
   seen-call-sound : held h a ≤ held h d → CallSound h (seen_call h a d i)
   unfolding seen_call
   seen-call-sound o = record {
@@ -183,7 +181,7 @@ module _ (h : ℕ) (a d : Offset) (i : CallInput) where
     alight_marked = and-true-left (allowed (within h a) i.drop_off) (eqb i.drop_off 2 || eqb i.drop_off 3);
   }
 
-  pub seen-sound : (c : Call) → held h a ≤ held h d → seen h a d i ≡ In c → CallSound h c
+  pub seen-sound : (c : Call) → held h a ≤ held h d → seen h a d i ≡ Some c → CallSound h c
   seen-sound c o e = subst (CallSound h) (seen-is h a d i c e) (seen-call-sound o)
 
 -- ---- the tests before the table
@@ -191,10 +189,10 @@ pub record Passed (b : Bool) (n : ℕ) (i : CallInput) : Type 0 where
   pub unsearched : b ≡ false
   pub at_stop : i.stop < n
   pub present : un_timed i ≡ false
-  pub ordered : seconds_of i.arrival ≤ seconds_of i.departure
+  pub ordered : unwrap_or i.arrival 0 ≤ unwrap_or i.departure 0
 
 -- every test fails where the tests answer taken
-pub call-tests-fail : (b : Bool) (n : ℕ) (i : CallInput) → first_answer (call_tests b n i) ≡ Taken → AllFail (call_tests b n i)
+pub call-tests-fail : (b : Bool) (n : ℕ) (i : CallInput) → first_answer (call_tests b n i) ≡ Ok Taken → AllFail (call_tests b n i)
 unfolding call_tests
 call-tests-fail b n i e = taken-all-fail (call_tests b n i)
     ((λ q. let z : ◌≡◌ {A = ℕ} 0 1 = cc in omega arith), ((λ q. let z : ◌≡◌ {A = ℕ} 0 1 = cc in omega arith), ((λ q. let z : ◌≡◌ {A = ℕ} 0 1 = cc in omega arith), ((λ q. let z : ◌≡◌ {A = ℕ} 0 1 = cc in omega arith), tt)))) e
@@ -207,18 +205,18 @@ not-false : (b : Bool) → not b ≡ false → b ≡ true
 not-false true e = refl
 not-false false e = sym e
 
-pub passed : (b : Bool) (n : ℕ) (i : CallInput) → first_answer (call_tests b n i) ≡ Taken → Passed b n i
+pub passed : (b : Bool) (n : ℕ) (i : CallInput) → first_answer (call_tests b n i) ≡ Ok Taken → Passed b n i
 unfolding call_tests known
 passed b n i e =
     let f = call-tests-fail b n i e in
     let k : known n i ≡ true = not-false (known n i) f.1.0 in
-    record { unsearched = f.0; at_stop = ltb-true i.stop n (first-true (ltb i.stop n) (ltb i.trip 65535) (leb i.day 2) (leb i.pickup 3) (leb i.drop_off 3) k); present = f.1.1.0; ordered = ltb-false (seconds_of i.departure) (seconds_of i.arrival) f.1.1.1.0 }
+    record { unsearched = f.0; at_stop = ltb-true i.stop n (first-true (ltb i.stop n) (ltb i.trip 65535) (leb i.day 2) (leb i.pickup 3) (leb i.drop_off 3) k); present = f.1.1.0; ordered = ltb-false (unwrap_or i.departure 0) (unwrap_or i.arrival 0) f.1.1.1.0 }
 
 -- ---- the step
-pub sound-keeps : (a d : Offset) (i : CallInput) → Keeps TableSound a d i
+pub sound-keeps : (a d : Option ℕ) (i : CallInput) → Keeps TableSound a d i
 sound-keeps a d i t c s e f l = let k = falls t.horizon s.known l in cut-sound (less t.horizon) t s k.0 k.1
 
-ended-sound : (u : Table) (a d : Offset) (i : CallInput) → ((h : ℕ) → held h a ≤ held h d) → TableSound u → (f : Fitted) → Ends TableSound a d i f → TableSound (ended u f).table
+ended-sound : (u : Table) (a d : Option ℕ) (i : CallInput) → ((h : ℕ) → held h a ≤ held h d) → TableSound u → (f : Fitted) → Ends TableSound a d i f → TableSound (ended u f).table
 ended-sound u a d i o s _ (stands t p e) = p
 ended-sound u a d i o s _ (enters t c p e h) = put-sound t c p h (seen-sound t.horizon a d i c (o t.horizon) e)
 ended-sound u a d i o s _ (turned t c p e h m) = s
@@ -228,11 +226,11 @@ unfolding call_on call_fit
 call-keeps-sound s b n t i p = go (first_answer (call_tests b n i)) refl
   where
     go : (a : Answer) → first_answer (call_tests b n i) ≡ a → TableSound (goes_on_of s t i a).table
-    go (Refused w) e = p
-    go Outside e = p
-    go Taken e =
+    go (Err w) e = p
+    go (Ok Outside) e = p
+    go (Ok Taken) e =
         ended-sound t (call_time s i i.arrival) (call_time s i i.departure) i
-        (λ h. held-mono h (get_or s.epochs i.day (pos 0)) s.now (seconds_of i.arrival) (seconds_of i.departure) (passed b n i e).ordered)
+        (λ h. held-mono h (get_or s.epochs i.day (pos 0)) s.now (unwrap_or i.arrival 0) (unwrap_or i.departure 0) (passed b n i e).ordered)
         p _ (ends TableSound _ _ i (sound-keeps _ _ i) t p)
 
 pub empty-sound : EmptySound

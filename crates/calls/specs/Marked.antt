@@ -1,9 +1,7 @@
 -- The starred instances of the window.
-use Rattle.std.specs.Prelude.{◌≡◌, true, false, [], ◌∷◌, ℕ, pos}
+use Rattle.std.specs.Prelude.{◌≡◌, true, false, [], ◌∷◌, ℕ, pos, None, Some}
 use Rattle.settings.specs.declared.Settings.{Settings}
 use Rattle.calls.specs.declared.CallInput.{CallInput}
-use Rattle.calls.specs.declared.Seconds.TheVariants.{Given}
-use Rattle.calls.specs.declared.View.TheVariants.{In, Out}
 use Rattle.calls.specs.Calls.{window}
 
 -- a load that starts 1000 seconds into its first day
@@ -21,11 +19,11 @@ started = record {
 
 -- a call from a to d seconds into that day
 abbrev pub marked_call : ℕ → ℕ → CallInput
-marked_call a d = record { trip = 1; day = 0; sequence = 1; stop = 0; arrival = Given a; departure = Given d; pickup = 0; drop_off = 0 }
+marked_call a d = record { trip = 1; day = 0; sequence = 1; stop = 0; arrival = Some a; departure = Some d; pickup = 0; drop_off = 0 }
 
 -- −10 to 0: boardable, not alightable
 abbrev pub EarlyCall : Type 0
-EarlyCall = window started 21600 (marked_call 990 1000) ≡ In (record {
+EarlyCall = window started 21600 (marked_call 990 1000) ≡ Some (record {
   trip = 1;
   day = 0;
   sequence = 1;
@@ -40,7 +38,7 @@ EarlyCall = window started 21600 (marked_call 990 1000) ≡ In (record {
 
 -- departure −1: outside
 abbrev pub GoneCall : Type 0
-GoneCall = window started 21600 (marked_call 990 999) ≡ Out
+GoneCall = window started 21600 (marked_call 990 999) ≡ None
 
 abbrev pub MarkedWindows : Type 0
 MarkedWindows = EarlyCall × GoneCall

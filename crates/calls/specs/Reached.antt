@@ -1,12 +1,10 @@
 -- The table that a call comes to by its cuts, and the answer there. It is found by the times and the table alone: no answer is used.
-use Rattle.std.specs.Prelude.{ℕ, zero, suc, ◌<◌, ◌≡◌, List, [], ◌∷◌, ◌++◌, Bool, true, not, cond, ◌&&◌, ltb, leb}
+use Rattle.refusal.specs.declared.Accepted.TheVariants.{Outside}
+use Rattle.std.specs.Prelude.{ℕ, zero, suc, ◌<◌, ◌≡◌, List, [], ◌∷◌, ◌++◌, Bool, true, not, cond, ◌&&◌, ltb, leb, Option, Err, Ok}
 use Rattle.refusal.specs.declared.Refusal.TheVariants.{NoRoom}
-use Rattle.refusal.specs.declared.Answer.{Answer}
-use Rattle.refusal.specs.declared.Answer.TheVariants.{Outside, Refused}
-use Rattle.refusal.specs.First.{First, first_answer, is_taken}
+use Rattle.refusal.specs.First.{First, first_answer, is_taken, Answer}
 use Rattle.settings.specs.declared.Settings.{Settings}
 use Rattle.calls.specs.declared.CallInput.{CallInput}
-use Rattle.calls.specs.declared.Offset.{Offset}
 use Rattle.calls.specs.declared.Table.{Table}
 use Rattle.calls.specs.declared.Fitted.{Fitted}
 use Rattle.calls.specs.Windows.{outside, seen_call}
@@ -18,35 +16,35 @@ abbrev pub is_full : Table → Bool
 is_full t = leb 512 t.count
 
 -- a call with arrival a and departure d, inside the window, meets it full
-abbrev pub meets_full : Table → Offset → Offset → Bool
+abbrev pub meets_full : Table → Option ℕ → Option ℕ → Bool
 meets_full t a d = not (outside t.horizon a d) && is_full t
 
 -- the table after at most n cuts: it is cut while the call meets it full and the next horizon is 3600 or more
-abbrev pub reached_in : ℕ → Table → Offset → Offset → Table
+abbrev pub reached_in : ℕ → Table → Option ℕ → Option ℕ → Table
 reached_in zero t a d = t
 reached_in (suc n) t a d = cond (meets_full t a d && leb 3600 (less t.horizon)) (reached_in n (cut (less t.horizon) t) a d) t
 
 -- each cut takes a second or more off the horizon, so there are no more than it has
-unfoldable pub reached : Table → Offset → Offset → Table
+unfoldable pub reached : Table → Option ℕ → Option ℕ → Table
 reached t a d = reached_in t.horizon t a d
 
 -- a call that still meets it full: the horizon would fall below 3600
 abbrev pub ReachedFull : Type 0
-ReachedFull = (t : Table) (a d : Offset) → meets_full (reached t a d) a d ≡ true → less (reached t a d).horizon < 3600
+ReachedFull = (t : Table) (a d : Option ℕ) → meets_full (reached t a d) a d ≡ true → less (reached t a d).horizon < 3600
 
 -- what is asked of the table reached: is the call outside; is the table full, and would its horizon fall below 3600
-abbrev pub reached_tests : Table → Offset → Offset → List (Bool × Answer)
-reached_tests r a d = (outside r.horizon a d, Outside) ∷ (is_full r && ltb (less r.horizon) 3600, Refused NoRoom) ∷ []
+abbrev pub reached_tests : Table → Option ℕ → Option ℕ → List (Bool × Answer)
+reached_tests r a d = (outside r.horizon a d, Ok Outside) ∷ (is_full r && ltb (less r.horizon) 3600, Err NoRoom) ∷ []
 
 -- if neither, the call goes in as it is seen up to that table's horizon
-abbrev pub reached_fit : Table → Offset → Offset → CallInput → Fitted
+abbrev pub reached_fit : Table → Option ℕ → Option ℕ → CallInput → Fitted
 reached_fit r a d i = record {
   answer = first_answer (reached_tests r a d);
   table = cond (is_taken (first_answer (reached_tests r a d))) (put r (seen_call r.horizon a d i)) r;
 }
 
 abbrev pub FittedReached : Type 0
-FittedReached = (t : Table) (a d : Offset) (i : CallInput) → fitted t a d i ≡ reached_fit (reached t a d) a d i
+FittedReached = (t : Table) (a d : Option ℕ) (i : CallInput) → fitted t a d i ≡ reached_fit (reached t a d) a d i
 
 -- the same of a call's own times: outside, 11
 abbrev pub call_window : Settings → Table → CallInput → List (Bool × Answer)

@@ -1,21 +1,18 @@
 -- What the table is: the calls answered taken, in order, as the window shows them at its horizon. And when the horizon falls.
-use Rattle.std.specs.Prelude.{ℕ, ◌≤◌, ◌<◌, ◌≡◌, Bool, cond, List, [], ◌∷◌, ◌++◌, take}
+use Rattle.std.specs.Prelude.{ℕ, ◌≤◌, ◌<◌, ◌≡◌, Bool, cond, List, [], ◌∷◌, ◌++◌, take, None, Option, Some, Err}
 use Rattle.refusal.specs.declared.Refusal.TheVariants.{NoRoom}
-use Rattle.refusal.specs.declared.Answer.TheVariants.{Refused}
 use Rattle.refusal.specs.First.{is_taken}
 use Rattle.settings.specs.declared.Settings.{Settings}
 use Rattle.calls.specs.declared.Call.{Call}
 use Rattle.calls.specs.declared.CallInput.{CallInput}
 use Rattle.calls.specs.declared.Table.{Table}
-use Rattle.calls.specs.declared.View.{View}
-use Rattle.calls.specs.declared.View.TheVariants.{In, Out}
 use Rattle.calls.specs.Calls.{call_on, window}
 use Rattle.calls.specs.Sound.{TableSound}
 
 -- a call that is seen; nothing where it is outside
-abbrev pub shown : View → List Call
-shown (In c) = c ∷ []
-shown Out = []
+abbrev pub shown : Option Call → List Call
+shown (Some c) = c ∷ []
+shown None = []
 
 -- the calls of a list as the window shows them up to h, those outside left out
 abbrev pub windowed : Settings → ℕ → List CallInput → List Call
@@ -42,7 +39,7 @@ StepShows = (s : Settings) (b : Bool) (n : ℕ) (t : Table) (i : CallInput) (is 
 -- a call inside the window meets a full table
 pub record Meets (s : Settings) (t : Table) (i : CallInput) : Type 0 where
   pub call : Call
-  pub inside : window s t.horizon i ≡ In call
+  pub inside : window s t.horizon i ≡ Some call
   pub full : 512 ≤ t.count
 
 -- the horizon falls only then
@@ -54,8 +51,8 @@ NeverRises = (s : Settings) (b : Bool) (n : ℕ) (t : Table) (i : CallInput) →
 
 -- and so does 11
 abbrev pub FullOnlyFull : Type 0
-FullOnlyFull = (s : Settings) (b : Bool) (n : ℕ) (t : Table) (i : CallInput) → (call_on s b n t i).answer ≡ Refused NoRoom → Meets s t i
+FullOnlyFull = (s : Settings) (b : Bool) (n : ℕ) (t : Table) (i : CallInput) → (call_on s b n t i).answer ≡ Err NoRoom → Meets s t i
 
 -- a call that is outside before any cut changes nothing
 abbrev pub OutsideSame : Type 0
-OutsideSame = (s : Settings) (b : Bool) (n : ℕ) (t : Table) (i : CallInput) → window s t.horizon i ≡ Out → (call_on s b n t i).table ≡ t
+OutsideSame = (s : Settings) (b : Bool) (n : ℕ) (t : Table) (i : CallInput) → window s t.horizon i ≡ None → (call_on s b n t i).table ≡ t

@@ -1,15 +1,12 @@
 -- The table of calls, and what a 513th call does to it.
-use Rattle.std.specs.Prelude.{ℕ, zero, suc, ◌+◌, ◌-◌, ◌/◌, List, Bool, false, cond, take, length, set, ltb, leb}
+use Rattle.refusal.specs.declared.Accepted.TheVariants.{Taken, Outside}
+use Rattle.std.specs.Prelude.{ℕ, zero, suc, ◌+◌, ◌-◌, ◌/◌, List, Bool, false, cond, take, length, set, ltb, leb, None, Option, Some, Err, Ok}
 use Rattle.calls.specs.declared.Call.{Call}
 use Rattle.calls.specs.declared.CallInput.{CallInput}
-use Rattle.calls.specs.declared.Offset.{Offset}
-use Rattle.calls.specs.declared.View.{View}
-use Rattle.calls.specs.declared.View.TheVariants.{In, Out}
 use Rattle.calls.specs.declared.Packed.{Packed}
 use Rattle.calls.specs.declared.Table.{Table}
 use Rattle.calls.specs.declared.Fitted.{Fitted}
 use Rattle.refusal.specs.declared.Refusal.TheVariants.{NoRoom}
-use Rattle.refusal.specs.declared.Answer.TheVariants.{Taken, Outside, Refused}
 use Rattle.laws.specs.Lists.{gather, padded}
 use Rattle.calls.specs.Windows.{seen}
 
@@ -72,17 +69,17 @@ abbrev pub put : Table → Call → Table
 put t c = record { calls = set t.calls t.count c; count = t.count + 1; horizon = t.horizon; limits = t.limits }
 
 -- a call that is seen so goes in where there is room; what else happens is handed in
-abbrev pub entered : Table → View → Fitted → Fitted
-entered t Out full = record { answer = Outside; table = t }
-entered t (In c) full = cond (ltb t.count 512) (record { answer = Taken; table = put t c }) full
+abbrev pub entered : Table → Option Call → Fitted → Fitted
+entered t None full = record { answer = Ok Outside; table = t }
+entered t (Some c) full = cond (ltb t.count 512) (record { answer = Ok Taken; table = put t c }) full
 
 -- a call put in, after at most n cuts: a full table is cut and the call tried anew, unless the horizon would fall below 3600
-abbrev pub fitted_in : ℕ → Table → Offset → Offset → CallInput → Fitted
-fitted_in zero t a d i = entered t (seen t.horizon a d i) (record { answer = Refused NoRoom; table = t })
+abbrev pub fitted_in : ℕ → Table → Option ℕ → Option ℕ → CallInput → Fitted
+fitted_in zero t a d i = entered t (seen t.horizon a d i) (record { answer = Err NoRoom; table = t })
 fitted_in (suc n) t a d i =
     entered t (seen t.horizon a d i)
-    (cond (ltb (less t.horizon) 3600) (record { answer = Refused NoRoom; table = t }) (fitted_in n (cut (less t.horizon) t) a d i))
+    (cond (ltb (less t.horizon) 3600) (record { answer = Err NoRoom; table = t }) (fitted_in n (cut (less t.horizon) t) a d i))
 
 -- each cut takes a second or more off the horizon, so there are no more than it has
-unfoldable pub fitted : Table → Offset → Offset → CallInput → Fitted
+unfoldable pub fitted : Table → Option ℕ → Option ℕ → CallInput → Fitted
 fitted t a d i = fitted_in t.horizon t a d i

@@ -1,13 +1,10 @@
 -- A call step that cuts nothing, told by the table's count and horizon alone.
-use Rattle.std.specs.Prelude.{ℕ, ◌<◌, ◌≡◌, Bool, cond, ltb}
-use Rattle.refusal.specs.declared.Answer.{Answer}
-use Rattle.refusal.specs.declared.Answer.TheVariants.{Taken, Outside, Refused}
-use Rattle.refusal.specs.First.{first_answer}
+use Rattle.refusal.specs.declared.Accepted.TheVariants.{Taken, Outside}
+use Rattle.std.specs.Prelude.{ℕ, ◌<◌, ◌≡◌, Bool, cond, ltb, None, Option, Some, Err, Ok}
+use Rattle.refusal.specs.First.{first_answer, Answer}
 use Rattle.settings.specs.declared.Settings.{Settings}
 use Rattle.calls.specs.declared.Call.{Call}
 use Rattle.calls.specs.declared.CallInput.{CallInput}
-use Rattle.calls.specs.declared.View.{View}
-use Rattle.calls.specs.declared.View.TheVariants.{In as Seen, Out}
 use Rattle.calls.specs.declared.Table.{Table}
 use Rattle.calls.specs.declared.Uncut.{Uncut}
 use Rattle.calls.specs.declared.Uncut.TheVariants.{In, Outside as Beyond, Other}
@@ -15,14 +12,14 @@ use Rattle.calls.specs.Calls.{call_tests, call_seen, call_on}
 use Rattle.calls.specs.Tables.{put}
 
 -- a call that is seen so, with so many in the table
-abbrev pub uncut_view : ℕ → View → Uncut
-uncut_view count Out = Beyond
-uncut_view count (Seen c) = cond (ltb count 512) (In c) Other
+abbrev pub uncut_view : ℕ → Option Call → Uncut
+uncut_view count None = Beyond
+uncut_view count (Some c) = cond (ltb count 512) (In c) Other
 
 abbrev pub uncut_by : Answer → Uncut → Uncut
-uncut_by Taken u = u
-uncut_by Outside u = Beyond
-uncut_by (Refused r) u = Other
+uncut_by (Ok Taken) u = u
+uncut_by (Ok Outside) u = Beyond
+uncut_by (Err r) u = Other
 
 unfoldable pub uncut_on : Settings → Bool → ℕ → ℕ → ℕ → CallInput → Uncut
 uncut_on s searched stops count h i = uncut_by (first_answer (call_tests searched stops i)) (uncut_view count (call_seen s h i))
@@ -30,8 +27,8 @@ uncut_on s searched stops count h i = uncut_by (first_answer (call_tests searche
 -- what it tells of the call step
 pub record Told (s : Settings) (searched : Bool) (stops : ℕ) (t : Table) (i : CallInput) (u : Uncut) : Type 0 where
   pub room : (c : Call) → u ≡ In c → t.count < 512
-  pub goes_in : (c : Call) → u ≡ In c → call_on s searched stops t i ≡ record { answer = Taken; table = put t c }
-  pub outside : u ≡ Beyond → call_on s searched stops t i ≡ record { answer = Outside; table = t }
+  pub goes_in : (c : Call) → u ≡ In c → call_on s searched stops t i ≡ record { answer = Ok Taken; table = put t c }
+  pub outside : u ≡ Beyond → call_on s searched stops t i ≡ record { answer = Ok Outside; table = t }
 
 abbrev pub UncutTells : Type 0
 UncutTells = (s : Settings) (searched : Bool) (stops : ℕ) (t : Table) (i : CallInput) → Told s searched stops t i (uncut_on s searched stops t.count t.horizon i)

@@ -9,25 +9,19 @@ ghost use Rattle.calls.specs.Tables.{blank_call};
 
 use refusal::Answer;
 
-#[derive(Clone, Copy)]
-pub enum Seconds {
-    Given(u32),
-    Absent,
-}
-
-#[derive(Clone, Copy)]
+#[derive(Clone, Copy, Debug, PartialEq, Eq)]
 pub struct CallInput {
     pub trip: u16,
     pub day: u8,
     pub sequence: u32,
     pub stop: u16,
-    pub arrival: Seconds,
-    pub departure: Seconds,
+    pub arrival: Option<u32>,
+    pub departure: Option<u32>,
     pub pickup: u8,
     pub drop_off: u8,
 }
 
-#[derive(Clone, Copy)]
+#[derive(Clone, Copy, Debug, PartialEq, Eq)]
 pub struct Call {
     pub trip: u16,
     pub day: u8,
@@ -41,29 +35,16 @@ pub struct Call {
     pub alight_request: bool,
 }
 
-// A time from the start: before it, or so many seconds after it.
-#[derive(Clone, Copy)]
-pub enum Offset {
-    Before,
-    At(u64),
-}
-
-// A call as the window shows it.
-#[derive(Clone, Copy)]
-pub enum View {
-    In(Call),
-    Out,
-}
-
 // What becomes of a call for which nothing is cut: it goes in, or lies outside. `Other`: it is sent back, or the table is full.
-#[derive(Clone, Copy)]
+#[derive(Clone, Copy, Debug, PartialEq, Eq)]
 pub enum Uncut {
     In(Call),
     Outside,
     Other,
 }
 
-#[derive(Clone, Copy)]
+// An array with its count, since the core has no heap.
+#[derive(Clone, Copy, Debug, PartialEq, Eq)]
 pub struct Table {
     pub calls: [Call; 512],
     pub count: usize,
@@ -71,19 +52,19 @@ pub struct Table {
     pub limits: u8,
 }
 
-#[derive(Clone, Copy)]
+#[derive(Clone, Copy, Debug, PartialEq, Eq)]
 pub struct Packed {
     pub calls: [Call; 512],
     pub held: usize,
 }
 
-#[derive(Clone, Copy)]
+#[derive(Clone, Copy, Debug, PartialEq, Eq)]
 pub struct Fitted {
     pub answer: Answer,
     pub table: Table,
 }
 
-// What an unused slot holds.
+// What an unused slot holds. No `Default`: its contract can't name the record.
 pub fn blank_call() -> Call
     ensures { result ≡ blank_call }
 {

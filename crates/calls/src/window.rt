@@ -1,11 +1,12 @@
 // `window`: a call's times from the start, and the call as it is seen up to a horizon.
 ghost use Rattle.std.specs.Prelude.{◌≡◌, true, ◌+◌, pos, ◌+ℤ◌, ◌-ℤ◌};
 ghost use Rattle.settings.specs.Settings.{near};
-ghost use Rattle.calls.specs.Windows.{time_after, before, after, within, held, allowed, asked, seen_call, seen};
+ghost use Rattle.calls.specs.Windows.{time_after, after, within, held, allowed, asked, seen_call, seen};
 
-use crate::{Call, CallInput, Offset, View};
+use crate::{Call, CallInput};
 use settings::is_near;
 
+#[tactic(auto, unfolding(settings::specs::Settings::near))]
 fn since(epoch: i64, now: i64, seconds: u32) -> i64
     requires epoch_value { near epoch ≡ true }
     requires value { near now ≡ true }
@@ -14,118 +15,76 @@ fn since(epoch: i64, now: i64, seconds: u32) -> i64
     epoch + (seconds as i64) - now
 }
 
-pub fn offset(epoch: i64, now: i64, seconds: u32) -> Offset
+#[tactic(auto, unfolding(crate::specs::Windows::time_after))]
+pub fn offset(epoch: i64, now: i64, seconds: u32) -> Option<u64>
     ensures { result ≡ time_after epoch now seconds }
 {
-    if is_near(epoch) {
-        if is_near(now) {
-            let t = since(epoch, now, seconds);
-            if t < 0 {
-                return Offset::Before;
-            }
-            return Offset::At(t as u64);
-        }
-        return Offset::Before;
+    if !(is_near(epoch) && is_near(now)) {
+        return None;
     }
-    Offset::Before
+    u64::try_from(since(epoch, now, seconds)).ok()
 }
 
-fn is_before(t: Offset) -> bool
-    ensures { result ≡ before t }
-{
-    match t {
-        Offset::Before => true,
-        Offset::At(_) => false,
-    }
-}
-
-fn is_after(t: Offset, h: u16) -> bool
+fn is_after(t: Option<u64>, h: u16) -> bool
     ensures { result ≡ after h t }
 {
-    match t {
-        Offset::Before => false,
-        Offset::At(n) => (h as u64) < n,
-    }
+    matches!(t, Some(n) if u64::from(h) < n)
 }
 
-fn is_within(t: Offset, h: u16) -> bool
+fn is_within(t: Option<u64>, h: u16) -> bool
     ensures { result ≡ within h t }
 {
-    match t {
-        Offset::Before => false,
-        Offset::At(n) => n <= h as u64,
-    }
+    matches!(t, Some(n) if n <= u64::from(h))
 }
 
-fn held_to(t: Offset, h: u16) -> u16
+fn held_to(t: Option<u64>, h: u16) -> u16
     ensures { result ≡ held h t }
 {
     match t {
-        Offset::Before => 0,
-        Offset::At(n) => {
-            if n <= h as u64 {
-                return n as u16;
-            }
-            h
-        }
+        None => 0,
+        Some(n) if n <= u64::from(h) => n as u16,
+        Some(_) => h,
     }
 }
 
 fn may(inside: bool, kind: u8) -> bool
     ensures { result ≡ allowed inside kind }
 {
-    if inside {
-        return kind != 1;
-    }
-    false
+    inside && kind != 1
 }
 
 fn on_request(may: bool, kind: u8) -> bool
     ensures { result ≡ asked may kind }
 {
-    if may {
-        if kind == 2 {
-            return true;
-        }
-        return kind == 3;
-    }
-    false
+    may && matches!(kind, 2 | 3)
 }
 
-fn call_of(h: u16, a: Offset, d: Offset, input: CallInput) -> Call
+#[tactic(auto, unfolding(crate::specs::Windows::seen_call))]
+fn call_of(h: u16, a: Option<u64>, d: Option<u64>, input: CallInput) -> Call
     ensures { result ≡ seen_call h a d input }
 {
-    let pickup = input.pickup;
-    let drop_off = input.drop_off;
-    let board = may(is_within(d, h), pickup);
-    let alight = may(is_within(a, h), drop_off);
-    let board_request = on_request(board, pickup);
-    let alight_request = on_request(alight, drop_off);
-    let arrival = held_to(a, h);
-    let departure = held_to(d, h);
+    let board = may(is_within(d, h), input.pickup);
+    let alight = may(is_within(a, h), input.drop_off);
     Call {
         trip: input.trip,
         day: input.day,
         sequence: input.sequence,
         stop: input.stop,
-        arrival,
-        departure,
+        arrival: held_to(a, h),
+        departure: held_to(d, h),
         board,
         alight,
-        board_request,
-        alight_request,
+        board_request: on_request(board, input.pickup),
+        alight_request: on_request(alight, input.drop_off),
     }
 }
 
-pub fn view_of(h: u16, a: Offset, d: Offset, input: CallInput) -> View
+#[tactic(auto, unfolding(crate::specs::Windows::seen))]
+pub fn view_of(h: u16, a: Option<u64>, d: Option<u64>, input: CallInput) -> Option<Call>
     ensures { result ≡ seen h a d input }
 {
-    if is_before(d) {
-        return View::Out;
+    if d.is_none() || is_after(a, h) {
+        return None;
     }
-    if is_after(a, h) {
-        return View::Out;
-    }
-    let call = call_of(h, a, d, input);
-    View::In(call)
+    Some(call_of(h, a, d, input))
 }

@@ -20,7 +20,7 @@ use Rattle.profile.specs.Journeys.{row_figures, cov, due, no_row}
 use Rattle.state.specs.Layout.{slots, width, count_place, horizon_place, limits_place, refused_place, size}
 use Rattle.state.specs.View.{row_at, rows, count_of, horizon_of, limits_of, kept_of, open_of, view}
 use Rattle.candidate.specs.Offer.{offer_to, reads_to, OffersSearch, OffersLate}
-use Rattle.candidate.specs.Pieces.{put_row, Tail, Ends, near_at, passing, stays, Packed, Open, latest_due, settled}
+use Rattle.candidate.specs.Pieces.{put_row, Tail, Ends, near_at, passing, uncovered, in_time, Packed, Open, latest_due, settled}
 use Rattle.profile.proofs.KeptLaws.{latest-mem}
 use Rattle.profile.proofs.WalkLaws.{walk-late, reads-late, walks-late}
 use Rattle.profile.proofs.ClaimLaws.{walks-search}
@@ -39,15 +39,15 @@ unfolding settled latest_due
 settled-refused l h =
     rw (lt-leb (length (rows l)) 64 (omega (arith, rows-length l)), lt-ltb (latest due (rows l) - 1) 3600 (omega arith)) refl
 
-settled-falls : (l : List ℕ) (o : Row) (h : ℕ) → 3600 ≤ h → latest_due (rows l) ≡ h + 1 → settled l (rows l) ≡ going (filterb (stays false o h) (rows l)) h 1
-unfolding settled latest_due stays
-settled-falls l o h lo e =
+settled-falls : (l : List ℕ) (h : ℕ) → 3600 ≤ h → latest_due (rows l) ≡ h + 1 → settled l (rows l) ≡ going (filterb (in_time h) (rows l)) h 1
+unfolding settled latest_due in_time
+settled-falls l h lo e =
     let g : latest due (rows l) - 1 ≡ h = omega arith in
     rw (lt-leb (length (rows l)) 64 (omega (arith, rows-length l)), g, le-ltb h 3600 lo) refl
 
-falls-short : (l : List ℕ) (o : Row) (h : ℕ) → latest_due (rows l) ≡ h + 1 → length (filterb (stays false o h) (rows l)) < slots
-unfolding latest_due stays
-falls-short l o h e =
+falls-short : (l : List ℕ) (h : ℕ) → latest_due (rows l) ≡ h + 1 → length (filterb (in_time h) (rows l)) < slots
+unfolding latest_due in_time
+falls-short l h e =
     let w = latest-mem due (rows l) (omega (arith, rows-length l)) in
     let lt = length-filterb-lt (λ k. leb (due k) h) w.1 (lt-leb (due w.0) h (omega (arith, w.2))) in
     omega (arith, lt, rows-length l)
@@ -63,13 +63,13 @@ refused_all l l' late long e h el =
     let mark : get_or l' refused_place 0 ≡ 1 = ap (λ (ys : List ℕ). get_or ys refused_place 0) el ∙ get_or-set_same l refused_place 1 0 (omega arith) in
     view-refused l' (λ z. omega arith) ∙ sym (settled-refused l (omega arith))
 
-module _ (l m l' : List ℕ) (o : Row) (n h : ℕ) (mark : get_or l refused_place 0 ≡ 0) (lo : 3600 ≤ h) (late : latest_due (rows l) ≡ h + 1)
-    (t : Packed (stays false o h) l m slots n) (el : l' ≡ set (set (set m count_place n) horizon_place h) limits_place 1) where
-  fallen-list : take n (rows m) ≡ filterb (stays false o h) (rows l)
-  fallen-list = t.list ∙ ap (filterb (stays false o h)) (take_all slots (rows l) (omega (arith, rows-length l)))
+module _ (l m l' : List ℕ) (n h : ℕ) (mark : get_or l refused_place 0 ≡ 0) (lo : 3600 ≤ h) (late : latest_due (rows l) ≡ h + 1)
+    (t : Packed (in_time h) l m slots n) (el : l' ≡ set (set (set m count_place n) horizon_place h) limits_place 1) where
+  fallen-list : take n (rows m) ≡ filterb (in_time h) (rows l)
+  fallen-list = t.list ∙ ap (filterb (in_time h)) (take_all slots (rows l) (omega (arith, rows-length l)))
 
   fallen-few : n ≤ 64
-  fallen-few = omega (arith, falls-short l o h late, ap length fallen-list, length-take n (rows m), rows-length m, t.small)
+  fallen-few = omega (arith, falls-short l h late, ap length fallen-list, length-take n (rows m), rows-length m, t.small)
 
   fallen-rows : rows l' ≡ rows m
   fallen-rows =
@@ -103,7 +103,7 @@ module _ (l m l' : List ℕ) (o : Row) (n h : ℕ) (mark : get_or l refused_plac
   fallen-all =
       view-is l' n h 1 fallen₀ fallen-few fallen₁ fallen₂ (omega arith) fallen₃
       ∙ ap (λ (ks : List Row). going ks h 1) (ap (take n) fallen-rows ∙ fallen-list)
-      ∙ sym (settled-falls l o h lo late)
+      ∙ sym (settled-falls l h lo late)
 
 -- ---- one added
 
@@ -185,8 +185,8 @@ module _ (l : List ℕ) (o : Row) (open' : Open l) (early : due o ≤ horizon_of
       let e : suc j ≡ suc (near_at o (kept_of l)) = ap suc (ej ∙ ap (λ (i : ℕ). near_at o (take i (rows l))) ec) in
       (rw (view-open l open', le-ltb (horizon_of l) (due o) early, y) refl, rw (view-open l open', le-ltb (horizon_of l) (due o) early, y) (add-one j ∙ e))
 
-  pub offered-added : (m l' : List ℕ) (n : ℕ) → b ≡ false → Packed (stays true o 0) l m c n → view l' ≡ settled m (take n (rows m) ++ o ∷ []) → Done l l' o c
-  unfolding offer_to reads_to passing Open stays settled kept_of cov due
+  pub offered-added : (m l' : List ℕ) (n : ℕ) → b ≡ false → Packed (uncovered o) l m c n → view l' ≡ settled m (take n (rows m) ++ o ∷ []) → Done l l' o c
+  unfolding offer_to reads_to passing Open uncovered settled kept_of cov due
   offered-added m l' n t w s =
       let y : passes cov o (kept_of l) ≡ false = sym passing_kept ∙ t in
       let ks : take n (rows m) ≡ filterb (λ k. not (cov o k)) (kept_of l) = w.list ∙ ap (λ (j : ℕ). filterb (λ k. not (cov o k)) (take j (rows l))) ec in (

@@ -18,9 +18,9 @@ use Rattle.profile.proofs.WalkLaws.{place-le, place-before, passes-found, passes
 use Rattle.profile.specs.declared.Row.{Row}
 use Rattle.state.specs.Layout.{slots, size}
 use Rattle.state.specs.View.{row_at, rows, count_of}
-use Rattle.candidate.specs.Pieces.{put_row, near_to, near_at, Skipped, passing, stays, Packed, Moved, latest_due}
+use Rattle.candidate.specs.Pieces.{put_row, near_to, near_at, Skipped, passing, uncovered, Packed, latest_due}
 use Rattle.candidate.proofs.PutLaws.{put-long, put-tail, rows-put}
-use Rattle.state.proofs.RowLaws.{rows-length, rows_get}
+use Rattle.state.proofs.RowLaws.{rows-length, rows_get, row-got}
 use Rattle.state.proofs.ViewLaws.{few}
 
 -- ---- the first that is near
@@ -81,8 +81,8 @@ module _ (l : List ℕ) (n j : ℕ) (o : Row) (few : n ≤ slots) (ej : j ≡ ne
   passed_none h = sym (passes_none cov o (take n (rows l)) (omega (arith, all)))
 
   -- all in front of it stay
-  front-packed : length l ≡ size → Packed (stays true o 0) l l j j
-  unfolding near_at stays
+  front-packed : length l ≡ size → Packed (uncovered o) l l j j
+  unfolding near_at uncovered
   front-packed long =
       let f = place-before (λ k. near cov k o) (λ k. not (cov o k)) (λ k e. ap not (or-false-right (cov k o) (cov o k) e)) (take n (rows l)) in
       let g : take (near_at o (take n (rows l))) (take n (rows l)) ≡ take j (rows l) = ap (λ (i : ℕ). take i (take n (rows l))) (sym ej) ∙ take-take j n (rows l) near_le in
@@ -90,7 +90,7 @@ module _ (l : List ℕ) (n j : ℕ) (o : Row) (few : n ≤ slots) (ej : j ≡ ne
 
 -- what is packed from where the walk stops
 pub packs-from : (l : List ℕ) (c j : ℕ) (o : Row) → c ≡ count_of l → j ≡ near_at o (take c (rows l)) → length l ≡ size
-    → Packed (stays true o 0) l l j j × (j ≤ c) × (c ≤ slots)
+    → Packed (uncovered o) l l j j × (j ≤ c) × (c ≤ slots)
 packs-from l c j o ec ej long =
     let m : c ≤ slots = omega (arith, few l c ec) in
     (front-packed l c j o m ej long, near_le l c j o m ej, m)
@@ -129,7 +129,7 @@ latest-done l m i h inv =
 pub packed_none : (p : Row → Bool) (l : List ℕ) → length l ≡ size → Packed p l l 0 0
 packed_none p l long = record { long = long; list = refl; small = omega arith; tail = λ x h. refl; upper = λ k h. refl }
 
-module _ (p : Row → Bool) (l m m' : List ℕ) (i n n' : ℕ) (h : i < slots) (s : Packed p l m i n) where
+module _ (p : Row → Bool) (l m : List ℕ) (i n : ℕ) (h : i < slots) (s : Packed p l m i n) where
   same_row : row_at m i ≡ get_or (rows l) i no_row
   same_row = sym (rows_get m i h) ∙ s.upper i (omega arith)
 
@@ -173,22 +173,16 @@ module _ (p : Row → Bool) (l m m' : List ℕ) (i n n' : ℕ) (h : i < slots) (
         upper = λ k b. s.upper k (omega arith);
       }
 
-  pub pack-turn : Moved p m m' i n n' → Packed p l m' (i + 1) n'
-  pack-turn w = go (p (row_at m i)) refl w.list w.count
-    where
-      go : (b : Bool) → p (row_at m i) ≡ b → m' ≡ cond b (put_row m n (row_at m i)) m → n' ≡ cond b (n + 1) n → Packed p l m' (i + 1) n'
-      go true e a b = rw (a, b) (kept-turn e)
-      go false e a b = rw (a, b) (gone-turn e)
+-- by what a test answers of the row looked at
+module _ (p : Row → Bool) (l m m' : List ℕ) (i n : ℕ) (h : i < slots) (k : Row) {b : Bool} (ek : k ≡ get_or (rows m) i no_row) (eb : b ≡ p k) (s : Packed p l m i n) where
+  at_row : k ≡ row_at m i
+  at_row = row-got m i k h ek
 
-pub moved_on : (p : Row → Bool) (l l' : List ℕ) (i n : ℕ) {b : Bool} (k : Row) → k ≡ row_at l i → b ≡ p k → b ≡ true → l' ≡ put_row l n k → Moved p l l' i n (n + 1)
-moved_on p l l' i n k ek eb t el =
-    let y : p (row_at l i) ≡ true = ap p (sym ek) ∙ sym eb ∙ t in
-    record { list = rw y (el ∙ ap (put_row l n) ek); count = rw y refl }
+  pub pack-kept : b ≡ true → m' ≡ put_row m n k → Packed p l m' (i + 1) (n + 1)
+  pack-kept t el = rw (el, at_row) (kept-turn p l m i n h s (ap p (sym at_row) ∙ sym eb ∙ t))
 
-pub moved-not : (p : Row → Bool) (l : List ℕ) (i n : ℕ) {b : Bool} (k : Row) → k ≡ row_at l i → b ≡ p k → b ≡ false → Moved p l l i n n
-moved-not p l i n k ek eb t =
-    let y : p (row_at l i) ≡ false = ap p (sym ek) ∙ sym eb ∙ t in
-    record { list = rw y refl; count = rw y refl }
+  pub pack-gone : b ≡ false → m' ≡ m → Packed p l m' (i + 1) n
+  pack-gone t el = rw el (gone-turn p l m i n h s (ap p (sym at_row) ∙ sym eb ∙ t))
 
 pub packed_all : (p : Row → Bool) (l m : List ℕ) (i c n : ℕ) → i ≤ c → c ≤ i → Packed p l m i n → Packed p l m c n
 packed_all p l m i c n a b s = let e : c ≡ i = omega arith in rw e s

@@ -1,48 +1,31 @@
 -- What the walk of an offer does at one row: the comparison by arrival, rides and walk, test by test; a turn by its answer.
 use mathlib.Core.Path.{◌≡◌, refl, sym, ap, ◌∙◌}
-use mathlib.Core.Bool.{Bool, true, false, cond}
+use mathlib.Core.Bool.{Bool, true, false, cond, true≢false}
 use mathlib.Core.Logic.{◌≢◌, ◌⊎◌, inl, inr}
 use mathlib.Core.List.{List}
 use Prim.Native.Nat.{ℕ, ◌+◌, ◌*◌, ◌/◌, ◌≤◌, ◌<◌}
 use native.Mathlib.Omega.{arith}
-use lib.Dec.{ltb, leb}
+use lib.Dec.{ltb}
 use borrow.Author.Tests.{ltb-true, ltb-false, lt-ltb, le-ltb, le-leb, leb-false}
 use lib.ListN.{get_or, take}
 use Rattle.laws.proofs.Bools.{test}
 use Rattle.profile.specs.declared.Row.{Row}
-use Rattle.profile.specs.Figures.{lexb}
 use Rattle.profile.specs.Journeys.{cov}
 use Rattle.profile.proofs.CoverLaws.{cov-early}
-use Rattle.profile.proofs.FiguresLaws.{lexb-lt, lexb-gt, lexb-same, lexb-total}
+use Rattle.profile.proofs.FiguresLaws.{lexb-total}
 use Rattle.state.specs.Layout.{width}
 use Rattle.state.specs.View.{row_at, rows}
 use Rattle.state.proofs.RowLaws.{rows_get}
-use Rattle.candidate.specs.Pieces.{rank_by, turn_of, Ends, near_to, near_at, Skipped, passing}
-use Rattle.candidate.proofs.StepLaws.{skip-none, skip-turn, found_at, found_none}
+use Rattle.candidate.specs.Pieces.{rank_by, turn_of, Ends, near_to, near_at, Skipped, passing, walk_end}
+use Rattle.candidate.specs.declared.walk.Turn.{Turn}
+use Rattle.candidate.specs.declared.walk.Turn.TheVariants.{On, Covered, Stops}
+use Rattle.std.specs.Prelude.{Result, Ok, Err}
+use Rattle.std.specs.Result.{is_ok}
+use Rattle.candidate.proofs.StepLaws.{skip-turn, found_at, found_none}
 
 -- ---- arrival, rides and walk, compared in that order
 
 module _ (a r w b s v : ℕ) where
-  pub rank-sooner : a < b → true ≡ rank_by a r w b s v
-  unfolding rank_by
-  rank-sooner h = sym (lexb-lt a b (lexb r s (leb w v)) h)
-
-  pub rank-later : b < a → false ≡ rank_by a r w b s v
-  unfolding rank_by
-  rank-later h = sym (lexb-gt a b (lexb r s (leb w v)) h)
-
-  pub rank-walk : b ≤ a → a ≤ b → r ≡ s → leb w v ≡ rank_by a r w b s v
-  unfolding rank_by
-  rank-walk h k e = sym (lexb-same a b (lexb r s (leb w v)) (omega arith) ∙ lexb-same r s (leb w v) e)
-
-  pub rank-rides : b ≤ a → a ≤ b → r ≢ s → ltb r s ≡ rank_by a r w b s v
-  unfolding rank_by
-  rank-rides h k n = go (test (ltb r s)) ∙ sym (lexb-same a b (lexb r s (leb w v)) (omega arith))
-    where
-      go : (ltb r s ≡ true) ⊎ (ltb r s ≡ false) → ltb r s ≡ lexb r s (leb w v)
-      go (inl t) = t ∙ sym (lexb-lt r s (leb w v) (ltb-true r s t))
-      go (inr t) = let m : ¬ (r ≡ s) = n in let q = ltb-false r s t in t ∙ sym (lexb-gt r s (leb w v) (omega arith))
-
   pub rank-total : rank_by a r w b s v ≡ false → rank_by b s v a r w ≡ true
   unfolding rank_by
   rank-total h =
@@ -59,7 +42,7 @@ cov-total a b e h =
 
 -- ---- a turn, test by test
 
-turn_is : (i c : ℕ) (o k : Row) (x y : Bool) → i < c → x ≡ cov k o → y ≡ cov o k → cond x 1 (cond y 2 0) ≡ turn_of i c o k
+turn_is : (i c : ℕ) (o k : Row) (x y : Bool) → i < c → x ≡ cov k o → y ≡ cov o k → cond x Covered (cond y Stops On) ≡ turn_of i c o k
 unfolding turn_of
 turn_is i c o k x y h ex ey = rw (lt-ltb i c h, ex, ey) refl
 
@@ -85,15 +68,15 @@ module _ (l : List ℕ) (at i c : ℕ) (o : Row) (le : i ≤ c) (e : at ≡ i * 
         rw e at er in
         f ∙ sym (cov-rank (row_at l i) o (rw row-leaves h))
 
-    pub turn-later : o.leave ≤ get_or l at 0 → get_or l at 0 ≢ o.leave → cond b 1 0 ≡ turn_of i c o (row_at l i)
+    pub turn-later : o.leave ≤ get_or l at 0 → get_or l at 0 ≢ o.leave → cond b Covered On ≡ turn_of i c o (row_at l i)
     turn-later h n =
         let lt : o.leave < (row_at l i).leave = omega (arith, row-leaves, n) in
         turn_is i c o (row_at l i) b false (kept n) (row-covers h) (cov-early o (row_at l i) lt)
 
-    pub turn-same : get_or l at 0 ≡ o.leave → i < c → cond b 1 2 ≡ turn_of i c o (row_at l i)
+    pub turn-same : get_or l at 0 ≡ o.leave → i < c → cond b Covered Stops ≡ turn_of i c o (row_at l i)
     turn-same h lt = go b refl
       where
-        go : (x : Bool) → b ≡ x → cond x 1 2 ≡ turn_of i c o (row_at l i)
+        go : (x : Bool) → b ≡ x → cond x Covered Stops ≡ turn_of i c o (row_at l i)
         go true t = turn_is i c o (row_at l i) true (cov o (row_at l i)) lt (sym t ∙ row-covers (omega arith)) refl
         go false t =
             let f = cov-total (row_at l i) o (row-leaves ∙ h) (sym (row-covers (omega arith)) ∙ t) in
@@ -107,75 +90,121 @@ module _ (l : List ℕ) (at i c : ℕ) (o : Row) (le : i ≤ c) (e : at ≡ i * 
         rw e at er in
         f ∙ sym (cov-rank o (row_at l i) (rw row-leaves h))
 
-    pub turn-early : get_or l at 0 < o.leave → cond b 2 0 ≡ turn_of i c o (row_at l i)
+    pub turn-early : get_or l at 0 < o.leave → cond b Stops On ≡ turn_of i c o (row_at l i)
     turn-early h =
         let n : get_or l at 0 ≢ o.leave = λ q. omega arith in
         turn_is i c o (row_at l i) false b (kept n) (cov-early (row_at l i) o (rw row-leaves h)) (offer-covers (omega arith))
 
-pub turn_end : (i c : ℕ) (o k : Row) → c ≤ i → 2 ≡ turn_of i c o k
+pub turn_end : (i c : ℕ) (o k : Row) → c ≤ i → Stops ≡ turn_of i c o k
 unfolding turn_of
 turn_end i c o k h = rw (le-ltb i c h) refl
 
 -- ---- a turn by its answer
 
-module _ (i c : ℕ) (o k : Row) (t : ℕ) (e : t ≡ turn_of i c o k) where
-  turn_on : t ≢ 1 → t ≢ 2 → (i < c) × (near_to o k ≡ false)
-  unfolding turn_of near_to
-  turn_on n₁ n₂ = go (ltb i c) refl (cov k o) refl (cov o k) refl e
-    where
-      go : (x : Bool) → ltb i c ≡ x → (y : Bool) → cov k o ≡ y → (z : Bool) → cov o k ≡ z → t ≡ cond x (cond y 1 (cond z 2 0)) 2
-          → (i < c) × (near_to o k ≡ false)
-      go true a true b z d w = absurd (n₁ w)
-      go true a false b true d w = absurd (n₂ w)
-      go true a false b false d w = (ltb-true i c a, rw (b, d))
-      go false a y b z d w = absurd (n₂ w)
+abbrev code : Turn → ℕ
+code On = 0
+code Covered = 1
+code Stops = 2
 
-  turn-passes : t ≡ 1 → (i < c) × (cov k o ≡ true)
-  unfolding turn_of
-  turn-passes q = go (ltb i c) refl (cov k o) refl (cov o k) e
+On≢Covered : ¬ (On ≡ Covered)
+On≢Covered w = let q : ◌≡◌ {A = ℕ} 0 1 = ap code w in omega arith
+
+On≢Stops : ¬ (On ≡ Stops)
+On≢Stops w = let q : ◌≡◌ {A = ℕ} 0 2 = ap code w in omega arith
+
+Covered≢Stops : ¬ (Covered ≡ Stops)
+Covered≢Stops w = let q : ◌≡◌ {A = ℕ} 1 2 = ap code w in omega arith
+
+module _ (i c : ℕ) (o k : Row) {t : Turn} (e : t ≡ turn_of i c o k) where
+  turn_on : t ≡ On → (i < c) × (near_to o k ≡ false)
+  unfolding turn_of near_to
+  turn_on q = go (ltb i c) refl (cov k o) refl (cov o k) refl (sym q ∙ e)
     where
-      go : (x : Bool) → ltb i c ≡ x → (y : Bool) → cov k o ≡ y → (z : Bool) → t ≡ cond x (cond y 1 (cond z 2 0)) 2
+      go : (x : Bool) → ltb i c ≡ x → (y : Bool) → cov k o ≡ y → (z : Bool) → cov o k ≡ z → On ≡ cond x (cond y Covered (cond z Stops On)) Stops
+          → (i < c) × (near_to o k ≡ false)
+      go true a true b z d w = absurd (On≢Covered w)
+      go true a false b true d w = absurd (On≢Stops w)
+      go true a false b false d w = (ltb-true i c a, rw (b, d))
+      go false a y b z d w = absurd (On≢Stops w)
+
+  turn-covered : t ≡ Covered → (i < c) × (cov k o ≡ true)
+  unfolding turn_of
+  turn-covered q = go (ltb i c) refl (cov k o) refl (cov o k) (sym q ∙ e)
+    where
+      go : (x : Bool) → ltb i c ≡ x → (y : Bool) → cov k o ≡ y → (z : Bool) → Covered ≡ cond x (cond y Covered (cond z Stops On)) Stops
           → (i < c) × (cov k o ≡ true)
       go true a true b z w = (ltb-true i c a, b)
-      go true a false b true w = absurd (omega (arith, q, w))
-      go true a false b false w = absurd (omega (arith, q, w))
-      go false a y b z w = absurd (omega (arith, q, w))
+      go true a false b true w = absurd (Covered≢Stops w)
+      go true a false b false w = absurd (On≢Covered (sym w))
+      go false a y b z w = absurd (Covered≢Stops w)
 
-  turn-stops : t ≡ 2 → (c ≤ i) ⊎ ((i < c) × (cov k o ≡ false) × (near_to o k ≡ true))
+  turn-stops : t ≡ Stops → (c ≤ i) ⊎ ((i < c) × (cov k o ≡ false) × (near_to o k ≡ true))
   unfolding turn_of near_to
-  turn-stops q = go (ltb i c) refl (cov k o) refl (cov o k) refl e
+  turn-stops q = go (ltb i c) refl (cov k o) refl (cov o k) refl (sym q ∙ e)
     where
-      go : (x : Bool) → ltb i c ≡ x → (y : Bool) → cov k o ≡ y → (z : Bool) → cov o k ≡ z → t ≡ cond x (cond y 1 (cond z 2 0)) 2
+      go : (x : Bool) → ltb i c ≡ x → (y : Bool) → cov k o ≡ y → (z : Bool) → cov o k ≡ z → Stops ≡ cond x (cond y Covered (cond z Stops On)) Stops
           → (c ≤ i) ⊎ ((i < c) × (cov k o ≡ false) × (near_to o k ≡ true))
-      go true a true b z d w = absurd (omega (arith, q, w))
+      go true a true b z d w = absurd (Covered≢Stops (sym w))
       go true a false b true d w = inr (ltb-true i c a, b, rw (b, d))
-      go true a false b false d w = absurd (omega (arith, q, w))
+      go true a false b false d w = absurd (On≢Stops (sym w))
       go false a y b z d w = inl (ltb-false i c a)
-
-pub walk-empty : (l : List ℕ) (c : ℕ) (o : Row) → c ≤ 64 → c ≡ 0
-    → (0 ≡ near_at o (take c (rows l))) × (false ≡ passing o (take c (rows l))) × (0 ≡ 0 * width)
-walk-empty l c o few z =
-    let r = found_none l c 0 o (omega arith) (omega arith) (skip-none o (take c (rows l)) 0) in
-    (r.0, r.1, omega arith)
 
 near-covering : (k o : Row) → cov k o ≡ true → near_to o k ≡ true
 unfolding near_to
 near-covering k o f = rw f
 
-module _ (l : List ℕ) (c i : ℕ) (o : Row) (few : c ≤ 64) (t : ℕ) (e : t ≡ turn_of i c o (row_at l i))
+-- ---- what a walk finds, by where it ends
+
+ended-ok : (o : Row) (ks : List Row) (i : ℕ) → (i ≡ near_at o ks) × (true ≡ passing o ks) → Ok i ≡ walk_end o ks
+unfolding walk_end
+ended-ok o ks i (e, p) = rw (← p) (ap Ok e)
+
+ended-err : (o : Row) (ks : List Row) (i at : ℕ) → at ≡ i * width → (i ≡ near_at o ks) × (false ≡ passing o ks) → Err at ≡ walk_end o ks
+unfolding walk_end
+ended-err o ks i at a (e, p) = rw (← p) (ap Err (a ∙ ap (λ (x : ℕ). x * width) e))
+
+abbrev number : Result ℕ ℕ → ℕ
+number (Ok n) = n
+number (Err n) = n
+
+pub end-ok : (o : Row) (ks : List Row) {r : Result ℕ ℕ} {n : ℕ} → r ≡ walk_end o ks → r ≡ Ok n → (true ≡ passing o ks) × (n ≡ near_at o ks)
+unfolding walk_end
+end-ok o ks {r} {n} e q = go (passing o ks) (sym q ∙ e)
+  where
+    go : (b : Bool) → Ok n ≡ cond b (Ok (near_at o ks)) (Err (near_at o ks * width)) → (true ≡ b) × (n ≡ near_at o ks)
+    go true w = (refl, ap number w)
+    go false w = absurd (true≢false (ap is_ok w))
+
+pub end-err : (o : Row) (ks : List Row) {r : Result ℕ ℕ} {n : ℕ} → r ≡ walk_end o ks → r ≡ Err n → (false ≡ passing o ks) × (n ≡ near_at o ks * width)
+unfolding walk_end
+end-err o ks {r} {n} e q = go (passing o ks) (sym q ∙ e)
+  where
+    go : (b : Bool) → Err n ≡ cond b (Ok (near_at o ks)) (Err (near_at o ks * width)) → (false ≡ b) × (n ≡ near_at o ks * width)
+    go true w = absurd (true≢false (sym (ap is_ok w)))
+    go false w = (refl, ap number w)
+
+pub end-is-ok : (o : Row) (ks : List Row) {r : Result ℕ ℕ} → r ≡ walk_end o ks → is_ok r ≡ passing o ks
+unfolding walk_end
+end-is-ok o ks e = ap is_ok e ∙ go (passing o ks)
+  where
+    go : (b : Bool) → is_ok (cond b (Ok (near_at o ks)) (Err (near_at o ks * width))) ≡ b
+    go true = refl
+    go false = refl
+
+module _ (l : List ℕ) (c i : ℕ) (o : Row) (few : c ≤ 64) {t : Turn} (e : t ≡ turn_of i c o (row_at l i))
     (s : Skipped o (take c (rows l)) 0 i) where
-  pub walk-on : t ≢ 1 → t ≢ 2 → Skipped o (take c (rows l)) 0 (i + 1) × (i < c)
-  walk-on n₁ n₂ =
-      let (lt, f) = turn_on i c o (row_at l i) t e n₁ n₂ in
+  pub walk-on : t ≡ On → Skipped o (take c (rows l)) 0 (i + 1) × (i < c)
+  walk-on q =
+      let (lt, f) = turn_on i c o (row_at l i) e q in
       (skip-turn l c i o (omega arith) lt 0 (row_at l i) (sym (rows_get l i (omega arith))) f s, lt)
 
-  pub walk-passes : t ≡ 1 → (i ≡ near_at o (take c (rows l))) × (true ≡ passing o (take c (rows l)))
-  walk-passes q =
-      let (lt, f) = turn-passes i c o (row_at l i) t e q in
-      found_at l c i o (omega arith) lt (row_at l i) true (sym (rows_get l i (omega arith))) (sym f) (near-covering (row_at l i) o f) s
+  pub walk-covered : t ≡ Covered → Ok i ≡ walk_end o (take c (rows l))
+  walk-covered q =
+      let (lt, f) = turn-covered i c o (row_at l i) e q in
+      ended-ok o (take c (rows l)) i (found_at l c i o (omega arith) lt (row_at l i) true (sym (rows_get l i (omega arith))) (sym f) (near-covering (row_at l i) o f) s)
 
-  pub walk-stops : t ≡ 2 → (i ≡ near_at o (take c (rows l))) × (false ≡ passing o (take c (rows l)))
-  walk-stops q = go (turn-stops i c o (row_at l i) t e q)
+  pub walk-stops : (at : ℕ) → t ≡ Stops → at ≡ i * width → Err at ≡ walk_end o (take c (rows l))
+  walk-stops at q a = ended-err o (take c (rows l)) i at a (go (turn-stops i c o (row_at l i) e q))
     where
       go : (c ≤ i) ⊎ ((i < c) × (cov (row_at l i) o ≡ false) × (near_to o (row_at l i) ≡ true))
           → (i ≡ near_at o (take c (rows l))) × (false ≡ passing o (take c (rows l)))
@@ -183,5 +212,5 @@ module _ (l : List ℕ) (c i : ℕ) (o : Row) (few : c ≤ 64) (t : ℕ) (e : t 
       go (inr (lt, f, n)) = found_at l c i o (omega arith) lt (row_at l i) false (sym (rows_get l i (omega arith))) (sym f) n s
 
 -- the place of a row, from where its numbers start
-pub place_of : (s a n : ℕ) → s ≡ a * width → a ≡ n → s / width ≡ n
-place_of s a n e f = omega arith
+pub place_of : (s n : ℕ) → s ≡ n * width → s / width ≡ n
+place_of s n e = omega arith

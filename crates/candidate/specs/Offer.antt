@@ -3,11 +3,21 @@ use Rattle.std.specs.Prelude.{◌≡◌, Bool, true, ◌||◌, ℕ, ltb}
 use mathlib.Core.List.{List, [], Memᴰ}
 use Rattle.laws.specs.Lists.{foldl}
 use Rattle.profile.specs.declared.Row.{Row}
+use Rattle.profile.specs.declared.figures.Figures.{Figures}
 use Rattle.profile.specs.Figures.{covᶠ, dueᶠ}
 use Rattle.profile.specs.Kept.{St, going, refused, searched, too_late}
 use Rattle.profile.specs.Walk.{walk, walk_reads}
-use Rattle.profile.specs.Journeys.{row_figures, cov, due}
+use Rattle.profile.specs.Journeys.{row_figures, row_of, cov, due}
+use Rattle.candidate.specs.declared.Offer.{Offer}
 use Rattle.candidate.specs.Pieces.{passing}
+
+-- the row of an offer
+abbrev pub offered : Offer → Row
+offered o = row_of o.leave o.arrival o.rides o.walk o.origin o.target o.board o.alight o.board2 o.alight2 o.middle_board o.middle_alight
+
+-- a row with these figures
+abbrev pub with_figures : Figures → Row
+with_figures f = row_of f.leave f.arrival f.rides f.walk 0 0 0 0 0 0 0 0
 
 -- the offer of a row by one walk over the kept ones, at 64 journeys and a least horizon of 3600
 unfoldable pub offer_to : St Row → Row → St Row

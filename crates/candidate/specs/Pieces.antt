@@ -1,5 +1,5 @@
 -- What the private functions of an offer do to the array, piece by piece.
-use Rattle.std.specs.Prelude.{◌≡◌, Bool, true, false, not, cond, List, [], ◌∷◌, ℕ, ◌+◌, ◌*◌, ◌≤◌, leb, ltb, get_or, length, set, take, drop}
+use Rattle.std.specs.Prelude.{Result, Ok, Err, ◌≡◌, Bool, not, cond, List, [], ◌∷◌, ℕ, ◌+◌, ◌*◌, ◌≤◌, leb, ltb, get_or, length, set, take, drop}
 use Rattle.laws.specs.Lists.{filterb}
 use Rattle.laws.specs.Arrays.{puts}
 use Rattle.profile.specs.declared.Row.{Row}
@@ -7,8 +7,10 @@ use Rattle.profile.specs.Figures.{lexb}
 use Rattle.profile.specs.Kept.{St, latest, settle}
 use Rattle.profile.specs.Walk.{place, near, passes}
 use Rattle.profile.specs.Journeys.{cov, due, no_row}
+use Rattle.candidate.specs.declared.walk.Turn.{Turn}
+use Rattle.candidate.specs.declared.walk.Turn.TheVariants.{On, Covered, Stops}
 use Rattle.state.specs.Layout.{width, count_place, refused_place, size}
-use Rattle.state.specs.View.{row_at, rows, horizon_of, limits_of}
+use Rattle.state.specs.View.{rows, horizon_of, limits_of}
 
 -- the row r stored in slot i
 abbrev pub stored : List ℕ → ℕ → Row → List ℕ
@@ -36,9 +38,9 @@ near_at o ks = place (λ k. near cov k o) ks
 unfoldable pub rank_by : ℕ → ℕ → ℕ → ℕ → ℕ → ℕ → Bool
 rank_by a r w b s v = lexb a b (lexb r s (leb w v))
 
--- what the walk of o does at row i of c, which is k: 0, it goes on; 1, o is passed over; 2, it stops
-unfoldable pub turn_of : ℕ → ℕ → Row → Row → ℕ
-turn_of i c o k = cond (ltb i c) (cond (cov k o) 1 (cond (cov o k) 2 0)) 2
+-- what the walk of o does at row i of c, which is k
+unfoldable pub turn_of : ℕ → ℕ → Row → Row → Turn
+turn_of i c o k = cond (ltb i c) (cond (cov k o) Covered (cond (cov o k) Stops On)) Stops
 
 -- slot c, behind the c kept rows, leaves when o does: only there is it asked whether the walk is at its end
 unfoldable pub Ends : List ℕ → ℕ → Row → Type 0
@@ -53,10 +55,16 @@ pub record Skipped (o : Row) (ks : List Row) (i r : ℕ) : Type 0 where
 unfoldable pub passing : Row → List Row → Bool
 passing o ks = passes cov o ks
 
+-- what the walk of o over the rows finds: the place of a row that covers o; else where the numbers of the first that o covers start
+unfoldable pub walk_end : Row → List Row → Result ℕ ℕ
+walk_end o ks = cond (passing o ks) (Ok (near_at o ks)) (Err (near_at o ks * width))
+
 -- which rows stay: those that o does not cover; or those due by h
-unfoldable pub stays : Bool → Row → ℕ → Row → Bool
-stays true o h k = not (cov o k)
-stays false o h k = leb (due k) h
+unfoldable pub uncovered : Row → Row → Bool
+uncovered o k = not (cov o k)
+
+unfoldable pub in_time : ℕ → Row → Bool
+in_time h k = leb (due k) h
 
 -- l' has the rows of the first i of l that stay, n in number, then others; from i on it is l
 pub record Packed (p : Row → Bool) (l l' : List ℕ) (i n : ℕ) : Type 0 where
@@ -65,11 +73,6 @@ pub record Packed (p : Row → Bool) (l l' : List ℕ) (i n : ℕ) : Type 0 wher
   pub small : n ≤ i
   pub tail : Tail l l'
   pub upper : (k : ℕ) → i ≤ k → get_or (rows l') k no_row ≡ get_or (rows l) k no_row
-
--- slot i is looked at, and its row put into slot n if it stays
-pub record Moved (p : Row → Bool) (l l' : List ℕ) (i n n' : ℕ) : Type 0 where
-  pub list : l' ≡ cond (p (row_at l i)) (put_row l n (row_at l i)) l
-  pub count : n' ≡ cond (p (row_at l i)) (n + 1) n
 
 -- the search is not refused
 unfoldable pub Open : List ℕ → Type 0

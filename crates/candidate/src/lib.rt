@@ -1,31 +1,21 @@
 // An offer (`candidate`) to the kept list of a search.
 #![tactic(auto)]
 
-ghost use Rattle.std.specs.Prelude.{◌≡◌, [], ◌∷◌, ◌++◌, ◌+◌, ◌*◌, ◌≤◌, ◌<◌, max, length, set, take};
-ghost use Rattle.profile.specs.Journeys.{due, row_of};
+ghost use Rattle.std.specs.Prelude.{◌≡◌, Bool, [], ◌∷◌, ◌++◌, ◌+◌, ◌*◌, ◌≤◌, ◌<◌, length, set, take};
+ghost use Rattle.profile.specs.declared.Row.{Row};
+ghost use Rattle.profile.specs.Journeys.{due};
 ghost use Rattle.state.specs.Layout.{slots, width, size};
 ghost use Rattle.state.specs.View.{row_at, rows, count_of, horizon_of, view};
-ghost use Rattle.candidate.specs.Offer.{offer_to, reads_to, passed_over};
-ghost use Rattle.candidate.specs.Pieces.{stored, put_row, Ends, stays, Packed, Moved, Open, latest_due, settled};
+ghost use Rattle.candidate.specs.Offer.{offered, with_figures, offer_to, reads_to, passed_over};
+ghost use Rattle.candidate.specs.Pieces.{stored, put_row, Ends, Packed, Open, latest_due, settled};
 
 mod walk;
 
 use crate::walk::first_near;
-use profile::figures::covers;
+use profile::figures::Figures;
 use profile::{Row, no_row};
 use state::layout::{COUNT, HORIZON, LIMITS, REFUSED, SLOTS, State, WIDTH};
-use state::{count, horizon, known, row_at, too_late};
-
-// Whether the row k stays: if o does not cover it, or, without `by`, if it is due by h.
-fn stays_on(by: bool, o: Row, h: u16, k: Row) -> bool
-    ensures { result ≡ stays by o h k }
-{
-    if by {
-        if covers(o, k) { false } else { true }
-    } else {
-        k.arrival <= h
-    }
-}
+use state::{count, horizon, row_at, too_late};
 
 // Stores a row in slot i.
 fn put_row(st: &mut State, i: usize, r: Row)
@@ -47,48 +37,31 @@ fn put_row(st: &mut State, i: usize, r: Row)
     st[at + 11] = r.middle_alight;
 }
 
+// Moves those of the rows from `from` up to c that stay behind the first `kept`, in order; how many there are then.
+fn pack<F: Fn(Row) -> bool>(st: &mut State, from: usize, kept: usize, c: usize, stays: F) -> usize
+    requires { F.IsAlwaysCallable stays × (length st.old ≡ size) × (kept ≤ from) × (from ≤ c) × (c ≤ slots) }
+    ensures { (p : Row → Bool) → ((k : Row) (b : Bool) → F.post stays k b → b ≡ p k)
+        → Packed p st.old st.old from kept → Packed p st.old st.new c result }
+{
+    let mut n = kept;
+    for i in from..c {
+        let k = row_at(st, i);
+        if stays(k) {
+            store(st, i, n, k);
+            n += 1;
+        }
+    }
+    n
+}
+
 // Puts the row k, which stands at i, at n; there is nothing to do if that is the same place.
 fn store(st: &mut State, i: usize, n: usize, k: Row)
     requires { (length st.old ≡ size) × (n < slots) × (k ≡ row_at st.old i) }
     ensures { st.new ≡ put_row st.old n k }
 {
-    if n == i {
-        return;
+    if n != i {
+        put_row(st, n, k);
     }
-    put_row(st, n, k);
-}
-
-// Moves the row at i to n if it stays; the next place to fill.
-fn moved(st: &mut State, i: usize, n: usize, by: bool, o: Row, h: u16) -> usize
-    requires { (length st.old ≡ size) × (i < slots) × (n ≤ i) }
-    ensures { Moved (stays by o h) st.old st.new i n result }
-{
-    let k = row_at(st, i);
-    if stays_on(by, o, h, k) {
-        store(st, i, n, k);
-        return n + 1;
-    }
-    n
-}
-
-// Moves those of the rows from `from` up to c that stay behind the first `kept`, in order; how many there are then.
-fn pack(st: &mut State, from: usize, kept: usize, c: usize, by: bool, o: Row, h: u16) -> usize
-    requires { Packed (stays by o h) st.old st.old from kept × (from ≤ c) × (c ≤ slots) }
-    ensures { Packed (stays by o h) st.old st.new c result }
-{
-    let mut n = kept;
-    let mut i = from;
-    while i < c {
-        n = moved(st, i, n, by, o, h);
-        i += 1;
-    }
-    n
-}
-
-fn later(a: u16, b: u16) -> u16
-    ensures { result ≡ max a b }
-{
-    if a < b { b } else { a }
 }
 
 // The latest arrival of them all.
@@ -96,11 +69,8 @@ fn latest(st: &State) -> u16
     ensures { result ≡ latest_due (rows st.now) }
 {
     let mut m = 0u16;
-    let mut i = 0usize;
-    while i < SLOTS {
-        let k = row_at(st, i);
-        m = later(m, k.arrival);
-        i += 1;
+    for i in 0..SLOTS {
+        m = m.max(row_at(st, i).arrival);
     }
     m
 }
@@ -110,7 +80,7 @@ fn fall(st: &mut State, h: u16)
     requires { (length st.old ≡ size) × Open st.old × (3600 ≤ h) × (latest_due (rows st.old) ≡ h + 1) }
     ensures { view st.new ≡ settled st.old (rows st.old) }
 {
-    let n = pack(st, 0, 0, SLOTS, false, no_row(), h);
+    let n = pack(st, 0, 0, SLOTS, |k| k.arrival <= h);
     st[COUNT] = n as u16;
     st[HORIZON] = h;
     st[LIMITS] = 1;
@@ -147,14 +117,15 @@ fn walked(st: &mut State, c: usize, o: Row) -> usize
     requires { (length st.old ≡ size) × Open st.old × (due o ≤ horizon_of st.old) × (c ≡ count_of st.old) × Ends st.old c o }
     ensures { (view st.new ≡ offer_to (view st.old) o) × (result ≡ reads_to (view st.old) o) }
 {
-    let f = first_near(st, c, o);
-    if f.passes {
-        return f.at as usize + 1;
+    match first_near(st, c, o) {
+        Ok(place) => place as usize + 1,
+        Err(start) => {
+            let j = start as usize / WIDTH;
+            let n = pack(st, j, j, c, |k| !o.figures().covers(k.figures()));
+            added(st, n, o);
+            c
+        }
     }
-    let j = f.start as usize / WIDTH;
-    let n = pack(st, j, j, c, true, o, 0);
-    added(st, n, o);
-    c
 }
 
 // Marks the end of the c kept rows for a walk: the slot behind them leaves when o does.
@@ -182,77 +153,67 @@ fn narrow(horizon: u16, arrival: u32) -> u16
     arrival as u16
 }
 
-// Offers a journey, given by the numbers of a row; how many kept journeys are read. An arrival past 65535 is due after every horizon.
-pub fn candidate(
-    st: &mut State,
-    leave: u16,
-    arrival: u32,
-    rides: u16,
-    walk: u16,
-    origin: u16,
-    target: u16,
-    board: u16,
-    alight: u16,
-    board2: u16,
-    alight2: u16,
-    middle_board: u16,
-    middle_alight: u16,
-) -> usize
-    ensures { (view st.new ≡ offer_to (view st.old) (row_of leave arrival rides walk origin target board alight board2 alight2 middle_board middle_alight))
-        × (result ≡ reads_to (view st.old) (row_of leave arrival rides walk origin target board alight board2 alight2 middle_board middle_alight)) }
+// A journey as it is offered: the numbers of a row, with an arrival that may be past 65535, and so due after every horizon.
+#[derive(Clone, Copy, Debug, PartialEq, Eq)]
+pub struct Offer {
+    pub leave: u16,
+    pub arrival: u32,
+    pub rides: u16,
+    pub walk: u16,
+    pub origin: u16,
+    pub target: u16,
+    pub board: u16,
+    pub alight: u16,
+    pub board2: u16,
+    pub alight2: u16,
+    pub middle_board: u16,
+    pub middle_alight: u16,
+}
+
+// Offers a journey; how many kept journeys are read.
+pub fn candidate(st: &mut State, offer: Offer) -> usize
+    ensures { (view st.new ≡ offer_to (view st.old) (offered offer)) × (result ≡ reads_to (view st.old) (offered offer)) }
 {
-    known(*st);
-    if too_late(st, arrival) {
-        return 0usize;
+    if too_late(st, offer.arrival) {
+        return 0;
     }
-    let due = narrow(horizon(st), arrival);
+    let due = narrow(horizon(st), offer.arrival);
     consider(
         st,
         Row {
-            leave,
+            leave: offer.leave,
             arrival: due,
-            rides,
-            walk,
-            origin,
-            target,
-            board,
-            alight,
-            board2,
-            alight2,
-            middle_board,
-            middle_alight,
+            rides: offer.rides,
+            walk: offer.walk,
+            origin: offer.origin,
+            target: offer.target,
+            board: offer.board,
+            alight: offer.alight,
+            board2: offer.board2,
+            alight2: offer.alight2,
+            middle_board: offer.middle_board,
+            middle_alight: offer.middle_alight,
         },
     )
 }
 
 // Whether the offer of a journey with these figures would be passed over; then so would that of each one that it equals or beats. Only the end of
 // the kept rows is marked.
-pub fn passes_over(st: &mut State, leave: u16, arrival: u16, rides: u16, walk: u16) -> bool
-    ensures { (view st.new ≡ view st.old) × (result ≡ passed_over (view st.old) (row_of leave arrival rides walk 0 0 0 0 0 0 0 0)) }
+#[inline]
+pub fn passes_over(st: &mut State, offer: Figures) -> bool
+    ensures { (view st.new ≡ view st.old) × (result ≡ passed_over (view st.old) (with_figures offer)) }
 {
-    known(*st);
-    if too_late(st, arrival as u32) {
+    if too_late(st, offer.arrival as u32) {
         return true;
     }
     let c = count(st);
-    mark(st, c, leave);
-    let f = first_near(
-        st,
-        c,
-        Row {
-            leave,
-            arrival,
-            rides,
-            walk,
-            origin: 0,
-            target: 0,
-            board: 0,
-            alight: 0,
-            board2: 0,
-            alight2: 0,
-            middle_board: 0,
-            middle_alight: 0,
-        },
-    );
-    f.passes
+    mark(st, c, offer.leave);
+    let o = Row {
+        leave: offer.leave,
+        arrival: offer.arrival,
+        rides: offer.rides,
+        walk: offer.walk,
+        ..no_row()
+    };
+    first_near(st, c, o).is_ok()
 }

@@ -1,4 +1,5 @@
 -- The rule that holds between two stops is that of its place by rank, and that place is found from the best rules for the stop and for its parent.
+use Rattle.std.specs.Prelude.{None, Option, Some}
 use Prim.Native.Nat.{ℕ, zero, suc, ◌+◌, ◌-◌, ◌*◌, ◌%◌, ◌≤◌, ◌<◌, max}
 use mathlib.Core.Path.{◌≡◌, refl, sym, ap, ap₂, subst, ◌∙◌}
 use mathlib.Core.Bool.{Bool, true, false, cond, not, ◌&&◌, ◌||◌}
@@ -15,11 +16,8 @@ use Rattle.laws.proofs.Slots.{below-cases}
 use Rattle.laws.proofs.Tables.{get_d-table, length-table}
 use Rattle.rules.specs.declared.Rule.{Rule}
 use Rattle.transfer.specs.declared.Ends.{Ends}
-use Rattle.transfer.specs.declared.Chosen.{Chosen}
-use Rattle.transfer.specs.declared.Chosen.TheVariants.{By, Open}
 use Rattle.transfer.specs.Choice.{bit, rank, better, applies, read, chosen}
 use Rattle.transfer.specs.Copied.{rule_at, rules_of}
-use Rattle.transfer.specs.declared.Change.{Change}
 use Rattle.transfer.specs.Changes.{ends_of_of, near, change_of, change_number}
 use Rattle.transfer.specs.Rows.{entry_of}
 use Rattle.change_row.specs.Ranks.{rank_to, ranked, rank_from, slot_of, best_to, raised, is_shared}
@@ -35,48 +33,48 @@ module _ (e : Ends) (l : List ℕ) where
     pub rule : r ≡ rule_at l place
     pub number : k ≡ rank e r * 128 + suc place
 
-  abbrev Held : ℕ → ℕ → Chosen → Type 0
-  Held n k Open = k ≡ 0
-  Held n k (By r) = HeldBy n k r
+  abbrev Held : ℕ → ℕ → Option Rule → Type 0
+  Held n k None = k ≡ 0
+  Held n k (Some r) = HeldBy n k r
 
   module _ (n : ℕ) (h : n < 128) where
     abbrev new : ℕ
     new = rank e (rule_at l n) * 128 + suc n
 
-    held-open : (k : ℕ) (b : Bool) → k ≡ 0 → Held (suc n) (cond b (max k new) k) (cond b (By (rule_at l n)) Open)
+    held-open : (k : ℕ) (b : Bool) → k ≡ 0 → Held (suc n) (cond b (max k new) k) (cond b (Some (rule_at l n)) None)
     held-open k true z = record { place = n; under = omega arith; rule = refl; number = omega arith }
     held-open k false z = z
 
     held_by : (k : ℕ) (r : Rule) (a b : Bool) → better e r (rule_at l n) ≡ b → HeldBy n k r
-        → Held (suc n) (cond a (max k new) k) (cond a (cond b (By (rule_at l n)) (By r)) (By r))
+        → Held (suc n) (cond a (max k new) k) (cond a (cond b (Some (rule_at l n)) (Some r)) (Some r))
     held_by k r true true q g = record { place = n; under = omega arith; rule = refl; number = omega (arith, leb-true (rank e r) (rank e (rule_at l n)) q, g.number, g.under) }
     held_by k r true false q g =
         record { place = g.place; under = omega (arith, g.under); rule = g.rule; number = omega (arith, leb-false (rank e r) (rank e (rule_at l n)) q, g.number, g.under) }
     held_by k r false b q g = record { place = g.place; under = omega (arith, g.under); rule = g.rule; number = g.number }
 
-    held-read : (k : ℕ) (c : Chosen) → Held n k c → Held (suc n) (cond (applies e (rule_at l n)) (max k new) k) (read e c (rule_at l n))
-    held-read k Open g = held-open k (applies e (rule_at l n)) g
-    held-read k (By r) g = held_by k r (applies e (rule_at l n)) (better e r (rule_at l n)) refl g
+    held-read : (k : ℕ) (c : Option Rule) → Held n k c → Held (suc n) (cond (applies e (rule_at l n)) (max k new) k) (read e c (rule_at l n))
+    held-read k None g = held-open k (applies e (rule_at l n)) g
+    held-read k (Some r) g = held_by k r (applies e (rule_at l n)) (better e r (rule_at l n)) refl g
 
   chosen_more : (n : ℕ) → chosen e (rules_of l (suc n)) ≡ read e (chosen e (rules_of l n)) (rule_at l n)
-  chosen_more n = ap (λ (k : ℕ). chosen e (rules_of l k)) (sym (add-one n)) ∙ rules-turn (read e) Open l n
+  chosen_more n = ap (λ (k : ℕ). chosen e (rules_of l k)) (sym (add-one n)) ∙ rules-turn (read e) None l n
 
   held : (n : ℕ) → n ≤ 128 → Held n (rank_to e l n) (chosen e (rules_of l n))
   unfolding rank_to
-  held zero h = subst (λ (c : Chosen). Held 0 0 c) (rules-none (read e) Open l) refl
+  held zero h = subst (λ (c : Option Rule). Held 0 0 c) (rules-none (read e) None l) refl
   held (suc n) h =
-      subst (λ (c : Chosen). Held (suc n) (rank_to e l (suc n)) c) (sym (chosen_more n))
+      subst (λ (c : Option Rule). Held (suc n) (rank_to e l (suc n)) c) (sym (chosen_more n))
       (held-read n (omega arith) (rank_to e l n) (chosen e (rules_of l n)) (held n (omega arith)))
 
   place_of : (x j : ℕ) → j < 128 → (x * 128 + suc j - 1) % 128 ≡ j
   place_of x j h = omega arith
 
-  rank-rule : (n k : ℕ) (c : Chosen) → n ≤ 128 → Held n k c → c ≡ ranked l k
+  rank-rule : (n k : ℕ) (c : Option Rule) → n ≤ 128 → Held n k c → c ≡ ranked l k
   unfolding ranked
-  rank-rule n k Open h g = sym (cond-by _ _ (eq-eqb k 0 g))
-  rank-rule n k (By r) h g =
+  rank-rule n k None h g = sym (cond-by _ _ (eq-eqb k 0 g))
+  rank-rule n k (Some r) h g =
       let at : (k - 1) % 128 ≡ g.place = ap (λ (x : ℕ). (x - 1) % 128) g.number ∙ place_of (rank e r) g.place (omega (arith, g.under)) in
-      ap By (g.rule ∙ ap (rule_at l) (sym at)) ∙ sym (cond-not _ _ (ne_eqb k 0 (λ z. omega (arith, g.number))))
+      ap Some (g.rule ∙ ap (rule_at l) (sym at)) ∙ sym (cond-not _ _ (ne_eqb k 0 (λ z. omega (arith, g.number))))
 
   pub chosen-ranked : (n : ℕ) → n ≤ 128 → chosen e (rules_of l n) ≡ ranked l (rank_to e l n)
   chosen-ranked n h = rank-rule n (rank_to e l n) (chosen e (rules_of l n)) h (held n h)
@@ -184,7 +182,7 @@ module _ (e : Ends) (l : List ℕ) where
           ne_eqb (rule_at l i).to e.to_parent (λ w. other (omega arith)) ∙ sym (ne_eqb (slot_of (rule_at l i).to) (slot_of e.to_parent) (λ w. other (w ∙ past)))
 
   -- the rule that the code finds
-  pub rule_found : (n : ℕ) (b : List ℕ) {slot own k : ℕ} {r : Chosen} → n ≤ 128 → e.to < 128 → b ≡ table 129 (best n) → slot ≡ slot_of e.to_parent
+  pub rule_found : (n : ℕ) (b : List ℕ) {slot own k : ℕ} {r : Option Rule} → n ≤ 128 → e.to < 128 → b ≡ table 129 (best n) → slot ≡ slot_of e.to_parent
       → is_shared slot (get_or b slot 0) ≡ false → own ≡ raised (get_or b e.to 0) → k ≡ max own (get_or b slot 0) → r ≡ ranked l k → r ≡ chosen e (rules_of l n)
   rule_found n b {slot} {own} {k} few h eb es g eo ek er =
       let q = slot_of e.to_parent in
@@ -264,8 +262,8 @@ unfolding ends_of_of
 ends-best l parents b from to n e q h = subst (λ (x : Ends). (b ≡ table 129 (best_to l x.from x.from_parent n)) × (x.to < 128)) (sym e) (q, h)
 
 -- the parts of an entry, as the code computes them
-pub entry-parts : (rules : List Rule) (parents places : List ℕ) (f t m : ℕ) {ends : Ends} {pf pt : ℕ} {rule : Chosen} {close : Bool} {by : Change} {r : ℕ}
+pub entry-parts : (rules : List Rule) (parents places : List ℕ) (f t m : ℕ) {ends : Ends} {pf pt : ℕ} {rule : Option Rule} {close : Bool} {by : Option ℕ} {r : ℕ}
     → ends ≡ ends_of_of parents f t → rule ≡ chosen ends rules → pf ≡ get_or places f 65535 → pt ≡ get_or places t 65535 → close ≡ near ends pf pt → by ≡ change_of rule close m → r ≡ change_number by
     → r ≡ entry_of rules parents places f m t
 unfolding entry_of
-entry-parts rules parents places f t m e₁ e₂ e₃ e₄ e₅ e₆ e₇ = e₇ ∙ ap (λ (x : Change). change_number x) (transfer-parts rules parents places f t m e₁ e₂ e₃ e₄ e₅ e₆)
+entry-parts rules parents places f t m e₁ e₂ e₃ e₄ e₅ e₆ e₇ = e₇ ∙ ap (λ (x : Option ℕ). change_number x) (transfer-parts rules parents places f t m e₁ e₂ e₃ e₄ e₅ e₆)

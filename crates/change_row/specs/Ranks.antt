@@ -1,8 +1,7 @@
 -- How the rule of each change of a row is found: by the best rule for each `to`, and the places of rules by rank.
-use Rattle.std.specs.Prelude.{Bool, cond, not, ◌&&◌, List, ℕ, zero, suc, ◌+◌, ◌-◌, ◌*◌, ◌%◌, min, max, eqb}
+use Rattle.rules.specs.declared.Rule.{Rule}
+use Rattle.std.specs.Prelude.{Bool, cond, not, ◌&&◌, List, ℕ, zero, suc, ◌+◌, ◌-◌, ◌*◌, ◌%◌, min, max, eqb, None, Option, Some}
 use Rattle.transfer.specs.declared.Ends.{Ends}
-use Rattle.transfer.specs.declared.Chosen.{Chosen}
-use Rattle.transfer.specs.declared.Chosen.TheVariants.{By, Open}
 use Rattle.transfer.specs.Choice.{applies, rank}
 use Rattle.transfer.specs.Copied.{rule_at}
 
@@ -14,8 +13,8 @@ rank_to e l zero = 0
 rank_to e l (suc n) = cond (applies e (rule_at l n)) (max (rank_to e l n) (rank e (rule_at l n) * 128 + suc n)) (rank_to e l n)
 
 -- the rule of such a place
-unfoldable pub ranked : List ℕ → ℕ → Chosen
-ranked l k = cond (eqb k 0) Open (By (rule_at l ((k - 1) % 128)))
+unfoldable pub ranked : List ℕ → ℕ → Option Rule
+ranked l k = cond (eqb k 0) None (Some (rule_at l ((k - 1) % 128)))
 
 -- ---- the rules of one `to`, ranked by their from side alone: 2 if it is the stop itself
 

@@ -10,10 +10,11 @@ ghost use Rattle.transfer.specs.Copied.{rules_of, rule_at};
 ghost use Rattle.transfer.specs.Rows.{entry_of, change_row};
 ghost use Rattle.change_row.specs.Ranks.{ranked, rank_from, slot_of, best_to, raised, is_shared};
 
+use rules::Rule;
+use transfer::Ends;
 use transfer::choice::rule_for;
 use transfer::parts::{are_near, change_by, change_number, ends_of};
 use transfer::reads::{at_most, number_at, rule_at};
-use transfer::{Chosen, Ends};
 
 // A row that is lent has its length.
 fn known_row(row: [u32; 128])
@@ -89,19 +90,19 @@ fn is_shared(slot: usize, k: u16) -> bool
 }
 
 // The rule of a place by rank.
-fn rule_ranked(rules: &[u16; 640], k: u16) -> Chosen
+fn rule_ranked(rules: &[u16; 640], k: u16) -> Option<Rule>
     ensures { result ≡ ranked rules.now k }
 {
     if k == 0 {
-        return Chosen::Open;
+        return None;
     }
     let i = ((k - 1) % 128) as usize;
-    Chosen::By(rule_at(rules, i))
+    Some(rule_at(rules, i))
 }
 
 // The rule that holds between two stops, by the best for each slot. Where a parent is no stop's number, and some rule names such a number,
 // the rules are read again.
-fn rule_by(best: &[u16; 129], rules: &[u16; 640], count: usize, ends: Ends) -> Chosen
+fn rule_by(best: &[u16; 129], rules: &[u16; 640], count: usize, ends: Ends) -> Option<Rule>
     requires { (best.now ≡ table 129 (best_to rules.now ends.from ends.from_parent (least count 128))) × (ends.to < 128) }
     ensures { result ≡ chosen ends (rules_of rules.now (least count 128)) }
 {

@@ -62,12 +62,9 @@ fn stops_with(
 ) -> [Stop; 128]
     ensures { result ≡ stops_with ids.now names.now latitudes.now longitudes.now }
 {
-    let first = stop_with(0, 0, 0.0, 0.0);
-    let mut stops = [first; 128];
-    let mut i: usize = 0;
-    while i < 128 {
-        stops[i] = stop_with(ids[i], names[i], latitudes[i], longitudes[i]);
-        i += 1;
+    let mut stops = [stop_with(0, 0, 0.0, 0.0); 128];
+    for (i, stop) in stops.iter_mut().enumerate() {
+        *stop = stop_with(ids[i], names[i], latitudes[i], longitudes[i]);
     }
     stops
 }

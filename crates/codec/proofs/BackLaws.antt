@@ -1,4 +1,5 @@
 -- Each kind of record comes back as it was written.
+use Rattle.std.specs.Prelude.{None, Option, Some}
 use mathlib.Core.Path.{◌≡◌, refl, sym, ap, ◌∙◌}
 use mathlib.Core.Bool.{Bool, true, false, cond}
 use mathlib.Core.List.{List, [], ◌∷◌}
@@ -20,13 +21,11 @@ use Rattle.settings.specs.Settings.{kept_walk, walks_of, canonical_of}
 use Rattle.stops.specs.declared.StopInput.{StopInput}
 use Rattle.stops.specs.Texts.{shown}
 use Rattle.calls.specs.declared.CallInput.{CallInput}
-use Rattle.calls.specs.declared.Seconds.{Seconds}
 use Rattle.rules.specs.declared.RuleInput.{RuleInput}
-use Rattle.rules.specs.declared.MinTime.{MinTime}
 use Rattle.fields.specs.Numbers.{signed_of}
 use Rattle.fields.specs.Second.{second_settings_in, second_settings_filled_of}
 use Rattle.codec.specs.Shapes.{two, four, eight, number, bytes, text, option, both, Value, Fits}
-use Rattle.codec.specs.Kinds.{unsigned_of, seconds_value, seconds_from, call_shape, call_value, call_from, call_body, min_time_value, min_time_from, rule_shape, rule_value, rule_from, rule_body, given, is_given, text_from, degrees_value, degrees_from, stop_shape, stop_value, stop_from, stop_body, DegreesHeld, settings_shape, settings_value, settings_from, settings_body, search_body, SettingsHeld, StopBack, Back}
+use Rattle.codec.specs.Kinds.{unsigned_of, call_shape, call_value, call_from, call_body, rule_shape, rule_value, rule_from, rule_body, given, is_given, text_from, degrees_value, degrees_from, stop_shape, stop_value, stop_from, stop_body, DegreesHeld, settings_shape, settings_value, settings_from, settings_body, search_body, SettingsHeld, StopBack, Back}
 use Rattle.codec.proofs.ShapeLaws.{record-trip}
 use Rattle.codec.proofs.KindLaws.{by_shape}
 
@@ -46,14 +45,6 @@ degrees-back false d h = sym (h.absent refl)
 
 -- ---- optional fields
 
-seconds-back : (s : Seconds) → seconds_from (seconds_value s) ≡ s
-seconds-back (Seconds.Given n) = refl
-seconds-back Seconds.Absent = refl
-
-min-time-back : (m : MinTime) → min_time_from (min_time_value m) ≡ m
-min-time-back (MinTime.Given n) = refl
-min-time-back MinTime.Absent = refl
-
 given_back : {A : Type 0} (x : Bool) (v : A) → is_given (given x v) ≡ x
 given_back true v = refl
 given_back false v = refl
@@ -65,19 +56,10 @@ text-back false s = refl
 -- ---- the kinds
 
 call_back : (i : CallInput) → call_from (call_value i) ≡ i
-call_back i = λ t. record {
-  trip = i.trip;
-  day = i.day;
-  sequence = i.sequence;
-  stop = i.stop;
-  arrival = seconds-back i.arrival t;
-  departure = seconds-back i.departure t;
-  pickup = i.pickup;
-  drop_off = i.drop_off;
-}
+call_back i = refl
 
 rule-back : (i : RuleInput) → rule_from (rule_value i) ≡ i
-rule-back i = λ t. record { from = i.from; to = i.to; transfer_type = i.transfer_type; seconds = min-time-back i.seconds t }
+rule-back i = refl
 
 stop-back : (id name parent : List ℕ) (i : StopInput) → DegreesHeld i.located i.degrees → stop_from (stop_value id name parent i) ≡ i
 stop-back id name parent i h = λ t. record {
@@ -127,16 +109,16 @@ settings-back s h = λ t. record {
 call_fits : (i : CallInput) → Fits call_shape (call_value i)
 call_fits i = (tt, (tt, (tt, (tt, (go i.arrival, (go i.departure, (tt, tt)))))))
   where
-    go : (s : Seconds) → Fits (option (number four)) (seconds_value s)
-    go (Seconds.Given n) = tt
-    go Seconds.Absent = tt
+    go : (s : Option ℕ) → Fits (option (number four)) s
+    go (Some n) = tt
+    go None = tt
 
 rule_fits : (i : RuleInput) → Fits rule_shape (rule_value i)
 rule_fits i = (tt, (tt, (tt, go i.seconds)))
   where
-    go : (m : MinTime) → Fits (option (number two)) (min_time_value m)
-    go (MinTime.Given n) = tt
-    go MinTime.Absent = tt
+    go : (m : Option ℕ) → Fits (option (number two)) m
+    go (Some n) = tt
+    go None = tt
 
 stop-fits : (id name parent : List ℕ) (i : StopInput) → Fits stop_shape (stop_value id name parent i)
 stop-fits id name parent i = (tt, (go i.named name, (go i.has_parent parent, (tt, (at i.located, tt)))))

@@ -1,7 +1,7 @@
 -- The reader's definitions are the descriptions', kind by kind.
+use Rattle.std.specs.Prelude.{None, Some}
 use mathlib.Core.Path.{◌≡◌, refl, sym, ap, ◌∙◌}
 use mathlib.Core.Bool.{Bool, true, false, cond, ◌&&◌}
-use mathlib.Core.Option.{none, some}
 use mathlib.Core.List.{List, [], ◌∷◌}
 use Prim.Native.Nat.{ℕ, ◌+◌, ◌*◌}
 use native.Mathlib.Omega.{arith}
@@ -10,14 +10,12 @@ use lib.ListN.{length, get_or, take, drop}
 use lib.Seq.{get_or-take, get_or-drop}
 use borrow.Author.Tests.{ltb-true}
 use Rattle.settings.specs.Settings.{kept_walk, walks_of, canonical_of}
-use Rattle.calls.specs.declared.Seconds.{Seconds}
-use Rattle.rules.specs.declared.MinTime.{MinTime}
 use Rattle.fields.specs.Numbers.{byte_at, u16_at, u32_at, i64_at, f64_at}
 use Rattle.fields.specs.Layout.{has_at, mark_at, text_at, option_text_at, option_end, option_text_end, name_at, parent_at, type_at, position_at, minutes_at, target_walks_at, settings_filled_of, stop_filled_of, call_filled_of, rule_filled_of, search_filled_of}
 use Rattle.fields.specs.Records.{walks_at, settings_in, degrees_at, stop_in, seconds_at, call_in, min_time_at, rule_in}
 use Rattle.fields.specs.Second.{seconds_place, second_settings_in, second_settings_filled_of}
 use Rattle.codec.specs.Shapes.{two, four, eight, number, bytes, text, option, both, end, read, fills}
-use Rattle.codec.specs.Kinds.{seconds_from, call_shape, call_from, min_time_from, rule_shape, rule_from, is_given, text_from, degrees_from, stop_shape, stop_from, settings_shape_of, settings_from, ByShape}
+use Rattle.codec.specs.Kinds.{call_shape, call_from, rule_shape, rule_from, is_given, text_from, degrees_from, stop_shape, stop_from, settings_shape_of, settings_from, ByShape}
 
 -- ---- tests in another order
 
@@ -50,23 +48,15 @@ plus-sixteen n = omega arith
 
 -- ---- optional fields
 
-seconds-read : (b : List ℕ) (at : ℕ) → seconds_at b at ≡ seconds_from (read (option (number four)) b at)
+seconds-read : (b : List ℕ) (at : ℕ) → seconds_at b at ≡ read (option (number four)) b at
 unfolding seconds_at
-seconds-read b at = go (has_at b at)
-  where
-    go : (x : Bool) → cond x (Seconds.Given (u32_at b (at + 1))) Seconds.Absent ≡ seconds_from (cond x (some (u32_at b (at + 1))) none)
-    go true = refl
-    go false = refl
+seconds-read b at = refl
 
-min-time-read : (b : List ℕ) (at : ℕ) → min_time_at b at ≡ min_time_from (read (option (number two)) b at)
+min-time-read : (b : List ℕ) (at : ℕ) → min_time_at b at ≡ read (option (number two)) b at
 unfolding min_time_at
-min-time-read b at = go (has_at b at)
-  where
-    go : (x : Bool) → cond x (MinTime.Given (u16_at b (at + 1))) MinTime.Absent ≡ min_time_from (cond x (some (u16_at b (at + 1))) none)
-    go true = refl
-    go false = refl
+min-time-read b at = refl
 
-given-read : {A : Type 0} (x : Bool) (v : A) → x ≡ is_given (cond x (some v) none)
+given-read : {A : Type 0} (x : Bool) (v : A) → x ≡ is_given (cond x (Some v) None)
 given-read true v = refl
 given-read false v = refl
 
@@ -74,7 +64,7 @@ text-read : (b : List ℕ) (at : ℕ) → option_text_at b at ≡ text_from (rea
 unfolding option_text_at
 text-read b at = go (has_at b at)
   where
-    go : (x : Bool) → cond x (text_at b (at + 1)) [] ≡ text_from (cond x (some (text_at b (at + 1))) none)
+    go : (x : Bool) → cond x (text_at b (at + 1)) [] ≡ text_from (cond x (Some (text_at b (at + 1))) None)
     go true = refl
     go false = refl
 
@@ -110,8 +100,8 @@ degrees-read : (b : List ℕ) (at : ℕ) → degrees_at b at ≡ degrees_from (r
 unfolding degrees_at
 degrees-read b at = go (has_at b at)
   where
-    go : (x : Bool) → cond x (record { latitude = f64_at b (at + 1); longitude = f64_at b (at + 9) }) (degrees_from none)
-        ≡ degrees_from (cond x (some (read (both (number eight) (number eight)) b (at + 1))) none)
+    go : (x : Bool) → cond x (record { latitude = f64_at b (at + 1); longitude = f64_at b (at + 9) }) (degrees_from None)
+        ≡ degrees_from (cond x (Some (read (both (number eight) (number eight)) b (at + 1))) None)
     go true = λ t. record { latitude = f64_at b (at + 1); longitude = f64_at b (plus-nine at t) }
     go false = refl
 

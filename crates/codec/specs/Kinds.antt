@@ -1,6 +1,5 @@
 -- The fields of each kind of record, in document 01's order, and the values that stand in them.
-use Rattle.std.specs.Prelude.{ℕ, ◌*◌, ◌-◌, ◌≤◌, ◌≡◌, Bool, true, false, cond, List, [], ◌∷◌, T, ℤ, pos, negsuc, length, take, get_or, Float}
-use Rattle.std.proofs.Math.Option.{Option, none, some}
+use Rattle.std.specs.Prelude.{ℕ, ◌*◌, ◌-◌, ◌≤◌, ◌≡◌, Bool, true, false, cond, List, [], ◌∷◌, T, ℤ, pos, negsuc, length, take, get_or, Float, None, Some, Option}
 use Rattle.std.specs.Float.{binary64}
 use Rattle.std.specs.Float.Ieee.{of_bits, to_bits, fits}
 use Rattle.std.specs.Int.{w64}
@@ -11,9 +10,7 @@ use Rattle.settings.specs.Settings.{canonical_of}
 use Rattle.stops.specs.declared.StopInput.{StopInput}
 use Rattle.stops.specs.Texts.{shown}
 use Rattle.calls.specs.declared.CallInput.{CallInput}
-use Rattle.calls.specs.declared.Seconds.{Seconds}
 use Rattle.rules.specs.declared.RuleInput.{RuleInput}
-use Rattle.rules.specs.declared.MinTime.{MinTime}
 use Rattle.fields.specs.Numbers.{byte_at, signed_of}
 use Rattle.fields.specs.Layout.{option_text_at, text_at, name_at, parent_at, settings_filled_of, stop_filled_of, call_filled_of, rule_filled_of, search_filled_of}
 use Rattle.fields.specs.Records.{settings_in, stop_in, call_in, rule_in}
@@ -40,16 +37,8 @@ abbrev pub call_shape : Field
 call_shape =
     both (number two) (both (number one) (both (number four) (both (number two) (both (option (number four)) (both (option (number four)) (both (number one) (number one)))))))
 
-abbrev pub seconds_value : Seconds → Option ℕ
-seconds_value (Seconds.Given n) = some n
-seconds_value Seconds.Absent = none
-
-abbrev pub seconds_from : Option ℕ → Seconds
-seconds_from (some n) = Seconds.Given n
-seconds_from none = Seconds.Absent
-
 abbrev pub call_value : CallInput → Value call_shape
-call_value i = (i.trip, (i.day, (i.sequence, (i.stop, (seconds_value i.arrival, (seconds_value i.departure, (i.pickup, i.drop_off)))))))
+call_value i = (i.trip, (i.day, (i.sequence, (i.stop, (i.arrival, (i.departure, (i.pickup, i.drop_off)))))))
 
 abbrev pub call_from : Value call_shape → CallInput
 call_from v = record {
@@ -57,8 +46,8 @@ call_from v = record {
   day = v.1.0;
   sequence = v.1.1.0;
   stop = v.1.1.1.0;
-  arrival = seconds_from v.1.1.1.1.0;
-  departure = seconds_from v.1.1.1.1.1.0;
+  arrival = v.1.1.1.1.0;
+  departure = v.1.1.1.1.1.0;
   pickup = v.1.1.1.1.1.1.0;
   drop_off = v.1.1.1.1.1.1.1;
 }
@@ -71,19 +60,11 @@ call_body i = body 3 call_shape (call_value i)
 abbrev pub rule_shape : Field
 rule_shape = both (number two) (both (number two) (both (number one) (option (number two))))
 
-abbrev pub min_time_value : MinTime → Option ℕ
-min_time_value (MinTime.Given n) = some n
-min_time_value MinTime.Absent = none
-
-abbrev pub min_time_from : Option ℕ → MinTime
-min_time_from (some n) = MinTime.Given n
-min_time_from none = MinTime.Absent
-
 abbrev pub rule_value : RuleInput → Value rule_shape
-rule_value i = (i.from, (i.to, (i.transfer_type, min_time_value i.seconds)))
+rule_value i = (i.from, (i.to, (i.transfer_type, i.seconds)))
 
 abbrev pub rule_from : Value rule_shape → RuleInput
-rule_from v = record { from = v.0; to = v.1.0; transfer_type = v.1.1.0; seconds = min_time_from v.1.1.1 }
+rule_from v = record { from = v.0; to = v.1.0; transfer_type = v.1.1.0; seconds = v.1.1.1 }
 
 unfoldable pub rule_body : RuleInput → List ℕ
 rule_body i = body 4 rule_shape (rule_value i)
@@ -96,23 +77,23 @@ stop_shape =
 
 -- what stands in an optional field
 abbrev pub given : {A : Type 0} → Bool → A → Option A
-given true x = some x
-given false x = none
+given true x = Some x
+given false x = None
 
 abbrev pub is_given : {A : Type 0} → Option A → Bool
-is_given (some x) = true
-is_given none = false
+is_given (Some x) = true
+is_given None = false
 
 abbrev pub text_from : Option (List ℕ) → List ℕ
-text_from (some x) = x
-text_from none = []
+text_from (Some x) = x
+text_from None = []
 
 abbrev pub degrees_value : Degrees → ℕ × ℕ
 degrees_value d = (bits_of d.latitude, bits_of d.longitude)
 
 abbrev pub degrees_from : Option (ℕ × ℕ) → Degrees
-degrees_from (some v) = record { latitude = float_of v.0; longitude = float_of v.1 }
-degrees_from none = record { latitude = float_of 0; longitude = float_of 0 }
+degrees_from (Some v) = record { latitude = float_of v.0; longitude = float_of v.1 }
+degrees_from None = record { latitude = float_of 0; longitude = float_of 0 }
 
 abbrev pub stop_value : List ℕ → List ℕ → List ℕ → StopInput → Value stop_shape
 stop_value id name parent i =

@@ -1,17 +1,14 @@
 -- What is handed in again of the settings, a stop, a rule and a call that a load holds.
-use Rattle.std.specs.Prelude.{ℕ, Bool, not, cond, List, [], ◌∷◌, eqb, take}
+use Rattle.std.specs.Prelude.{ℕ, Bool, not, cond, List, [], ◌∷◌, eqb, take, None, Option, Some}
 use Rattle.settings.specs.declared.Settings.{Settings}
 use Rattle.stops.specs.declared.Stop.{Stop}
 use Rattle.stops.specs.declared.StopInput.{StopInput}
-use Rattle.stops.specs.declared.Found.{Found}
 use Rattle.stops.specs.Stops.{id_of}
 use Rattle.stops.specs.Sound.{stop_at}
 use Rattle.rules.specs.declared.Rule.{Rule}
 use Rattle.rules.specs.declared.RuleInput.{RuleInput}
-use Rattle.rules.specs.declared.MinTime.{MinTime}
 use Rattle.calls.specs.declared.Call.{Call}
 use Rattle.calls.specs.declared.CallInput.{CallInput}
-use Rattle.calls.specs.declared.Seconds.{Seconds}
 
 -- ---- settings: every epoch is the start, from which held times count
 
@@ -35,8 +32,8 @@ name_of s = take s.name_len s.name
 abbrev pub has_parent : Stop → Bool
 has_parent s = not (eqb s.parent 65535)
 
-abbrev pub station_of_stop : Stop → Found
-station_of_stop s = cond (has_parent s) (Found.At s.parent) Found.Nothing
+abbrev pub station_of_stop : Stop → Option ℕ
+station_of_stop s = cond (has_parent s) (Some s.parent) None
 
 -- the id of the station
 abbrev pub parent_id_of : List Stop → Stop → List ℕ
@@ -54,8 +51,8 @@ stop_input_of s = record {
 
 -- ---- rule: seconds of every type
 
-abbrev pub min_time_of : Bool → ℕ → MinTime
-min_time_of timed n = cond timed (MinTime.Given n) MinTime.Absent
+abbrev pub min_time_of : Bool → ℕ → Option ℕ
+min_time_of timed n = cond timed (Some n) None
 
 unfoldable pub rule_input_of : Rule → RuleInput
 rule_input_of r = record { from = r.from; to = r.to; transfer_type = r.transfer_type; seconds = min_time_of r.timed r.seconds }
@@ -72,8 +69,8 @@ call_input_of c = record {
   day = c.day;
   sequence = c.sequence;
   stop = c.stop;
-  arrival = Seconds.Given c.arrival;
-  departure = Seconds.Given c.departure;
+  arrival = Some c.arrival;
+  departure = Some c.departure;
   pickup = type_of c.board c.board_request;
   drop_off = type_of c.alight c.alight_request;
 }

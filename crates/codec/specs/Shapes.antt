@@ -1,6 +1,5 @@
 -- Descriptions of fields: the bytes that are written of a value, and what is read from a place of a record.
-use Rattle.std.specs.Prelude.{ℕ, ◌+◌, ◌/◌, ◌%◌, ◌≤◌, ◌≡◌, Bool, true, cond, ◌&&◌, List, [], ◌∷◌, ◌++◌, eqb, length, take, drop}
-use Rattle.std.proofs.Math.Option.{Option, none, some}
+use Rattle.std.specs.Prelude.{ℕ, ◌+◌, ◌/◌, ◌%◌, ◌≤◌, ◌≡◌, Bool, true, cond, ◌&&◌, List, [], ◌∷◌, ◌++◌, eqb, length, take, drop, None, Option, Some}
 use Rattle.fields.specs.Numbers.{byte_at, u16_at, u32_at, u64_at}
 use Rattle.fields.specs.Layout.{text_end, text_at, has_at, mark_at}
 
@@ -57,8 +56,8 @@ abbrev pub write : (f : Field) → Value f → List ℕ
 write (number s) n = number_bytes s n
 write (bytes n) xs = xs
 write text xs = length xs ∷ xs
-write (option f) none = 0 ∷ []
-write (option f) (some v) = 1 ∷ write f v
+write (option f) None = 0 ∷ []
+write (option f) (Some v) = 1 ∷ write f v
 write (both f g) v = write f v.0 ++ write g v.1
 
 -- the bytes of a counted field are as many as it counts; that numbers fit their bytes is asked only where bytes are stored
@@ -66,8 +65,8 @@ abbrev pub Fits : (f : Field) → Value f → Type 0
 Fits (number s) n = Unit {0}
 Fits (bytes n) xs = length xs ≡ n
 Fits text xs = Unit {0}
-Fits (option f) none = Unit {0}
-Fits (option f) (some v) = Fits f v
+Fits (option f) None = Unit {0}
+Fits (option f) (Some v) = Fits f v
 Fits (both f g) v = Fits f v.0 × Fits g v.1
 
 -- ---- reading, from a place of a record
@@ -90,7 +89,7 @@ abbrev pub read : (f : Field) → List ℕ → ℕ → Value f
 read (number s) b at = number_at s b at
 read (bytes n) b at = take n (drop at b)
 read text b at = text_at b at
-read (option f) b at = cond (has_at b at) (some (read f b (at + 1))) none
+read (option f) b at = cond (has_at b at) (Some (read f b (at + 1))) None
 read (both f g) b at = (read f b at, read g b (end f b at))
 
 -- each optional byte is 0 or 1

@@ -1,4 +1,6 @@
 -- A call on a searched load: the program's tests decide its causes. u is the unsearched load, which holds what was taken with the calls in order.
+use Rattle.refusal.specs.declared.Accepted.TheVariants.{Taken, Outside}
+use Rattle.std.specs.Prelude.{Option, Err, Ok}
 use Prim.Native.Nat.{ℕ, ◌≤◌}
 use mathlib.Core.Path.{◌≡◌, refl, sym, ap, subst, ◌∙◌}
 use mathlib.Core.Logic.{◌↔◌}
@@ -9,10 +11,8 @@ use lib.Dec.{ltb}
 use lib.ListN.{length}
 use borrow.Author.Tests.{ltb-false, le-ltb}
 use Rattle.laws.proofs.Bools.{and-true, and-true-left, and-true-right}
-use Rattle.refusal.specs.declared.Answer.{Answer}
-use Rattle.refusal.specs.declared.Answer.TheVariants.{Taken, Outside, Refused}
 use Rattle.refusal.specs.declared.Refusal.TheVariants.{FieldRange, NoRoom}
-use Rattle.refusal.specs.First.{first_answer, is_taken, is_refused}
+use Rattle.refusal.specs.First.{first_answer, is_taken, is_refused, Answer}
 use Rattle.refusal.proofs.FirstLaws.{first-is-answer}
 use Rattle.settings.specs.declared.Settings.{Settings}
 use Rattle.settings.specs.Settings.{canonical_of}
@@ -25,7 +25,6 @@ use Rattle.calls.specs.Tables.{put}
 use Rattle.calls.specs.Reached.{reached, reached_tests, call_window}
 use Rattle.calls.specs.Windows as windows
 use Rattle.calls.specs.Windows.{seen_call}
-use Rattle.calls.specs.declared.Offset.{Offset}
 use Rattle.calls.proofs.ReachedLaws.{fitted-reached}
 use Rattle.calls.proofs.FitLaws.{shrinks}
 use Rattle.week.specs.Weeks.{running}
@@ -65,13 +64,13 @@ fits_low (full v w q r) = omega arith
 fits_low {h = h} (cut v w q r k) = omega (arith, fits_low k, shrinks h r)
 
 -- outside with the horizon as it was: nothing was cut
-pub fits-unseen : {s : Settings} {is : List CallInput} {i : CallInput} {h m g n : ℕ} {x : Answer} → Fits s is i h m x g n → x ≡ Outside → g ≡ h → (c : Call) → Seen s h i c → ⊥
+pub fits-unseen : {s : Settings} {is : List CallInput} {i : CallInput} {h m g n : ℕ} {x : Answer} → Fits s is i h m x g n → x ≡ Ok Outside → g ≡ h → (c : Call) → Seen s h i c → ⊥
 fits-unseen (outside f) e q = f
 fits-unseen (room v w l) e q = absurd (let z : ◌≡◌ {A = ℕ} 0 1 = cc in omega arith)
 fits-unseen (full v w l r) e q = absurd (let z : ◌≡◌ {A = ℕ} 0 1 = cc in omega arith)
 fits-unseen {h = h} (cut v w l r k) e q = absurd (omega (arith, fits_low k, shrinks h r, q))
 
-two-room : (b c : Bool) → Decides (not b && c) (two b c ≡ Refused NoRoom)
+two-room : (b c : Bool) → Decides (not b && c) (two b c ≡ Err NoRoom)
 unfolding first_answer
 two-room true c = (λ e. absurd (false≢true e), λ e. absurd (let z : ◌≡◌ {A = ℕ} 0 1 = cc in omega arith))
 two-room false true = (λ e. refl, λ e. refl)
@@ -89,7 +88,7 @@ either-height false t c = refl
 
 -- six tests that fail, and two
 past-six : (b1 b2 b3 b4 b5 b6 p q : Bool) (c1 c2 c3 c4 c5 c6 : Answer) → b1 ≡ false → b2 ≡ false → b3 ≡ false → b4 ≡ false → b5 ≡ false → b6 ≡ false
-    → first_answer ((b1, c1) ∷ (b2, c2) ∷ (b3, c3) ∷ (b4, c4) ∷ (b5, c5) ∷ (b6, c6) ∷ (p, Outside) ∷ (q, Refused NoRoom) ∷ []) ≡ two p q
+    → first_answer ((b1, c1) ∷ (b2, c2) ∷ (b3, c3) ∷ (b4, c4) ∷ (b5, c5) ∷ (b6, c6) ∷ (p, Ok Outside) ∷ (q, Err NoRoom) ∷ []) ≡ two p q
 unfolding first_answer
 past-six b1 b2 b3 b4 b5 b6 p q c1 c2 c3 c4 c5 c6 e1 e2 e3 e4 e5 e6 = rw (e1, e2, e3, e4, e5, e6) refl
 
@@ -100,10 +99,10 @@ module _ (s : Settings) (o : Opened s) (l u : Load) (gs fs : List Filling) (w : 
   abbrev T : State
   T = done (limit_of l) (state_at u fs)
 
-  abbrev ta : Offset
+  abbrev ta : Option ℕ
   ta = call_time (canonical_of s) i i.arrival
 
-  abbrev td : Offset
+  abbrev td : Option ℕ
   td = call_time (canonical_of s) i i.departure
 
   -- the table that the cuts reach, and what is asked of it
@@ -135,9 +134,9 @@ module _ (s : Settings) (o : Opened s) (l u : Load) (gs fs : List Filling) (w : 
   -- the tests of a call, past those that every call meets
   abbrev later : List (Bool × Answer)
   later =
-      (outs && not (ltb r.horizon u.table_horizon), Outside)
-      ∷ (not outs && fulls, Refused NoRoom)
-      ∷ search_tests l (call_spec u name i).load ++ ((outs, Outside) ∷ [])
+      (outs && not (ltb r.horizon u.table_horizon), Ok Outside)
+      ∷ (not outs && fulls, Err NoRoom)
+      ∷ search_tests l (call_spec u name i).load ++ ((outs, Ok Outside) ∷ [])
 
   module _ (p : Passes u.week u.stop_count name i) where
     day : i.day ≤ 2
@@ -158,13 +157,13 @@ module _ (s : Settings) (o : Opened s) (l u : Load) (gs fs : List Filling) (w : 
       where
         fore : (outs && not (ltb r.horizon u.table_horizon)) ≡ true → Unseen s T i
         fore e =
-            let q : two outs fulls ≡ Outside = (two_out outs fulls).0 (and-true-left outs _ e) in
+            let q : two outs fulls ≡ (Ok Outside) = (two_out outs fulls).0 (and-true-left outs _ e) in
             let l : u.table_horizon ≤ r.horizon = ltb-false r.horizon u.table_horizon (not_is (ltb r.horizon u.table_horizon) (and-true-right outs _ e)) in
             fits-unseen fitting-so q (omega (arith, l, height-is, fits_low fitting-so))
 
         back_to : Unseen s T i → (outs && not (ltb r.horizon u.table_horizon)) ≡ true
         back_to f =
-            let k = one-fits s (calls_in fs) i u.table_horizon u.table_limits (two outs fulls) Outside height u.table_horizon mark u.table_limits fitting-so (outside f) in
+            let k = one-fits s (calls_in fs) i u.table_horizon u.table_limits (two outs fulls) (Ok Outside) height u.table_horizon mark u.table_limits fitting-so (outside f) in
             and-true outs _ ((two_out outs fulls).1 k.answer) (ap not (le-ltb r.horizon u.table_horizon (omega (arith, k.horizon, height-is))))
 
     -- the call step on the unsearched load answers by the window
@@ -194,30 +193,30 @@ module _ (s : Settings) (o : Opened s) (l u : Load) (gs fs : List Filling) (w : 
 
     -- the search again of what the call brings, and an outside behind it
     abbrev Again : Load → Type 0
-    Again n = Matches (search_tests l n ++ ((outs, Outside) ∷ [])) (again_causes s (Brings s T name i) ++ cause (Fitting s T i Outside) Outside ∷ [])
+    Again n = Matches (search_tests l n ++ ((outs, Ok Outside) ∷ [])) (again_causes s (Brings s T name i) ++ cause (Fitting s T i (Ok Outside)) (Ok Outside) ∷ [])
 
-    last-match : Matches ((outs, Outside) ∷ []) (cause (Fitting s T i Outside) Outside ∷ [])
-    last-match = let f = dec-fit Outside in (refl, dec-as outs f.0 f.1 (two_out outs fulls), λ e. tt)
+    last-match : Matches ((outs, Ok Outside) ∷ []) (cause (Fitting s T i (Ok Outside)) (Ok Outside) ∷ [])
+    last-match = let f = dec-fit (Ok Outside) in (refl, dec-as outs f.0 f.1 (two_out outs fulls), λ e. tt)
 
     again-so : (not outs && fulls) ≡ false → Again (call_spec u name i).load
     again-so f = by (call_spec u name i) refl (comes s o u gs w name i)
       where
-        entered : (n : Load) → Came s u gs name i Taken n → Start s n (gs ++ call name i ∷ []) → Again n
+        entered : (n : Load) → Came s u gs name i (Ok Taken) n → Start s n (gs ++ call name i ∷ []) → Again n
         entered n c v =
             let there : Brings s T name i (up_to (more T (call name i)) n.table_horizon n.table_limits) = causes.taken (fits-perm s i like.calls c.fits) in
             again-match s n (gs ++ call name i ∷ []) (fs ++ call name i ∷ []) v o (like-more gs fs (call name i ∷ []) like) T l refl few (Brings s T name i) there (λ x b. brings-one x _ b there)
-            ((outs, Outside) ∷ []) (cause (Fitting s T i Outside) Outside ∷ []) last-match
+            ((outs, Ok Outside) ∷ []) (cause (Fitting s T i (Ok Outside)) (Ok Outside) ∷ []) last-match
 
-        only-cut : (n : Load) → Came s u gs name i Outside n → Start s n gs → Again n
+        only-cut : (n : Load) → Came s u gs name i (Ok Outside) n → Start s n gs → Again n
         only-cut n c v =
             let there : Brings s T name i (up_to T n.table_horizon n.table_limits) = causes.cut (fits-perm s i like.calls c.fits) in
             again-match s n gs fs v o like T l refl few (Brings s T name i) there (λ x b. brings-one x _ b there)
-            ((outs, Outside) ∷ []) (cause (Fitting s T i Outside) Outside ∷ []) last-match
+            ((outs, Ok Outside) ∷ []) (cause (Fitting s T i (Ok Outside)) (Ok Outside) ∷ []) last-match
 
         went : (x : Answer) (n : Load) → Came s u gs name i x n → StartAt (record { answer = x; load = n }) → Again n
-        went Taken n c v = entered n c v
-        went Outside n c v = only-cut n c (subst (Start s n) (append-nil gs) v)
-        went (Refused q) n c v = absurd (true≢false c.answered)
+        went (Ok Taken) n c v = entered n c v
+        went (Ok Outside) n c v = only-cut n c (subst (Start s n) (append-nil gs) v)
+        went (Err q) n c v = absurd (true≢false c.answered)
 
         by : (x : Stepped) → call_spec u name i ≡ x → Comes s u gs name i x → Again x.load
         by _ e (came {a = x} {n = n} c) = went x n c (subst StartAt e start-made)
@@ -225,10 +224,10 @@ module _ (s : Settings) (o : Opened s) (l u : Load) (gs fs : List Filling) (w : 
         by _ e back = absurd (true≢false (sym (ap (λ (x : Stepped). is_refused x.answer) e) ∙ ap is_refused answer-is ∙ two-answered outs fulls f))
 
     window-again : Matches later (window_causes true s T name i)
-    window-again = let f = dec-fit (Refused NoRoom) in
+    window-again = let f = dec-fit (Err NoRoom) in
         (refl, dec-unseen, λ e. (refl, dec-as (not outs && fulls) f.0 f.1 (two-room outs fulls), λ q. again-so q))
 
-  again-front : Matches ((not (known u.stop_count i), Refused FieldRange) ∷ running_tests (running u.week name i.day) ++ time_tests i ++ later) (call_causes s T name i)
+  again-front : Matches ((not (known u.stop_count i), Err FieldRange) ∷ running_tests (running u.week name i.day) ++ time_tests i ++ later) (call_causes s T name i)
   again-front =
       front-match T u.week u.stop_count (week-beside u.week fs gs (beside_back like.beside) w.held.week) refl (w.held.stops ∙ ap length like.beside.stops) name i
       later (window_causes true s T name i) window-again
@@ -244,8 +243,8 @@ module _ (s : Settings) (o : Opened s) (l : Load) (fs : List Filling) (e : l.sea
   unfolding unsearched_of
   added-match few name i =
       subst (λ (t : State). Matches (add_causes l name i) (call_causes s t name i)) (sym state-done)
-      (subst (λ (b : Bool). Matches ((not (known l.stop_count i), Refused FieldRange) ∷ running_tests (running l.week name i.day) ++ time_tests i ++ later_tests b l name i) (call_causes s (done (limit_of l) (state_at (unsearched_of l) fs)) name i)) (sym e)
-      (subst (λ (x : Settings). Matches ((not (known l.stop_count i), Refused FieldRange) ∷ running_tests (running l.week name i.day) ++ time_tests i
+      (subst (λ (b : Bool). Matches ((not (known l.stop_count i), Err FieldRange) ∷ running_tests (running l.week name i.day) ++ time_tests i ++ later_tests b l name i) (call_causes s (done (limit_of l) (state_at (unsearched_of l) fs)) name i)) (sym e)
+      (subst (λ (x : Settings). Matches ((not (known l.stop_count i), Err FieldRange) ∷ running_tests (running l.week name i.day) ++ time_tests i
       ++ again_tests l (call_time x i i.arrival) (call_time x i i.departure) (reached (table_of l) (call_time x i i.arrival) (call_time x i i.departure)) (call_spec (unsearched_of l) name i).load)
       (call_causes s (done (limit_of l) (state_at (unsearched_of l) fs)) name i)) (sym w.settings)
       (again-front s o l (unsearched_of l) (apart fs) fs w (apart-like fs) few name i)))

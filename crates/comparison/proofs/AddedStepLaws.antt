@@ -1,4 +1,6 @@
 -- A call on a searched load: what it leaves holds what was taken.
+use Rattle.refusal.specs.declared.Accepted.TheVariants.{Taken, Outside}
+use Rattle.std.specs.Prelude.{Err, Ok}
 use Prim.Native.Nat.{ℕ, ◌≤◌}
 use mathlib.Core.Path.{◌≡◌, refl, sym, ap, subst, ◌∙◌}
 use mathlib.Core.Bool.{Bool, true, false, cond, true≢false}
@@ -7,10 +9,8 @@ use mathlib.Core.List.{List, [], ◌∷◌, ◌++◌, append-nil, Memᴰ}
 use lib.Dec.{eqb}
 use borrow.Author.Tests.{eqb-true, eq-eqb}
 use Rattle.laws.proofs.Sort.{perm-mem}
-use Rattle.refusal.specs.declared.Answer.{Answer}
-use Rattle.refusal.specs.declared.Answer.TheVariants.{Taken, Outside, Refused}
 use Rattle.refusal.specs.declared.Refusal.{Refusal}
-use Rattle.refusal.specs.First.{is_taken}
+use Rattle.refusal.specs.First.{is_taken, Answer}
 use Rattle.settings.specs.declared.Settings.{Settings}
 use Rattle.calls.specs.declared.CallInput.{CallInput}
 use Rattle.calls.specs.Shown.{windowed}
@@ -91,8 +91,8 @@ module _ (s : Settings) (o : Opened s) (l : Load) (fs : List Filling) (d : l.sea
   abbrev LeftBy : Stepped → Type 0
   LeftBy r = Leaves s l fs (filling x) r.answer r.load (fs ++ cond (is_taken r.answer) (x ∷ []) [])
 
-  stays : (r : Refusal) → LeftBy (record { answer = Refused r; load = l })
-  stays r = same-leaves s l fs (filling x) (Refused r) l (stays-so s l fs (filling x) r d w)
+  stays : (r : Refusal) → LeftBy (record { answer = Err r; load = l })
+  stays r = same-leaves s l fs (filling x) (Err r) l (stays-so s l fs (filling x) r d w)
 
   refused-so : (n : Load) → n.searched ≡ false → is_taken (once n).answer ≡ false → LeftBy (record { answer = (once n).answer; load = l })
   refused-so n new t = untaken-refused l.stopped l.limit n new (λ a. LeftBy (record { answer = a; load = l })) stays t
@@ -105,9 +105,9 @@ module _ (s : Settings) (o : Opened s) (l : Load) (fs : List Filling) (d : l.sea
         found-state l.stopped l.limit n t hs
         ∙ (λ j. record { taken = hs; horizon = n.table_horizon; limits = n.table_limits; searched = true; stopped = limit_of (once n).load; dates = e j; closed = c j })
 
-  entered : (n : Load) → Came s u gs name i Taken n → Start s n (gs ++ x ∷ []) → is_taken (once n).answer ≡ true → LeftBy (record { answer = Taken; load = (once n).load })
+  entered : (n : Load) → Came s u gs name i (Ok Taken) n → Start s n (gs ++ x ∷ []) → is_taken (once n).answer ≡ true → LeftBy (record { answer = Ok Taken; load = (once n).load })
   entered n c v t = record {
-    after = from-done Taken _ (subst (After s T (filling x) Taken) (sym (found_at n t (fs ++ x ∷ []) c.dates c.closed))
+    after = from-done (Ok Taken) _ (subst (After s T (filling x) (Ok Taken)) (sym (found_at n t (fs ++ x ∷ []) c.dates c.closed))
         (a_call (fits-here c) (again-so s n (gs ++ x ∷ []) (fs ++ x ∷ []) v o (like-more gs fs (x ∷ []) (apart-like fs)) l.stopped l.limit few t (state_at u fs))));
     searched = found-searched l.stopped l.limit n t;
     start = searched-start s n (gs ++ x ∷ []) (fs ++ x ∷ []) v (beside-more gs fs (x ∷ []) (apart-like fs).beside) new-days same l.stopped l.limit t;
@@ -123,9 +123,9 @@ module _ (s : Settings) (o : Opened s) (l : Load) (fs : List Filling) (d : l.sea
           ∙ ap (λ (is : List CallInput). in_order_of (windowed n.settings n.table_horizon is)) (sym (calls-append fs (x ∷ [])))
 
   -- outside after a cut
-  cut-so : (n : Load) → Came s u gs name i Outside n → Start s n gs → is_taken (once n).answer ≡ true → LeftBy (record { answer = Outside; load = (once n).load })
-  cut-so n c v t = same-leaves s l fs (filling x) Outside (once n).load (record {
-    after = from-done Outside _ (subst (After s T (filling x) Outside) (sym (found_at n t fs c.dates c.closed))
+  cut-so : (n : Load) → Came s u gs name i (Ok Outside) n → Start s n gs → is_taken (once n).answer ≡ true → LeftBy (record { answer = Ok Outside; load = (once n).load })
+  cut-so n c v t = same-leaves s l fs (filling x) (Ok Outside) (once n).load (record {
+    after = from-done (Ok Outside) _ (subst (After s T (filling x) (Ok Outside)) (sym (found_at n t fs c.dates c.closed))
         (outside (awake c) (fits-here c) (again-so s n gs fs v o (apart-like fs) l.stopped l.limit few t (state_at u fs))));
     searched = found-searched l.stopped l.limit n t;
     start = searched-start s n gs fs v (apart-like fs).beside days (apart-again n.settings n.table_horizon fs) l.stopped l.limit t;
@@ -147,24 +147,24 @@ module _ (s : Settings) (o : Opened s) (l : Load) (fs : List Filling) (d : l.sea
       let t : is_taken (once u).answer ≡ true = ap (λ (r : Stepped). is_taken r.answer) q in
       subst (λ (r : Stepped). Again s T (done (limit_of r.load) T)) q (again-so s u gs fs w o (apart-like fs) l.stopped l.limit few t (state_at u fs))
 
-  uncut-so : (n : Load) → Came s u gs name i Outside n → Start s n gs → n.table_horizon ≡ l.table_horizon → LeftBy (record { answer = Outside; load = with_week l n.week })
-  uncut-so n c v e = same-leaves s l fs (filling x) Outside (with_week l n.week) (record {
-    after = from-done Outside _ (subst (After s T (filling x) Outside) (sym (week-at n.week c.dates c.closed))
+  uncut-so : (n : Load) → Came s u gs name i (Ok Outside) n → Start s n gs → n.table_horizon ≡ l.table_horizon → LeftBy (record { answer = Ok Outside; load = with_week l n.week })
+  uncut-so n c v e = same-leaves s l fs (filling x) (Ok Outside) (with_week l n.week) (record {
+    after = from-done (Ok Outside) _ (subst (After s T (filling x) (Ok Outside)) (sym (week-at n.week c.dates c.closed))
         (outside (awake c) (fits.outside (fits-unseen (fits-here c) refl (e ∙ sym same-height))) own-again));
     searched = d;
     start = week-start n.week v.sound.week v.held.week;
   })
 
   -- its service doesn't run
-  rested-so : Resting T name i.day → LeftBy (record { answer = Outside; load = with_week l (closed_load u).week })
-  rested-so v = same-leaves s l fs (filling x) Outside (with_week l (closed_load u).week) (record {
-    after = from-done Outside _ (subst (After s T (filling x) Outside) (sym (week-at (closed_load u).week refl refl)) (resting v));
+  rested-so : Resting T name i.day → LeftBy (record { answer = Ok Outside; load = with_week l (closed_load u).week })
+  rested-so v = same-leaves s l fs (filling x) (Ok Outside) (with_week l (closed_load u).week) (record {
+    after = from-done (Ok Outside) _ (subst (After s T (filling x) (Ok Outside)) (sym (week-at (closed_load u).week refl refl)) (resting v));
     searched = d;
     start = week-start (closed_load u).week (closed-sound u.week w.sound.week) (week-closed u.week gs w.held.week);
   })
 
   -- sent back
-  back-so : (r : Refusal) → LeftBy (record { answer = Refused r; load = with_week l u.week })
+  back-so : (r : Refusal) → LeftBy (record { answer = Err r; load = with_week l u.week })
   unfolding unsearched_of
   back-so r = stays r
 
@@ -173,22 +173,22 @@ module _ (s : Settings) (o : Opened s) (l : Load) (fs : List Filling) (d : l.sea
 
   went : (a : Answer) (n : Load) → Came s u gs name i a n → StartAt (record { answer = a; load = n }) → LeftBy (added_to l (record { answer = a; load = n }))
   unfolding added_to again
-  went Taken n c v = go (is_taken (once n).answer) refl
+  went (Ok Taken) n c v = go (is_taken (once n).answer) refl
     where
-      go : (b : Bool) → is_taken (once n).answer ≡ b → LeftBy (cond {A = Stepped} b (record { answer = Taken; load = (once n).load }) (record { answer = (once n).answer; load = l }))
+      go : (b : Bool) → is_taken (once n).answer ≡ b → LeftBy (cond {A = Stepped} b (record { answer = Ok Taken; load = (once n).load }) (record { answer = (once n).answer; load = l }))
       go true t = entered n c v t
       go false t = refused-so n v.fresh t
-  went Outside n c v = go (eqb n.table_horizon l.table_horizon) refl (is_taken (once n).answer) refl
+  went (Ok Outside) n c v = go (eqb n.table_horizon l.table_horizon) refl (is_taken (once n).answer) refl
     where
       at : Start s n gs
       at = subst (Start s n) (append-nil gs) v
 
       go : (b : Bool) → eqb n.table_horizon l.table_horizon ≡ b → (e : Bool) → is_taken (once n).answer ≡ e
-          → LeftBy (cond {A = Stepped} b (record { answer = Outside; load = with_week l n.week }) (cond {A = Stepped} e (record { answer = Outside; load = (once n).load }) (record { answer = (once n).answer; load = l })))
+          → LeftBy (cond {A = Stepped} b (record { answer = Ok Outside; load = with_week l n.week }) (cond {A = Stepped} e (record { answer = Ok Outside; load = (once n).load }) (record { answer = (once n).answer; load = l })))
       go true q e t = uncut-so n c at (eqb-true n.table_horizon l.table_horizon q)
       go false q true t = cut-so n c at t
       go false q false t = refused-so n at.fresh t
-  went (Refused r) n c v = absurd (true≢false c.answered)
+  went (Err r) n c v = absurd (true≢false c.answered)
 
   added-so : LeftBy (added_to l (call_spec u name i))
   unfolding added_to again
@@ -201,10 +201,10 @@ module _ (s : Settings) (o : Opened s) (l : Load) (fs : List Filling) (d : l.sea
       by : (r : Stepped) → call_spec u name i ≡ r → Comes s u gs name i r → LeftBy (added_to l r)
       by _ e (came {a = a} {n = n} c) = went a n c (subst StartAt e (fill_start s u x gs w))
       by _ e (rested v h) =
-          subst (λ (b : Bool). LeftBy (cond {A = Stepped} b (record { answer = Outside; load = with_week l (closed_load u).week }) (again l (record { answer = Outside; load = closed_load u })))) (sym leaves_table)
+          subst (λ (b : Bool). LeftBy (cond {A = Stepped} b (record { answer = Ok Outside; load = with_week l (closed_load u).week }) (again l (record { answer = Ok Outside; load = closed_load u })))) (sym leaves_table)
           (rested-so (rests-so u.week fs week-so T refl refl name i v h))
       by _ e (back {r = r}) =
-          subst (λ (b : Bool). LeftBy (cond {A = Stepped} b (record { answer = Refused r; load = with_week l u.week }) (again l (record { answer = Refused r; load = u })))) (sym leaves_table) (back-so r)
+          subst (λ (b : Bool). LeftBy (cond {A = Stepped} b (record { answer = Err r; load = with_week l u.week }) (again l (record { answer = Err r; load = u })))) (sym leaves_table) (back-so r)
 
   pub added-leaves : Leaves s l fs (filling (call name i)) (add_spec_of l name i).answer (add_spec_of l name i).load (fs ++ cond (is_taken (add_spec_of l name i).answer) (call name i ∷ []) [])
   unfolding add_spec_of

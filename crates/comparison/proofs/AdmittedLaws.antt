@@ -1,4 +1,5 @@
 -- What the program admits of a list is what is admitted by the relation stated here, both ways.
+use Rattle.std.specs.Prelude.{None, Option, Some}
 use Prim.Native.Nat.{ℕ, ◌+◌, ◌-◌, ◌*◌, ◌/◌, ◌%◌, ◌^◌, ◌≤◌, ◌<◌}
 use mathlib.Core.Path.{◌≡◌, refl, sym, ap, subst, ◌∙◌}
 use mathlib.Core.Logic.{◌⊎◌, inl, inr, ◌↔◌}
@@ -11,8 +12,6 @@ use Rattle.settings.specs.declared.Settings.{Settings}
 use Rattle.settings.specs.Settings.{canonical_of}
 use Rattle.calls.specs.declared.CallInput.{CallInput}
 use Rattle.calls.specs.declared.Call.{Call}
-use Rattle.calls.specs.declared.View.{View}
-use Rattle.calls.specs.declared.View.TheVariants.{In, Out}
 use Rattle.calls.specs.Calls.{window}
 use Rattle.calls.specs.Shown.{shown, windowed}
 use Rattle.calls.specs.Sound.{AtStop}
@@ -38,22 +37,22 @@ use Rattle.comparison.proofs.JoinLaws.{joins-in, joins-out}
 
 -- ---- calls through the window
 
-shown-mem : (v : View) (c : Call) → Memᴰ c (shown v) → v ≡ In c
-shown-mem (In d) c m = ap In (sym (Memᴰ.eq_of_singleton m))
-shown-mem Out c m = absurd (Memᴰ.not-nil m)
+shown-mem : (v : Option Call) (c : Call) → Memᴰ c (shown v) → v ≡ Some c
+shown-mem (Some d) c m = ap Some (sym (Memᴰ.eq_of_singleton m))
+shown-mem None c m = absurd (Memᴰ.not-nil m)
 
-windowed-mem : (s : Settings) (h : ℕ) (is : List CallInput) (c : Call) → Memᴰ c (windowed s h is) → (i : CallInput) × Memᴰ i is × (window s h i ≡ In c)
+windowed-mem : (s : Settings) (h : ℕ) (is : List CallInput) (c : Call) → Memᴰ c (windowed s h is) → (i : CallInput) × Memᴰ i is × (window s h i ≡ Some c)
 windowed-mem s h [] c m = absurd (Memᴰ.not-nil m)
 windowed-mem s h (i ∷ is) c m = go (Memᴰ.append_cases (shown (window s h i)) m) (λ n. windowed-mem s h is c n)
   where
-    go : Memᴰ c (shown (window s h i)) ⊎ Memᴰ c (windowed s h is) → (Memᴰ c (windowed s h is) → (j : CallInput) × Memᴰ j is × (window s h j ≡ In c))
-        → (j : CallInput) × Memᴰ j (i ∷ is) × (window s h j ≡ In c)
+    go : Memᴰ c (shown (window s h i)) ⊎ Memᴰ c (windowed s h is) → (Memᴰ c (windowed s h is) → (j : CallInput) × Memᴰ j is × (window s h j ≡ Some c))
+        → (j : CallInput) × Memᴰ j (i ∷ is) × (window s h j ≡ Some c)
     go (inl n) ih = (i, Memᴰ.head refl, shown-mem (window s h i) c n)
     go (inr n) ih = let (j, k, e) = ih n in (j, Memᴰ.tail k, e)
 
-mem-windowed : (s : Settings) (h : ℕ) (c : Call) {i : CallInput} {is : List CallInput} → Memᴰ i is → window s h i ≡ In c → Memᴰ c (windowed s h is)
+mem-windowed : (s : Settings) (h : ℕ) (c : Call) {i : CallInput} {is : List CallInput} → Memᴰ i is → window s h i ≡ Some c → Memᴰ c (windowed s h is)
 mem-windowed s h c (Memᴰ.head {x = j} {xs = js} q) e =
-    Memᴰ.append_left (windowed s h js) (subst (λ (v : View). Memᴰ c (shown v)) (sym (ap (window s h) (sym q) ∙ e)) (Memᴰ.head refl))
+    Memᴰ.append_left (windowed s h js) (subst (λ (v : Option Call). Memᴰ c (shown v)) (sym (ap (window s h) (sym q) ∙ e)) (Memᴰ.head refl))
 mem-windowed s h c (Memᴰ.tail {x = j} {xs = js} m) e = Memᴰ.append_right (shown (window s h j)) (mem-windowed s h c m e)
 
 -- the window reads the clock alone, which a load holds as it was given
@@ -96,7 +95,7 @@ module _ (s : Settings) (p : Load) (fs : List Filling) (w : Start s p fs) (o : O
 
   call-out : (i : CallInput) (c : Call) → Memᴰ i (calls_in fs) → Seen s h i c → Memᴰ c calls
   call-out i c m v =
-      let e : window p.settings h i ≡ In c = ap (λ (z : Settings). window z h i) w.settings ∙ window_same s h i ∙ seen-shown s h i (o.clock i.day (w.held.days i m)) c v in
+      let e : window p.settings h i ≡ Some c = ap (λ (z : Settings). window z h i) w.settings ∙ window_same s h i ∙ seen-shown s h i (o.clock i.day (w.held.days i m)) c v in
       subst (Memᴰ c) (sym w.held.calls) (mem-windowed p.settings h c m e)
 
   pub leg-in : (b a : Call) → by-load.Rides calls b a → Leg F b a

@@ -1,20 +1,19 @@
 -- What request 11 claims beside the demands.
+use Rattle.refusal.specs.declared.Accepted.TheVariants.{Taken}
+use Rattle.std.specs.Prelude.{None, Option, Some, Err, Ok}
 use Prim.Native.Nat.{ℕ, ◌≤◌, ◌<◌}
 use mathlib.Core.Path.{◌≡◌, refl, sym, ap, subst, ◌∙◌}
 use mathlib.Core.Logic.{◌⊎◌, inl, inr, ◌↔◌}
 use mathlib.Core.Bool.{Bool, true, false, cond, true≢false}
-use mathlib.Core.Option.{Option, none, some}
 use mathlib.Core.List.{List, [], ◌∷◌, ◌++◌, append-nil, Memᴰ}
 use native.Mathlib.Omega.{arith}
 use lib.Dec.{eqb}
 use borrow.Author.Tests.{eq-eqb}
 use Rattle.laws.specs.Lists.{anyb}
 use Rattle.laws.proofs.Lists.{mem-anyb}
-use Rattle.refusal.specs.declared.Answer.{Answer}
-use Rattle.refusal.specs.declared.Answer.TheVariants.{Taken, Refused}
 use Rattle.refusal.specs.declared.Refusal.TheVariants.{FieldRange, Neighbours, NoRoom, AlreadySearched, CallUnknown}
 use Rattle.refusal.specs.First as tests
-use Rattle.refusal.specs.First.{hit, miss, answer_number}
+use Rattle.refusal.specs.First.{hit, miss, answer_number, Answer}
 use Rattle.settings.specs.declared.Settings.{Settings}
 use Rattle.calls.specs.declared.CallInput.{CallInput}
 use Rattle.calls.proofs.FitLaws.{shrinks}
@@ -53,7 +52,7 @@ use Rattle.comparison.proofs.DemandLaws.{in_order, whole, ends_so}
 -- ---- there and back
 
 -- a call that is taken is in the table
-fits-there : {s : Settings} {is : List CallInput} {i : CallInput} {h m g n : ℕ} {x : Answer} → Fits s is i h m x g n → x ≡ Taken → InTable s g i
+fits-there : {s : Settings} {is : List CallInput} {i : CallInput} {h m g n : ℕ} {x : Answer} → Fits s is i h m x g n → x ≡ Ok Taken → InTable s g i
 fits-there (outside f) e = absurd (let z : ◌≡◌ {A = ℕ} 0 1 = cc in omega arith)
 fits-there (room {c = c} v w q) e = (c, v)
 fits-there (full v w q r) e = absurd (let z : ◌≡◌ {A = ℕ} 0 1 = cc in omega arith)
@@ -69,11 +68,11 @@ fits-mark {h = h} (cut v w q r k) e = absurd (omega (arith, fits_low k, shrinks 
 -- what a search again leaves as it was
 again-keeps : {A : Type 0} {s : Settings} {t u : State} (f : State → A) → ((k : Option ℕ) (v : State) → f (done k v) ≡ f v) → Again s t u → f u ≡ f t
 again-keeps f e (in_full q) = refl
-again-keeps {t = t} f e (within {n = n} {finishes = true} q w) = e none t
-again-keeps {t = t} f e (within {n = n} {finishes = false} q w) = e (some n) t
+again-keeps {t = t} f e (within {n = n} {finishes = true} q w) = e None t
+again-keeps {t = t} f e (within {n = n} {finishes = false} q w) = e (Some n) t
 
 -- what is taken after the two
-taken-same : (s : Settings) (t v : State) (name : List ℕ) (i : CallInput) → Runs s t (there_and_back_of name i) (Taken ∷ Taken ∷ []) v → v.taken ≡ t.taken
+taken-same : (s : Settings) (t v : State) (name : List ℕ) (i : CallInput) → Runs s t (there_and_back_of name i) (Ok Taken ∷ Ok Taken ∷ []) v → v.taken ≡ t.taken
 taken-same s t v name i (step f (a_call {h = h} {m = m} {u = u} q g) (step p (a_withdrawal {u = y} w r) end)) =
     let et : u.taken ≡ t.taken ++ call name i ∷ [] = again-keeps (λ (x : State). x.taken) (λ k x. refl) g in
     let eh : u.horizon ≡ h = again-keeps (λ (x : State). x.horizon) (λ k x. refl) g in
@@ -97,7 +96,7 @@ head_of d (a ∷ rs) = a
 
 -- the rest by the load, which is given back
 there_and_back : (o : Opening) (xs : List Step) (rs : List Answer) (t v : State) (name : List ℕ) (i : CallInput) → Opens o → Runs o.settings (fresh o.dates) xs rs t
-    → Runs o.settings t (there_and_back_of name i) (Taken ∷ Taken ∷ []) v → v.horizon ≡ t.horizon → v ≡ shut t
+    → Runs o.settings t (there_and_back_of name i) (Ok Taken ∷ Ok Taken ∷ []) v → v.horizon ≡ t.horizon → v ≡ shut t
 there_and_back o xs rs t v name i w r q e = kept ∙ (λ k. keeping (shut t) (taken-same o.settings t v name i q k))
   where
     l : Load
@@ -115,15 +114,15 @@ there_and_back o xs rs t v name i w r q e = kept ∙ (λ k. keeping (shut t) (ta
     two : Walked o.settings l (there_and_back_of name i) (whole o w xs).taken
     two = walk o.settings (opens o w) (there_and_back_of name i) l (whole o w xs).taken (whole o w xs).stands
 
-    same : (answers_from l (there_and_back_of name i) ≡ Taken ∷ Taken ∷ []) × (state_at n two.taken ≡ v)
+    same : (answers_from l (there_and_back_of name i) ≡ Ok Taken ∷ Ok Taken ∷ []) × (state_at n two.taken ≡ v)
     same = one-runs o.settings (state_at l (whole o w xs).taken) (there_and_back_of name i) _ _ _ v two.runs
-        (subst (λ (x : State). Runs o.settings x (there_and_back_of name i) (Taken ∷ Taken ∷ []) v) (sym is) q)
+        (subst (λ (x : State). Runs o.settings x (there_and_back_of name i) (Ok Taken ∷ Ok Taken ∷ []) v) (sym is) q)
 
     stays : m.table_horizon ≡ l.table_horizon
     stays = sym (never_wider m name i (key_of i)).1 ∙ ap (λ (x : State). x.horizon) same.1 ∙ e ∙ ap (λ (x : State). x.horizon) (sym is)
 
     back : n ≡ closed_load l
-    back = ap (λ (x : Stepped). x.load) (end-taken-back o xs name i (ap (head_of Taken) same.0) stays)
+    back = ap (λ (x : Stepped). x.load) (end-taken-back o xs name i (ap (head_of (Ok Taken)) same.0) stays)
 
     kept : v ≡ keeping (shut t) v.taken
     kept =
@@ -152,35 +151,35 @@ runs-low s t v _ _ (step {u = u} f g r) = omega (arith, after-low g, runs-low s 
 -- ---- 15, 24 and 14
 
 -- an answer is taken, or one of those listed
-first-number : (a : Answer) (cs : List Cause) → First a cs → (a ≡ Taken) ⊎ Memᴰ (answer_number a) (numbers_of cs)
+first-number : (a : Answer) (cs : List Cause) → First a cs → (a ≡ Ok Taken) ⊎ Memᴰ (answer_number a) (numbers_of cs)
 first-number a [] e = inl e
 first-number a (c ∷ cs) (inl (h, e)) = inr (mathlib.Core.List.Memᴰ.head (ap answer_number e))
 first-number a (c ∷ cs) (inr (n, f)) = go (first-number a cs f)
   where
-    go : (a ≡ Taken) ⊎ Memᴰ (answer_number a) (numbers_of cs) → (a ≡ Taken) ⊎ Memᴰ (answer_number a) (numbers_of (c ∷ cs))
+    go : (a ≡ Ok Taken) ⊎ Memᴰ (answer_number a) (numbers_of cs) → (a ≡ Ok Taken) ⊎ Memᴰ (answer_number a) (numbers_of (c ∷ cs))
     go (inl e) = inl e
     go (inr m) = inr (mathlib.Core.List.Memᴰ.tail m)
 
-never-15 : (s : Settings) (t : State) (name : List ℕ) (i : CallInput) → First (Refused AlreadySearched) (causes_of s t (filling (call name i))) → ⊥
-never-15 s t name i f = go (first-number (Refused AlreadySearched) (causes_of s t (filling (call name i))) f)
+never-15 : (s : Settings) (t : State) (name : List ℕ) (i : CallInput) → First (Err AlreadySearched) (causes_of s t (filling (call name i))) → ⊥
+never-15 s t name i f = go (first-number (Err AlreadySearched) (causes_of s t (filling (call name i))) f)
   where
     unlisted : (b : Bool) → anyb (eqb 15) (numbers b (filling (call name i))) ≡ false
     unlisted true = refl
     unlisted false = refl
 
-    go : (Refused AlreadySearched ≡ Taken) ⊎ Memᴰ 15 (numbers_of (causes_of s t (filling (call name i)))) → ⊥
+    go : (Err AlreadySearched ≡ Ok Taken) ⊎ Memᴰ 15 (numbers_of (causes_of s t (filling (call name i)))) → ⊥
     go (inl e) = let z : ◌≡◌ {A = ℕ} 0 1 = cc in omega arith
     go (inr m) =
         let k : Memᴰ 15 (numbers t.searched (filling (call name i))) = subst (Memᴰ 15) (in_order s t (filling (call name i))) m in
         true≢false (sym (mem-anyb (eqb 15) k (eq-eqb 15 15 refl)) ∙ unlisted t.searched)
 
-not-24 : (b : Bool) (s : Settings) (t : State) (k : CallKey) → First (Refused CallUnknown) (left_causes b s t k) → ⊥
+not-24 : (b : Bool) (s : Settings) (t : State) (k : CallKey) → First (Err CallUnknown) (left_causes b s t k) → ⊥
 not-24 false s t k e = let z : ◌≡◌ {A = ℕ} 0 1 = cc in omega arith
 not-24 true s t k (inl (q, e)) = let z : ◌≡◌ {A = ℕ} 0 1 = cc in omega arith
 not-24 true s t k (inr (q, inl (p, e))) = let z : ◌≡◌ {A = ℕ} 0 1 = cc in omega arith
 not-24 true s t k (inr (q, inr (p, e))) = let z : ◌≡◌ {A = ℕ} 0 1 = cc in omega arith
 
-unknown-exactly : (s : Settings) (t : State) (k : CallKey) (a : Answer) → First a (causes_of s t (withdraw k)) → k.trip < 65535 → k.day ≤ 2 → (a ≡ Refused CallUnknown) ↔ NoneSuch s t.horizon k (calls_in t.taken)
+unknown-exactly : (s : Settings) (t : State) (k : CallKey) (a : Answer) → First a (causes_of s t (withdraw k)) → k.trip < 65535 → k.day ≤ 2 → (a ≡ Err CallUnknown) ↔ NoneSuch s t.horizon k (calls_in t.taken)
 unknown-exactly s t k a (inl (inl q, e)) h l = absurd (omega arith)
 unknown-exactly s t k a (inl (inr q, e)) h l = absurd (omega arith)
 unknown-exactly s t k a (inr (q, inl (n, e))) h l = (λ x. n, λ x. e)
@@ -189,19 +188,19 @@ unknown-exactly s t k a (inr (q, inr (n, f))) h l = (
   λ x. absurd (n x),
 )
 
-not-14 : (a : Answer) {p q c f : Bool} → tests.First a ((p, Refused FieldRange) ∷ (q, Refused CallUnknown) ∷ (c, Refused Neighbours) ∷ (f, Refused NoRoom) ∷ []) → c ≡ false → a ≡ Refused Neighbours → ⊥
+not-14 : (a : Answer) {p q c f : Bool} → tests.First a ((p, Err FieldRange) ∷ (q, Err CallUnknown) ∷ (c, Err Neighbours) ∷ (f, Err NoRoom) ∷ []) → c ≡ false → a ≡ Err Neighbours → ⊥
 not-14 _ (hit e) x z = let y : ◌≡◌ {A = ℕ} 0 1 = cc in omega arith
 not-14 _ (miss e (hit g)) x z = let y : ◌≡◌ {A = ℕ} 0 1 = cc in omega arith
 not-14 _ (miss e (miss g (hit k))) x z = true≢false (sym k ∙ x)
 not-14 _ (miss e (miss g (miss k (hit j)))) x z = let y : ◌≡◌ {A = ℕ} 0 1 = cc in omega arith
 not-14 _ (miss e (miss g (miss k (miss j tests.none)))) x z = let y : ◌≡◌ {A = ℕ} 0 1 = cc in omega arith
 
-plain-14 : (a : Answer) {p q : Bool} → tests.First a ((p, Refused FieldRange) ∷ (q, Refused CallUnknown) ∷ []) → a ≡ Refused Neighbours → ⊥
+plain-14 : (a : Answer) {p q : Bool} → tests.First a ((p, Err FieldRange) ∷ (q, Err CallUnknown) ∷ []) → a ≡ Err Neighbours → ⊥
 plain-14 _ (hit e) z = let y : ◌≡◌ {A = ℕ} 0 1 = cc in omega arith
 plain-14 _ (miss e (hit g)) z = let y : ◌≡◌ {A = ℕ} 0 1 = cc in omega arith
 plain-14 _ (miss e (miss g tests.none)) z = let y : ◌≡◌ {A = ℕ} 0 1 = cc in omega arith
 
-never-14 : (o : Opening) (xs : List Step) (k : CallKey) → (stepped (end_of o xs) (withdraw k)).answer ≡ Refused Neighbours → ⊥
+never-14 : (o : Opening) (xs : List Step) (k : CallKey) → (stepped (end_of o xs) (withdraw k)).answer ≡ Err Neighbours → ⊥
 never-14 o xs k e = go (end_of o xs).searched refl (step-answered (end_of o xs) (withdraw k)).first
   where
     go : (b : Bool) → (end_of o xs).searched ≡ b

@@ -1,4 +1,5 @@
 -- What is stated of the calls taken hangs on which they are, and not on their order.
+use Rattle.refusal.specs.First.{Answer}
 use Prim.Native.Nat.{ℕ, ◌-◌, suc}
 use mathlib.Core.Path.{◌≡◌, refl, sym, ap, subst, ◌∙◌}
 use mathlib.Core.Logic.{inl, inr}
@@ -7,7 +8,6 @@ use mathlib.Core.List.{List, [], ◌∷◌, Permᴰ}
 use native.Mathlib.Omega.{arith}
 use lib.ListN.{length}
 use Rattle.laws.proofs.Sort.{perm-mem}
-use Rattle.refusal.specs.declared.Answer.{Answer}
 use Rattle.settings.specs.declared.Settings.{Settings}
 use Rattle.calls.specs.declared.CallInput.{CallInput}
 use Rattle.calls.specs.declared.Call.{Call}

@@ -1,8 +1,8 @@
 -- What the program's `bestℤ` gives is the best as stated here.
+use Rattle.std.specs.Prelude.{None, Option, Some}
 use mathlib.Core.Path.{◌≡◌, refl, sym, ap, subst, ◌∙◌}
 use mathlib.Core.Logic.{◌⊎◌, inl, inr}
 use mathlib.Core.Bool.{Bool, true, false, cond, true≢false}
-use mathlib.Core.Option.{Option, none, some}
 use mathlib.Core.List.Memᴰ
 use mathlib.Core.List.{List, [], ◌∷◌, ◌++◌, Memᴰ}
 use Prim.Native.Nat.{ℕ, ◌≤◌}
@@ -11,7 +11,8 @@ use lib.IntN.{ℤ, pos, negsuc}
 use borrow.Author.Tests.{leb-true, le-leb, ltb-true, ltb-false}
 use Rattle.laws.specs.Lists.{filterb}
 use Rattle.profile.specs.declared.Journey.{Journey}
-use Rattle.profile.specs.Figures.{Figures, prefer}
+use Rattle.profile.specs.declared.figures.Figures.{Figures}
+use Rattle.profile.specs.Figures.{prefer}
 use Rattle.profile.specs.Best.{choose, pick, bestℤ}
 use Rattle.profile.specs.Journeys.{journey_figures}
 use Rattle.profile.proofs.FiguresLaws.{prefer-refl, prefer-trans, prefer-total}
@@ -36,18 +37,18 @@ record Top (ks : List Journey) (t : ℕ) (j : Journey) : Type 0 where
   first : (k : Journey) → Memᴰ k before → t ≤ k.leave → Same k j → ⊥
 
 abbrev Picks : List Journey → ℕ → Option Journey → Type 0
-Picks ks t none = (k : Journey) → Memᴰ k ks → t ≤ k.leave → ⊥
-Picks ks t (some j) = Top ks t j
+Picks ks t None = (k : Journey) → Memᴰ k ks → t ≤ k.leave → ⊥
+Picks ks t (Some j) = Top ks t j
 
 module _ (t : ℕ) (x : Journey) (ks : List Journey) where
   -- x leaves too early
   skip : leb t x.leave ≡ false → (r : Option Journey) → Picks ks t r → Picks (x ∷ ks) t r
-  skip e none w = λ k m l. go k (Memᴰ.cases_cons m) l
+  skip e None w = λ k m l. go k (Memᴰ.cases_cons m) l
     where
       go : (k : Journey) → (k ≡ x) ⊎ Memᴰ k ks → t ≤ k.leave → ⊥
       go k (inl q) l = true≢false (sym (le-leb t x.leave (rw q at l)) ∙ e)
       go k (inr m) l = w k m l
-  skip e (some j) w = record {
+  skip e (Some j) w = record {
     before = x ∷ w.before;
     behind = w.behind;
     kept = ap {B = List Journey} (λ r. x ∷ r) w.kept;
@@ -83,8 +84,8 @@ module _ (t : ℕ) (x : Journey) (ks : List Journey) where
       go k (inr m) l' = f k m l'
 
   offer : leb t x.leave ≡ true → (r : Option Journey) → Picks ks t r → Picks (x ∷ ks) t (choose journey_figures x r)
-  offer e none w = head (leb-true t x.leave e) (λ k m l. absurd (w k m l))
-  offer e (some y) w = by (pref x y) refl
+  offer e None w = head (leb-true t x.leave e) (λ k m l. absurd (w k m l))
+  offer e (Some y) w = by (pref x y) refl
     where
       first : (k : Journey) → pref x y ≡ false → (k ≡ x) ⊎ Memᴰ k w.before → t ≤ k.leave → Same k y → ⊥
       first k p (inl q) l s = true≢false (sym (same-pref x y (subst (λ (z : Journey). Same z y) q s)) ∙ p)
@@ -94,7 +95,7 @@ module _ (t : ℕ) (x : Journey) (ks : List Journey) where
       best k p (inl q) l = rw q (prefer-total (journey_figures x) (journey_figures y) p)
       best k p (inr m) l = w.best k m l
 
-      by : (b : Bool) → pref x y ≡ b → Picks (x ∷ ks) t (cond b (some x) (some y))
+      by : (b : Bool) → pref x y ≡ b → Picks (x ∷ ks) t (cond b (Some x) (Some y))
       by true p = head (leb-true t x.leave e) (λ k m l. prefer-trans (journey_figures x) (journey_figures y) (journey_figures k) p (w.best k m l))
       by false p = record {
         before = x ∷ w.before;
@@ -117,13 +118,13 @@ picks t (x ∷ ks) = go (leb t x.leave) refl (picks t ks)
     go false e w = skip t x ks e (pick journey_figures rest) w
 
 stated : (ks : List Journey) (h t : ℕ) → t ≤ h → (r : Option Journey) → Picks ks t r → BestAt ks h (pos t) r
-stated ks h t l none w = inr w
-stated ks h t l (some j) w = (l, record { before = w.before; behind = w.behind; kept = w.kept; in_time = w.in_time; best = λ k m q. prefer-in j k (w.best k m q); first = w.first })
+stated ks h t l None w = inr w
+stated ks h t l (Some j) w = (l, record { before = w.before; behind = w.behind; kept = w.kept; in_time = w.in_time; best = λ k m q. prefer-in j k (w.best k m q); first = w.first })
 
 pub best-at : (ks : List Journey) (h : ℕ) (z : ℤ) → BestAt ks h z (bestℤ journey_figures ks h z)
 best-at ks h (negsuc t) = tt
 best-at ks h (pos t) = go (ltb h t) refl
   where
-    go : (b : Bool) → ltb h t ≡ b → BestAt ks h (pos t) (cond b none (pick journey_figures (filterb (λ k. leb t k.leave) ks)))
+    go : (b : Bool) → ltb h t ≡ b → BestAt ks h (pos t) (cond b None (pick journey_figures (filterb (λ k. leb t k.leave) ks)))
     go true e = inl (ltb-true h t e)
     go false e = stated ks h t (ltb-false h t e) (pick journey_figures (filterb (λ k. leb t k.leave) ks)) (picks t ks)

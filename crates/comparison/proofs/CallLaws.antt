@@ -1,4 +1,7 @@
 -- The program's tests of a call decide its causes, where the load holds what was taken.
+use Rattle.std.specs.Option.{unwrap_or}
+use Rattle.refusal.specs.declared.Accepted.TheVariants.{Outside}
+use Rattle.std.specs.Prelude.{None, Option, Some, Err, Ok, is_none}
 use Prim.Native.Nat.{ℕ, ◌≤◌, ◌<◌}
 use mathlib.Core.Path.{◌≡◌, refl, sym, ap, subst, ◌∙◌}
 use mathlib.Core.Logic.{◌⊎◌, inl, inr, ◌↔◌}
@@ -9,20 +12,15 @@ use lib.Dec.{leb, ltb}
 use lib.ListN.{length}
 use borrow.Author.Tests.{ltb-true, ltb-false, lt-ltb}
 use Rattle.laws.proofs.Bools.{or-true-left, or_true_right}
-use Rattle.refusal.specs.declared.Answer.{Answer}
-use Rattle.refusal.specs.declared.Answer.TheVariants.{Outside, Refused}
 use Rattle.refusal.specs.declared.Refusal.TheVariants.{FieldRange, NoRoom}
-use Rattle.refusal.specs.First.{first_answer}
+use Rattle.refusal.specs.First.{first_answer, Answer}
 use Rattle.settings.specs.declared.Settings.{Settings}
 use Rattle.settings.specs.Settings.{canonical_of}
 use Rattle.calls.specs.declared.CallInput.{CallInput}
 use Rattle.calls.specs.declared.Fitted.{Fitted}
-use Rattle.calls.specs.declared.Offset.{Offset}
 use Rattle.calls.specs.declared.Table.{Table}
-use Rattle.calls.specs.declared.Seconds.{Seconds}
-use Rattle.calls.specs.declared.Seconds.TheVariants.{Given, Absent}
 use Rattle.calls.specs.Windows as windows
-use Rattle.calls.specs.Calls.{absent, seconds_of, known, un_timed, reversed, time_tests, call_time, call_fit}
+use Rattle.calls.specs.Calls.{known, un_timed, reversed, time_tests, call_time, call_fit}
 use Rattle.calls.specs.Tables.{less}
 use Rattle.calls.specs.Reached.{is_full, reached}
 use Rattle.calls.specs.Reached as tests
@@ -47,15 +45,15 @@ use Rattle.comparison.proofs.HorizonLaws.{fits, showing}
 
 -- ---- the fields
 
-given-absent : (v : ℕ) → Given v ≡ Absent → ⊥
+given-absent : (v : ℕ) → Some v ≡ None → ⊥
 given-absent v e = let z : ◌≡◌ {A = ℕ} 0 1 = cc in omega arith
 
-given-one : (m n : ℕ) → Given m ≡ Given n → m ≡ n
+given-one : (m n : ℕ) → Some m ≡ Some n → m ≡ n
 given-one m n e = cc
 
-dec-absent : (x : Seconds) → Decides (absent x) (x ≡ Absent)
-dec-absent (Given v) = (λ e. absurd (false≢true e), λ e. absurd (given-absent v e))
-dec-absent Absent = (λ e. refl, λ e. refl)
+dec-absent : (x : Option ℕ) → Decides (is_none x) (x ≡ None)
+dec-absent (Some v) = (λ e. absurd (false≢true e), λ e. absurd (given-absent v e))
+dec-absent None = (λ e. refl, λ e. refl)
 
 module _ {A B C D E : Type 0} where
   to-right : ((((A ⊎ B) ⊎ C) ⊎ D) ⊎ E) → A ⊎ B ⊎ C ⊎ D ⊎ E
@@ -93,11 +91,11 @@ module _ (i : CallInput) where
   dec-reversed : un_timed i ≡ false → Decides (reversed i) (Reversed i)
   dec-reversed u = go i.arrival i.departure refl refl
     where
-      go : (x y : Seconds) → i.arrival ≡ x → i.departure ≡ y → Decides (reversed i) (Reversed i)
-      go Absent y p q = absurd (true≢false (sym (or-true-left (absent i.arrival) (absent i.departure) (ap absent p)) ∙ u))
-      go (Given a) Absent p q = absurd (true≢false (sym (or_true_right (absent i.arrival) (absent i.departure) (ap absent q)) ∙ u))
-      go (Given a) (Given d) p q =
-          let e : reversed i ≡ ltb d a = λ k. ltb (seconds_of (q k)) (seconds_of (p k)) in (
+      go : (x y : Option ℕ) → i.arrival ≡ x → i.departure ≡ y → Decides (reversed i) (Reversed i)
+      go None y p q = absurd (true≢false (sym (or-true-left (is_none i.arrival) (is_none i.departure) (ap is_none p)) ∙ u))
+      go (Some a) None p q = absurd (true≢false (sym (or_true_right (is_none i.arrival) (is_none i.departure) (ap is_none q)) ∙ u))
+      go (Some a) (Some d) p q =
+          let e : reversed i ≡ ltb d a = λ k. ltb (unwrap_or (q k) 0) (unwrap_or (p k) 0) in (
             λ t. record { a = a; d = d; arrives = p; departs = q; after = ltb-true d a (sym e ∙ t) },
             λ v. e ∙ lt-ltb d a (omega (arith, v.after, given-one v.a a (sym v.arrives ∙ p), given-one v.d d (sym v.departs ∙ q))),
           )
@@ -105,15 +103,15 @@ module _ (i : CallInput) where
 -- ---- the window and the cuts
 
 abbrev pub two : Bool → Bool → Answer
-two b c = first_answer ((b, Outside) ∷ (c, Refused NoRoom) ∷ [])
+two b c = first_answer ((b, Ok Outside) ∷ (c, Err NoRoom) ∷ [])
 
-pub two_out : (b c : Bool) → Decides b (two b c ≡ Outside)
+pub two_out : (b c : Bool) → Decides b (two b c ≡ Ok Outside)
 unfolding first_answer
 two_out true c = (λ e. refl, λ e. refl)
 two_out false true = (λ e. absurd (false≢true e), λ e. absurd (let z : ◌≡◌ {A = ℕ} 0 1 = cc in omega arith))
 two_out false false = (λ e. absurd (false≢true e), λ e. absurd (let z : ◌≡◌ {A = ℕ} 0 1 = cc in omega arith))
 
-two-full : (b c : Bool) → b ≡ false → Decides c (two b c ≡ Refused NoRoom)
+two-full : (b c : Bool) → b ≡ false → Decides c (two b c ≡ Err NoRoom)
 unfolding first_answer
 two-full true c q = absurd (true≢false q)
 two-full false true q = (λ e. refl, λ e. refl)
@@ -129,7 +127,7 @@ pub record Passes (week : Week) (n : ℕ) (name : List ℕ) (i : CallInput) : Ty
 
 module _ (t : State) (week : Week) (n : ℕ) (v : WeekHeld week t.taken) (dates : t.dates ≡ dates_of week) (stops : n ≡ length (stops_in t.taken)) (name : List ℕ) (i : CallInput) where
   pub front-match : (ts : List (Bool × Answer)) (cs : List Cause) → (Passes week n name i → Matches ts cs)
-      → Matches ((not (known n i), Refused FieldRange) ∷ running_tests (running week name i.day) ++ time_tests i ++ ts) (call_front t name i cs)
+      → Matches ((not (known n i), Err FieldRange) ∷ running_tests (running week name i.day) ++ time_tests i ++ ts) (call_front t name i cs)
   front-match ts cs rest = (
     refl,
     subst (λ (k : ℕ). Decides (not (known n i)) (k ≤ i.stop ⊎ 65535 ≤ i.trip ⊎ 2 < i.day ⊎ 3 < i.pickup ⊎ 3 < i.drop_off)) stops (dec-fields i n),
@@ -141,7 +139,7 @@ module _ (t : State) (week : Week) (n : ℕ) (v : WeekHeld week t.taken) (dates 
         dec-resting v t refl dates name i.day (day_known i n k) m,
         λ q. (
           refl,
-          dec-or (absent i.arrival) (absent i.departure) (dec-absent i.arrival) (dec-absent i.departure),
+          dec-or (is_none i.arrival) (is_none i.departure) (dec-absent i.arrival) (dec-absent i.departure),
           λ u. (refl, dec-reversed i u, λ r. rest (record { right = k; found = m; awake = q; present = u; forward = r })),
         ),
       ),
@@ -157,10 +155,10 @@ module _ (s : Settings) (l : Load) (fs : List Filling) (w : Start s l fs) (o : O
   abbrev t : Table
   t = table_of l
 
-  abbrev a : Offset
+  abbrev a : Option ℕ
   a = call_time z i i.arrival
 
-  abbrev d : Offset
+  abbrev d : Option ℕ
   d = call_time z i i.departure
 
   abbrev out : Bool
@@ -185,11 +183,11 @@ module _ (s : Settings) (l : Load) (fs : List Filling) (w : Start s l fs) (o : O
       λ (h, m, f). (one-fits s (calls_in fs) i t.horizon t.limits (two out filled) x (call_fit z t i).table.horizon h (call_fit z t i).table.limits m fitting f).answer,
     )
 
-    dec-out : Decides out (Fitting s (state_at l fs) i Outside)
-    dec-out = let f = dec-fitting Outside in dec-as out f.0 f.1 (two_out out filled)
+    dec-out : Decides out (Fitting s (state_at l fs) i (Ok Outside))
+    dec-out = let f = dec-fitting (Ok Outside) in dec-as out f.0 f.1 (two_out out filled)
 
-    dec-full : out ≡ false → Decides filled (Fitting s (state_at l fs) i (Refused NoRoom))
-    dec-full e = let f = dec-fitting (Refused NoRoom) in dec-as filled f.0 f.1 (two-full out filled e)
+    dec-full : out ≡ false → Decides filled (Fitting s (state_at l fs) i (Err NoRoom))
+    dec-full e = let f = dec-fitting (Err NoRoom) in dec-as filled f.0 f.1 (two-full out filled e)
 
   windowed-so : l.searched ≡ false → (name : List ℕ) → un_timed i ≡ false → i.day ≤ 2 → (b : Bool) → l.searched ≡ b
       → Matches (cond b (again_tests l a d (reached t a d) (call_spec (unsearched_of l) name i).load) (tests.call_window z t i)) (window_causes b s (state_at l fs) name i)
@@ -198,7 +196,7 @@ module _ (s : Settings) (l : Load) (fs : List Filling) (w : Start s l fs) (o : O
 
   pub call-match : (name : List ℕ) → Matches (add_causes l name i) (call_causes s (state_at l fs) name i)
   call-match name =
-      subst (λ (x : Settings). Matches ((not (known l.stop_count i), Refused FieldRange) ∷ running_tests (running l.week name i.day) ++ time_tests i
+      subst (λ (x : Settings). Matches ((not (known l.stop_count i), Err FieldRange) ∷ running_tests (running l.week name i.day) ++ time_tests i
       ++ cond l.searched (again_tests l (call_time x i i.arrival) (call_time x i i.departure) (reached t (call_time x i i.arrival) (call_time x i i.departure)) (call_spec (unsearched_of l) name i).load) (tests.call_window x t i))
       (call_causes s (state_at l fs) name i))
       (sym w.settings)

@@ -1,9 +1,9 @@
 -- The program's tests of a stop, a rule and an opening decide the causes, where the load holds what was taken.
+use Rattle.std.specs.Prelude.{None, Some, Option, is_some}
 use Prim.Native.Nat.{ℕ, zero, suc, ◌+◌, ◌-◌, ◌≤◌, ◌<◌}
 use mathlib.Core.Path.{◌≡◌, refl, sym, ap, subst, ◌∙◌}
 use mathlib.Core.Logic.{◌⊎◌, inl, inr}
 use mathlib.Core.Bool.{Bool, true, false, not, cond, ◌&&◌, true≢false, false≢true}
-use mathlib.Core.Option.{Option, none, some}
 use mathlib.Core.List.Memᴰ
 use mathlib.Core.List.{List, [], ◌∷◌, map, Memᴰ}
 use native.Mathlib.Omega.{arith}
@@ -22,16 +22,12 @@ use Rattle.place.specs.Positions.{position_of, is_usable}
 use Rattle.stops.specs.declared.Stop.{Stop}
 use Rattle.stops.specs.declared.StopInput.{StopInput}
 use Rattle.stops.specs.Texts.{same_bytes_of}
-use Rattle.stops.specs.declared.Found.{Found}
-use Rattle.stops.specs.declared.Found.TheVariants.{At, Nothing}
-use Rattle.stops.specs.Stops.{id_of, type_fits, is_it, find_stop, is_at}
+use Rattle.stops.specs.Stops.{id_of, type_fits, is_it, find_stop}
 use Rattle.stops.specs.Answer.{station_of, id_wrong, is_known, type_wrong, name_needed, unusable, name_wrong, stop_tests}
 use Rattle.stops.specs.Sound.{stop_at}
 use Rattle.stops.specs.Taken.{blank_stop}
 use Rattle.rules.specs.declared.Rule.{Rule}
 use Rattle.rules.specs.declared.RuleInput.{RuleInput}
-use Rattle.rules.specs.declared.MinTime.{MinTime}
-use Rattle.rules.specs.declared.MinTime.TheVariants.{Given, Absent}
 use Rattle.rules.specs.Rules.{same_pair, type_right_of, rule_tests, rule_of}
 use Rattle.load.specs.declared.Load.{Load}
 use Rattle.calendar.specs.Dates.{is_date}
@@ -96,8 +92,8 @@ dec-dates dates = (
 )
 
 dates-match : (d : Option (List ℕ)) → Matches (date_tests d) (date_causes d)
-dates-match none = tt
-dates-match (some dates) = (refl, dec-dates dates, λ a. tt)
+dates-match None = tt
+dates-match (Some dates) = (refl, dec-dates dates, λ a. tt)
 
 pub opening-match : (o : Opening) → Matches (open_tests o) (opening_causes o)
 unfolding settings_tests over_counts
@@ -125,19 +121,19 @@ mem-nth (y ∷ l) x m = go (Memᴰ.cases_cons m) (mem-nth l x)
     go (inr m) ih = let (n, w) = ih m in (suc n, w)
 
 -- what is there is found
-there : (p : Stop → Bool) (l : List Stop) (k m : ℕ) → m < length l → p (get_or l m blank_stop) ≡ true → is_at (find_stop p l k) ≡ true
+there : (p : Stop → Bool) (l : List Stop) (k m : ℕ) → m < length l → p (get_or l m blank_stop) ≡ true → is_some (find_stop p l k) ≡ true
 there p [] k m h e = absurd (omega arith)
 there p (s ∷ ss) k m h e = go (p s) refl m h e (λ j. there p ss (k + 1) j)
   where
     go : (b : Bool) → p s ≡ b → (j : ℕ) → j < suc (length ss) → p (get_or (s ∷ ss) j blank_stop) ≡ true
-        → ((i : ℕ) → i < length ss → p (get_or ss i blank_stop) ≡ true → is_at (find_stop p ss (k + 1)) ≡ true) → is_at (cond b (At k) (find_stop p ss (k + 1))) ≡ true
+        → ((i : ℕ) → i < length ss → p (get_or ss i blank_stop) ≡ true → is_some (find_stop p ss (k + 1)) ≡ true) → is_some (cond b (Some k) (find_stop p ss (k + 1))) ≡ true
     go true q j l f ih = refl
     go false q zero l f ih = absurd (true≢false (sym f ∙ q))
     go false q (suc j) l f ih = ih j (omega arith) f
 
-at-found : (f : Found) → is_at f ≡ true → (m : ℕ) × (f ≡ At m)
-at-found (At m) e = (m, refl)
-at-found Nothing e = absurd (false≢true e)
+at-found : (f : Option ℕ) → is_some f ≡ true → (m : ℕ) × (f ≡ Some m)
+at-found (Some m) e = (m, refl)
+at-found None e = absurd (false≢true e)
 
 module _ (s : Settings) (l : Load) (fs : List Filling) (w : Start s l fs) where
   abbrev n : ℕ
@@ -158,11 +154,11 @@ module _ (s : Settings) (l : Load) (fs : List Filling) (w : Start s l fs) where
   fits_out true t f = eq-eqb t 1 (f refl)
   fits_out false t f = refl
 
-  dec-known : (station : Bool) (id : List ℕ) → Decides (is_at (find_stop (is_it station id) (take n l.stops) 0)) (Known station id)
+  dec-known : (station : Bool) (id : List ℕ) → Decides (is_some (find_stop (is_it station id) (take n l.stops) 0)) (Known station id)
   unfolding stop_at
   dec-known b id = (fore, back)
     where
-      fore : is_at (find_stop (is_it b id) (take n l.stops) 0) ≡ true → Known b id
+      fore : is_some (find_stop (is_it b id) (take n l.stops) 0) ≡ true → Known b id
       fore e =
           let (m, q) = at-found (find_stop (is_it b id) (take n l.stops) 0) e in
           let f = found (is_it b id) (take n l.stops) 0 m q in
@@ -175,7 +171,7 @@ module _ (s : Settings) (l : Load) (fs : List Filling) (w : Start s l fs) where
           let y : same_bytes_of (id_of (stop_at l.stops m)) id ≡ true = and-true-right (type_fits b (stop_at l.stops m).location_type) _ r in
           (v.given, nth-mem (stops_in fs) m v.given v.at, sym v.id ∙ bytes_same _ _ y, λ c. sym v.kind ∙ fits_in b (stop_at l.stops m).location_type t c)
 
-      back : Known b id → is_at (find_stop (is_it b id) (take n l.stops) 0) ≡ true
+      back : Known b id → is_some (find_stop (is_it b id) (take n l.stops) 0) ≡ true
       back (g, i, e, f) =
           let (k, v) = mem-nth (stops_in fs) g i in
           let h : k < n = omega (arith, nth-below (stops_in fs) k g v, w.held.stops) in
@@ -187,10 +183,10 @@ module _ (s : Settings) (l : Load) (fs : List Filling) (w : Start s l fs) where
 
   dec-id : (id : List ℕ) → Decides (is_known l.stops n id) ((g : StopGiven) × Memᴰ g (stops_in fs) × (g.id ≡ id))
   unfolding is_known
-  dec-id id = dec-as (is_at (find_stop (is_it false id) (take n l.stops) 0)) (λ (g, m, e, f). (g, m, e)) (λ (g, m, e). (g, m, e, λ q. absurd (false≢true q))) (dec-known false id)
+  dec-id id = dec-as (is_some (find_stop (is_it false id) (take n l.stops) 0)) (λ (g, m, e, f). (g, m, e)) (λ (g, m, e). (g, m, e, λ q. absurd (false≢true q))) (dec-known false id)
 
   dec-parent : (parent : List ℕ) (has : Bool)
-      → Decides (has && not (is_at (station_of l.stops n has parent))) ((has ≡ true) × ((g : StopGiven) → Memᴰ g (stops_in fs) → g.id ≡ parent → g.input.location_type ≡ 1 → ⊥))
+      → Decides (has && not (is_some (station_of l.stops n has parent))) ((has ≡ true) × ((g : StopGiven) → Memᴰ g (stops_in fs) → g.id ≡ parent → g.input.location_type ≡ 1 → ⊥))
   unfolding station_of
   dec-parent parent false = (λ e. absurd (false≢true e), λ (e, f). absurd (false≢true e))
   dec-parent parent true = (
@@ -251,23 +247,23 @@ module _ (s : Settings) (l : Load) (fs : List Filling) (w : Start s l fs) where
       back : (q : RuleInput) × Memᴰ q (rules_in fs) × (q.from ≡ i.from) × (q.to ≡ i.to) → anyb (same_pair i.from i.to) (map rule_of (rules_in fs)) ≡ true
       back (q, m, a, b) = same ∙ mem-anyb (λ (q : RuleInput). eqb q.from i.from && eqb q.to i.to) m (and-true _ _ (eq-eqb q.from i.from a) (eq-eqb q.to i.to b))
 
-  dec-type : (k : ℕ) (t : MinTime) → Decides (not (type_right_of k t)) (3 < k ⊎ ((k ≡ 2) × (t ≡ Absent)))
-  dec-type k (Given v) = dec-as (not (leb k 3)) inl only (dec-not-leb k 3)
+  dec-type : (k : ℕ) (t : Option ℕ) → Decides (not (type_right_of k t)) (3 < k ⊎ ((k ≡ 2) × (t ≡ None)))
+  dec-type k (Some v) = dec-as (not (leb k 3)) inl only (dec-not-leb k 3)
     where
-      only : 3 < k ⊎ ((k ≡ 2) × (Given v ≡ Absent)) → 3 < k
+      only : 3 < k ⊎ ((k ≡ 2) × (Some v ≡ None)) → 3 < k
       only (inl h) = h
       only (inr (a, e)) = absurd (let z : ◌≡◌ {A = ℕ} 0 1 = cc in omega arith)
-  dec-type k Absent = dec-as (not (not (eqb k 2) && leb k 3)) turn back (dec-nand (not (eqb k 2)) (leb k 3) (dec-as (not (not (eqb k 2))) (λ e. e) (λ e. e) (twice (eqb k 2) (dec-eqb k 2))) (dec-not-leb k 3))
+  dec-type k None = dec-as (not (not (eqb k 2) && leb k 3)) turn back (dec-nand (not (eqb k 2)) (leb k 3) (dec-as (not (not (eqb k 2))) (λ e. e) (λ e. e) (twice (eqb k 2) (dec-eqb k 2))) (dec-not-leb k 3))
     where
       twice : (b : Bool) → Decides b (k ≡ 2) → Decides (not (not b)) (k ≡ 2)
       twice true d = d
       twice false d = d
 
-      turn : (k ≡ 2) ⊎ 3 < k → 3 < k ⊎ ((k ≡ 2) × (Absent ≡ Absent))
+      turn : (k ≡ 2) ⊎ 3 < k → 3 < k ⊎ ((k ≡ 2) × (◌≡◌ {A = Option ℕ} None None))
       turn (inl e) = inr (e, refl)
       turn (inr h) = inl h
 
-      back : 3 < k ⊎ ((k ≡ 2) × (Absent ≡ Absent)) → (k ≡ 2) ⊎ 3 < k
+      back : 3 < k ⊎ ((k ≡ 2) × (◌≡◌ {A = Option ℕ} None None)) → (k ≡ 2) ⊎ 3 < k
       back (inl h) = inr h
       back (inr (e, q)) = inl e
 

@@ -1,14 +1,14 @@
 -- What became of a call on a load that is not searched, by what was taken.
+use Rattle.refusal.specs.declared.Accepted.TheVariants.{Taken, Outside}
+use Rattle.std.specs.Prelude.{Err, Ok}
 use Prim.Native.Nat.{ℕ, ◌≤◌}
 use mathlib.Core.Path.{◌≡◌, refl, sym, ap, subst, ◌∙◌}
 use mathlib.Core.Bool.{Bool, true, false, not, cond, true≢false, false≢true}
 use mathlib.Core.List.{List, ◌++◌}
-use mathlib.Core.Option.{none-ne-some}
+use Rattle.laws.proofs.Options.{none-ne-some}
 use Rattle.laws.proofs.Bools.{cond-not}
-use Rattle.refusal.specs.declared.Answer.{Answer}
-use Rattle.refusal.specs.declared.Answer.TheVariants.{Taken, Outside, Refused}
 use Rattle.refusal.specs.declared.Refusal.{Refusal}
-use Rattle.refusal.specs.First.{is_refused}
+use Rattle.refusal.specs.First.{is_refused, Answer}
 use Rattle.settings.specs.declared.Settings.{Settings}
 use Rattle.calls.specs.declared.CallInput.{CallInput}
 use Rattle.calls.specs.Calls.{known, call_on}
@@ -65,8 +65,8 @@ pub record Came (s : Settings) (l : Load) (fs : List Filling) (name : List ℕ) 
 pub data Comes (s : Settings) (l : Load) (fs : List Filling) (name : List ℕ) (i : CallInput) : Stepped → Type 0 where
   came : {a : Answer} {n : Load} → Came s l fs name i a n → Comes s l fs name i (record { answer = a; load = n })
   -- its service doesn't run
-  rested : running l.week name i.day ≡ Rests· → i.day ≤ 2 → Comes s l fs name i (record { answer = Outside; load = closed_load l })
-  back : {r : Refusal} → Comes s l fs name i (record { answer = Refused r; load = l })
+  rested : running l.week name i.day ≡ Rests· → i.day ≤ 2 → Comes s l fs name i (record { answer = Ok Outside; load = closed_load l })
+  back : {r : Refusal} → Comes s l fs name i (record { answer = Err r; load = l })
 
 module _ (s : Settings) (o : Opened s) (l : Load) (fs : List Filling) (w : Start s l fs) (name : List ℕ) (i : CallInput) where
   fits-so : is_refused (call_fitted l i).answer ≡ false
@@ -87,15 +87,15 @@ module _ (s : Settings) (o : Opened s) (l : Load) (fs : List Filling) (w : Start
 
   plain : l.week.dated ≡ false → (a : Answer) → (call_fitted l i).answer ≡ a
       → Comes s l fs name i (record { answer = a; load = cond (is_refused a) l (with_table l (call_fitted l i).table) })
-  plain d Taken e = came (record { answered = refl; runs = sym (runs-undated l.week name i.day d); day = λ e. absurd (true≢false (sym e ∙ d)); fits = fits-as Taken e refl; dates = refl; closed = shut-so d; searched = refl; limit = refl })
-  plain d Outside e = came (record { answered = refl; runs = sym (runs-undated l.week name i.day d); day = λ e. absurd (true≢false (sym e ∙ d)); fits = fits-as Outside e refl; dates = refl; closed = shut-so d; searched = refl; limit = refl })
-  plain d (Refused r) e = back
+  plain d (Ok Taken) e = came (record { answered = refl; runs = sym (runs-undated l.week name i.day d); day = λ e. absurd (true≢false (sym e ∙ d)); fits = fits-as (Ok Taken) e refl; dates = refl; closed = shut-so d; searched = refl; limit = refl })
+  plain d (Ok Outside) e = came (record { answered = refl; runs = sym (runs-undated l.week name i.day d); day = λ e. absurd (true≢false (sym e ∙ d)); fits = fits-as (Ok Outside) e refl; dates = refl; closed = shut-so d; searched = refl; limit = refl })
+  plain d (Err r) e = back
 
   passes : (known l.stop_count i ≡ true) × (running l.week name i.day ≡ Runs·) → (a : Answer) → (call_fitted l i).answer ≡ a
       → Comes s l fs name i (record { answer = a; load = cond (is_refused a) l (with_week (cond (is_refused a) l (with_table l (call_fitted l i).table)) (closed_week l.week)) })
-  passes g Taken e = came (record { answered = refl; runs = g.1; day = λ e. day_known i l.stop_count (ap not g.0); fits = fits-as Taken e refl; dates = refl; closed = refl; searched = refl; limit = refl })
-  passes g Outside e = came (record { answered = refl; runs = g.1; day = λ e. day_known i l.stop_count (ap not g.0); fits = fits-as Outside e refl; dates = refl; closed = refl; searched = refl; limit = refl })
-  passes g (Refused r) e = back
+  passes g (Ok Taken) e = came (record { answered = refl; runs = g.1; day = λ e. day_known i l.stop_count (ap not g.0); fits = fits-as (Ok Taken) e refl; dates = refl; closed = refl; searched = refl; limit = refl })
+  passes g (Ok Outside) e = came (record { answered = refl; runs = g.1; day = λ e. day_known i l.stop_count (ap not g.0); fits = fits-as (Ok Outside) e refl; dates = refl; closed = refl; searched = refl; limit = refl })
+  passes g (Err r) e = back
 
   pub comes : Comes s l fs name i (call_spec l name i)
   unfolding plain_call

@@ -7,8 +7,7 @@ use mathlib.Core.List.{List, [], ◌∷◌}
 use lib.Dec.{leb, ltb, eqb}
 use borrow.Author.Tests.{leb-true, leb-false, le-leb, lt-leb, ltb-true, ltb-false, lt-ltb, le-ltb, eqb-true, eq-eqb}
 use Rattle.laws.proofs.Bools.{or-true-cases, or-true-left, or_true_right, and-true, and-true-left, and-true-right}
-use Rattle.refusal.specs.declared.Answer.{Answer}
-use Rattle.refusal.specs.First.{first_answer}
+use Rattle.refusal.specs.First.{first_answer, Answer}
 use Rattle.comparison.specs.Causes.{Cause, First}
 
 abbrev pub Decides : Bool → Type 0 → Type 0

@@ -1,8 +1,9 @@
 -- The three demands are met: demands 2 and 3 follow from what a searched load holds and when best agrees.
+use Rattle.refusal.specs.First.{Answer}
+use Rattle.std.specs.Prelude.{None, Option, Some}
 use mathlib.Core.Path.{◌≡◌, refl, sym, ap, subst, ◌∙◌}
 use mathlib.Core.Logic.{◌⊎◌, inl, inr, ◌↔◌}
 use mathlib.Core.Bool.{Bool, true, false, cond}
-use mathlib.Core.Option.{Option, none, some}
 use mathlib.Core.List.{List, [], ◌∷◌}
 use Prim.Native.Nat.{ℕ, ◌+◌, ◌≤◌, min}
 use native.Mathlib.Omega.{arith}
@@ -11,7 +12,6 @@ use lib.IntN.{ℤ, pos, negsuc}
 use lib.Signed.{lt_z}
 use lib.ListN.{take}
 use borrow.Author.Tests.{ltb-true, ltb-false}
-use Rattle.refusal.specs.declared.Answer.{Answer}
 use Rattle.settings.specs.declared.Settings.{Settings}
 use Rattle.calls.specs.Shown.{table_calls}
 use Rattle.profile.specs.declared.Journey.{Journey}
@@ -102,8 +102,8 @@ opening_order : (o : Opening) → numbers_of (opening_causes o) ≡ open_numbers
 opening_order o = go o.dates
   where
     go : (d : Option (List ℕ)) → 1 ∷ 2 ∷ numbers_of (date_causes d) ≡ open_numbers d
-    go none = refl
-    go (some dates) = refl
+    go None = refl
+    go (Some dates) = refl
 
 pub in_order : (s : Settings) (t : State) (x : Step) → numbers_of (causes_of s t x) ≡ numbers t.searched x
 in_order s t (filling (stop id name parent i)) = refl
@@ -268,7 +268,7 @@ module _ (s : Opening) (o : Opens s) (xs : List Step) where
         complete = λ j a l. let (k, b, e') = w.complete j ((same-admitted s xs o j).1 a) l in (k, b, covers-in k j e');
       }
 
-  lists-within : (n : ℕ) → limit_of (end_of s xs) ≡ some n → ListsWithin s xs (ending s o xs) n
+  lists-within : (n : ℕ) → limit_of (end_of s xs) ≡ Some n → ListsWithin s xs (ending s o xs) n
   lists-within n e =
       let (f, q) = limit_is (end_of s xs) n e in
       let k = (whole s o xs).stands.kept in
@@ -281,7 +281,7 @@ module _ (s : Opening) (o : Opens s) (xs : List Step) where
 
 pub demand-2 : Demand2
 demand-2 s xs rs v o w =
-    subst (λ (t : State). (t.searched ≡ false → Fills s xs t) × (t.searched ≡ true → t.stopped ≡ none → Lists s xs t) × ((n : ℕ) → t.stopped ≡ some n → ListsWithin s xs t n)) (ends_so s o xs rs v w)
+    subst (λ (t : State). (t.searched ≡ false → Fills s xs t) × (t.searched ≡ true → t.stopped ≡ None → Lists s xs t) × ((n : ℕ) → t.stopped ≡ Some n → ListsWithin s xs t n)) (ends_so s o xs rs v w)
     (fills s o xs, λ d e. lists s o xs d (not-limited (end_of s xs) e), lists-within s o xs)
 
 -- ---- 3

@@ -1,4 +1,5 @@
 -- The call that a withdrawal takes, as the program finds it, is the one that is stated; and there is no other.
+use Rattle.std.specs.Prelude.{None, Option, Some}
 use Prim.Native.Nat.{ℕ, ◌≤◌, ◌<◌}
 use mathlib.Core.Path.{◌≡◌, refl, sym, ap, subst, ◌∙◌}
 use mathlib.Core.Logic.{◌⊎◌}
@@ -13,8 +14,6 @@ use Rattle.settings.specs.declared.Settings.{Settings}
 use Rattle.settings.specs.Settings.{canonical_of}
 use Rattle.calls.specs.declared.CallInput.{CallInput}
 use Rattle.calls.specs.declared.Call.{Call}
-use Rattle.calls.specs.declared.View.{View}
-use Rattle.calls.specs.declared.View.TheVariants.{In, Out}
 use Rattle.calls.specs.Calls.{window}
 use Rattle.withdrawal.specs.declared.CallKey.{CallKey}
 use Rattle.withdrawal.specs.Removal.{without_last, has_key, key_known, shown_key, named_in, LastGoes}
@@ -88,12 +87,12 @@ module _ (s : Settings) (o : Opened s) (h : ℕ) (k : CallKey) where
   abbrev z : Settings
   z = canonical_of s
 
-  shown-such : (i : CallInput) (v : View) → window s h i ≡ v → shown_key k v ≡ true → HasKey k i × InTable s h i
-  shown-such i (In c) e q =
+  shown-such : (i : CallInput) (v : Option Call) → window s h i ≡ v → shown_key k v ≡ true → HasKey k i × InTable s h i
+  shown-such i (Some c) e q =
       let w = window-seen s h i c e in
       let (a, b, d) = key_in k c q in
       (record { trip = sym w.trip ∙ a; day = sym w.day ∙ b; sequence = sym w.sequence ∙ d }, (c, w))
-  shown-such i Out e q = absurd (false≢true q)
+  shown-such i None e q = absurd (false≢true q)
 
   same-named : (i : CallInput) → named_in z h k i ≡ shown_key k (window s h i)
   same-named i = ap (shown_key k) (window_same s h i)

@@ -1,23 +1,20 @@
 -- A call fits as it is stated here: the program's table shows the calls taken, and its cuts are those of the relation.
+use Rattle.refusal.specs.declared.Accepted.TheVariants.{Taken, Outside}
+use Rattle.std.specs.Prelude.{None, Option, Some, Err, Ok}
 use Prim.Native.Nat.{ℕ, ◌-◌, ◌≤◌}
 use mathlib.Core.Path.{◌≡◌, refl, sym, ap, subst, ◌∙◌}
 use mathlib.Core.Bool.{Bool, false, cond, true≢false}
 use mathlib.Core.List.{List, [], ◌∷◌, ◌++◌, Memᴰ}
 use native.Mathlib.Omega.{arith}
 use lib.ListN.{length, length-take}
-use Rattle.refusal.specs.declared.Answer.{Answer}
-use Rattle.refusal.specs.declared.Answer.TheVariants.{Taken, Outside, Refused}
 use Rattle.refusal.specs.declared.Refusal.TheVariants.{NoRoom}
-use Rattle.refusal.specs.First.{first_answer, is_refused}
+use Rattle.refusal.specs.First.{first_answer, is_refused, Answer}
 use Rattle.settings.specs.declared.Settings.{Settings}
 use Rattle.settings.specs.Settings.{canonical_of}
 use Rattle.calls.specs.declared.CallInput.{CallInput}
 use Rattle.calls.specs.declared.Call.{Call}
 use Rattle.calls.specs.declared.Table.{Table}
 use Rattle.calls.specs.declared.Fitted.{Fitted}
-use Rattle.calls.specs.declared.Offset.{Offset}
-use Rattle.calls.specs.declared.View.{View}
-use Rattle.calls.specs.declared.View.TheVariants.{In, Out}
 use Rattle.calls.specs.Windows.{seen}
 use Rattle.calls.specs.Tables.{cut}
 use Rattle.calls.specs.Calls.{un_timed, call_tests, call_time, window, call_fit, goes_on_of, call_on}
@@ -42,16 +39,16 @@ use Rattle.comparison.proofs.AdmittedLaws.{window_same}
 -- ---- what is seen of a list
 
 module _ (s : Settings) (o : Opened s) (h : ℕ) where
-  unseen : (i : CallInput) → i.day ≤ 2 → window s h i ≡ Out → (c : Call) → Seen s h i c → ⊥
-  unseen i d e c v = let q : Out ≡ In c = sym e ∙ seen-shown s h i (o.clock i.day d) c v in let z : ◌≡◌ {A = ℕ} 0 1 = cc in omega arith
+  unseen : (i : CallInput) → i.day ≤ 2 → window s h i ≡ None → (c : Call) → Seen s h i c → ⊥
+  unseen i d e c v = let q : None ≡ Some c = sym e ∙ seen-shown s h i (o.clock i.day d) c v in let z : ◌≡◌ {A = ℕ} 0 1 = cc in omega arith
 
   shown-is : (is : List CallInput) → ((i : CallInput) → Memᴰ i is → i.day ≤ 2) → Shown s h is (windowed s h is)
   shown-is [] f = empty
   shown-is (i ∷ is) f = go (window s h i) refl (shown-is is (λ j m. f j (Memᴰ.tail m)))
     where
-      go : (v : View) → window s h i ≡ v → Shown s h is (windowed s h is) → Shown s h (i ∷ is) (shown v ++ windowed s h is)
-      go (In c) e w = one (window-seen s h i c e) w
-      go Out e w = pass (unseen i (f i (Memᴰ.head refl)) e) w
+      go : (v : Option Call) → window s h i ≡ v → Shown s h is (windowed s h is) → Shown s h (i ∷ is) (shown v ++ windowed s h is)
+      go (Some c) e w = one (window-seen s h i c e) w
+      go None e w = pass (unseen i (f i (Memᴰ.head refl)) e) w
 
 windowed-same : (s : Settings) (h : ℕ) (is : List CallInput) → windowed (canonical_of s) h is ≡ windowed s h is
 windowed-same s h [] = refl
@@ -76,17 +73,17 @@ module _ (s : Settings) (o : Opened s) (is : List CallInput) (days : (j : CallIn
       on : (a : Answer) (g n : ℕ) → Fits s is i t.horizon t.limits a g n → Fits s is i h m a g n
 
     module _ (present : un_timed i ≡ false) (day : i.day ≤ 2) where
-      abbrev a : Offset
+      abbrev a : Option ℕ
       a = call_time z i i.arrival
 
-      abbrev d : Offset
+      abbrev d : Option ℕ
       d = call_time z i i.departure
 
-      seen-window : (h : ℕ) (v : View) → seen h a d i ≡ v → window s h i ≡ v
+      seen-window : (h : ℕ) (v : Option Call) → seen h a d i ≡ v → window s h i ≡ v
       seen-window h v e = sym (window_same s h i) ∙ shows.window-seen z h i present ∙ e
 
-      seen-so : (t : Table) (c : Call) → seen t.horizon a d i ≡ In c → Seen s t.horizon i c
-      seen-so t c e = window-seen s t.horizon i c (seen-window t.horizon (In c) e)
+      seen-so : (t : Table) (c : Call) → seen t.horizon a d i ≡ Some c → Seen s t.horizon i c
+      seen-so t c e = window-seen s t.horizon i c (seen-window t.horizon (Some c) e)
 
       came-keeps : (h m : ℕ) → Keeps (Came h m) a d i
       unfolding cut
@@ -96,10 +93,10 @@ module _ (s : Settings) (o : Opened s) (is : List CallInput) (days : (j : CallIn
       }
 
       ends-fits : (h m : ℕ) (f : Fitted) → Ends (Came h m) a d i f → Fits s is i h m f.answer f.table.horizon f.table.limits
-      ends-fits h m _ (stands t p e) = p.on Outside t.horizon t.limits (cuts.outside (unseen s o t.horizon i day (seen-window t.horizon Out e)))
-      ends-fits h m _ (enters t c p e r) = p.on Taken t.horizon t.limits (cuts.room (seen-so t c e) (table-shown t p.showing) (omega (arith, table-long t p.showing, r)))
+      ends-fits h m _ (stands t p e) = p.on (Ok Outside) t.horizon t.limits (cuts.outside (unseen s o t.horizon i day (seen-window t.horizon None e)))
+      ends-fits h m _ (enters t c p e r) = p.on (Ok Taken) t.horizon t.limits (cuts.room (seen-so t c e) (table-shown t p.showing) (omega (arith, table-long t p.showing, r)))
       ends-fits h m _ (turned t c p e r l) =
-          p.on (Refused NoRoom) t.horizon t.limits (cuts.full (seen-so t c e) (table-shown t p.showing) (omega (arith, table-long t p.showing, r)) l)
+          p.on (Err NoRoom) t.horizon t.limits (cuts.full (seen-so t c e) (table-shown t p.showing) (omega (arith, table-long t p.showing, r)) l)
 
       pub fits : (t : Table) → Showing z is t → Fits s is i t.horizon t.limits (call_fit z t i).answer (call_fit z t i).table.horizon (call_fit z t i).table.limits
       unfolding call_fit
@@ -116,9 +113,9 @@ module _ (s : Settings) (o : Opened s) (is : List CallInput) (days : (j : CallIn
 
         go : (x : Answer) → first_answer (call_tests b n i) ≡ x → is_refused (goes_on_of z t i x).answer ≡ false
             → Fits s is i t.horizon t.limits (goes_on_of z t i x).answer (goes_on_of z t i x).table.horizon (goes_on_of z t i x).table.limits
-        go (Refused r) e q = absurd (true≢false q)
-        go Outside e q = cuts.outside (λ c v. true≢false (sym (tests-untimed b n i e) ∙ both-given c v))
-        go Taken e q =
+        go (Err r) e q = absurd (true≢false q)
+        go (Ok Outside) e q = cuts.outside (λ c v. true≢false (sym (tests-untimed b n i e) ∙ both-given c v))
+        go (Ok Taken) e q =
             subst (λ (c : Bool). Fits s is i t.horizon t.limits (call_fit z t i).answer (cond c t (call_fit z t i).table).horizon (cond c t (call_fit z t i).table).limits) (sym q)
             (fits (passed b n i e).present (tests-day b n i e) t w)
 

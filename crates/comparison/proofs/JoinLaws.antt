@@ -1,4 +1,5 @@
 -- In the load that the search was handed, parents, sides, changes and joins are those stated here.
+use Rattle.std.specs.Prelude.{None, Option, Some}
 use Prim.Native.Nat.{ℕ, ◌+◌, ◌≤◌, ◌<◌}
 use mathlib.Core.Path.{◌≡◌, refl, sym, ap, subst, ◌∙◌}
 use mathlib.Core.Logic.{◌⊎◌, inl, inr, ◌↔◌}
@@ -15,13 +16,10 @@ use Rattle.settings.specs.Settings.{canonical_of}
 use Rattle.calls.specs.declared.Call.{Call}
 use Rattle.rules.specs.declared.Rule.{Rule}
 use Rattle.rules.specs.declared.RuleInput.{RuleInput}
-use Rattle.rules.specs.declared.MinTime.TheVariants.{Absent}
 use Rattle.rules.specs.Rules.{rule_of, blank_rule}
 use Rattle.rules.specs.Sound.{rule_at}
 use Rattle.stops.specs.Sound.{stop_at}
 use Rattle.transfer.specs.declared.Ends.{Ends}
-use Rattle.transfer.specs.declared.Change as changed
-use Rattle.transfer.specs.declared.Change.TheVariants.{Takes, Never}
 use Rattle.transfer.specs.Choice.{side, chosen}
 use Rattle.transfer.specs.Changes.{ends_of_of, near, change_of, transfer_of, joins_by, join_of}
 use Rattle.transfer.specs.Copied.{parents_of}
@@ -114,7 +112,7 @@ module _ (s : Settings) (p : Load) (fs : List Filling) (w : Start s p fs) where
   -- ---- rules
 
   abbrev blank : RuleInput
-  blank = record { from = 0; to = 0; transfer_type = 0; seconds = Absent }
+  blank = record { from = 0; to = 0; transfer_type = 0; seconds = None }
 
   -- a rule that was taken stands at a place of the load, and at the same place of those handed in
   placed : (r : RuleInput) → Memᴰ r (rules_in fs) → (k : ℕ) × (k < p.rule_count) × (rule_at p.rules k ≡ rule_of r) × (get_or (rules_in fs) k blank ≡ r)
@@ -210,10 +208,10 @@ module _ (s : Settings) (p : Load) (fs : List Filling) (w : Start s p fs) where
     unfolding transfer_of ends_of_of
     change-is = λ k. change_of (chosen e (w.held.rules k)) close (change k)
 
-    pub takes-in : (n : ℕ) → change_in p x y ≡ Takes n → Change F x y n
+    pub takes-in : (n : ℕ) → change_in p x y ≡ Some n → Change F x y n
     takes-in n q = change-in F e known fores rears close nears n (sym change-is ∙ q)
 
-    pub takes_out : (n : ℕ) → Change F x y n → change_in p x y ≡ Takes n
+    pub takes_out : (n : ℕ) → Change F x y n → change_in p x y ≡ Some n
     takes_out n c = change-is ∙ change-out F e known fores rears close nears n c
 
   -- ---- joins
@@ -228,10 +226,10 @@ module _ (s : Settings) (p : Load) (fs : List Filling) (w : Start s p fs) where
     pub joins-in : joins_in p (ride_of b a) c ≡ true → Joins F a c
     joins-in q = go (one_run (ride_of b a) c) refl (change_in p a.stop c.stop) refl (sym joins-is ∙ q)
       where
-        go : (r : Bool) → one_run (ride_of b a) c ≡ r → (t : changed.Change) → change_in p a.stop c.stop ≡ t → cond r false (joins_by t a.arrival c.departure) ≡ true → Joins F a c
+        go : (r : Bool) → one_run (ride_of b a) c ≡ r → (t : Option ℕ) → change_in p a.stop c.stop ≡ t → cond r false (joins_by t a.arrival c.departure) ≡ true → Joins F a c
         go true z t u v = absurd (false≢true v)
-        go false z Never u v = absurd (false≢true v)
-        go false z (Takes n) u v = record {
+        go false z None u v = absurd (false≢true v)
+        go false z (Some n) u v = record {
           differs = λ (f, g). true≢false (sym (and-true _ _ (eq-eqb b.trip c.trip (trip ∙ f)) (eq-eqb b.day c.day (day ∙ g))) ∙ z);
           seconds = n;
           change = takes-in a.stop c.stop ha hc n u;
@@ -241,7 +239,7 @@ module _ (s : Settings) (p : Load) (fs : List Filling) (w : Start s p fs) where
     pub joins-out : Joins F a c → joins_in p (ride_of b a) c ≡ true
     joins-out j =
         let r : one_run (ride_of b a) c ≡ false = run (eqb b.trip c.trip) refl (eqb b.day c.day) refl in
-        let t : change_in p a.stop c.stop ≡ Takes j.seconds = takes_out a.stop c.stop ha hc j.seconds j.change in
+        let t : change_in p a.stop c.stop ≡ Some j.seconds = takes_out a.stop c.stop ha hc j.seconds j.change in
         joins-is ∙ (λ k. join_of (t k) (r k) a.arrival c.departure) ∙ le-leb (a.arrival + j.seconds) c.departure j.in_time
       where
         run : (u : Bool) → eqb b.trip c.trip ≡ u → (v : Bool) → eqb b.day c.day ≡ v → (u && v) ≡ false

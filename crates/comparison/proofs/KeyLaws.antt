@@ -1,4 +1,6 @@
 -- The place key of a stop handed in: it has one only, and a taken stop is held with it.
+use Rattle.key.specs.declared.NameError.{NameError}
+use Rattle.std.specs.Prelude.{Ok, Result}
 use Prim.Native.Nat.{ℕ}
 use mathlib.Core.Path.{◌≡◌, refl, sym, ap, subst, ◌∙◌}
 use mathlib.Core.Logic.{inl, inr}
@@ -8,8 +10,6 @@ use lib.Dec.{eqb}
 use lib.ListN.{take}
 use borrow.Author.Tests.{eq-eqb}
 use Rattle.laws.proofs.Bools.{cond-by, and-true}
-use Rattle.key.specs.declared.NameKey.{NameKey}
-use Rattle.key.specs.declared.NameKey.TheVariants.{Hash}
 use Rattle.key.specs.Hash.{key_of}
 use Rattle.key.specs.Utf8.{utf8, points}
 use Rattle.key.specs.Name.{normalized, usable, name_key}
@@ -40,7 +40,7 @@ key_one g _ _ (by_parent e) (by_name f v c) = absurd (true≢false (sym e ∙ f)
 key_one g _ _ (by_parent e) (by_id f n) = absurd (true≢false (sym e ∙ f))
 key_one g _ _ (by_name e v c) (by_parent f) = absurd (true≢false (sym f ∙ e))
 key_one g _ _ (by_name {t = t} e v c) (by_name {t = u} f w d) =
-    ap (λ (x : List ℕ). named_key (Hash (key_of (utf8 (normalized (points x))))) (micro g.input.degrees.latitude) (micro g.input.degrees.longitude) g.id) (called-one g t u c d)
+    ap (λ (x : List ℕ). named_key (Ok (key_of (utf8 (normalized (points x))))) (micro g.input.degrees.latitude) (micro g.input.degrees.longitude) g.id) (called-one g t u c d)
 key_one g _ _ (by_name e v c) (by_id f n) = absurd (n v)
 key_one g _ _ (by_id e n) (by_parent f) = absurd (true≢false (sym f ∙ e))
 key_one g _ _ (by_id e n) (by_name f v c) = absurd (n v)
@@ -72,12 +72,12 @@ module _ (g : StopGiven) (zero : g.input.location_type ≡ 0) (ok : name_needed 
   unfolding name_key
   by-texts true q e v =
       let u : usable (points g.name) ≡ true = subst (λ (n : Bool). usable (points (cond n g.name g.id)) ≡ true) q (fit e v) in
-      subst (λ (k : NameKey). Key g (named_key k (micro d.latitude) (micro d.longitude) g.id)) (sym (names.keyed (points g.name) u)) (by_name e v (inl (q, refl)))
+      subst (λ (k : Result ℕ NameError). Key g (named_key k (micro d.latitude) (micro d.longitude) g.id)) (sym (names.keyed (points g.name) u)) (by_name e v (inl (q, refl)))
   by-texts false q e v =
       let u : usable (points g.id) ≡ true = subst (λ (n : Bool). usable (points (cond n g.name g.id)) ≡ true) q (fit e v) in
-      subst (λ (k : NameKey). Key g (named_key k (micro d.latitude) (micro d.longitude) g.id)) (sym (names.keyed (points g.id) u)) (by_name e v (inr (q, refl)))
+      subst (λ (k : Result ℕ NameError). Key g (named_key k (micro d.latitude) (micro d.longitude) g.id)) (sym (names.keyed (points g.id) u)) (by_name e v (inr (q, refl)))
 
-  abbrev called : NameKey
+  abbrev called : Result ℕ NameError
   called = shown_key g.input.named (shown g.input.named g.name) g.id
 
   by-position : (l : Bool) → g.input.located ≡ l → g.input.has_parent ≡ false → Key g (located_key (micro_of (position_of l d)) called g.id)

@@ -1,17 +1,17 @@
 -- What request 12 claims beside the demands.
+use Rattle.refusal.specs.declared.Accepted.TheVariants.{Taken}
+use Rattle.std.specs.Prelude.{None, Option, Some, Ok}
 use Prim.Native.Nat.{ℕ, ◌+◌, ◌-◌, ◌≤◌, min}
 use native.Mathlib.Omega.{arith}
 use mathlib.Core.Path.{◌≡◌, refl, sym, ap, subst, ◌∙◌}
 use mathlib.Core.Bool.{Bool, true, false, cond, true≢false}
-use mathlib.Core.Option.{none, some, none-ne-some, some-injective}
+use Rattle.laws.proofs.Options.{none-ne-some, some-injective}
 use mathlib.Core.List.{List}
 use lib.Dec.{leb}
 use lib.IntN.{pos}
 use borrow.Author.Tests.{leb-true, leb-false}
 use Rattle.laws.proofs.Bools.{cond-not, cond-by}
-use Rattle.refusal.specs.declared.Answer.{Answer}
-use Rattle.refusal.specs.declared.Answer.TheVariants.{Taken}
-use Rattle.refusal.specs.First.{is_taken}
+use Rattle.refusal.specs.First.{is_taken, Answer}
 use Rattle.profile.specs.declared.Journey.{Journey}
 use Rattle.profile.specs.Best.{bestℤ}
 use Rattle.profile.specs.Journeys.{journey_figures}
@@ -25,9 +25,6 @@ use Rattle.load.specs.declared.Load.{Load}
 use Rattle.load.specs.Steps.{Opening}
 use Rattle.load.specs.Sound.{Opens, Sound}
 use Rattle.best.specs.Best.{answer_of, best_spec, kept_of}
-use Rattle.best.specs.declared.Found.{Found}
-use Rattle.best.specs.declared.Found.TheVariants as found
-use Rattle.margin.specs.declared.Margin.TheVariants.{Is, Nothing}
 use Rattle.margin.specs.Stopped.{margin_from, margin_spec}
 use Rattle.search.specs.declared.Limited.{Limited}
 use Rattle.search.specs.Timetable.{timetable_of}
@@ -60,7 +57,7 @@ use Rattle.comparison.proofs.DemandLaws.{whole, ending, ends_so}
 -- ---- what it tells
 
 told : (o : Opening) (xs : List Step) (rs : List Answer) (v : State) (n : ℕ) → Opens o → Runs o.settings (fresh o.dates) xs rs v
-    → (limited_by o xs n).answer ≡ Taken → (os : List Journey) × Within (feed_of o.settings v) n os (limited_by o xs n).joins (limited_by o xs n).finished
+    → (limited_by o xs n).answer ≡ Ok Taken → (os : List Journey) × Within (feed_of o.settings v) n os (limited_by o xs n).joins (limited_by o xs n).finished
 unfolding finishes_in
 told o xs rs v n w run a =
     let l = end_of o xs in
@@ -74,12 +71,12 @@ told o xs rs v n w run a =
           (subst (λ (i : ℕ). Within (feed_of o.settings (ending o w xs)) n os i (finished_within n (timetable_of l))) (sym k.counts) f)),
     )
 
-full : (o : Opening) (xs : List Step) (n : ℕ) → (limited_by o xs n).answer ≡ Taken → (limited_by o xs n).finished ≡ true → search_spec (end_of o xs) ≡ record { answer = Taken; load = (limited_by o xs n).load }
+full : (o : Opening) (xs : List Step) (n : ℕ) → (limited_by o xs n).answer ≡ Ok Taken → (limited_by o xs n).finished ≡ true → search_spec (end_of o xs) ≡ record { answer = Ok Taken; load = (limited_by o xs n).load }
 full o xs n a f =
     let l = end_of o xs in
     sym (finished-is-search l n (taken-within l n (ap is_taken a)).one (sym (within-taken l n a).says ∙ f)) ∙ (λ i. record { answer = a i; load = (within_spec l n).load })
 
-stops : (o : Opening) (xs : List Step) (n : ℕ) → (limited_by o xs n).answer ≡ Taken → (limited_by o xs n).finished ≡ false → ((limited_by o xs n).load.stopped ≡ true) × ((limited_by o xs n).load.limit ≡ n)
+stops : (o : Opening) (xs : List Step) (n : ℕ) → (limited_by o xs n).answer ≡ Ok Taken → (limited_by o xs n).finished ≡ false → ((limited_by o xs n).load.stopped ≡ true) × ((limited_by o xs n).load.limit ≡ n)
 stops o xs n a f = let k = within-taken (end_of o xs) n a in (k.stops.1 f, k.holds ∙ cond-not _ _ (sym k.says ∙ f))
 
 -- a stopped load tested as many joins as its limit
@@ -92,10 +89,10 @@ tested-limit n l e = count-within n (timetable_of l) ∙ least (leb (all_joins (
     least false q = omega (arith, leb-false (all_joins (timetable_of l)) n q)
 
 afresh : (o : Opening) (xs : List Step) → (end_of o xs).stopped ≡ true
-    → within_spec (unsearched_of (end_of o xs)) (end_of o xs).limit ≡ record { answer = Taken; load = end_of o xs; joins = (end_of o xs).limit; finished = false }
+    → within_spec (unsearched_of (end_of o xs)) (end_of o xs).limit ≡ record { answer = Ok Taken; load = end_of o xs; joins = (end_of o xs).limit; finished = false }
 afresh o xs e =
     let k = own-stopped (end_of o xs) (end_kept o xs) e in
-    k.is ∙ (λ i. record { answer = Taken; load = end_of o xs; joins = tested-limit (end_of o xs).limit (end_of o xs) k.unfinished i; finished = false })
+    k.is ∙ (λ i. record { answer = Ok Taken; load = end_of o xs; joins = tested-limit (end_of o xs).limit (end_of o xs) k.unfinished i; finished = false })
 
 -- ---- second 0
 
@@ -103,7 +100,7 @@ at_zero : (l : Load) → Sound l → l.searched ≡ true → at_zero_of l ≡ be
 at_zero l s e = best-asks l s e (pos 0)
 
 -- what an accepted search within a limit found
-module _ (l : Load) (n : ℕ) (s : Sound l) (t : (within_spec l n).answer ≡ Taken) where
+module _ (l : Load) (n : ℕ) (s : Sound l) (t : (within_spec l n).answer ≡ Ok Taken) where
   w : FoundIn l n
   w = taken-within l n (ap is_taken t)
 
@@ -123,8 +120,8 @@ module _ (l : Load) (n : ℕ) (s : Sound l) (t : (within_spec l n).answer ≡ Ta
       at_zero (within_spec l n).load (within-sound l n s) (within-taken l n t).searched
       ∙ (λ i. bestℤ journey_figures ((ap kept_of (sym load_is) ∙ kept-is (finishes_in l n)) i) ((ap (λ (m : Load). m.horizon) (sym load_is) ∙ to_is (finishes_in l n)) i) (pos 0))
 
-larger : (o : Opening) (xs : List Step) (n m : ℕ) (j : Journey) → n ≤ m → (limited_by o xs n).answer ≡ Taken → (limited_by o xs m).answer ≡ Taken
-    → at_zero_of (limited_by o xs n).load ≡ some j → NoLater (limited_by o xs m).load j
+larger : (o : Opening) (xs : List Step) (n m : ℕ) (j : Journey) → n ≤ m → (limited_by o xs n).answer ≡ Ok Taken → (limited_by o xs m).answer ≡ Ok Taken
+    → at_zero_of (limited_by o xs n).load ≡ Some j → NoLater (limited_by o xs m).load j
 unfolding outcome_within
 larger o xs n m j h a b z =
     let l = end_of o xs in
@@ -145,29 +142,29 @@ earliest-end o w xs d m v =
     earliest-like o.settings (state_at (unsearched_of (end_of o xs)) gs) (apart gs) gs m (apart-like gs)
     (earliest-in o.settings (unsearched_of (end_of o xs)) (apart gs) ((whole o w xs).stands.done d) (opens o w) m v)
 
-margin-found : (l : Load) (j : Journey) → l.stopped ≡ true → at_zero_of l ≡ some j → margin_spec l ≡ Is (j.arrival - earliest (timetable_of l))
+margin-found : (l : Load) (j : Journey) → l.stopped ≡ true → at_zero_of l ≡ Some j → margin_spec l ≡ Some (j.arrival - earliest (timetable_of l))
 unfolding margin_spec margin_from
 margin-found l j e z = cond-by _ _ e ∙ go (best_spec l (pos 0)) z
   where
-    go : (f : Found) → answer_of f ≡ some j → margin_from (timetable_of l) f ≡ Is (j.arrival - earliest (timetable_of l))
-    go (found.Best k) q = ap (λ (i : Journey). Is (i.arrival - earliest (timetable_of l))) (some-injective k j q)
-    go found.Nothing q = absurd (none-ne-some j q)
+    go : (f : Option Journey) → answer_of f ≡ Some j → margin_from (timetable_of l) f ≡ Some (j.arrival - earliest (timetable_of l))
+    go (Some k) q = ap (λ (i : Journey). Some (i.arrival - earliest (timetable_of l))) (some-injective k j q)
+    go None q = absurd (none-ne-some j q)
 
-no_margin : (l : Load) → at_zero_of l ≡ none → margin_spec l ≡ Nothing
+no_margin : (l : Load) → at_zero_of l ≡ None → margin_spec l ≡ None
 unfolding margin_spec margin_from
 no_margin l z = go l.stopped (best_spec l (pos 0)) z
   where
-    go : (b : Bool) (f : Found) → answer_of f ≡ none → cond b (margin_from (timetable_of l) f) Nothing ≡ Nothing
-    go true (found.Best k) q = absurd (none-ne-some k (sym q))
-    go true found.Nothing q = refl
+    go : (b : Bool) (f : Option Journey) → answer_of f ≡ None → cond b (margin_from (timetable_of l) f) None ≡ None
+    go true (Some k) q = absurd (none-ne-some k (sym q))
+    go true None q = refl
     go false f q = refl
 
-no_margin_finished : (l : Load) → l.stopped ≡ false → margin_spec l ≡ Nothing
+no_margin_finished : (l : Load) → l.stopped ≡ false → margin_spec l ≡ None
 unfolding margin_spec
 no_margin_finished l e = cond-not _ _ e
 
 -- the load is the search of its own table within its limit
-module _ (l : Load) (k : Kept l) (e : l.stopped ≡ true) (j : Journey) (z : at_zero_of l ≡ some j) where
+module _ (l : Load) (k : Kept l) (e : l.stopped ≡ true) (j : Journey) (z : at_zero_of l ≡ Some j) where
   abbrev u : Load
   u = unsearched_of l
 
@@ -175,14 +172,14 @@ module _ (l : Load) (k : Kept l) (e : l.stopped ≡ true) (j : Journey) (z : at_
   unfolding timetable_of unsearched_of
   same-table = refl
 
-  zero-own : answer_at0 (outcome_within u l.limit) ≡ some j
+  zero-own : answer_at0 (outcome_within u l.limit) ≡ Some j
   zero-own = ap answer_at0 (outcome-is l k e) ∙ sym (at_zero l k.sound (k.sound.stopped_search e)) ∙ z
 
   after : limited.Earliest (timetable_of u) (earliest (timetable_of u)) × (earliest (timetable_of u) ≤ j.arrival)
   unfolding outcome_within
   after = answer-after-earliest l.limit (timetable_of u) u.table_horizon u.table_limits j zero-own
 
-  margin-own : margin_within l.limit (timetable_of u) u.table_horizon u.table_limits ≡ some (j.arrival - earliest (timetable_of u))
+  margin-own : margin_within l.limit (timetable_of u) u.table_horizon u.table_limits ≡ Some (j.arrival - earliest (timetable_of u))
   unfolding margin_within outcome_within finishes_in
   margin-own = cond-not _ _ (own-unfinished l k.sound (k.own (k.sound.stopped_search e)) e) ∙ ap (margin_of (timetable_of u)) zero-own
 
@@ -191,7 +188,7 @@ module _ (l : Load) (k : Kept l) (e : l.stopped ≡ true) (j : Journey) (z : at_
   few = k.sound.stopped_change e
 
   -- where the full search is accepted
-  finished-answer : (search_spec u).answer ≡ Taken → (w : NoLater (search_spec u).load j) × (j.arrival ≤ w.j'.arrival + (j.arrival - earliest (timetable_of u)))
+  finished-answer : (search_spec u).answer ≡ Ok Taken → (w : NoLater (search_spec u).load j) × (j.arrival ≤ w.j'.arrival + (j.arrival - earliest (timetable_of u)))
   unfolding outcome_within
   finished-answer t =
       let f = taken-searches u (ap is_taken t) in
@@ -204,7 +201,7 @@ module _ (l : Load) (k : Kept l) (e : l.stopped ≡ true) (j : Journey) (z : at_
       )
 
 margin : (o : Opening) (xs : List Step) (rs : List Answer) (v : State) (j : Journey) → Opens o → Runs o.settings (fresh o.dates) xs rs v
-    → (end_of o xs).stopped ≡ true → at_zero_of (end_of o xs) ≡ some j → MarginOf (feed_of o.settings v) (end_of o xs) j
+    → (end_of o xs).stopped ≡ true → at_zero_of (end_of o xs) ≡ Some j → MarginOf (feed_of o.settings v) (end_of o xs) j
 margin o xs rs v j w run e z =
     let l = end_of o xs in
     let k = end_kept o xs in
@@ -215,7 +212,7 @@ margin o xs rs v j w run e z =
       is_earliest = subst (λ (t : State). Earliest (feed_of o.settings t) (earliest (timetable_of (unsearched_of l)))) (ends_so o w xs rs v run)
           (earliest-end o w xs d (earliest (timetable_of (unsearched_of l))) (after l k e j z).0);
       no_earlier = (after l k e j z).1;
-      margin = margin-found l j e z ∙ ap (λ (t : Timetable). Is (j.arrival - earliest t)) (sym (same-table l k e j z));
+      margin = margin-found l j e z ∙ ap (λ (t : Timetable). Some (j.arrival - earliest t)) (sym (same-table l k e j z));
       finished = finished-answer l k e j z;
     }
 

@@ -1,4 +1,5 @@
 -- The starred instances, each by computation.
+use Rattle.std.specs.Prelude.{Some}
 use Prim.Native.Nat.{ℕ, ◌+◌, ◌≤◌}
 use mathlib.Core.Path.{◌≡◌, refl, sym, ap, subst, ◌∙◌}
 use mathlib.Core.List.Memᴰ
@@ -9,7 +10,6 @@ use mathlib.Core.Bool.{true, false, false≢true}
 use native.Mathlib.Omega.{arith}
 use Rattle.time.proofs.Times.{marked}
 use Rattle.calls.specs.declared.Call.{Call}
-use Rattle.calls.specs.declared.Seconds.TheVariants.{Given}
 use Rattle.calls.specs.Marked.{started, marked_call}
 use Rattle.profile.specs.declared.Journey.{Journey}
 use Rattle.profile.specs.Figures.{covᶠ, dueᶠ, lexb}
@@ -37,7 +37,7 @@ more-rides w v (inl l) = omega arith
 more-rides w v (inr (e, inl l)) = omega arith
 more-rides w v (inr (e, inr (q, l))) = omega arith
 
-given-same : (m n : ℕ) → Given m ≡ Given n → m ≡ n
+given-same : (m n : ℕ) → Some m ≡ Some n → m ≡ n
 given-same m n e = cc
 
 joins : JoinsAt 1180
@@ -118,7 +118,7 @@ searched-is a = ap ends (sym (search-is-fall journey_figures 21600 0 (offers a))
 gone-so : (c : Call) → Seen started 21600 (marked_call 990 999) c → ⊥
 gone-so c w = go w.d w.departs w.not_gone
   where
-    go : (d : ℕ) → Given 999 ≡ Given d → NotBelow (time started 0 d) → ⊥
+    go : (d : ℕ) → Some 999 ≡ Some d → NotBelow (time started 0 d) → ⊥
     go d e n = subst (λ (k : ℕ). NotBelow (time started 0 k)) (sym (given-same 999 d e)) n
 
 pub starred : Starred

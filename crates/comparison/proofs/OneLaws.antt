@@ -1,12 +1,13 @@
 -- The answers are a function of the list: a call fits in one way, a step leaves one state, and a list is answered in one way.
+use Rattle.refusal.specs.First.{Answer}
+use Rattle.std.specs.Prelude.{None, Option, Some}
 use Prim.Native.Nat.{ℕ, ◌-◌, ◌/◌}
 use mathlib.Core.Path.{◌≡◌, refl, sym, ap, subst, ◌∙◌}
 use mathlib.Core.Bool.{Bool}
-use mathlib.Core.Option.{Option, none, some, none-ne-some}
+use Rattle.laws.proofs.Options.{none-ne-some}
 use mathlib.Core.List.{List, ◌∷◌}
 use native.Mathlib.Omega.{arith}
 use lib.ListN.{length}
-use Rattle.refusal.specs.declared.Answer.{Answer}
 use Rattle.settings.specs.declared.Settings.{Settings}
 use Rattle.calls.specs.declared.CallInput.{CallInput}
 use Rattle.calls.specs.declared.Call.{Call}
@@ -54,8 +55,8 @@ one-fits s is i h l a b g k m n (cut v w q r z) (cut v' w' q' r' z') = one-fits 
 
 -- one search again
 abbrev limit_in : ℕ → Option ℕ → ℕ
-limit_in d none = d
-limit_in d (some n) = n
+limit_in d None = d
+limit_in d (Some n) = n
 
 pub one_again : (s : Settings) (t u v : State) → Again s t u → Again s t v → u ≡ v
 one_again s t _ _ (in_full e) (in_full q) = refl

@@ -1,12 +1,13 @@
 -- "What the list must hold is read over the calls of running services".
+use Rattle.refusal.specs.First.{Answer}
+use Rattle.std.specs.Prelude.{None, Some}
 use mathlib.Core.Path.{◌≡◌, refl, sym, ap, subst, ◌∙◌}
 use mathlib.Core.Bool.{Bool, true, false, cond}
-use mathlib.Core.Option.{none, some, none-ne-some}
+use Rattle.laws.proofs.Options.{none-ne-some}
 use mathlib.Core.List.Permᴰ
 use mathlib.Core.List.{List, Memᴰ}
 use Prim.Native.Nat.{ℕ, ◌≤◌}
 use Rattle.laws.proofs.Sort.{perm-mem}
-use Rattle.refusal.specs.declared.Answer.{Answer}
 use Rattle.settings.specs.declared.Settings.{Settings}
 use Rattle.calls.specs.declared.CallInput.{CallInput}
 use Rattle.week.specs.declared.Week.{Week}
@@ -52,16 +53,16 @@ dates-kept : (s : Settings) (t v : State) (xs : List Step) (rs : List Answer) �
 dates-kept s t _ _ _ end = refl
 dates-kept s t v _ _ (step {u = u} {x = x} {a = a} f g r) = dates-kept s u v _ _ r ∙ dates-after s t u x a g
 
-dated-so : (w : Week) (dates : List ℕ) → dates_of w ≡ some dates → w.dated ≡ true
+dated-so : (w : Week) (dates : List ℕ) → dates_of w ≡ Some dates → w.dated ≡ true
 dated-so w dates e = go w.dated refl e
   where
-    go : (b : Bool) → w.dated ≡ b → cond b (some w.dates) none ≡ some dates → w.dated ≡ true
+    go : (b : Bool) → w.dated ≡ b → cond b (Some w.dates) None ≡ Some dates → w.dated ≡ true
     go true d q = d
     go false d q = absurd (none-ne-some dates q)
 
 -- of a load that holds what was taken
 stands-runs : (q : Load) (v : State) → WeekHeld q.week v.taken → ((j : CallInput) → Memᴰ j (calls_in v.taken) → j.day ≤ 2) → CallsRun q v.taken → v.dates ≡ dates_of q.week
-    → (dates : List ℕ) → v.dates ≡ some dates → (name : List ℕ) (i : CallInput) → Memᴰ (call name i) v.taken → Running v name i.day
+    → (dates : List ℕ) → v.dates ≡ Some dates → (name : List ℕ) (i : CallInput) → Memᴰ (call name i) v.taken → Running v name i.day
 stands-runs q v w days r d dates e name i m =
     let dt = dated-so q.week dates (sym d ∙ e) in
     runs_by w v refl d name i.day dt (days i (call-in v.taken name i m)) (r dt name i m).1
@@ -74,11 +75,11 @@ apart-week s l fs w = (week-beside l.week fs (apart fs) (beside_back (apart-like
 pub only-running : OnlyRunning
 only-running s xs rs v o w dates e name i m =
     let q = ends_so s o xs rs v w in
-    let so : (ending s o xs).dates ≡ some dates = dates-kept s.settings (fresh s.dates) (ending s o xs) xs (answers_from (opened s) xs) (run s o xs) ∙ e in
+    let so : (ending s o xs).dates ≡ Some dates = dates-kept s.settings (fresh s.dates) (ending s o xs) xs (answers_from (opened s) xs) (run s o xs) ∙ e in
     subst (λ (t : State). Running t name i.day) q
     (go (end_of s xs).searched refl so (subst (λ (t : State). Memᴰ (call name i) t.taken) (sym q) m))
   where
-    go : (b : Bool) → (end_of s xs).searched ≡ b → (ending s o xs).dates ≡ some dates → Memᴰ (call name i) (ending s o xs).taken → Running (ending s o xs) name i.day
+    go : (b : Bool) → (end_of s xs).searched ≡ b → (ending s o xs).dates ≡ Some dates → Memᴰ (call name i) (ending s o xs).taken → Running (ending s o xs) name i.day
     go true d so k =
         let (h, ds) = apart-week s.settings (end_of s xs) (whole s o xs).taken ((whole s o xs).stands.done d) in
         stands-runs (end_of s xs) (ending s o xs) h ds (whole s o xs).stands.runs refl dates so name i k

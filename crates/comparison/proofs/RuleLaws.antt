@@ -1,4 +1,6 @@
 -- The program's change between two stops is the one stated here, where its sides are.
+use Rattle.std.specs.Option.{unwrap_or}
+use Rattle.std.specs.Prelude.{None, Option, Some}
 use Prim.Native.Nat.{ℕ, zero, suc, ◌+◌, ◌*◌, ◌≤◌, ◌<◌}
 use mathlib.Core.Path.{◌≡◌, refl, sym, ap, subst, ◌∙◌}
 use mathlib.Core.Logic.{◌⊎◌, inl, inr, ◌↔◌}
@@ -13,13 +15,8 @@ use Rattle.laws.proofs.Bools.{and-true, and-true-left, and-true-right, cond-by}
 use Rattle.laws.proofs.Order.{tri}
 use Rattle.rules.specs.declared.Rule.{Rule}
 use Rattle.rules.specs.declared.RuleInput.{RuleInput}
-use Rattle.rules.specs.declared.MinTime.{MinTime}
-use Rattle.rules.specs.declared.MinTime.TheVariants.{Given, Absent}
-use Rattle.rules.specs.Rules.{rule_of, seconds_of}
+use Rattle.rules.specs.Rules.{rule_of}
 use Rattle.transfer.specs.declared.Ends.{Ends}
-use Rattle.transfer.specs.declared.Chosen as picked
-use Rattle.transfer.specs.declared.Chosen.TheVariants.{By, Open}
-use Rattle.transfer.specs.declared.Change.TheVariants.{Takes, Never}
 use Rattle.transfer.specs.Choice.{side, applies, bit, rank, chosen}
 use Rattle.transfer.specs.Changes.{rule_seconds, rule_change, near, change_of}
 use Rattle.transfer.specs.Promises as promised
@@ -46,13 +43,13 @@ is-rank e r _ (neither p q) = sym ((rank_right e (rule_of r)).neither p q)
 
 -- ---- seconds
 
-seconds-is : (m : MinTime) → Seconds m (seconds_of m)
-seconds-is (Given n) = refl
-seconds-is Absent = refl
+seconds-is : (m : Option ℕ) → Seconds m (unwrap_or m 0)
+seconds-is (Some n) = refl
+seconds-is None = refl
 
-is-seconds : (m : MinTime) (v : ℕ) → Seconds m v → v ≡ seconds_of m
-is-seconds (Given n) v w = w
-is-seconds Absent v w = w
+is-seconds : (m : Option ℕ) (v : ℕ) → Seconds m v → v ≡ unwrap_or m 0
+is-seconds (Some n) v w = w
+is-seconds None v w = w
 
 most-is : (a b : ℕ) → Larger a b (most a b)
 most-is a b = go (leb a b) refl
@@ -72,10 +69,10 @@ is-most a b n w = go w (most-is a b)
 
 -- ---- what a rule gives
 
-takes_same : (m n : ℕ) → Takes m ≡ Takes n → m ≡ n
+takes_same : (m n : ℕ) → Some m ≡ Some n → m ≡ n
 takes_same m n q = cc
 
-never-takes : (n : ℕ) → Never ≡ Takes n → ⊥
+never-takes : (n : ℕ) → None ≡ Some n → ⊥
 never-takes n q = let z : ◌≡◌ {A = ℕ} 0 1 = cc in omega arith
 
 -- the types that are none of the others
@@ -86,14 +83,14 @@ only_one (suc (suc zero)) few a b c = absurd (b refl)
 only_one (suc (suc (suc zero))) few a b c = absurd (c refl)
 only_one (suc (suc (suc (suc t)))) few a b c = absurd (omega arith)
 
-by-type : (r : RuleInput) (change t : ℕ) → r.transfer_type ≡ t → rule_change (rule_of r) change ≡ cond (eqb t 3) Never (Takes (cond (eqb t 2) (most (seconds_of r.seconds) change) change))
-by-type r change t q = ap (λ (k : ℕ). cond (eqb k 3) Never (Takes (cond (eqb k 2) (most (seconds_of r.seconds) change) change))) q
+by-type : (r : RuleInput) (change t : ℕ) → r.transfer_type ≡ t → rule_change (rule_of r) change ≡ cond (eqb t 3) None (Some (cond (eqb t 2) (most (unwrap_or r.seconds 0) change) change))
+by-type r change t q = ap (λ (k : ℕ). cond (eqb k 3) None (Some (cond (eqb k 2) (most (unwrap_or r.seconds 0) change) change))) q
 
-gives-in : (r : RuleInput) (change n : ℕ) → r.transfer_type ≤ 3 → rule_change (rule_of r) change ≡ Takes n → Gives change r n
+gives-in : (r : RuleInput) (change n : ℕ) → r.transfer_type ≤ 3 → rule_change (rule_of r) change ≡ Some n → Gives change r n
 gives-in r change n few t = three (eqb r.transfer_type 3) refl t
   where
-    two : (r.transfer_type ≡ 3 → ⊥) → (b : Bool) → eqb r.transfer_type 2 ≡ b → cond b (most (seconds_of r.seconds) change) change ≡ n → Gives change r n
-    two k true p x = type_two (eqb-true _ _ p) (seconds_of r.seconds) (seconds-is r.seconds) (subst (Larger (seconds_of r.seconds) change) x (most-is (seconds_of r.seconds) change))
+    two : (r.transfer_type ≡ 3 → ⊥) → (b : Bool) → eqb r.transfer_type 2 ≡ b → cond b (most (unwrap_or r.seconds 0) change) change ≡ n → Gives change r n
+    two k true p x = type_two (eqb-true _ _ p) (unwrap_or r.seconds 0) (seconds-is r.seconds) (subst (Larger (unwrap_or r.seconds 0) change) x (most-is (unwrap_or r.seconds 0) change))
     two k false p x = one (eqb r.transfer_type 0) refl
       where
         one : (b : Bool) → eqb r.transfer_type 0 ≡ b → Gives change r n
@@ -103,15 +100,15 @@ gives-in r change n few t = three (eqb r.transfer_type 3) refl t
             let b : r.transfer_type ≡ 0 → ⊥ = eqb-false _ _ q in
             type_one (only_one r.transfer_type few b a k) (sym x)
 
-    three : (b : Bool) → eqb r.transfer_type 3 ≡ b → cond b Never (Takes (rule_seconds (rule_of r) change)) ≡ Takes n → Gives change r n
+    three : (b : Bool) → eqb r.transfer_type 3 ≡ b → cond b None (Some (rule_seconds (rule_of r) change)) ≡ Some n → Gives change r n
     three true p x = absurd (never-takes n x)
     three false p x = two (eqb-false _ _ p) (eqb r.transfer_type 2) refl (takes_same _ n x)
 
-gives-out : (r : RuleInput) (change n : ℕ) → Gives change r n → rule_change (rule_of r) change ≡ Takes n
-gives-out r change n (type_zero t q) = by-type r change 0 t ∙ ap Takes (sym q)
-gives-out r change n (type_one t q) = by-type r change 1 t ∙ ap Takes (sym q)
+gives-out : (r : RuleInput) (change n : ℕ) → Gives change r n → rule_change (rule_of r) change ≡ Some n
+gives-out r change n (type_zero t q) = by-type r change 0 t ∙ ap Some (sym q)
+gives-out r change n (type_one t q) = by-type r change 1 t ∙ ap Some (sym q)
 gives-out r change n (type_two t g s l) =
-    by-type r change 2 t ∙ ap Takes (sym (is-most g change n l ∙ ap (λ (k : ℕ). most k change) (is-seconds r.seconds g s)))
+    by-type r change 2 t ∙ ap Some (sym (is-most g change n l ∙ ap (λ (k : ℕ). most k change) (is-seconds r.seconds g s)))
 
 -- ---- the rule that is chosen
 
@@ -163,20 +160,20 @@ module _ (F : Feed) (e : Ends) (known : Taken F.rules)
       below e₁ e₂ l e₃ n = omega arith
 
   -- and there is no other
-  told-best : (r : RuleInput) → Chosen F e.from e.to r → (c : picked.Chosen) → promised.Right e (map rule_of F.rules) c → c ≡ By (rule_of r)
-  told-best r w Open v = absurd (true≢false (sym (applies-out r w.taken w.applies) ∙ v (rule_of r) (Memᴰ.map rule_of w.taken)))
-  told-best r w (By q) v = go (best-told q v)
+  told-best : (r : RuleInput) → Chosen F e.from e.to r → (c : Option Rule) → promised.Right e (map rule_of F.rules) c → c ≡ Some (rule_of r)
+  told-best r w None v = absurd (true≢false (sym (applies-out r w.taken w.applies) ∙ v (rule_of r) (Memᴰ.map rule_of w.taken)))
+  told-best r w (Some q) v = go (best-told q v)
     where
-      go : Told q → By q ≡ By (rule_of r)
+      go : Told q → Some q ≡ Some (rule_of r)
       go t = two (tri (rank e (rule_of r)) (rank e (rule_of t.by)))
         where
           same : t.by ≡ r → rank e (rule_of t.by) ≡ rank e (rule_of r)
           same z = ap (λ (x : RuleInput). rank e (rule_of x)) z
 
-          two : (rank e (rule_of r) < rank e (rule_of t.by)) ⊎ ((rank e (rule_of r) ≡ rank e (rule_of t.by)) ⊎ (rank e (rule_of t.by) < rank e (rule_of r))) → By q ≡ By (rule_of r)
+          two : (rank e (rule_of r) < rank e (rule_of t.by)) ⊎ ((rank e (rule_of r) ≡ rank e (rule_of t.by)) ⊎ (rank e (rule_of t.by) < rank e (rule_of r))) → Some q ≡ Some (rule_of r)
           two (inl l) =
               absurd (omega (arith, w.highest t.by (rank e (rule_of t.by)) (rank e (rule_of r)) t.chosen.taken t.chosen.applies (λ z. omega (arith, same z)) (rank_is e t.by) (rank_is e r)))
-          two (inr (inl z)) = ap By (sym t.is ∙ ap rule_of (sym (one-rule r t.by w.taken t.chosen.taken w.applies t.chosen.applies z)))
+          two (inr (inl z)) = ap Some (sym t.is ∙ ap rule_of (sym (one-rule r t.by w.taken t.chosen.taken w.applies t.chosen.applies z)))
           two (inr (inr l)) =
               absurd (omega (arith, t.chosen.highest r (rank e (rule_of r)) (rank e (rule_of t.by)) w.taken w.applies (λ z. omega (arith, same (sym z))) (rank_is e r) (rank_is e t.by)))
 
@@ -189,7 +186,7 @@ module _ (F : Feed) (e : Ends) (known : Taken F.rules)
     abbrev change : ℕ
     change = F.settings.transfer_seconds
 
-    rule-in : (q : Rule) (n : ℕ) → promised.Best e (map rule_of F.rules) q → change_of (By q) close change ≡ Takes n → ByRule F e.from e.to n
+    rule-in : (q : Rule) (n : ℕ) → promised.Best e (map rule_of F.rules) q → change_of (Some q) close change ≡ Some n → ByRule F e.from e.to n
     rule-in q n w t = go (best-told q w)
       where
         go : Told q → ByRule F e.from e.to n
@@ -199,14 +196,14 @@ module _ (F : Feed) (e : Ends) (known : Taken F.rules)
           gives = gives-in v.by change n (known.types v.by v.chosen.taken) (ap (λ (r : Rule). rule_change r change) v.is ∙ t);
         }
 
-    pub change-in : (n : ℕ) → change_of (chosen e (map rule_of F.rules)) close change ≡ Takes n → Change F e.from e.to n
+    pub change-in : (n : ℕ) → change_of (chosen e (map rule_of F.rules)) close change ≡ Some n → Change F e.from e.to n
     change-in n t = go (chosen e (map rule_of F.rules)) (chosen-right e (map rule_of F.rules)) t
       where
-        go : (c : picked.Chosen) → promised.Right e (map rule_of F.rules) c → change_of c close change ≡ Takes n → Change F e.from e.to n
-        go (By q) w x = inl (rule-in q n w x)
-        go Open w x = two close refl x
+        go : (c : Option Rule) → promised.Right e (map rule_of F.rules) c → change_of c close change ≡ Some n → Change F e.from e.to n
+        go (Some q) w x = inl (rule-in q n w x)
+        go None w x = two close refl x
           where
-            two : (b : Bool) → close ≡ b → cond b (Takes change) Never ≡ Takes n → Change F e.from e.to n
+            two : (b : Bool) → close ≡ b → cond b (Some change) None ≡ Some n → Change F e.from e.to n
             two true p y = inr (record {
               no_rule = λ r m a. true≢false (sym (applies-out r m a) ∙ w (rule_of r) (Memᴰ.map rule_of m));
               near = nears.0 p;
@@ -214,15 +211,15 @@ module _ (F : Feed) (e : Ends) (known : Taken F.rules)
             })
             two false p y = absurd (never-takes n y)
 
-    pub change-out : (n : ℕ) → Change F e.from e.to n → change_of (chosen e (map rule_of F.rules)) close change ≡ Takes n
+    pub change-out : (n : ℕ) → Change F e.from e.to n → change_of (chosen e (map rule_of F.rules)) close change ≡ Some n
     change-out n (inl w) =
-        let c : chosen e (map rule_of F.rules) ≡ By (rule_of w.by) = told-best w.by w.chosen _ (chosen-right e (map rule_of F.rules)) in
-        ap (λ (x : picked.Chosen). change_of x close change) c ∙ gives-out w.by change n w.gives
+        let c : chosen e (map rule_of F.rules) ≡ Some (rule_of w.by) = told-best w.by w.chosen _ (chosen-right e (map rule_of F.rules)) in
+        ap (λ (x : Option Rule). change_of x close change) c ∙ gives-out w.by change n w.gives
     change-out n (inr w) = go (chosen e (map rule_of F.rules)) (chosen-right e (map rule_of F.rules))
       where
-        go : (c : picked.Chosen) → promised.Right e (map rule_of F.rules) c → change_of c close change ≡ Takes n
-        go Open v = cond-by (Takes change) Never (nears.1 w.near) ∙ ap Takes (sym w.takes)
-        go (By q) v = two (best-told q v)
+        go : (c : Option Rule) → promised.Right e (map rule_of F.rules) c → change_of c close change ≡ Some n
+        go None v = cond-by (Some change) None (nears.1 w.near) ∙ ap Some (sym w.takes)
+        go (Some q) v = two (best-told q v)
           where
-            two : Told q → change_of (By q) close change ≡ Takes n
+            two : Told q → change_of (Some q) close change ≡ Some n
             two t = absurd (w.no_rule t.by t.chosen.taken t.chosen.applies)

@@ -1,18 +1,17 @@
 -- Each step of a list is answered for the first of its causes, and the load holds what its answers say was taken.
+use Rattle.refusal.specs.declared.Accepted.TheVariants.{Taken, Outside}
+use Rattle.std.specs.Prelude.{None, Option, Some, Err, Ok}
 use mathlib.Core.Path.{◌≡◌, refl, sym, ap, subst, ◌∙◌}
 use mathlib.Core.Bool.{Bool, true, false, cond, true≢false}
 use mathlib.Core.Logic.{inl}
 use mathlib.Core.List.Memᴰ
 use mathlib.Core.List.Permᴰ
 use mathlib.Core.List.{List, [], ◌∷◌, ◌++◌, append-nil, Memᴰ}
-use mathlib.Core.Option.{Option, none, some}
 use Prim.Native.Nat.{ℕ, ◌+◌, ◌≤◌}
 use native.Mathlib.Omega.{arith}
 use lib.ListN.{set}
-use Rattle.refusal.specs.declared.Answer.{Answer}
-use Rattle.refusal.specs.declared.Answer.TheVariants.{Taken, Outside, Refused}
 use Rattle.refusal.specs.declared.Refusal.TheVariants.{AlreadySearched}
-use Rattle.refusal.specs.First.{first_answer, is_taken, is_refused}
+use Rattle.refusal.specs.First.{first_answer, is_taken, is_refused, Answer}
 use Rattle.refusal.proofs.FirstLaws.{first-is-answer}
 use Rattle.settings.specs.declared.Settings.{Settings}
 use Rattle.stops.specs.declared.StopInput.{StopInput}
@@ -74,28 +73,28 @@ abbrev Refuse : List (Bool × Answer) → Type 0
 Refuse [] = Unit {0}
 Refuse (t ∷ ts) = (is_refused t.1 ≡ true) × Refuse ts
 
-never-outside : (ts : List (Bool × Answer)) → Refuse ts → first_answer ts ≡ Outside → ⊥
+never-outside : (ts : List (Bool × Answer)) → Refuse ts → first_answer ts ≡ Ok Outside → ⊥
 unfolding first_answer
 never-outside [] w e = let z : ◌≡◌ {A = ℕ} 0 1 = cc in omega arith
 never-outside (t ∷ ts) w e = go t.0 e (never-outside ts w.1)
   where
-    go : (b : Bool) → cond b t.1 (first_answer ts) ≡ Outside → (first_answer ts ≡ Outside → ⊥) → ⊥
+    go : (b : Bool) → cond b t.1 (first_answer ts) ≡ Ok Outside → (first_answer ts ≡ Ok Outside → ⊥) → ⊥
     go true q ih = true≢false (sym w.0 ∙ ap is_refused q)
     go false q ih = ih q
 
-stop-outside : (l : Load) (id name parent : List ℕ) (i : StopInput) → stop_answer l id name parent i ≡ Outside → ⊥
+stop-outside : (l : Load) (id name parent : List ℕ) (i : StopInput) → stop_answer l id name parent i ≡ Ok Outside → ⊥
 unfolding stop_tests
 stop-outside l id name parent i e = never-outside _ (refl, (refl, (refl, (refl, (refl, (refl, (refl, tt))))))) e
 
-rule-outside : (l : Load) (i : RuleInput) → rule_answer l i ≡ Outside → ⊥
+rule-outside : (l : Load) (i : RuleInput) → rule_answer l i ≡ Ok Outside → ⊥
 unfolding rule_tests
 rule-outside l i e = never-outside _ (refl, (refl, (refl, (refl, (refl, tt))))) e
 
-service-outside : (l : Load) (name : List ℕ) (start to : ℕ) → service_answer l.week l.searched name start to ≡ Outside → ⊥
+service-outside : (l : Load) (name : List ℕ) (start to : ℕ) → service_answer l.week l.searched name start to ≡ Ok Outside → ⊥
 unfolding service_tests
 service-outside l name start to e = never-outside _ (refl, (refl, (refl, (refl, (refl, tt))))) e
 
-exception-outside : (l : Load) (name : List ℕ) (date kind : ℕ) → exception_answer l.week l.searched name date kind ≡ Outside → ⊥
+exception-outside : (l : Load) (name : List ℕ) (date kind : ℕ) → exception_answer l.week l.searched name date kind ≡ Ok Outside → ⊥
 unfolding exception_tests
 exception-outside l name date kind e = never-outside _ (refl, (refl, (refl, tt))) e
 
@@ -139,7 +138,7 @@ module _ (s : Settings) (o : Opened s) (l : Load) (fs : List Filling) (w : Start
   same x a m v = subst (λ (gs : List Filling). After s t x a (state_at m gs)) (sym (append-nil fs)) v
 
   -- an unsearched load has no limit
-  unlimited : limit_of l ≡ none
+  unlimited : limit_of l ≡ None
   unlimited = no_limit l w.sound w.fresh
 
   call-after : (name : List ℕ) (i : CallInput) (r : Stepped) → Comes s l fs name i r → After s t (filling (call name i)) r.answer (state_at r.load (fs ++ cond (is_taken r.answer) (call name i ∷ []) []))
@@ -150,12 +149,12 @@ module _ (s : Settings) (o : Opened s) (l : Load) (fs : List Filling) (w : Start
       at a gs v = λ k. record { taken = gs; horizon = n.table_horizon; limits = n.table_limits; searched = v.searched k; stopped = v.limit k; dates = v.dates k; closed = v.closed k }
 
       go : (a : Answer) → Came s l fs name i a n → After s (state_at l fs) (filling (call name i)) a (state_at n (fs ++ cond (is_taken a) (call name i ∷ []) []))
-      go Taken v = subst (After s (state_at l fs) (filling (call name i)) Taken) (sym (at Taken (fs ++ call name i ∷ []) v)) (a_call v.fits (in_full unlimited))
-      go Outside v = same (filling (call name i)) Outside n (subst (After s (state_at l fs) (filling (call name i)) Outside) (sym (at Outside fs v))
+      go (Ok Taken) v = subst (After s (state_at l fs) (filling (call name i)) (Ok Taken)) (sym (at (Ok Taken) (fs ++ call name i ∷ []) v)) (a_call v.fits (in_full unlimited))
+      go (Ok Outside) v = same (filling (call name i)) (Ok Outside) n (subst (After s (state_at l fs) (filling (call name i)) (Ok Outside)) (sym (at (Ok Outside) fs v))
           (outside (awake-so l.week fs w.held.week (state_at l fs) refl refl name i v.runs v.day) v.fits (in_full unlimited)))
-      go (Refused r) v = absurd (true≢false v.answered)
-  call-after name i _ (rested v h) = same (filling (call name i)) Outside (closed_load l) (resting (rests-so l.week fs w.held.week (state_at l fs) refl refl name i v h))
-  call-after name i _ (back {r = r}) = same (filling (call name i)) (Refused r) l sent_back
+      go (Err r) v = absurd (true≢false v.answered)
+  call-after name i _ (rested v h) = same (filling (call name i)) (Ok Outside) (closed_load l) (resting (rests-so l.week fs w.held.week (state_at l fs) refl refl name i v h))
+  call-after name i _ (back {r = r}) = same (filling (call name i)) (Err r) l sent_back
 
   fill-after : (x : Filling) → After s t (filling x) (filled l x).answer (state_at (filled l x).load (fs ++ given l x))
   unfolding stop_spec rule_spec service_spec service_on exception_spec exception_on
@@ -163,31 +162,31 @@ module _ (s : Settings) (o : Opened s) (l : Load) (fs : List Filling) (w : Start
     where
       go : (a : Answer) → stop_answer l id name parent i ≡ a → After s (state_at l fs) (filling (stop id name parent i)) a
           (state_at (cond (is_taken a) (with_stops l (set l.stops l.stop_count (stop_of id name (station_in l parent i) i)) (l.stop_count + 1)) l) (fs ++ cond (is_taken a) (stop id name parent i ∷ []) []))
-      go Taken e = a_stop
-      go Outside e = absurd (stop-outside l id name parent i e)
-      go (Refused r) e = same (filling (stop id name parent i)) (Refused r) l sent_back
+      go (Ok Taken) e = a_stop
+      go (Ok Outside) e = absurd (stop-outside l id name parent i e)
+      go (Err r) e = same (filling (stop id name parent i)) (Err r) l sent_back
   fill-after (rule i) = go (rule_answer l i) refl
     where
       go : (a : Answer) → rule_answer l i ≡ a → After s (state_at l fs) (filling (rule i)) a
           (state_at (cond (is_taken a) (with_rules l (set l.rules l.rule_count (rule_of i)) (l.rule_count + 1)) l) (fs ++ cond (is_taken a) (rule i ∷ []) []))
-      go Taken e = a_rule
-      go Outside e = absurd (rule-outside l i e)
-      go (Refused r) e = same (filling (rule i)) (Refused r) l sent_back
+      go (Ok Taken) e = a_rule
+      go (Ok Outside) e = absurd (rule-outside l i e)
+      go (Err r) e = same (filling (rule i)) (Err r) l sent_back
   fill-after (call name i) = call-after name i (call_spec l name i) (comes s o l fs w name i)
   fill-after (service name weekdays start to) = go (service_answer l.week l.searched name start to) refl
     where
       go : (a : Answer) → service_answer l.week l.searched name start to ≡ a → After s (state_at l fs) (filling (service name weekdays start to)) a
           (state_at (with_week l (cond (is_taken a) (with_services l.week (set l.week.services l.week.service_count (service_of name weekdays start to)) (l.week.service_count + 1)) l.week)) (fs ++ cond (is_taken a) (service name weekdays start to ∷ []) []))
-      go Taken e = a_service
-      go Outside e = absurd (service-outside l name start to e)
-      go (Refused r) e = same (filling (service name weekdays start to)) (Refused r) l sent_back
+      go (Ok Taken) e = a_service
+      go (Ok Outside) e = absurd (service-outside l name start to e)
+      go (Err r) e = same (filling (service name weekdays start to)) (Err r) l sent_back
   fill-after (exception name date kind) = go (exception_answer l.week l.searched name date kind) refl
     where
       go : (a : Answer) → exception_answer l.week l.searched name date kind ≡ a → After s (state_at l fs) (filling (exception name date kind)) a
           (state_at (with_week l (cond (is_taken a) (with_services l.week (set l.week.services (place_in l.week name) (excepted_of (service_in l.week name) (days_on l.week.dates date) kind)) l.week.service_count) l.week)) (fs ++ cond (is_taken a) (exception name date kind ∷ []) []))
-      go Taken e = an_exception
-      go Outside e = absurd (exception-outside l name date kind e)
-      go (Refused r) e = same (filling (exception name date kind)) (Refused r) l sent_back
+      go (Ok Taken) e = an_exception
+      go (Ok Outside) e = absurd (exception-outside l name date kind e)
+      go (Err r) e = same (filling (exception name date kind)) (Err r) l sent_back
 
   -- a call is what it is before a search
   call_same : (name : List ℕ) (i : CallInput) → add_spec_of l name i ≡ call_spec l name i
@@ -231,7 +230,7 @@ module _ (s : Settings) (o : Opened s) (l : Load) (fs : List Filling) (w : Start
 
 -- ---- a load that is searched: a call and a withdrawal have it searched again, and every other step is sent back with 15
 
-answered-15 : (l : Load) (x : Filling) → l.searched ≡ true → ((name : List ℕ) (i : CallInput) → x ≡ call name i → ⊥) → (stepped l (filling x)).answer ≡ Refused AlreadySearched
+answered-15 : (l : Load) (x : Filling) → l.searched ≡ true → ((name : List ℕ) (i : CallInput) → x ≡ call name i → ⊥) → (stepped l (filling x)).answer ≡ Err AlreadySearched
 unfolding stop_tests rule_tests service_tests exception_tests
 answered-15 l (stop id name parent i) e f = first_holds (step-answered l (filling (stop id name parent i))).first e
 answered-15 l (call name i) e f = absurd (f name i refl)
@@ -255,12 +254,12 @@ module _ (s : Settings) (o : Opened s) (l : Load) (fs : List Filling) (v : Stand
   left_step x f q = record { first = f; after = q.after; new = λ d. absurd (true≢false (sym q.searched ∙ d)); done = λ d. q.start }
 
   -- sent back with 15
-  back_step : (x : Filling) → First (Refused AlreadySearched) (causes_of s (state_at l fs) (filling x)) → stepped l (filling x) ≡ filled l x → (stepped l (filling x)).answer ≡ Refused AlreadySearched → Stepping s l fs (filling x)
+  back_step : (x : Filling) → First (Err AlreadySearched) (causes_of s (state_at l fs) (filling x)) → stepped l (filling x) ≡ filled l x → (stepped l (filling x)).answer ≡ Err AlreadySearched → Stepping s l fs (filling x)
   back_step x f q a =
       left_step (filling x) (subst (λ (y : Answer). First y (causes_of s (state_at l fs) (filling x))) (sym a) f)
       (subst (λ (m : Load). Leaves s l fs (filling x) (stepped l (filling x)).answer m (fs ++ cond (is_taken (stepped l (filling x)).answer) (x ∷ []) [])) (sym (ap (λ (r : Stepped). r.load) q ∙ filled-stays l x e))
       (subst (λ (y : Answer). Leaves s l fs (filling x) y l (fs ++ cond (is_taken y) (x ∷ []) [])) (sym a)
-      (same-leaves s l fs (filling x) (Refused AlreadySearched) l (stays-so s l fs (filling x) AlreadySearched e w))))
+      (same-leaves s l fs (filling x) (Err AlreadySearched) l (stays-so s l fs (filling x) AlreadySearched e w))))
 
   done-step : (x : Step) → Stepping s l fs x
   done-step (filling (stop id name parent i)) = back_step (stop id name parent i) (inl (e, refl)) refl (answered-15 l (stop id name parent i) e (λ n j q. let z : ◌≡◌ {A = ℕ} 0 1 = cc in omega arith))
@@ -273,12 +272,12 @@ module _ (s : Settings) (o : Opened s) (l : Load) (fs : List Filling) (v : Stand
       back_step (exception name date kind) (inl (inl e, refl)) refl (answered-15 l (exception name date kind) e (λ n j q. let z : ◌≡◌ {A = ℕ} 0 1 = cc in omega arith))
   done-step (withdraw k) = left_step (withdraw k) (by-matches s l fs (withdraw k) (withdrawn-match s o l fs e v.kept w days few k)) (withdrawn-leaves-so s o l fs e v.kept w days few k)
   done-step search =
-      let a : (search_spec l).answer ≡ Refused AlreadySearched = first_holds (step-answered l search).first e in
+      let a : (search_spec l).answer ≡ Err AlreadySearched = first_holds (step-answered l search).first e in
       left_step search (inl (e, a))
       (subst (λ (m : Load). Leaves s l fs search (search_spec l).answer m fs) (sym (search-stays l e))
       (subst (λ (y : Answer). Leaves s l fs search y l fs) (sym a) (stays-so s l fs search AlreadySearched e w)))
   done-step (limited n) =
-      let a : (within_spec l n).answer ≡ Refused AlreadySearched = first_holds (step-answered l (limited n)).first e in
+      let a : (within_spec l n).answer ≡ Err AlreadySearched = first_holds (step-answered l (limited n)).first e in
       left_step (limited n) (inl (e, a))
       (subst (λ (m : Load). Leaves s l fs (limited n) (within_spec l n).answer m fs) (sym (ap (λ (r : Limited). r.load) (within-again l n e)))
       (subst (λ (y : Answer). Leaves s l fs (limited n) y l fs) (sym a) (stays-so s l fs (limited n) AlreadySearched e w)))
@@ -318,5 +317,5 @@ unfolding empty_of undated_week dated_week
 opened-state o = go o.dates
   where
     go : (d : Option (List ℕ)) → state_at (opened (record { settings = o.settings; dates = d })) [] ≡ fresh d
-    go none = refl
-    go (some dates) = refl
+    go None = refl
+    go (Some dates) = refl

@@ -1,4 +1,6 @@
 -- Each call that a dated load took is of a service that runs, and stays so: after it no service and no exception is taken.
+use Rattle.refusal.specs.declared.Accepted.TheVariants.{Taken}
+use Rattle.std.specs.Prelude.{Ok}
 use Prim.Native.Nat.{ℕ}
 use mathlib.Core.Path.{◌≡◌, refl, sym, ap, subst, ◌∙◌}
 use mathlib.Core.Logic.{◌⊎◌, inl, inr}
@@ -6,7 +8,6 @@ use mathlib.Core.Bool.{Bool, true, false, cond, true≢false}
 use mathlib.Core.List.Memᴰ
 use mathlib.Core.List.{List, [], ◌∷◌, ◌++◌, append-nil, Memᴰ}
 use native.Mathlib.Omega.{arith}
-use Rattle.refusal.specs.declared.Answer.TheVariants.{Taken}
 use Rattle.refusal.specs.First.{is_taken, is_refused}
 use Rattle.refusal.proofs.FirstLaws.{taken_is}
 use Rattle.calls.specs.declared.CallInput.{CallInput}
@@ -56,7 +57,7 @@ not-resting Runs u e = refl
 call-goes : (l : Load) (name : List ℕ) (i : CallInput) → l.week.dated ≡ true → is_taken (add_spec_of l name i).answer ≡ true → Goes name i (add_spec_of l name i).load.week
 unfolding running
 call-goes l name i d t =
-    let a : (add_spec_of l name i).answer ≡ Taken = taken_is (add_spec_of l name i).answer t in
+    let a : (add_spec_of l name i).answer ≡ (Ok Taken) = taken_is (add_spec_of l name i).answer t in
     let f = (step-answered l (filling (call name i))).taken a in
     let r : running l.week name i.day ≡ Runs = not-resting (running l.week name i.day) f.1.0 f.1.1.0 in
     (add-closes l name i d (ap is_refused a), add-week l name i (λ w. running w name i.day ≡ Runs) r r)

@@ -1,14 +1,13 @@
 -- A search of a load that is not searched, in full or within a limit: what it leaves holds what was taken.
+use Rattle.refusal.specs.declared.Accepted.TheVariants.{Taken}
+use Rattle.std.specs.Prelude.{None, Option, Err, Ok}
 use Prim.Native.Nat.{ℕ, ◌≤◌}
 use mathlib.Core.Path.{◌≡◌, refl, sym, ap, subst, ◌∙◌}
 use mathlib.Core.Bool.{Bool, true, false, true≢false}
-use mathlib.Core.Option.{Option, none}
 use mathlib.Core.List.{List}
-use Rattle.refusal.specs.declared.Answer.{Answer}
-use Rattle.refusal.specs.declared.Answer.TheVariants.{Taken, Refused}
 use Rattle.refusal.specs.declared.Refusal.{Refusal}
 use Rattle.refusal.specs.declared.Refusal.TheVariants.{SettingsRange, AlreadySearched, Neighbours, NoRoom}
-use Rattle.refusal.specs.First.{is_taken}
+use Rattle.refusal.specs.First.{is_taken, Answer}
 use Rattle.settings.specs.declared.Settings.{Settings}
 use Rattle.offers.specs.Admitted.{Clear}
 use Rattle.offers.specs.Search.{Outcome, clashing, falling, found}
@@ -47,13 +46,13 @@ module _ (s : Settings) (o : Opened s) (l : Load) (fs : List Filling) (w : Start
   Found x r = Searching s l fs x r.answer r.load
 
   -- sent back
-  back : (x : Step) (r : Refusal) → Searching s l fs x (Refused r) l
+  back : (x : Step) (r : Refusal) → Searching s l fs x (Err r) l
   back x r = record { after = sent_back; new = λ d. w; done = λ d. absurd (true≢false (sym d ∙ w.fresh)) }
 
   -- taken
-  taken : (x : Step) (b : Bool) (n : ℕ) (e : is_taken (researched b n l).answer ≡ true) → After s t x Taken (done (limit_of (researched b n l).load) t) → Found x (researched b n l)
+  taken : (x : Step) (b : Bool) (n : ℕ) (e : is_taken (researched b n l).answer ≡ true) → After s t x (Ok Taken) (done (limit_of (researched b n l).load) t) → Found x (researched b n l)
   taken x b n e v = record {
-    after = subst (λ (r : Stepped). After s t x r.answer (state_at (researched b n l).load fs)) (sym (taken-researched b n l e).is) (subst (After s t x Taken) (sym (found-state b n l e fs)) v);
+    after = subst (λ (r : Stepped). After s t x r.answer (state_at (researched b n l).load fs)) (sym (taken-researched b n l e).is) (subst (After s t x (Ok Taken)) (sym (found-state b n l e fs)) v);
     new = λ d. absurd (true≢false (sym (found-searched b n l e) ∙ d));
     done = λ d. searched-start s l fs fs w (beside_same fs) w.held.days refl b n e;
   }
@@ -61,13 +60,13 @@ module _ (s : Settings) (o : Opened s) (l : Load) (fs : List Filling) (w : Start
   pub search-so : Searching s l fs search (search_spec l).answer (search_spec l).load
   search-so = subst (Found search) (researched-full false 0 l refl) (go (is_taken (researched false 0 l).answer) refl)
     where
-      none_so : is_taken (researched false 0 l).answer ≡ true → limit_of (researched false 0 l).load ≡ none
+      none_so : is_taken (researched false 0 l).answer ≡ true → limit_of (researched false 0 l).load ≡ None
       none_so e =
           let q = researched-full false 0 l refl in
           ap (λ (r : Stepped). limit_of r.load) q ∙ limit-full l (sym (ap (λ (r : Stepped). is_taken r.answer) q) ∙ e)
 
       go : (b : Bool) → is_taken (researched false 0 l).answer ≡ b → Found search (researched false 0 l)
-      go true e = taken search false 0 e (subst (λ (k : Option ℕ). After s t search Taken (done k t)) (sym (none_so e)) a_search)
+      go true e = taken search false 0 e (subst (λ (k : Option ℕ). After s t search (Ok Taken) (done k t)) (sym (none_so e)) a_search)
       go false e =
           subst (λ (m : Load). Searching s l fs search (researched false 0 l).answer m) (sym (untaken-researched false 0 l e))
           (untaken-refused false 0 l w.fresh (λ a. Searching s l fs search a l) (back search) e)
@@ -86,10 +85,10 @@ module _ (s : Settings) (o : Opened s) (l : Load) (fs : List Filling) (w : Start
       is : researched true n l ≡ step_of (within_spec l n)
       is = researched-within true n l refl few
 
-      limited-after : After s t (limited n) Taken (done (limit_of (researched true n l).load) t)
+      limited-after : After s t (limited n) (Ok Taken) (done (limit_of (researched true n l).load) t)
       unfolding finishes_in
       limited-after =
-          subst (After s t (limited n) Taken) (limited-to n t (finished_within n (timetable_of l)) (limit_of (researched true n l).load) (ap (λ (r : Stepped). limit_of r.load) is ∙ limit-within n l e))
+          subst (After s t (limited n) (Ok Taken)) (limited-to n t (finished_within n (timetable_of l)) (limit_of (researched true n l).load) (ap (λ (r : Stepped). limit_of r.load) is ∙ limit-within n l e))
           (a_limited limited-here)
 
       limited-found : Found (limited n) (step_of (within_spec l n))

@@ -1,14 +1,13 @@
 -- A search that is taken: its unsearched load holds what was taken, with the calls in order. And what a step on a searched load must leave.
+use Rattle.std.specs.Prelude.{Err}
 use Prim.Native.Nat.{ℕ, ◌≤◌}
 use mathlib.Core.Path.{◌≡◌, refl, sym, ap, subst, ◌∙◌}
 use mathlib.Core.Bool.{Bool, true}
 use mathlib.Core.List.{List, [], ◌++◌, map, append-nil, Memᴰ}
 use lib.ListN.{length}
 use Rattle.laws.proofs.Sort.{sort-mem}
-use Rattle.refusal.specs.declared.Answer.{Answer}
-use Rattle.refusal.specs.declared.Answer.TheVariants.{Refused}
 use Rattle.refusal.specs.declared.Refusal.{Refusal}
-use Rattle.refusal.specs.First.{is_taken}
+use Rattle.refusal.specs.First.{is_taken, Answer}
 use Rattle.settings.specs.declared.Settings.{Settings}
 use Rattle.settings.specs.Settings.{canonical_of}
 use Rattle.calls.specs.declared.CallInput.{CallInput}
@@ -87,7 +86,7 @@ pub record Leaves (s : Settings) (l : Load) (fs : List Filling) (x : Step) (a : 
   pub start : Start s (unsearched_of n) (apart hs)
 
 -- sent back, it leaves the load
-pub stays-so : (s : Settings) (l : Load) (fs : List Filling) (x : Step) (r : Refusal) → l.searched ≡ true → Start s (unsearched_of l) (apart fs) → Leaves s l fs x (Refused r) l fs
+pub stays-so : (s : Settings) (l : Load) (fs : List Filling) (x : Step) (r : Refusal) → l.searched ≡ true → Start s (unsearched_of l) (apart fs) → Leaves s l fs x (Err r) l fs
 stays-so s l fs x r d w = record { after = sent_back; searched = d; start = w }
 
 -- with nothing more taken

@@ -1,19 +1,17 @@
 -- The program's tests of a search, and of the search again, decide its causes, where the load holds what was taken; and what it leaves.
+use Rattle.std.specs.Prelude.{None, Option, Some, Err}
 use Prim.Native.Nat.{ℕ, ◌≤◌, ◌<◌}
 use mathlib.Core.Path.{◌≡◌, refl, sym, ap, subst, ◌∙◌}
 use mathlib.Core.Bool.{Bool, true, false, cond, true≢false, false≢true}
-use mathlib.Core.Option.{Option, none, some}
 use mathlib.Core.List.Permᴰ
 use mathlib.Core.List.{List, [], ◌∷◌, ◌++◌}
 use native.Mathlib.Omega.{arith}
 use lib.Dec.{ltb}
 use borrow.Author.Tests.{ltb-false, le-leb}
-use Rattle.refusal.specs.declared.Answer.{Answer}
-use Rattle.refusal.specs.declared.Answer.TheVariants.{Refused}
 use Rattle.refusal.specs.declared.Refusal.{Refusal}
 use Rattle.refusal.specs.declared.Refusal.TheVariants.{Neighbours, NoRoom}
 use Rattle.refusal.specs.First as tests
-use Rattle.refusal.specs.First.{hit, miss, is_taken}
+use Rattle.refusal.specs.First.{hit, miss, is_taken, Answer}
 use Rattle.settings.specs.declared.Settings.{Settings}
 use Rattle.settings.specs.Settings.{canonical_of}
 use Rattle.calls.specs.Shown.{table_calls}
@@ -162,7 +160,7 @@ module _ (s : Settings) (m : Load) (gs fs : List Filling) (w : Start s m gs) (o 
   few-of : {b : Bool} → (b ≡ true → s.max_transfers ≤ 1) → b ≡ true → m.settings.max_transfers ≤ 1
   few-of few e = subst (λ (k : ℕ). k ≤ 1) (sym (same-changes s m gs w o)) (few e)
 
-  dec-again : (b : Bool) (n : ℕ) → (b ≡ true → s.max_transfers ≤ 1) → Clear (timetable_of m) → Decides (falls_again b n m) (SinksAs (cond b (some n) none) s v)
+  dec-again : (b : Bool) (n : ℕ) → (b ≡ true → s.max_transfers ≤ 1) → Clear (timetable_of m) → Decides (falls_again b n m) (SinksAs (cond b (Some n) None) s v)
   dec-again false n few c = dec-as (would_fall m) sinks_in sinks-out (dec-sinks s m gs w o c)
   dec-again true n few c =
       subst (λ (x : Bool). Decides (cond x (would_fall_within m n) (would_fall m)) (SinksWithin s v n)) (sym (le-leb m.settings.max_transfers 1 (few-of few refl)))
@@ -184,11 +182,11 @@ module _ (s : Settings) (m : Load) (gs fs : List Filling) (w : Start s m gs) (o 
 
 -- ---- a search again is taken or sent back: what holds of every refusal holds of one that is not taken
 
-pub untaken-refused : (b : Bool) (n : ℕ) (m : Load) → m.searched ≡ false → (P : Answer → Type 0) → ((r : Refusal) → P (Refused r)) → is_taken (researched b n m).answer ≡ false
+pub untaken-refused : (b : Bool) (n : ℕ) (m : Load) → m.searched ≡ false → (P : Answer → Type 0) → ((r : Refusal) → P (Err r)) → is_taken (researched b n m).answer ≡ false
     → P (researched b n m).answer
 untaken-refused b n m new P f t = go (researched b n m).answer (research-first b n m new) t
   where
-    go : (a : Answer) → tests.First a ((clashes (sorted (timetable_of m)), Refused Neighbours) ∷ (falls_again b n m, Refused NoRoom) ∷ []) → is_taken a ≡ false → P a
+    go : (a : Answer) → tests.First a ((clashes (sorted (timetable_of m)), Err Neighbours) ∷ (falls_again b n m, Err NoRoom) ∷ []) → is_taken a ≡ false → P a
     go _ (hit e) q = f Neighbours
     go _ (miss e (hit g)) q = f NoRoom
     go _ (miss e (miss g tests.none)) q = absurd (true≢false q)
@@ -200,7 +198,7 @@ module _ (b : Bool) (n : ℕ) (m : Load) (t : is_taken (researched b n m).answer
   found-searched = ap (λ (r : Stepped). r.load.searched) (taken-researched b n m t).is
 
   pub found-state : (hs : List Filling) → state_at (researched b n m).load hs
-      ≡ done (limit_of (researched b n m).load) (record { taken = hs; horizon = m.table_horizon; limits = m.table_limits; searched = true; stopped = none; dates = dates_of m.week; closed = m.week.closed })
+      ≡ done (limit_of (researched b n m).load) (record { taken = hs; horizon = m.table_horizon; limits = m.table_limits; searched = true; stopped = None; dates = dates_of m.week; closed = m.week.closed })
   found-state hs =
       let q = (taken-researched b n m t).is in
       λ j. record {
@@ -214,21 +212,21 @@ module _ (b : Bool) (n : ℕ) (m : Load) (t : is_taken (researched b n m).answer
       }
 
 -- a search within the limit n
-pub limit-within : (n : ℕ) (m : Load) → is_taken (within_spec m n).answer ≡ true → limit_of (within_spec m n).load ≡ cond (finishes_in m n) none (some n)
+pub limit-within : (n : ℕ) (m : Load) → is_taken (within_spec m n).answer ≡ true → limit_of (within_spec m n).load ≡ cond (finishes_in m n) None (Some n)
 limit-within n m t = ap (λ (w : Limited). limit_of w.load) (taken-within m n t).is ∙ go (finishes_in m n) refl
   where
     f : FoundIn m n
     f = taken-within m n t
 
-    go : (c : Bool) → finishes_in m n ≡ c → limit_of (cond (finishes_in m n) (with_journeys m f.kept f.to f.mark) (with_found m f.kept f.to f.mark true n)) ≡ cond c none (some n)
+    go : (c : Bool) → finishes_in m n ≡ c → limit_of (cond (finishes_in m n) (with_journeys m f.kept f.to f.mark) (with_found m f.kept f.to f.mark true n)) ≡ cond c None (Some n)
     go true e = rw e refl
     go false e = rw e refl
 
-pub limited-to : (n : ℕ) (t : State) (f : Bool) (k : Option ℕ) → k ≡ cond f none (some n) → limited_to n f t ≡ done k t
+pub limited-to : (n : ℕ) (t : State) (f : Bool) (k : Option ℕ) → k ≡ cond f None (Some n) → limited_to n f t ≡ done k t
 limited-to n t true k e = λ j. done (sym e j) t
 limited-to n t false k e = λ j. done (sym e j) t
 
-pub limit-full : (m : Load) → is_taken (search_spec m).answer ≡ true → limit_of (search_spec m).load ≡ none
+pub limit-full : (m : Load) → is_taken (search_spec m).answer ≡ true → limit_of (search_spec m).load ≡ None
 limit-full m t = ap (λ (r : Stepped). limit_of r.load) (taken-found m t).is
 
 -- the search of m again is the one stated of what it brings
@@ -240,25 +238,25 @@ module _ (s : Settings) (m : Load) (gs fs : List Filling) (w : Start s m gs) (o 
   few-here : b ≡ true → m.settings.max_transfers ≤ 1
   few-here e = subst (λ (k : ℕ). k ≤ 1) (sym (same-changes s m gs w o)) (few e)
 
-  again-within : b ≡ true → Again s (done (some n) X) (done (limit_of (researched b n m).load) X)
+  again-within : b ≡ true → Again s (done (Some n) X) (done (limit_of (researched b n m).load) X)
   unfolding finishes_in
   again-within e =
       let q = researched-within b n m e (few-here e) in
       let v = within-here s m gs w o n (taken-researched b n m t).clear (few-here e) in
-      let u : Again s (done (some n) X) (limited_to n (finished_within n (timetable_of m)) (done (some n) X)) =
+      let u : Again s (done (Some n) X) (limited_to n (finished_within n (timetable_of m)) (done (Some n) X)) =
       within refl (within-like s X gs fs n (offers_within n (timetable_of m)) (joins_within n (timetable_of m)) (finished_within n (timetable_of m)) like v) in
-      subst (Again s (done (some n) X)) (limited-to n (done (some n) X) (finished_within n (timetable_of m)) (limit_of (researched b n m).load)
+      subst (Again s (done (Some n) X)) (limited-to n (done (Some n) X) (finished_within n (timetable_of m)) (limit_of (researched b n m).load)
       (ap (λ (r : Stepped). limit_of r.load) q ∙ limit-within n m (sym (ap (λ (r : Stepped). is_taken r.answer) q) ∙ t))) u
 
-  again-full : b ≡ false → Again s (done none X) (done (limit_of (researched b n m).load) X)
+  again-full : b ≡ false → Again s (done None X) (done (limit_of (researched b n m).load) X)
   again-full e =
       let q = researched-full b n m e in
-      let k : limit_of (researched b n m).load ≡ none = ap (λ (r : Stepped). limit_of r.load) q ∙ limit-full m (sym (ap (λ (r : Stepped). is_taken r.answer) q) ∙ t) in
-      subst (λ (y : Option ℕ). Again s (done none X) (done y X)) (sym k) (in_full refl)
+      let k : limit_of (researched b n m).load ≡ None = ap (λ (r : Stepped). limit_of r.load) q ∙ limit-full m (sym (ap (λ (r : Stepped). is_taken r.answer) q) ∙ t) in
+      subst (λ (y : Option ℕ). Again s (done None X) (done y X)) (sym k) (in_full refl)
 
-  pub again-so : Again s (done (cond b (some n) none) X) (done (limit_of (researched b n m).load) X)
+  pub again-so : Again s (done (cond b (Some n) None) X) (done (limit_of (researched b n m).load) X)
   again-so = go b refl
     where
-      go : (c : Bool) → b ≡ c → Again s (done (cond c (some n) none) X) (done (limit_of (researched b n m).load) X)
+      go : (c : Bool) → b ≡ c → Again s (done (cond c (Some n) None) X) (done (limit_of (researched b n m).load) X)
       go true e = again-within e
       go false e = again-full e

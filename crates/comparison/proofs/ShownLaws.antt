@@ -11,11 +11,11 @@ use lib.Signed.{lt_z}
 use borrow.Author.Tests.{le-ltb}
 use Rattle.shares.specs.Shares.{at_first_of}
 use Rattle.shares.proofs.ShareLaws.{shares-right}
-use Rattle.profile.specs.Figures.{Figures}
+use Rattle.profile.specs.declared.figures.Figures.{Figures}
 use Rattle.profile.specs.Journeys.{journey_figures}
 use Rattle.load.specs.declared.Load.{Load}
 use Rattle.best.specs.Best.{kept_of}
-use Rattle.groups.specs.Groups.{slot_of, group_of, group_at, start_or, lowest_start}
+use Rattle.groups.specs.Groups.{group_of, group_at, start_or, lowest_start}
 use Rattle.groups.specs.Refused.{unlike, is_wrong, twice, turned_away}
 use Rattle.display.specs.Parts.{count_in}
 use Rattle.display.specs.Display.{counts, share_of, display_of, part_of}
@@ -30,7 +30,7 @@ same_start (pos n) = le-ltb n n (omega arith)
 same_start (negsuc n) = le-ltb n n (omega arith)
 
 one-stands : (l : Load) → l.searched ≡ true → turned_away (group_of 0 l ∷ []) ≡ false
-unfolding turned_away twice is_wrong lowest_start start_or group_at slot_of unlike
+unfolding turned_away twice is_wrong lowest_start start_or group_at unlike
 one-stands l e = go l.searched (lt_z l.settings.now l.settings.now) e (same_start l.settings.now)
   where
     go : (b c : Bool) → b ≡ true → c ≡ false → ((not b || (c || c)) || false) ≡ false
@@ -39,7 +39,7 @@ one-stands l e = go l.searched (lt_z l.settings.now l.settings.now) e (same_star
     go false c p q = absurd (false≢true p)
 
 least : (l : Load) → at_first_of (length (kept_of l)) ≤ share_of (group_of 0 l ∷ []) 0
-unfolding count_in group_at slot_of
+unfolding count_in group_at
 least l = (shares-right (counts (group_of 0 l ∷ [])) (omega arith)).least 0
 
 -- a searched load with 16 journeys or fewer, alone, has a display

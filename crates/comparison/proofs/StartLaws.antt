@@ -1,7 +1,7 @@
 -- What a load that is not searched holds of a list: what the list gave.
+use Rattle.std.specs.Prelude.{None, Option, Some}
 use mathlib.Core.Path.{◌≡◌, refl, sym, ap, ◌∙◌}
 use mathlib.Core.Bool.{Bool, true, false, cond, true≢false}
-use mathlib.Core.Option.{Option, none, some}
 use mathlib.Core.List.{List, []}
 use Prim.Native.Nat.{ℕ}
 use Rattle.settings.specs.declared.Settings.{Settings}
@@ -34,36 +34,36 @@ opened-start o w = record { sound = open-sound o; settings = opened-settings o; 
 
 -- the limit that its search was stopped at; an unsearched load has none
 abbrev pub limit_of : Load → Option ℕ
-limit_of l = cond l.stopped (some l.limit) none
+limit_of l = cond l.stopped (Some l.limit) None
 
-pub no_limit : (l : Load) → Sound l → l.searched ≡ false → limit_of l ≡ none
+pub no_limit : (l : Load) → Sound l → l.searched ≡ false → limit_of l ≡ None
 no_limit l v f = go l.stopped refl
   where
-    go : (b : Bool) → l.stopped ≡ b → cond b (some l.limit) none ≡ none
+    go : (b : Bool) → l.stopped ≡ b → cond b (Some l.limit) None ≡ None
     go true e = absurd (true≢false (sym (v.stopped_search e) ∙ f))
     go false e = refl
 
 abbrev stopped_in : Option ℕ → Bool
-stopped_in none = false
-stopped_in (some n) = true
+stopped_in None = false
+stopped_in (Some n) = true
 
 abbrev limit_in : Option ℕ → ℕ
-limit_in none = 0
-limit_in (some n) = n
+limit_in None = 0
+limit_in (Some n) = n
 
-pub not-limited : (l : Load) → limit_of l ≡ none → l.stopped ≡ false
+pub not-limited : (l : Load) → limit_of l ≡ None → l.stopped ≡ false
 not-limited l e = go l.stopped refl
   where
     go : (b : Bool) → l.stopped ≡ b → b ≡ false
-    go true q = absurd (true≢false (ap (λ (b : Bool). stopped_in (cond b (some l.limit) none)) (sym q) ∙ ap stopped_in e))
+    go true q = absurd (true≢false (ap (λ (b : Bool). stopped_in (cond b (Some l.limit) None)) (sym q) ∙ ap stopped_in e))
     go false q = refl
 
-pub limit_is : (l : Load) (n : ℕ) → limit_of l ≡ some n → (l.stopped ≡ true) × (l.limit ≡ n)
+pub limit_is : (l : Load) (n : ℕ) → limit_of l ≡ Some n → (l.stopped ≡ true) × (l.limit ≡ n)
 limit_is l n e = go l.stopped refl
   where
     go : (b : Bool) → l.stopped ≡ b → (b ≡ true) × (l.limit ≡ n)
-    go true q = (refl, ap (λ (b : Bool). limit_in (cond b (some l.limit) none)) (sym q) ∙ ap limit_in e)
-    go false q = absurd (true≢false (sym (ap stopped_in e) ∙ ap (λ (b : Bool). stopped_in (cond b (some l.limit) none)) q))
+    go true q = (refl, ap (λ (b : Bool). limit_in (cond b (Some l.limit) None)) (sym q) ∙ ap limit_in e)
+    go false q = absurd (true≢false (sym (ap stopped_in e) ∙ ap (λ (b : Bool). stopped_in (cond b (Some l.limit) None)) q))
 
 -- what a load was given, as the steps' answers tell it
 abbrev pub state_at : Load → List Filling → State

@@ -1,9 +1,11 @@
 -- The load that the accepted search is handed holds what was taken, and nothing else.
+use Rattle.std.specs.Option.{unwrap_or}
+use Rattle.refusal.specs.declared.Accepted.TheVariants.{Taken, Outside}
+use Rattle.std.specs.Prelude.{None, Some, Option, Err, Ok, is_some}
 use Prim.Native.Nat.{ℕ, ◌+◌, ◌-◌, ◌≤◌, ◌<◌}
 use mathlib.Core.Path.{◌≡◌, refl, sym, ap, subst, ◌∙◌}
 use mathlib.Core.Logic.{◌⊎◌, inl, inr}
 use mathlib.Core.Bool.{Bool, true, false, not, cond, ◌&&◌, true≢false, false≢true}
-use mathlib.Core.Option.{Option, none, some}
 use mathlib.Core.List.Memᴰ
 use mathlib.Core.List.{List, [], ◌∷◌, ◌++◌, map, map-append, append_assoc, append-nil, Memᴰ}
 use native.Mathlib.Omega.{arith}
@@ -14,18 +16,14 @@ use lib.Seq.{take-suc-set, get_or-set_same, get_or-set_other, get_or-take}
 use borrow.Author.Tests.{eqb-true, leb-true}
 use Rattle.laws.proofs.Bools.{and-true-left, and-true-right}
 use Rattle.laws.proofs.Slots.{below-cases}
-use Rattle.refusal.specs.declared.Answer.{Answer}
 use Rattle.refusal.specs.declared.Refusal.TheVariants.{AlreadySearched, FieldRange, TimesReversed}
-use Rattle.refusal.specs.declared.Answer.TheVariants.{Taken, Outside, Refused}
-use Rattle.refusal.specs.First.{first_answer, is_taken, is_refused}
+use Rattle.refusal.specs.First.{first_answer, is_taken, is_refused, Answer}
 use Rattle.refusal.proofs.FirstLaws.{taken_is, answer-is-first, first_taken}
 use Rattle.settings.specs.declared.Settings.{Settings}
 use Rattle.calls.specs.declared.CallInput.{CallInput}
 use Rattle.calls.specs.declared.Call.{Call}
 use Rattle.calls.specs.declared.Table.{Table}
 use Rattle.calls.specs.declared.Fitted.{Fitted}
-use Rattle.calls.specs.declared.Offset.{Offset}
-use Rattle.calls.specs.declared.View.TheVariants.{Out}
 use Rattle.calls.specs.Windows.{seen}
 use Rattle.calls.specs.Calls.{known, un_timed, reversed, call_tests, call_time, window, call_fit, ended, goes_on_of, call_on}
 use Rattle.calls.specs.Shown.{shown, windowed, table_calls, Shows, taken_of}
@@ -38,10 +36,8 @@ use Rattle.rules.specs.Rules.{rule_of}
 use Rattle.rules.proofs.SoundLaws as rules
 use Rattle.stops.specs.declared.Stop.{Stop}
 use Rattle.stops.specs.declared.StopInput.{StopInput}
-use Rattle.stops.specs.declared.Found.{Found}
-use Rattle.stops.specs.declared.Found.TheVariants.{At, Nothing}
 use Rattle.stops.specs.Texts.{same_bytes_of}
-use Rattle.stops.specs.Stops.{id_of, is_it, find_stop, is_at, number_of}
+use Rattle.stops.specs.Stops.{id_of, is_it, find_stop}
 use Rattle.stops.specs.Answer.{station_of, stop_tests}
 use Rattle.stops.specs.Taken.{stop_of, blank_stop}
 use Rattle.stops.specs.Sound.{stop_at}
@@ -68,39 +64,39 @@ use Rattle.comparison.proofs.WeekStepLaws.{opened-week, week-more, week-service,
 
 -- ---- an outside call is outside up to the horizon that it leaves
 
-ends-out : (a d : Offset) (i : CallInput) (f : Fitted) → Ends (λ t. Unit {0}) a d i f → f.answer ≡ Outside → seen f.table.horizon a d i ≡ Out
+ends-out : (a d : Option ℕ) (i : CallInput) (f : Fitted) → Ends (λ t. Unit {0}) a d i f → f.answer ≡ Ok Outside → seen f.table.horizon a d i ≡ None
 ends-out a d i _ (stands t p e) q = e
 ends-out a d i _ (enters t c p e h) q = let z : ◌≡◌ {A = ℕ} 0 1 = cc in absurd (omega arith)
 ends-out a d i _ (turned t c p e h m) q = let z : ◌≡◌ {A = ℕ} 0 1 = cc in absurd (omega arith)
 
-fit-out : (t : Table) (a d : Offset) (i : CallInput) (f : Fitted) → Ends (λ t. Unit {0}) a d i f → (ended t f).answer ≡ Outside → seen (ended t f).table.horizon a d i ≡ Out
+fit-out : (t : Table) (a d : Option ℕ) (i : CallInput) (f : Fitted) → Ends (λ t. Unit {0}) a d i f → (ended t f).answer ≡ Ok Outside → seen (ended t f).table.horizon a d i ≡ None
 fit-out t a d i f w e =
     let r : is_refused f.answer ≡ false = ap is_refused e in
-    subst (λ (b : Bool). seen (cond b t f.table).horizon a d i ≡ Out) (sym r) (ends-out a d i f w e)
+    subst (λ (b : Bool). seen (cond b t f.table).horizon a d i ≡ None) (sym r) (ends-out a d i f w e)
 
 -- the tests answer outside only where a time is absent
-pub tests-untimed : (b : Bool) (n : ℕ) (i : CallInput) → first_answer (call_tests b n i) ≡ Outside → un_timed i ≡ true
+pub tests-untimed : (b : Bool) (n : ℕ) (i : CallInput) → first_answer (call_tests b n i) ≡ Ok Outside → un_timed i ≡ true
 unfolding call_tests first_answer
 tests-untimed b n i e = go b (not (known n i)) (un_timed i) (reversed i) e
   where
-    go : (b1 b2 b3 b4 : Bool) → cond b1 (Refused AlreadySearched) (cond b2 (Refused FieldRange) (cond b3 Outside (cond b4 (Refused TimesReversed) Taken))) ≡ Outside → b3 ≡ true
+    go : (b1 b2 b3 b4 : Bool) → cond b1 (Err AlreadySearched) (cond b2 (Err FieldRange) (cond b3 (Ok Outside) (cond b4 (Err TimesReversed) (Ok Taken)))) ≡ Ok Outside → b3 ≡ true
     go true b2 b3 b4 q = let z : ◌≡◌ {A = ℕ} 0 1 = cc in absurd (omega arith)
     go false true b3 b4 q = let z : ◌≡◌ {A = ℕ} 0 1 = cc in absurd (omega arith)
     go false false true b4 q = refl
     go false false false true q = let z : ◌≡◌ {A = ℕ} 0 1 = cc in absurd (omega arith)
     go false false false false q = let z : ◌≡◌ {A = ℕ} 0 1 = cc in absurd (omega arith)
 
-tests-out : (s : Settings) (h : ℕ) (b : Bool) (n : ℕ) (i : CallInput) → first_answer (call_tests b n i) ≡ Outside → window s h i ≡ Out
+tests-out : (s : Settings) (h : ℕ) (b : Bool) (n : ℕ) (i : CallInput) → first_answer (call_tests b n i) ≡ Ok Outside → window s h i ≡ None
 tests-out s h b n i e = window-absent s h i (tests-untimed b n i e)
 
-outside-out : (s : Settings) (b : Bool) (n : ℕ) (t : Table) (i : CallInput) → (call_on s b n t i).answer ≡ Outside → window s (call_on s b n t i).table.horizon i ≡ Out
+outside-out : (s : Settings) (b : Bool) (n : ℕ) (t : Table) (i : CallInput) → (call_on s b n t i).answer ≡ Ok Outside → window s (call_on s b n t i).table.horizon i ≡ None
 unfolding call_on call_fit
 outside-out s b n t i = go (first_answer (call_tests b n i)) refl
   where
-    go : (a : Answer) → first_answer (call_tests b n i) ≡ a → (goes_on_of s t i a).answer ≡ Outside → window s (goes_on_of s t i a).table.horizon i ≡ Out
-    go (Refused w) e q = let z : ◌≡◌ {A = ℕ} 0 1 = cc in absurd (omega arith)
-    go Outside e q = tests-out s t.horizon b n i e
-    go Taken e q =
+    go : (a : Answer) → first_answer (call_tests b n i) ≡ a → (goes_on_of s t i a).answer ≡ Ok Outside → window s (goes_on_of s t i a).table.horizon i ≡ None
+    go (Err w) e q = let z : ◌≡◌ {A = ℕ} 0 1 = cc in absurd (omega arith)
+    go (Ok Outside) e q = tests-out s t.horizon b n i e
+    go (Ok Taken) e q =
         let w = ends (λ t. Unit {0}) (call_time s i i.arrival) (call_time s i i.departure) i (λ t' c p v f l. tt) t tt in
         window-seen s _ i (passed b n i e).present ∙ fit-out t (call_time s i i.arrival) (call_time s i i.departure) i _ w q
 
@@ -115,18 +111,18 @@ not-false : (b : Bool) → not b ≡ false → b ≡ true
 not-false true e = refl
 not-false false e = sym e
 
-pub tests-day : (b : Bool) (n : ℕ) (i : CallInput) → first_answer (call_tests b n i) ≡ Taken → i.day ≤ 2
+pub tests-day : (b : Bool) (n : ℕ) (i : CallInput) → first_answer (call_tests b n i) ≡ Ok Taken → i.day ≤ 2
 unfolding call_tests known
 tests-day b n i e = leb-true i.day 2 (day-true (ltb i.stop n) (ltb i.trip 65535) (leb i.day 2) (leb i.pickup 3) (leb i.drop_off 3) (not-false (known n i) (call-tests-fail b n i e).1.0))
 
-taken-day : (s : Settings) (b : Bool) (n : ℕ) (t : Table) (i : CallInput) → (call_on s b n t i).answer ≡ Taken → i.day ≤ 2
+taken-day : (s : Settings) (b : Bool) (n : ℕ) (t : Table) (i : CallInput) → (call_on s b n t i).answer ≡ Ok Taken → i.day ≤ 2
 unfolding call_on
 taken-day s b n t i = go (first_answer (call_tests b n i)) refl
   where
-    go : (a : Answer) → first_answer (call_tests b n i) ≡ a → (goes_on_of s t i a).answer ≡ Taken → i.day ≤ 2
-    go (Refused w) e q = let z : ◌≡◌ {A = ℕ} 0 1 = cc in absurd (omega arith)
-    go Outside e q = let z : ◌≡◌ {A = ℕ} 0 1 = cc in absurd (omega arith)
-    go Taken e q = tests-day b n i e
+    go : (a : Answer) → first_answer (call_tests b n i) ≡ a → (goes_on_of s t i a).answer ≡ Ok Taken → i.day ≤ 2
+    go (Err w) e q = let z : ◌≡◌ {A = ℕ} 0 1 = cc in absurd (omega arith)
+    go (Ok Outside) e q = let z : ◌≡◌ {A = ℕ} 0 1 = cc in absurd (omega arith)
+    go (Ok Taken) e q = tests-day b n i e
 
 -- ---- the window over a list
 
@@ -135,7 +131,7 @@ windowed-append s h [] ys = refl
 windowed-append s h (x ∷ xs) ys =
     ap (λ (r : List Call). shown (window s h x) ++ r) (windowed-append s h xs ys) ∙ sym (append_assoc (shown (window s h x)) (windowed s h xs) (windowed s h ys))
 
-windowed-out : (s : Settings) (h : ℕ) (xs : List CallInput) (i : CallInput) → window s h i ≡ Out → windowed s h (xs ++ i ∷ []) ≡ windowed s h xs
+windowed-out : (s : Settings) (h : ℕ) (xs : List CallInput) (i : CallInput) → window s h i ≡ None → windowed s h (xs ++ i ∷ []) ≡ windowed s h xs
 windowed-out s h xs i e =
     windowed-append s h xs (i ∷ []) ∙ ap (λ (r : List Call). windowed s h xs ++ r) (append-nil (shown (window s h i)) ∙ ap shown e) ∙ append-nil (windowed s h xs)
 
@@ -163,8 +159,8 @@ pub record Held (l : Load) (fs : List Filling) : Type 0 where
 -- the week of an opening holds nothing yet
 week-opened : (d : Option (List ℕ)) → Three d → WeekHeld (week_of d) []
 unfolding undated_week dated_week
-week-opened none th = opened-week (week_of none) refl (λ e. absurd (false≢true e))
-week-opened (some dates) th = opened-week (week_of (some dates)) refl (λ e. th)
+week-opened None th = opened-week (week_of None) refl (λ e. absurd (false≢true e))
+week-opened (Some dates) th = opened-week (week_of (Some dates)) refl (λ e. th)
 
 pub opened-holds : (o : Opening) → Opens o → Held (opened o) []
 unfolding empty_of
@@ -204,7 +200,7 @@ module _ (stops : List Stop) (n : ℕ) (ss : List StopGiven) (long : n ≤ lengt
   count : length (take n stops) ≡ n
   count = simp length-take (omega arith)
 
-  station-at : (parent : List ℕ) (m : ℕ) → find_stop (is_it true parent) (take n stops) 0 ≡ At m → (m < n) × (is_it true parent (stop_at stops m) ≡ true)
+  station-at : (parent : List ℕ) (m : ℕ) → find_stop (is_it true parent) (take n stops) 0 ≡ Some m → (m < n) × (is_it true parent (stop_at stops m) ≡ true)
   unfolding stop_at
   station-at parent m e =
       let f = found (is_it true parent) (take n stops) 0 m e in
@@ -213,20 +209,20 @@ module _ (stops : List Stop) (n : ℕ) (ss : List StopGiven) (long : n ≤ lengt
       let g : get_or (take n stops) (m - 0) blank_stop ≡ get_or stops m blank_stop = ap (λ (j : ℕ). get_or (take n stops) j blank_stop) z ∙ get_or-take n stops m blank_stop h in
       (h, sym (ap (is_it true parent) g) ∙ f.2)
 
-  station-held : (has : Bool) (parent : List ℕ) (f : Found) → station_of stops n has parent ≡ f → (has && not (is_at f)) ≡ false
-      → ((has ≡ false) × (number_of f ≡ 65535)) ⊎ ((has ≡ true) × ((p : StopGiven) × Nth ss (number_of f) p × (number_of f < n) × (p.id ≡ parent) × (p.input.location_type ≡ 1)))
+  station-held : (has : Bool) (parent : List ℕ) (f : Option ℕ) → station_of stops n has parent ≡ f → (has && not (is_some f)) ≡ false
+      → ((has ≡ false) × (unwrap_or f 65535 ≡ 65535)) ⊎ ((has ≡ true) × ((p : StopGiven) × Nth ss (unwrap_or f 65535) p × (unwrap_or f 65535 < n) × (p.id ≡ parent) × (p.input.location_type ≡ 1)))
   unfolding station_of
-  station-held false parent Nothing e t = inl (refl, refl)
-  station-held false parent (At m) e t = let z : ◌≡◌ {A = ℕ} 0 1 = cc in absurd (omega arith)
-  station-held true parent Nothing e t = absurd (true≢false t)
-  station-held true parent (At m) e t =
+  station-held false parent None e t = inl (refl, refl)
+  station-held false parent (Some m) e t = let z : ◌≡◌ {A = ℕ} 0 1 = cc in absurd (omega arith)
+  station-held true parent None e t = absurd (true≢false t)
+  station-held true parent (Some m) e t =
       let (h, q) = station-at parent m e in
       let w = each m h in
       let k : eqb (stop_at stops m).location_type 1 ≡ true = and-true-left _ _ q in
       let b : same_bytes_of (id_of (stop_at stops m)) parent ≡ true = and-true-right (eqb (stop_at stops m).location_type 1) _ q in
       inr (refl, (w.given, w.at, h, sym w.id ∙ bytes_same _ _ b, sym w.kind ∙ eqb-true _ 1 k))
 
-parent-found : (b : Bool) (ss : List Stop) (n : ℕ) (f : Found) (id name : List ℕ) (i : StopInput) → first_answer (stop_tests b ss n f id name i) ≡ Taken → (i.has_parent && not (is_at f)) ≡ false
+parent-found : (b : Bool) (ss : List Stop) (n : ℕ) (f : Option ℕ) (id name : List ℕ) (i : StopInput) → first_answer (stop_tests b ss n f id name i) ≡ Ok Taken → (i.has_parent && not (is_some f)) ≡ false
 unfolding stop_tests
 parent-found b ss n f id name i e = (first_taken _ _ refl (answer-is-first (stop_tests b ss n f id name i)) e).1.1.1.1.0
 
@@ -238,7 +234,7 @@ module _ (l : Load) (fs : List Filling) (sound : Sound l) (w : Held l fs) where
   pub held_same : Held l (fs ++ [])
   held_same = subst (Held l) (sym (append-nil fs)) w
 
-  module _ (id name parent : List ℕ) (i : StopInput) (e : stop_answer l id name parent i ≡ Taken) where
+  module _ (id name parent : List ℕ) (i : StopInput) (e : stop_answer l id name parent i ≡ Ok Taken) where
     abbrev n : ℕ
     n = l.stop_count
 
@@ -277,10 +273,10 @@ module _ (l : Load) (fs : List Filling) (sound : Sound l) (w : Held l fs) where
       parent = more (station-held l.stops n (stops_in fs) (omega (arith, room)) w.each i.has_parent parent (station_in l parent i) refl (parent-found l.searched l.stops n (station_in l parent i) id name i e));
     }
       where
-        more : ((i.has_parent ≡ false) × (number_of (station_in l parent i) ≡ 65535)) ⊎ ((i.has_parent ≡ true) × ((p : StopGiven) × Nth (stops_in fs) (number_of (station_in l parent i)) p × (number_of (station_in l parent i) < n) × (p.id ≡ parent) × (p.input.location_type ≡ 1)))
-            → ((i.has_parent ≡ false) × (number_of (station_in l parent i) ≡ 65535)) ⊎ ((i.has_parent ≡ true) × ((p : StopGiven) × Nth (stops_in fs ++ new ∷ []) (number_of (station_in l parent i)) p × (number_of (station_in l parent i) < n) × (p.id ≡ parent) × (p.input.location_type ≡ 1)))
+        more : ((i.has_parent ≡ false) × (unwrap_or (station_in l parent i) 65535 ≡ 65535)) ⊎ ((i.has_parent ≡ true) × ((p : StopGiven) × Nth (stops_in fs) (unwrap_or (station_in l parent i) 65535) p × (unwrap_or (station_in l parent i) 65535 < n) × (p.id ≡ parent) × (p.input.location_type ≡ 1)))
+            → ((i.has_parent ≡ false) × (unwrap_or (station_in l parent i) 65535 ≡ 65535)) ⊎ ((i.has_parent ≡ true) × ((p : StopGiven) × Nth (stops_in fs ++ new ∷ []) (unwrap_or (station_in l parent i) 65535) p × (unwrap_or (station_in l parent i) 65535 < n) × (p.id ≡ parent) × (p.input.location_type ≡ 1)))
         more (inl q) = inl q
-        more (inr (h, (p, m, b, q, t))) = inr (h, (p, nth-more (stops_in fs) (new ∷ []) (number_of (station_in l parent i)) p m, b, q, t))
+        more (inr (h, (p, m, b, q, t))) = inr (h, (p, nth-more (stops_in fs) (new ∷ []) (unwrap_or (station_in l parent i) 65535) p m, b, q, t))
 
     every : (k : ℕ) → k < n + 1 → HeldAs (stop_at (set l.stops n st) k) (stops_in fs ++ new ∷ []) k
     every k h = below-cases (λ j. HeldAs (stop_at (set l.stops n st) j) (stops_in fs ++ new ∷ []) j) n k h
@@ -305,7 +301,7 @@ module _ (l : Load) (fs : List Filling) (sound : Sound l) (w : Held l fs) where
 
   -- ---- a rule
 
-  module _ (i : RuleInput) (e : rule_answer l i ≡ Taken) where
+  module _ (i : RuleInput) (e : rule_answer l i ≡ Ok Taken) where
     abbrev rs : List Filling
     rs = fs ++ rule i ∷ []
 
@@ -358,7 +354,7 @@ module _ (l : Load) (fs : List Filling) (sound : Sound l) (w : Held l fs) where
     call-stops : stops_in cs ≡ stops_in fs
     call-stops = stops-append fs (call name i ∷ []) ∙ append-nil (stops_in fs)
 
-    call-held : fit.answer ≡ Taken → Held (with_table l fit.table) cs
+    call-held : fit.answer ≡ Ok Taken → Held (with_table l fit.table) cs
     call-held e = record {
       calls = step ∙ ap (λ (b : Bool). windowed l.settings fit.table.horizon (calls_in fs ++ cond b (i ∷ []) [])) (ap is_taken e) ∙ ap (windowed l.settings fit.table.horizon) (sym call-calls);
       days = λ j m. day j (Memᴰ.append_cases (calls_in fs) (subst (Memᴰ j) call-calls m));
@@ -372,7 +368,7 @@ module _ (l : Load) (fs : List Filling) (sound : Sound l) (w : Held l fs) where
         day j (inl m) = w.days j m
         day j (inr m) = subst (λ (x : CallInput). x.day ≤ 2) (sym (Memᴰ.eq_of_singleton m)) (taken-day l.settings l.searched l.stop_count (table_of l) i e)
 
-    out-held : fit.answer ≡ Outside → Held (with_table l fit.table) fs
+    out-held : fit.answer ≡ Ok Outside → Held (with_table l fit.table) fs
     out-held e = record {
       calls =
           step ∙ ap (λ (b : Bool). windowed l.settings fit.table.horizon (calls_in fs ++ cond b (i ∷ []) [])) (ap is_taken e)
@@ -428,9 +424,9 @@ fill-held l (rule i) fs sound w = go (is_taken (rule_answer l i)) refl
 fill-held l (call name i) fs sound w = by _ (called l name i)
   where
     go : (a : Answer) → (call_fitted l i).answer ≡ a → Held (cond (is_refused a) l (with_table l (call_fitted l i).table)) (fs ++ cond (is_taken a) (call name i ∷ []) [])
-    go Taken e = call-held l fs sound w name i e
-    go Outside e = subst (Held (with_table l (call_fitted l i).table)) (sym (append-nil fs)) (out-held l fs sound w name i e)
-    go (Refused r) e = held_same l fs sound w
+    go (Ok Taken) e = call-held l fs sound w name i e
+    go (Ok Outside) e = subst (Held (with_table l (call_fitted l i).table)) (sym (append-nil fs)) (out-held l fs sound w name i e)
+    go (Err r) e = held_same l fs sound w
 
     -- with its services closed
     shut : (m : Load) (gs : List Filling) → m.week ≡ l.week → Held m gs → Held (with_week m (closed_week l.week)) gs
@@ -438,9 +434,9 @@ fill-held l (call name i) fs sound w = by _ (called l name i)
 
     closes : (a : Answer) → (call_fitted l i).answer ≡ a
         → Held (cond (is_refused a) l (with_week (cond (is_refused a) l (with_table l (call_fitted l i).table)) (closed_week l.week))) (fs ++ cond (is_taken a) (call name i ∷ []) [])
-    closes Taken e = shut _ _ refl (go Taken e)
-    closes Outside e = shut _ _ refl (go Outside e)
-    closes (Refused r) e = go (Refused r) e
+    closes (Ok Taken) e = shut _ _ refl (go (Ok Taken) e)
+    closes (Ok Outside) e = shut _ _ refl (go (Ok Outside) e)
+    closes (Err r) e = go (Err r) e
 
     by : (r : Stepped) → Called l name i r → Held r.load (fs ++ cond (is_taken r.answer) (call name i ∷ []) [])
     by _ (without d) = go (call_fitted l i).answer refl

@@ -1,9 +1,10 @@
 -- The week of a load holds the services and exceptions that were taken, and nothing else.
+use Rattle.std.specs.Prelude.{None, Option, Some}
 use Prim.Native.Nat.{ℕ, suc, ◌+◌, ◌≤◌, ◌<◌}
 use mathlib.Core.Path.{◌≡◌, refl, sym, ap, ap₂, subst, ◌∙◌}
 use mathlib.Core.Logic.{◌⊎◌, inl, inr}
 use mathlib.Core.Bool.{Bool, true, false, cond, ◌||◌, true≢false, false≢true}
-use mathlib.Core.Option.{Option, none, some, some-injective, none-ne-some}
+use Rattle.laws.proofs.Options.{some-injective, none-ne-some}
 use mathlib.Core.List.Memᴰ
 use mathlib.Core.List.{List, [], ◌∷◌, ◌++◌, map, Memᴰ}
 use native.Mathlib.Omega.{arith}
@@ -112,7 +113,7 @@ module _ {w : Week} {fs : List Filling} (v : WeekHeld w fs) where
 
   module _ (t : State) (taken : t.taken ≡ fs) (n : List ℕ) (day : ℕ) where
     -- with dates
-    module _ (d : w.dated ≡ true) (dates : t.dates ≡ some w.dates) where
+    module _ (d : w.dated ≡ true) (dates : t.dates ≡ Some w.dates) where
       unknown-so : anyb (named n) (take w.service_count w.services) ≡ false → running w n day ≡ variants.Unknown
       unfolding running
       unknown-so e = cond-by _ _ d ∙ cond-not _ _ e
@@ -145,14 +146,14 @@ module _ {w : Week} {fs : List Filling} (v : WeekHeld w fs) where
 
 -- the dates of a week, where it has them
 abbrev pub dates_of : Week → Option (List ℕ)
-dates_of w = cond w.dated (some w.dates) none
+dates_of w = cond w.dated (Some w.dates) None
 
 module _ {w : Week} {fs : List Filling} (v : WeekHeld w fs) (t : State) (taken : t.taken ≡ fs) (dates : t.dates ≡ dates_of w) (n : List ℕ) (day : ℕ) where
-  with-dates : w.dated ≡ true → t.dates ≡ some w.dates
+  with-dates : w.dated ≡ true → t.dates ≡ Some w.dates
   with-dates d = dates ∙ cond-by _ _ d
 
   -- without dates nothing is asked
-  no-dates : w.dated ≡ false → (ds : List ℕ) → t.dates ≡ some ds → ⊥
+  no-dates : w.dated ≡ false → (ds : List ℕ) → t.dates ≡ Some ds → ⊥
   no-dates d ds e = none-ne-some ds (sym (dates ∙ cond-not _ _ d) ∙ e)
 
   undated-runs : w.dated ≡ false → running w n day ≡ variants.Runs

@@ -1,4 +1,5 @@
 -- The program's `window` shows a call exactly as the relation says.
+use Rattle.std.specs.Prelude.{None, Option, Some, is_none}
 use mathlib.Core.Path.{◌≡◌, refl, sym, ap, subst, ◌∙◌}
 use mathlib.Core.Logic.{◌⊎◌, inl, inr, ◌↔◌}
 use mathlib.Core.Bool.{Bool, true, false, not, cond, ◌&&◌, ◌||◌, true≢false, false≢true}
@@ -14,21 +15,17 @@ use Rattle.settings.specs.declared.Settings.{Settings}
 use Rattle.settings.specs.Settings.{near}
 use Rattle.calls.specs.declared.CallInput.{CallInput}
 use Rattle.calls.specs.declared.Call.{Call}
-use Rattle.calls.specs.declared.Offset.{Offset}
-use Rattle.calls.specs.declared.View.TheVariants as view
-use Rattle.calls.specs.declared.Seconds.{Seconds}
-use Rattle.calls.specs.declared.Seconds.TheVariants.{Given, Absent}
-use Rattle.calls.specs.Windows.{time_of, time_after, before, after, within, held, allowed, asked, seen_call, seen}
+use Rattle.calls.specs.Windows.{time_of, time_after, after, within, held, allowed, asked, seen_call, seen}
 use Rattle.calls.specs.Calls.{un_timed, call_time, call_seen, window}
 use Rattle.comparison.specs.Window.{time, NotBelow, NotAfter, In, Held, May, OnRequest, Seen, Shown, empty, one, pass}
 
 -- ---- a time by cases
 
-not-below : (z : ℤ) → before (time_of z) ≡ false → NotBelow z
+not-below : (z : ℤ) → is_none (time_of z) ≡ false → NotBelow z
 not-below (pos n) e = tt
 not-below (negsuc n) e = absurd (true≢false e)
 
-below-not : (z : ℤ) → NotBelow z → before (time_of z) ≡ false
+below-not : (z : ℤ) → NotBelow z → is_none (time_of z) ≡ false
 below-not (pos n) w = refl
 below-not (negsuc n) w = absurd w
 
@@ -108,7 +105,7 @@ module _ (s : Settings) (h : ℕ) (i : CallInput) where
   time-near e n = cond-by _ _ e
 
   -- a call that is seen: the clock is near, and both times are given
-  module _ (a d : ℕ) (ea : i.arrival ≡ Given a) (ed : i.departure ≡ Given d) (e : Near) where
+  module _ (a d : ℕ) (ea : i.arrival ≡ Some a) (ed : i.departure ≡ Some d) (e : Near) where
     ta : call_time s i i.arrival ≡ time_of (time s i.day a)
     ta = ap (call_time s i) ea ∙ time-near e a
 
@@ -120,15 +117,15 @@ module _ (s : Settings) (h : ℕ) (i : CallInput) where
 
     window-is : window s h i ≡ seen h (time_of (time s i.day a)) (time_of (time s i.day d)) i
     unfolding window
-    window-is = cond-not view.Out (call_seen s h i) timed ∙ (λ k. seen h (ta k) (td k) i)
+    window-is = cond-not None (call_seen s h i) timed ∙ (λ k. seen h (ta k) (td k) i)
 
-    abbrev za : Offset
+    abbrev za : Option ℕ
     za = time_of (time s i.day a)
 
-    abbrev zd : Offset
+    abbrev zd : Option ℕ
     zd = time_of (time s i.day d)
 
-    call-seen : before zd ≡ false → after h za ≡ false → Seen s h i (seen_call h za zd i)
+    call-seen : is_none zd ≡ false → after h za ≡ false → Seen s h i (seen_call h za zd i)
     unfolding seen_call
     call-seen p q = record {
       a = a;
@@ -149,11 +146,11 @@ module _ (s : Settings) (h : ℕ) (i : CallInput) where
       alight_asked = is-asked (allowed (within h za) i.drop_off) i.drop_off;
     }
 
-    pub shown-seen : (c : Call) → window s h i ≡ view.In c → Seen s h i c
+    pub shown-seen : (c : Call) → window s h i ≡ Some c → Seen s h i c
     unfolding seen
-    shown-seen c w = go (before zd) refl (after h za) refl (sym window-is ∙ w)
+    shown-seen c w = go (is_none zd) refl (after h za) refl (sym window-is ∙ w)
       where
-        go : (x : Bool) → before zd ≡ x → (y : Bool) → after h za ≡ y → cond (x || y) view.Out (view.In (seen_call h za zd i)) ≡ view.In c → Seen s h i c
+        go : (x : Bool) → is_none zd ≡ x → (y : Bool) → after h za ≡ y → cond (x || y) None (Some (seen_call h za zd i)) ≡ Some c → Seen s h i c
         go true p y q v = absurd (let z : ◌≡◌ {A = ℕ} 0 1 = cc in omega arith)
         go false p true q v = absurd (let z : ◌≡◌ {A = ℕ} 0 1 = cc in omega arith)
         go false p false q v = let e : seen_call h za zd i ≡ c = cc in subst (Seen s h i) e (call-seen p q)
@@ -181,37 +178,37 @@ module _ (s : Settings) (h : ℕ) (i : CallInput) where
           alight_request = ala k;
         }
 
-    made-shown : (c : Call) → NotBelow (time s i.day d) → NotAfter h (time s i.day a) → c ≡ seen_call h za zd i → window s h i ≡ view.In c
+    made-shown : (c : Call) → NotBelow (time s i.day d) → NotAfter h (time s i.day a) → c ≡ seen_call h za zd i → window s h i ≡ Some c
     unfolding seen
-    made-shown c p q e = window-is ∙ rw (below-not (time s i.day d) p, after-not h (time s i.day a) q) (ap view.In (sym e))
+    made-shown c p q e = window-is ∙ rw (below-not (time s i.day d) p, after-not h (time s i.day a) q) (ap Some (sym e))
 
   -- what is seen so, the window shows, where the clock is near
-  pub seen-shown : Near → (c : Call) → Seen s h i c → window s h i ≡ view.In c
+  pub seen-shown : Near → (c : Call) → Seen s h i c → window s h i ≡ Some c
   seen-shown e c w = made-shown w.a w.d w.arrives w.departs e c w.not_gone w.not_late (seen-made w.a w.d w.arrives w.departs e c w refl refl)
 
   -- the window shows nothing where a time is absent or the clock far
-  out-in : (c : Call) → view.Out ≡ view.In c → ⊥
+  out-in : (c : Call) → None ≡ Some c → ⊥
   out-in c e = let z : ◌≡◌ {A = ℕ} 0 1 = cc in omega arith
 
-  far-out : (near (get_or s.epochs i.day (pos 0)) && near s.now) ≡ false → window s h i ≡ view.Out
+  far-out : (near (get_or s.epochs i.day (pos 0)) && near s.now) ≡ false → window s h i ≡ None
   unfolding window seen time_after
   far-out e = rw e (either (un_timed i))
     where
-      either : (b : Bool) → cond b view.Out view.Out ≡ view.Out
+      either : (b : Bool) → cond {A = Option Call} b None None ≡ None
       either true = refl
       either false = refl
 
-  untimed-out : un_timed i ≡ true → window s h i ≡ view.Out
+  untimed-out : un_timed i ≡ true → window s h i ≡ None
   unfolding window
-  untimed-out e = cond-by view.Out (call_seen s h i) e
+  untimed-out e = cond-by None (call_seen s h i) e
 
-  by-times : (x y : Seconds) → i.arrival ≡ x → i.departure ≡ y → Near → (c : Call) → window s h i ≡ view.In c → Seen s h i c
-  by-times (Given a) (Given d) p q e c w = shown-seen a d p q e c w
-  by-times (Given a) Absent p q e c w = let u : un_timed i ≡ true = rw (p, q) in absurd (out-in c (sym (untimed-out u) ∙ w))
-  by-times Absent (Given d) p q e c w = let u : un_timed i ≡ true = rw p in absurd (out-in c (sym (untimed-out u) ∙ w))
-  by-times Absent Absent p q e c w = let u : un_timed i ≡ true = rw p in absurd (out-in c (sym (untimed-out u) ∙ w))
+  by-times : (x y : Option ℕ) → i.arrival ≡ x → i.departure ≡ y → Near → (c : Call) → window s h i ≡ Some c → Seen s h i c
+  by-times (Some a) (Some d) p q e c w = shown-seen a d p q e c w
+  by-times (Some a) None p q e c w = let u : un_timed i ≡ true = rw (p, q) in absurd (out-in c (sym (untimed-out u) ∙ w))
+  by-times None (Some d) p q e c w = let u : un_timed i ≡ true = rw p in absurd (out-in c (sym (untimed-out u) ∙ w))
+  by-times None None p q e c w = let u : un_timed i ≡ true = rw p in absurd (out-in c (sym (untimed-out u) ∙ w))
 
-  pub window-seen : (c : Call) → window s h i ≡ view.In c → Seen s h i c
+  pub window-seen : (c : Call) → window s h i ≡ Some c → Seen s h i c
   window-seen c w = go (near (get_or s.epochs i.day (pos 0)) && near s.now) refl
     where
       go : (b : Bool) → (near (get_or s.epochs i.day (pos 0)) && near s.now) ≡ b → Seen s h i c
@@ -244,7 +241,7 @@ one_seen s h i c c' w w' =
       alight_request = ala k;
     }
   where
-    given-one : (m n : ℕ) → Given m ≡ Given n → m ≡ n
+    given-one : (m n : ℕ) → Some m ≡ Some n → m ≡ n
     given-one m n e = cc
 
 pub one-shown : (s : Settings) (h : ℕ) (is : List CallInput) (cs ds : List Call) → Shown s h is cs → Shown s h is ds → cs ≡ ds

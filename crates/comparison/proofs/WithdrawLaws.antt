@@ -1,4 +1,6 @@
 -- A withdrawal: the program's tests decide its causes, and what it leaves holds what is left.
+use Rattle.refusal.specs.declared.Accepted.TheVariants.{Taken}
+use Rattle.std.specs.Prelude.{Ok}
 use Prim.Native.Nat.{ℕ, ◌≤◌}
 use mathlib.Core.Path.{◌≡◌, refl, sym, ap, subst, ◌∙◌}
 use mathlib.Core.Bool.{Bool, true, false, not, cond, true≢false}
@@ -7,7 +9,6 @@ use mathlib.Core.List.{List, [], ◌++◌, map, Memᴰ}
 use lib.ListN.{length}
 use Rattle.laws.specs.Lists.{anyb}
 use Rattle.laws.proofs.Sort.{perm-mem}
-use Rattle.refusal.specs.declared.Answer.TheVariants.{Taken}
 use Rattle.refusal.specs.First.{is_taken}
 use Rattle.settings.specs.declared.Settings.{Settings}
 use Rattle.settings.specs.Settings.{canonical_of}
@@ -134,7 +135,7 @@ module _ (s : Settings) (o : Opened s) (l : Load) (fs : List Filling) (w : Start
         (left-beside s (state_at l fs) k (left g.there) (gone-so g.there)) (left-days g.there) (left-calls g.there),
   ))
     where
-      goes : (g : Goes l k) → After s (state_at l fs) (withdraw k) Taken (state_at (out_of l k) (left g.there))
+      goes : (g : Goes l k) → After s (state_at l fs) (withdraw k) (Ok Taken) (state_at (out_of l k) (left g.there))
       goes g = a_withdrawal (gone-so g.there) (in_full (no_limit l w.sound w.fresh))
 
 -- ---- on a searched load
@@ -204,13 +205,13 @@ module _ (s : Settings) (o : Opened s) (l : Load) (fs : List Filling) (d : l.sea
     rest-again = again-match s (out_of u k) (apart rest) rest rest-start o (apart-like rest) T l refl few (Withdrawn s T k) gone-again (λ x b. one-withdrawn s T k x (keeping T rest) b gone-again) [] [] tt
 
     -- searched again
-    rest-searched : is_taken (once (out_of u k)).answer ≡ true → Leaves s l fs (withdraw k) Taken (once (out_of u k)).load rest
+    rest-searched : is_taken (once (out_of u k)).answer ≡ true → Leaves s l fs (withdraw k) (Ok Taken) (once (out_of u k)).load rest
     unfolding withdrawn
     rest-searched t =
         let at : state_at (once (out_of u k)).load rest ≡ done (limit_of (once (out_of u k)).load) (keeping T rest) = found-state l.stopped l.limit (out_of u k) t rest in
         record {
-          after = subst (λ (x : State). After s x (withdraw k) Taken (state_at (once (out_of u k)).load rest)) (sym (state-done s o l fs d w))
-              (subst (After s T (withdraw k) Taken) (sym at) (a_withdrawal gone-again
+          after = subst (λ (x : State). After s x (withdraw k) (Ok Taken) (state_at (once (out_of u k)).load rest)) (sym (state-done s o l fs d w))
+              (subst (After s T (withdraw k) (Ok Taken)) (sym at) (a_withdrawal gone-again
               (again-so s (out_of u k) (apart rest) rest rest-start o (apart-like rest) l.stopped l.limit few t (state_at u fs))));
           searched = found-searched l.stopped l.limit (out_of u k) t;
           start = searched-start s (out_of u k) (apart rest) rest rest-start (apart-like rest).beside rest-days (apart-again u.settings u.table_horizon rest) l.stopped l.limit t;
@@ -242,7 +243,7 @@ module _ (s : Settings) (o : Opened s) (l : Load) (fs : List Filling) (d : l.sea
       (λ g. go g (is_taken (once (out_of u k)).answer) refl)
     where
       go : (g : Goes u k) → (b : Bool) → is_taken (once (out_of u k)).answer ≡ b
-          → LeftBy (cond {A = Stepped} b (record { answer = Taken; load = (once (out_of u k)).load }) (record { answer = (once (out_of u k)).answer; load = l }))
+          → LeftBy (cond {A = Stepped} b (record { answer = Ok Taken; load = (once (out_of u k)).load }) (record { answer = (once (out_of u k)).answer; load = l }))
       go g true t = rest-searched g.known g.there t
       go g false t = refused-so (out_of u k) w.fresh t
 

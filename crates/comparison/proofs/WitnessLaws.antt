@@ -1,14 +1,13 @@
 -- By computation.
+use Rattle.refusal.specs.declared.Accepted.TheVariants.{Taken}
+use Rattle.std.specs.Prelude.{None, Some, Ok}
 use Prim.Native.Nat.{ℕ}
 use mathlib.Core.Path.{◌≡◌, refl, ap, subst}
 use mathlib.Core.Bool.{true, false}
-use mathlib.Core.Option.{none, some}
 use mathlib.Core.List.{List, [], ◌∷◌, map, Memᴰ}
 use native.Mathlib.Omega.{arith}
 use lib.ListN.{get_or}
-use Rattle.refusal.specs.declared.Answer.{Answer}
-use Rattle.refusal.specs.declared.Answer.TheVariants.{Taken}
-use Rattle.refusal.specs.First.{first_answer}
+use Rattle.refusal.specs.First.{first_answer, Answer}
 use Rattle.settings.specs.Settings.{over_counts, near, all_near, settings_tests, walks_of, canonical_of}
 use Rattle.stops.specs.Answer.{station_of, id_wrong, is_known, type_wrong, name_needed, name_wrong, stop_tests}
 use Rattle.stops.specs.Sound.{stop_at}
@@ -30,7 +29,8 @@ use Rattle.transfer.specs.Changes.{ends_of_of, transfer_of}
 use Rattle.load.specs.Steps.{Opening, undated, open_answer, opened, stop_spec, plain_call, gate_answer, dated_call, call_spec, rule_spec, service_spec, exception_spec}
 use Rattle.load.specs.Sound.{Opens}
 use Rattle.profile.specs.declared.Journey.{Journey}
-use Rattle.profile.specs.Figures.{Figures, covᶠ, dueᶠ, lexb}
+use Rattle.profile.specs.declared.figures.Figures.{Figures}
+use Rattle.profile.specs.Figures.{covᶠ, dueᶠ, lexb}
 use Rattle.profile.specs.Journeys.{journey_figures}
 use Rattle.profile.specs.Instances.{figures_of}
 use Rattle.profile.specs.Front.{front}
@@ -63,7 +63,7 @@ use Rattle.comparison.proofs.DemandLaws.{ending, run, same-admitted}
 -- what the program answers
 pub record Computed : Type 0 where
   pub opens : Opens some_opening
-  pub answers : answers_from (opened some_opening) (one_trip 600 1200) ≡ Taken ∷ Taken ∷ Taken ∷ Taken ∷ Taken ∷ []
+  pub answers : answers_from (opened some_opening) (one_trip 600 1200) ≡ Ok Taken ∷ Ok Taken ∷ Ok Taken ∷ Ok Taken ∷ Ok Taken ∷ []
   pub searched : (end_of some_opening (one_trip 600 1200)).searched ≡ true
   pub finished : (end_of some_opening (one_trip 600 1200)).stopped ≡ false
 
@@ -131,20 +131,20 @@ later = record { adding = refl; added = refl; taken = refl; more = refl; taking 
 record Limited : Type 0 where
   none-tested : kept_by (undated (settings_with 1)) (limited_trips 0) ≡ figures_of 300 1320 1 5 ∷ []
   two_tested : kept_by (undated (settings_with 1)) (limited_trips 2) ≡ figures_of 400 1220 1 5 ∷ []
-  three : limit_of (end_of (undated (settings_with 1)) (limited_trips 3)) ≡ some 3
-  four : limit_of (end_of (undated (settings_with 1)) (limited_trips 4)) ≡ none
-  less : limit_of (end_of (undated (settings_with 1)) (limited_less 0)) ≡ some 0
-  one_left : limit_of (end_of (undated (settings_with 1)) (limited_less 1)) ≡ none
+  three : limit_of (end_of (undated (settings_with 1)) (limited_trips 3)) ≡ Some 3
+  four : limit_of (end_of (undated (settings_with 1)) (limited_trips 4)) ≡ None
+  less : limit_of (end_of (undated (settings_with 1)) (limited_less 0)) ≡ Some 0
+  one_left : limit_of (end_of (undated (settings_with 1)) (limited_less 1)) ≡ None
 
 within-limits : Limited
 unfolding first_answer over_counts near all_near settings_tests walks_of canonical_of station_of id_wrong is_known type_wrong name_needed name_wrong stop_tests stop_at stop_of held_text known call_tests call_fit call_on cut fitted time_after seen_call seen open_answer empty_of undated_week stop_spec plain_call call_spec add_spec_of lexb clash rides first_rides joined_rides network_of offers search_of timetable_of outcome_of search_spec added_to researched again unsearched_of has_key key_known withdrawn taken_out withdraw_spec onward routes pass rule_tests rule_spec table parents_of ends_of_of transfer_of directs join_events change_events events events_of offers_within joins_within finished_within search_within outcome_within finishes_in within_spec
 within-limits = record { none-tested = refl; two_tested = refl; three = refl; four = refl; less = refl; one_left = refl }
 
 -- what the load says was taken
-stopped-at : (o : Opening) (w : Opens o) (xs : List Step) (n : ℕ) → limit_of (end_of o xs) ≡ some n → StoppedAt o xs n
+stopped-at : (o : Opening) (w : Opens o) (xs : List Step) (n : ℕ) → limit_of (end_of o xs) ≡ Some n → StoppedAt o xs n
 stopped-at o w xs n e = record { answers = answers_from (opened o) xs; end = ending o w xs; runs = run o w xs; limit = e }
 
-finished-so : (o : Opening) (w : Opens o) (xs : List Step) → limit_of (end_of o xs) ≡ none → Finished o xs
+finished-so : (o : Opening) (w : Opens o) (xs : List Step) → limit_of (end_of o xs) ≡ None → Finished o xs
 finished-so o w xs e = record { answers = answers_from (opened o) xs; end = ending o w xs; runs = run o w xs; finished = e }
 
 pub kept : Kept
@@ -176,7 +176,7 @@ met =
       opens = o;
       taken = record {
         end = ending some_opening o xs;
-        runs = subst (λ (rs : List Answer). Runs some_settings (fresh none) xs rs (ending some_opening o xs)) computed.answers (run some_opening o xs);
+        runs = subst (λ (rs : List Answer). Runs some_settings (fresh None) xs rs (ending some_opening o xs)) computed.answers (run some_opening o xs);
         searched = computed.searched;
       };
       admitted = record { j = j; figures = e; admitted = one_kept some_opening xs o computed.searched computed.finished j m };

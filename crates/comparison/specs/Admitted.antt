@@ -1,14 +1,12 @@
 -- Which journeys are admitted, as a relation over what was handed in: settings, stops, rules and calls, raw, with a horizon for the window.
 -- No test of the program's stands here, and none of its timetable, table or load.
 -- RULES 3, 6, 8.2, 8.3.
-use Rattle.std.specs.Prelude.{◌≡◌, ◌⊎◌, true, ℕ, zero, suc, ◌+◌, ◌*◌, ◌/◌, ◌%◌, ◌^◌, ◌≤◌, ◌<◌, get_or}
+use Rattle.std.specs.Prelude.{◌≡◌, ◌⊎◌, true, ℕ, zero, suc, ◌+◌, ◌*◌, ◌/◌, ◌%◌, ◌^◌, ◌≤◌, ◌<◌, get_or, None, Option, Some}
 use mathlib.Core.List.{List, [], ◌∷◌, Memᴰ}
 use Rattle.settings.specs.declared.Settings.{Settings}
 use Rattle.calls.specs.declared.CallInput.{CallInput}
 use Rattle.calls.specs.declared.Call.{Call}
 use Rattle.rules.specs.declared.RuleInput.{RuleInput}
-use Rattle.rules.specs.declared.MinTime.{MinTime}
-use Rattle.rules.specs.declared.MinTime.TheVariants.{Given, Absent}
 use Rattle.profile.specs.declared.Ride.{Ride}
 use Rattle.profile.specs.declared.Journey.{Journey}
 use Rattle.profile.specs.Journeys.{no_ride}
@@ -71,9 +69,9 @@ pub record Chosen (F : Feed) (x y : ℕ) (r : RuleInput) : Type 0 where
   pub highest : (q : RuleInput) (m n : ℕ) → Memᴰ q F.rules → Applies F x y q → (q ≡ r → ⊥) → Rank x y q m → Rank x y r n → m < n
 
 -- "optional seconds (absent counts as 0)"
-abbrev pub Seconds : MinTime → ℕ → Type 0
-Seconds (Given n) v = v ≡ n
-Seconds Absent v = v ≡ 0
+abbrev pub Seconds : Option ℕ → ℕ → Type 0
+Seconds (Some n) v = v ≡ n
+Seconds None v = v ≡ 0
 
 abbrev pub Larger : ℕ → ℕ → ℕ → Type 0
 Larger a b n = ((a ≤ b) × (n ≡ b)) ⊎ ((b ≤ a) × (n ≡ a))

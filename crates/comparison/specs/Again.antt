@@ -1,8 +1,8 @@
 -- Request 11, beside the demands: a call withdrawn straight after it was taken, the horizon, the list of a load that is searched again, and 24.
 -- RULES 10.
-use Rattle.std.specs.Prelude.{◌≡◌, ◌↔◌, true, false, List, [], ◌∷◌, ℕ, ◌≤◌, ◌<◌}
-use Rattle.refusal.specs.declared.Answer.{Answer}
-use Rattle.refusal.specs.declared.Answer.TheVariants.{Taken, Refused}
+use Rattle.refusal.specs.First.{Answer}
+use Rattle.refusal.specs.declared.Accepted.TheVariants.{Taken}
+use Rattle.std.specs.Prelude.{◌≡◌, ◌↔◌, true, false, List, [], ◌∷◌, ℕ, ◌≤◌, ◌<◌, Err, Ok}
 use Rattle.refusal.specs.declared.Refusal.TheVariants.{Neighbours, AlreadySearched, CallUnknown}
 use Rattle.settings.specs.declared.Settings.{Settings}
 use Rattle.calls.specs.declared.CallInput.{CallInput}
@@ -30,7 +30,7 @@ pub record Withdrawals : Type 0 where
   -- "Withdrawing straight after a call was answered taken gives back the load exactly, save that services stay closed, provided that taking it
   -- didn't shrink the horizon": after any list, searched or not, what was taken; and the load
   pub back : (o : Opening) (xs : List Step) (rs : List Answer) (t v : State) (name : List ℕ) (i : CallInput) → Opens o → Runs o.settings (fresh o.dates) xs rs t
-      → Runs o.settings t (there_and_back_of name i) (Taken ∷ Taken ∷ []) v → v.horizon ≡ t.horizon → v ≡ shut t
+      → Runs o.settings t (there_and_back_of name i) (Ok Taken ∷ Ok Taken ∷ []) v → v.horizon ≡ t.horizon → v ≡ shut t
   pub taken_back : EndTakenBack
   -- services that are closed already, as without dates or after an answered call, are given back too
   pub exactly : ClosedSame
@@ -38,11 +38,11 @@ pub record Withdrawals : Type 0 where
   pub never_wider : (s : Settings) (t v : State) (xs : List Step) (rs : List Answer) → Runs s t xs rs v → v.horizon ≤ t.horizon
   -- "The list is each time the one a fresh search of the remaining load gives": of the load gone back to the table, its horizon and its mark;
   -- `Limits` says it of a stopped load
-  pub afresh : (o : Opening) (xs : List Step) → (end_of o xs).searched ≡ true → (end_of o xs).stopped ≡ false → search_spec (unsearched_of (end_of o xs)) ≡ record { answer = Taken; load = end_of o xs }
+  pub afresh : (o : Opening) (xs : List Step) → (end_of o xs).searched ≡ true → (end_of o xs).stopped ≡ false → search_spec (unsearched_of (end_of o xs)) ≡ record { answer = Ok Taken; load = end_of o xs }
   -- "15 no longer meets a call"
-  pub no_15 : (s : Settings) (t : State) (name : List ℕ) (i : CallInput) → First (Refused AlreadySearched) (causes_of s t (filling (call name i))) → ⊥
+  pub no_15 : (s : Settings) (t : State) (name : List ℕ) (i : CallInput) → First (Err AlreadySearched) (causes_of s t (filling (call name i))) → ⊥
   -- 24 exactly if the table has no such call
   pub unknown : (s : Settings) (t : State) (k : CallKey) (a : Answer) → First a (causes_of s t (withdraw k)) → k.trip < 65535 → k.day ≤ 2
-      → (a ≡ Refused CallUnknown) ↔ NoneSuch s t.horizon k (calls_in t.taken)
+      → (a ≡ Err CallUnknown) ↔ NoneSuch s t.horizon k (calls_in t.taken)
   -- no withdrawal is answered with 14
-  pub in_order : (o : Opening) (xs : List Step) (k : CallKey) → (stepped (end_of o xs) (withdraw k)).answer ≡ Refused Neighbours → ⊥
+  pub in_order : (o : Opening) (xs : List Step) (k : CallKey) → (stepped (end_of o xs) (withdraw k)).answer ≡ Err Neighbours → ⊥

@@ -1,8 +1,7 @@
 -- "`Cache::best`: none before 0 or after the horizon; else, of kept journeys leaving at or after the second, least arrival, then rides,
 -- then walk, then latest leave." As a relation between the kept list, the horizon, the second and the answer. And of full ties the first.
 -- RULES 9.
-use Rattle.std.specs.Prelude.{◌≡◌, ◌⊎◌, ℕ, ◌≤◌, ◌<◌, ℤ, pos, negsuc}
-use Rattle.std.proofs.Math.Option.{Option, none, some}
+use Rattle.std.specs.Prelude.{◌≡◌, ◌⊎◌, ℕ, ◌≤◌, ◌<◌, ℤ, pos, negsuc, None, Option, Some}
 use mathlib.Core.List.{List, ◌∷◌, ◌++◌, Memᴰ}
 use Rattle.profile.specs.declared.Journey.{Journey}
 use Rattle.comparison.specs.Order.{Same}
@@ -25,7 +24,7 @@ pub record IsBest (ks : List Journey) (t : ℕ) (j : Journey) : Type 0 where
 
 -- the answer at a second: a journey only from 0 to the horizon
 abbrev pub BestAt : List Journey → ℕ → ℤ → Option Journey → Type 0
-BestAt ks h (pos t) none = (h < t) ⊎ ((k : Journey) → Memᴰ k ks → t ≤ k.leave → ⊥)
-BestAt ks h (pos t) (some j) = (t ≤ h) × IsBest ks t j
-BestAt ks h (negsuc t) none = Unit {0}
-BestAt ks h (negsuc t) (some j) = ⊥
+BestAt ks h (pos t) None = (h < t) ⊎ ((k : Journey) → Memᴰ k ks → t ≤ k.leave → ⊥)
+BestAt ks h (pos t) (Some j) = (t ≤ h) × IsBest ks t j
+BestAt ks h (negsuc t) None = Unit {0}
+BestAt ks h (negsuc t) (Some j) = ⊥

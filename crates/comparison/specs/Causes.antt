@@ -4,26 +4,22 @@
 -- longer meets a call"; withdrawal 9, 24; on a searched load then, of both, 14 and 11 of the search again. With request 12: limited search 15, 1,
 -- 14, 11.
 -- RULES 16.
-use Rattle.std.specs.Prelude.{◌≡◌, ◌⊎◌, Bool, true, false, cond, ℕ, ◌≤◌, ◌<◌, ℤ, pos, negsuc, length, get_or}
-use Rattle.std.proofs.Math.Option.{Option, none, some}
+use Rattle.refusal.specs.declared.Accepted.TheVariants.{Taken, Outside}
+use Rattle.std.specs.Prelude.{◌≡◌, ◌⊎◌, Bool, true, false, cond, ℕ, ◌≤◌, ◌<◌, ℤ, pos, negsuc, length, get_or, None, Some, Option, Err, Ok}
 use mathlib.Core.List.{List, [], ◌∷◌, ◌++◌, Memᴰ}
-use Rattle.refusal.specs.declared.Answer.{Answer}
-use Rattle.refusal.specs.declared.Answer.TheVariants.{Taken, Outside, Refused}
 use Rattle.refusal.specs.declared.Refusal.TheVariants.{SettingsRange, ClockRange}
 use Rattle.refusal.specs.declared.Refusal.TheVariants.{IdLength, StopsFull, IdTaken, LocationType, ParentUnknown, NameUnusable}
 use Rattle.refusal.specs.declared.Refusal.TheVariants.{FieldRange, TimesReversed, NoRoom, RuleType, PairTaken, Neighbours, AlreadySearched}
 use Rattle.refusal.specs.declared.Refusal.TheVariants.{DateWrong, ServiceUnknown, ServicesFull, CallUnknown}
-use Rattle.refusal.specs.First.{answer_number}
+use Rattle.refusal.specs.First.{answer_number, Answer}
 use Rattle.settings.specs.declared.Settings.{Settings}
 use Rattle.place.specs.Positions.{position_of, is_usable}
 use Rattle.stops.specs.declared.StopInput.{StopInput}
 use Rattle.stops.specs.Answer.{unusable}
 use Rattle.calls.specs.declared.CallInput.{CallInput}
 use Rattle.calls.specs.declared.Call.{Call}
-use Rattle.calls.specs.declared.Seconds.TheVariants as seconds
 use Rattle.withdrawal.specs.declared.CallKey.{CallKey}
 use Rattle.rules.specs.declared.RuleInput.{RuleInput}
-use Rattle.rules.specs.declared.MinTime.TheVariants as min-time
 use Rattle.profile.specs.declared.Journey.{Journey}
 use Rattle.load.specs.Steps.{Opening}
 use Rattle.load.specs.Filling.{stop, call, rule, service, exception}
@@ -49,7 +45,7 @@ cause P a = record { Holds = P; answer = a }
 
 -- the answer is that of the first cause that holds; taken where none does
 abbrev pub First : Answer → List Cause → Type 0
-First a [] = a ≡ Taken
+First a [] = a ≡ Ok Taken
 First a (c ∷ cs) = (c.Holds × (a ≡ c.answer)) ⊎ ((c.Holds → ⊥) × First a cs)
 
 -- the causes by their numbers; 0 for outside
@@ -66,16 +62,16 @@ Beyond (negsuc n) = 1099511627776 ≤ n
 
 -- the dates, where there are any
 abbrev pub date_causes : Option (List ℕ) → List Cause
-date_causes none = []
-date_causes (some dates) = cause ((d : ℕ) × Memᴰ d dates × NoDate d) (Refused DateWrong) ∷ []
+date_causes None = []
+date_causes (Some dates) = cause ((d : ℕ) × Memᴰ d dates × NoDate d) (Err DateWrong) ∷ []
 
 -- "count above 4, `max_transfers` above 1", which request 10 alters: "`max_transfers` 2 is accepted and refusal 1 starts at 3"; of the change
 -- time "a value above 15300 belongs to refusal 1" (request 05)
 abbrev pub opening_causes : Opening → List Cause
 opening_causes o =
     let s = o.settings in
-    cause (4 < s.origins ⊎ 4 < s.targets ⊎ 2 < s.max_transfers ⊎ 15300 < s.transfer_seconds) (Refused SettingsRange)
-    ∷ cause (Beyond s.now ⊎ ((day : ℕ) × (day ≤ 2) × Beyond (get_or s.epochs day (pos 0)))) (Refused ClockRange)
+    cause (4 < s.origins ⊎ 4 < s.targets ⊎ 2 < s.max_transfers ⊎ 15300 < s.transfer_seconds) (Err SettingsRange)
+    ∷ cause (Beyond s.now ⊎ ((day : ℕ) × (day ≤ 2) × Beyond (get_or s.epochs day (pos 0)))) (Err ClockRange)
     ∷ date_causes o.dates
 
 -- ---- stop
@@ -89,14 +85,14 @@ pub record Needed (i : StopInput) : Type 0 where
 abbrev pub stop_causes : State → List ℕ → List ℕ → List ℕ → StopInput → List Cause
 stop_causes t id name parent i =
     let stops = stops_in t.taken in
-    cause (t.searched ≡ true) (Refused AlreadySearched)
-    ∷ cause (length id ≡ 0 ⊎ 32 < length id) (Refused IdLength)
-    ∷ cause ((g : StopGiven) × Memᴰ g stops × (g.id ≡ id)) (Refused IdTaken)
-    ∷ cause (1 < i.location_type ⊎ ((i.location_type ≡ 1) × (i.has_parent ≡ true))) (Refused LocationType)
+    cause (t.searched ≡ true) (Err AlreadySearched)
+    ∷ cause (length id ≡ 0 ⊎ 32 < length id) (Err IdLength)
+    ∷ cause ((g : StopGiven) × Memᴰ g stops × (g.id ≡ id)) (Err IdTaken)
+    ∷ cause (1 < i.location_type ⊎ ((i.location_type ≡ 1) × (i.has_parent ≡ true))) (Err LocationType)
     ∷ cause ((i.has_parent ≡ true) × ((g : StopGiven) → Memᴰ g stops → g.id ≡ parent → g.input.location_type ≡ 1 → ⊥))
-    (Refused ParentUnknown)
-    ∷ cause (((i.named ≡ true) × (64 < length name)) ⊎ (Needed i × (unusable (cond i.named name id) ≡ true))) (Refused NameUnusable)
-    ∷ cause (128 ≤ length stops) (Refused StopsFull)
+    (Err ParentUnknown)
+    ∷ cause (((i.named ≡ true) × (64 < length name)) ⊎ (Needed i × (unusable (cond i.named name id) ≡ true))) (Err NameUnusable)
+    ∷ cause (128 ≤ length stops) (Err StopsFull)
     ∷ []
 
 -- ---- search
@@ -117,30 +113,30 @@ pub record SinksWithin (s : Settings) (t : State) (n : ℕ) : Type 0 where
 
 abbrev pub search_causes : Settings → State → List Cause
 search_causes s t =
-    cause (t.searched ≡ true) (Refused AlreadySearched)
-    ∷ cause (Clashing s t.horizon (calls_in t.taken)) (Refused Neighbours)
-    ∷ cause (Sinks s t) (Refused NoRoom)
+    cause (t.searched ≡ true) (Err AlreadySearched)
+    ∷ cause (Clashing s t.horizon (calls_in t.taken)) (Err Neighbours)
+    ∷ cause (Sinks s t) (Err NoRoom)
     ∷ []
 
 -- "With `max_transfers` 2 a limited search meets 1, after 15"
 abbrev pub limited_causes : Settings → State → ℕ → List Cause
 limited_causes s t n =
-    cause (t.searched ≡ true) (Refused AlreadySearched)
-    ∷ cause (1 < s.max_transfers) (Refused SettingsRange)
-    ∷ cause (Clashing s t.horizon (calls_in t.taken)) (Refused Neighbours)
-    ∷ cause (SinksWithin s t n) (Refused NoRoom)
+    cause (t.searched ≡ true) (Err AlreadySearched)
+    ∷ cause (1 < s.max_transfers) (Err SettingsRange)
+    ∷ cause (Clashing s t.horizon (calls_in t.taken)) (Err Neighbours)
+    ∷ cause (SinksWithin s t n) (Err NoRoom)
     ∷ []
 
 -- "A call added to or withdrawn from a stopped load has it searched within the same limit, and any other searched load in full"
 abbrev pub SinksAs : Option ℕ → Settings → State → Type 0
-SinksAs none s t = Sinks s t
-SinksAs (some n) s t = SinksWithin s t n
+SinksAs None s t = Sinks s t
+SinksAs (Some n) s t = SinksWithin s t n
 
 -- of the search again of what a step on a searched load brings: 14, 11. "A refusal of that search leaves the searched load"
 abbrev pub again_causes : Settings → (State → Type 0) → List Cause
 again_causes s Brought =
-    cause ((u : State) × Brought u × Clashing s u.horizon (calls_in u.taken)) (Refused Neighbours)
-    ∷ cause ((u : State) × Brought u × SinksAs u.stopped s u) (Refused NoRoom)
+    cause ((u : State) × Brought u × Clashing s u.horizon (calls_in u.taken)) (Err Neighbours)
+    ∷ cause ((u : State) × Brought u × SinksAs u.stopped s u) (Err NoRoom)
     ∷ []
 
 -- ---- call
@@ -149,8 +145,8 @@ again_causes s Brought =
 pub record Reversed (i : CallInput) : Type 0 where
   pub a : ℕ
   pub d : ℕ
-  pub arrives : i.arrival ≡ seconds.Given a
-  pub departs : i.departure ≡ seconds.Given d
+  pub arrives : i.arrival ≡ Some a
+  pub departs : i.departure ≡ Some d
   pub after : d < a
 
 -- by the window and the cuts
@@ -163,30 +159,30 @@ Unseen s t i = (c : Call) → Seen s t.horizon i c → ⊥
 
 -- what a searched load is searched with again: the call is taken; or it is outside, and only the cut is left of it
 pub data Brings (s : Settings) (t : State) (name : List ℕ) (i : CallInput) : State → Type 0 where
-  taken : {h m : ℕ} → Fits s (calls_in t.taken) i t.horizon t.limits Taken h m → Brings s t name i (up_to (more t (call name i)) h m)
-  cut : {h m : ℕ} → Fits s (calls_in t.taken) i t.horizon t.limits Outside h m → Brings s t name i (up_to t h m)
+  taken : {h m : ℕ} → Fits s (calls_in t.taken) i t.horizon t.limits (Ok Taken) h m → Brings s t name i (up_to (more t (call name i)) h m)
+  cut : {h m : ℕ} → Fits s (calls_in t.taken) i t.horizon t.limits (Ok Outside) h m → Brings s t name i (up_to t h m)
 
 -- by whether a search was taken. After it an outside that only a cut brought comes behind the refusals of the search again
 abbrev pub window_causes : Bool → Settings → State → List ℕ → CallInput → List Cause
 window_causes false s t name i =
-    cause (Fitting s t i Outside) Outside
-    ∷ cause (Fitting s t i (Refused NoRoom)) (Refused NoRoom)
+    cause (Fitting s t i (Ok Outside)) (Ok Outside)
+    ∷ cause (Fitting s t i (Err NoRoom)) (Err NoRoom)
     ∷ []
 window_causes true s t name i =
-    cause (Unseen s t i) Outside
-    ∷ cause (Fitting s t i (Refused NoRoom)) (Refused NoRoom)
+    cause (Unseen s t i) (Ok Outside)
+    ∷ cause (Fitting s t i (Err NoRoom)) (Err NoRoom)
     ∷ again_causes s (Brings s t name i)
-    ++ cause (Fitting s t i Outside) Outside
+    ++ cause (Fitting s t i (Ok Outside)) (Ok Outside)
     ∷ []
 
 -- what every call meets first
 abbrev pub call_front : State → List ℕ → CallInput → List Cause → List Cause
 call_front t name i rest =
-    cause (length (stops_in t.taken) ≤ i.stop ⊎ 65535 ≤ i.trip ⊎ 2 < i.day ⊎ 3 < i.pickup ⊎ 3 < i.drop_off) (Refused FieldRange)
-    ∷ cause (Unknown t name) (Refused ServiceUnknown)
-    ∷ cause (Resting t name i.day) Outside
-    ∷ cause (i.arrival ≡ seconds.Absent ⊎ i.departure ≡ seconds.Absent) Outside
-    ∷ cause (Reversed i) (Refused TimesReversed)
+    cause (length (stops_in t.taken) ≤ i.stop ⊎ 65535 ≤ i.trip ⊎ 2 < i.day ⊎ 3 < i.pickup ⊎ 3 < i.drop_off) (Err FieldRange)
+    ∷ cause (Unknown t name) (Err ServiceUnknown)
+    ∷ cause (Resting t name i.day) (Ok Outside)
+    ∷ cause (i.arrival ≡ None ⊎ i.departure ≡ None) (Ok Outside)
+    ∷ cause (Reversed i) (Err TimesReversed)
     ∷ rest
 
 abbrev pub call_causes : Settings → State → List ℕ → CallInput → List Cause
@@ -201,8 +197,8 @@ left_causes true s t k = again_causes s (Withdrawn s t k)
 
 abbrev pub withdraw_causes : Settings → State → CallKey → List Cause
 withdraw_causes s t k =
-    cause (65535 ≤ k.trip ⊎ 2 < k.day) (Refused FieldRange)
-    ∷ cause (NoneSuch s t.horizon k (calls_in t.taken)) (Refused CallUnknown)
+    cause (65535 ≤ k.trip ⊎ 2 < k.day) (Err FieldRange)
+    ∷ cause (NoneSuch s t.horizon k (calls_in t.taken)) (Err CallUnknown)
     ∷ left_causes t.searched s t k
 
 -- ---- rule
@@ -210,11 +206,11 @@ withdraw_causes s t k =
 abbrev pub rule_causes : State → RuleInput → List Cause
 rule_causes t i =
     let stops = length (stops_in t.taken) in
-    cause (t.searched ≡ true) (Refused AlreadySearched)
-    ∷ cause (stops ≤ i.from ⊎ stops ≤ i.to) (Refused FieldRange)
-    ∷ cause (3 < i.transfer_type ⊎ ((i.transfer_type ≡ 2) × (i.seconds ≡ min-time.Absent))) (Refused RuleType)
-    ∷ cause ((q : RuleInput) × Memᴰ q (rules_in t.taken) × (q.from ≡ i.from) × (q.to ≡ i.to)) (Refused PairTaken)
-    ∷ cause (128 ≤ length (rules_in t.taken)) (Refused NoRoom)
+    cause (t.searched ≡ true) (Err AlreadySearched)
+    ∷ cause (stops ≤ i.from ⊎ stops ≤ i.to) (Err FieldRange)
+    ∷ cause (3 < i.transfer_type ⊎ ((i.transfer_type ≡ 2) × (i.seconds ≡ None))) (Err RuleType)
+    ∷ cause ((q : RuleInput) × Memᴰ q (rules_in t.taken) × (q.from ≡ i.from) × (q.to ≡ i.to)) (Err PairTaken)
+    ∷ cause (128 ≤ length (rules_in t.taken)) (Err NoRoom)
     ∷ []
 
 -- ---- service and exception
@@ -225,18 +221,18 @@ Late t = t.searched ≡ true ⊎ t.closed ≡ true
 
 abbrev pub service_causes : State → List ℕ → ℕ → ℕ → List Cause
 service_causes t name start end =
-    cause (Late t) (Refused AlreadySearched)
-    ∷ cause (length name ≡ 0 ⊎ 32 < length name) (Refused IdLength)
-    ∷ cause (Named t.taken name) (Refused IdTaken)
-    ∷ cause (NoDate start ⊎ NoDate end) (Refused DateWrong)
-    ∷ cause (64 ≤ length (services_in t.taken)) (Refused ServicesFull)
+    cause (Late t) (Err AlreadySearched)
+    ∷ cause (length name ≡ 0 ⊎ 32 < length name) (Err IdLength)
+    ∷ cause (Named t.taken name) (Err IdTaken)
+    ∷ cause (NoDate start ⊎ NoDate end) (Err DateWrong)
+    ∷ cause (64 ≤ length (services_in t.taken)) (Err ServicesFull)
     ∷ []
 
 abbrev pub exception_causes : State → List ℕ → ℕ → ℕ → List Cause
 exception_causes t name date kind =
-    cause (Late t) (Refused AlreadySearched)
-    ∷ cause (NoDate date ⊎ ((kind ≡ 1 → ⊥) × (kind ≡ 2 → ⊥))) (Refused DateWrong)
-    ∷ cause (Named t.taken name → ⊥) (Refused ServiceUnknown)
+    cause (Late t) (Err AlreadySearched)
+    ∷ cause (NoDate date ⊎ ((kind ≡ 1 → ⊥) × (kind ≡ 2 → ⊥))) (Err DateWrong)
+    ∷ cause (Named t.taken name → ⊥) (Err ServiceUnknown)
     ∷ []
 
 -- ---- every step

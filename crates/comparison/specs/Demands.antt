@@ -1,10 +1,9 @@
 -- The three demands, of what was handed in. What they need of the load is asked of it at the end: its calls, kept list, horizon, mark,
 -- and best.
 -- RULES 8.7, 9, 15.1, 16.
-use Rattle.std.specs.Prelude.{◌≡◌, ◌⊎◌, ◌↔◌, true, false, ℕ, ◌+◌, ◌≤◌, ◌<◌, ℤ, pos, negsuc}
-use Rattle.std.proofs.Math.Option.{Option, none, some}
+use Rattle.refusal.specs.First.{Answer}
+use Rattle.std.specs.Prelude.{◌≡◌, ◌⊎◌, ◌↔◌, true, false, ℕ, ◌+◌, ◌≤◌, ◌<◌, ℤ, pos, negsuc, None, Option, Some}
 use mathlib.Core.List.{List, [], ◌∷◌, Memᴰ}
-use Rattle.refusal.specs.declared.Answer.{Answer}
 use Rattle.settings.specs.declared.Settings.{Settings}
 use Rattle.calls.specs.declared.CallInput.{CallInput}
 use Rattle.calls.specs.declared.Call.{Call}
@@ -49,7 +48,7 @@ LaterOf (negsuc n) k z = z ≡ pos k
 -- at a second: "an unsearched load answers none"; else best of the kept list, up to the horizon. "`next_after`: best at the
 -- larger of the second and the given leave + 1"
 pub record Queried (l : Load) (z : ℤ) : Type 0 where
-  pub unsearched : l.searched ≡ false → answer_of (best_spec l z) ≡ none
+  pub unsearched : l.searched ≡ false → answer_of (best_spec l z) ≡ None
   pub searched : l.searched ≡ true → BestAt (kept_of l) l.horizon z (answer_of (best_spec l z))
   pub next : (j : Journey) → (w : ℤ) × LaterOf z (j.leave + 1) w × (next_spec l z j ≡ best_spec l w)
 
@@ -88,7 +87,7 @@ pub record Fills (s : Opening) (xs : List Step) (v : State) : Type 0 where
   pub kept : kept_of (end_of s xs) ≡ []
   pub horizon : (end_of s xs).horizon ≡ v.horizon
   pub limits : (end_of s xs).limits ≡ v.limits
-  pub best : (z : ℤ) → answer s xs z ≡ none
+  pub best : (z : ℤ) → answer s xs z ≡ None
 
 -- after it, by the journeys offered, in the paper's order: it says which of equals is the older
 pub record ListOf (s : Opening) (xs : List Step) (v : State) (offers : List Journey) : Type 0 where
@@ -121,13 +120,13 @@ pub record ListsWithin (s : Opening) (xs : List Step) (v : State) (n : ℕ) : Ty
 -- of any list of steps, which leaves v taken. "A stopped load counts as searched, but the full list .. [is] claimed for finished ones only"
 abbrev pub Demand2 : Type 0
 Demand2 = (s : Opening) (xs : List Step) (rs : List Answer) (v : State) → Opens s → Runs s.settings (fresh s.dates) xs rs v
-    → (v.searched ≡ false → Fills s xs v) × (v.searched ≡ true → v.stopped ≡ none → Lists s xs v) × ((n : ℕ) → v.stopped ≡ some n → ListsWithin s xs v n)
+    → (v.searched ≡ false → Fills s xs v) × (v.searched ≡ true → v.stopped ≡ None → Lists s xs v) × ((n : ℕ) → v.stopped ≡ Some n → ListsWithin s xs v n)
 
 -- "What the list must hold is read over the calls of running services": on a load with dates each call that was taken names a service that
 -- was taken and runs on the date of the call's day, by all exceptions that were taken
 abbrev pub OnlyRunning : Type 0
 OnlyRunning = (s : Opening) (xs : List Step) (rs : List Answer) (v : State) → Opens s → Runs s.settings (fresh s.dates) xs rs v
-    → (dates : List ℕ) → s.dates ≡ some dates → (name : List ℕ) (i : CallInput) → Memᴰ (call name i) v.taken → Running v name i.day
+    → (dates : List ℕ) → s.dates ≡ Some dates → (name : List ℕ) (i : CallInput) → Memᴰ (call name i) v.taken → Running v name i.day
 
 -- ---- 3
 
@@ -138,15 +137,15 @@ Second (negsuc n) = n ≤ 9223372036854775807
 
 -- no answer by g: none, or a journey due after it
 abbrev pub NoneBy : ℕ → Option Journey → Type 0
-NoneBy g none = Unit {0}
-NoneBy g (some j) = g < j.arrival
+NoneBy g None = Unit {0}
+NoneBy g (Some j) = g < j.arrival
 
 -- "the same leave, arrival, rides and walk in both or none in both, journeys due after the earlier of their horizons counting as none"
 pub record Both (g : ℕ) (r r' : Option Journey) : Type 0 where
   pub j : Journey
   pub j' : Journey
-  pub is : r ≡ some j
-  pub is' : r' ≡ some j'
+  pub is : r ≡ Some j
+  pub is' : r' ≡ Some j'
   pub due : j.arrival ≤ g
   pub same : Same j j'
 

@@ -1,8 +1,7 @@
 -- Request 08: "between groups that have a display the certificate's comparison of searches uses that window as the horizon". Of what was handed in, for
 -- any two groups that have a display, of one display or of two. What the groups load beside these two is free.
 -- RULES 12, 15.1.
-use Rattle.std.specs.Prelude.{◌≡◌, ◌↔◌, true, ℕ, ◌≤◌, ℤ}
-use Rattle.std.proofs.Math.Option.{Option}
+use Rattle.std.specs.Prelude.{◌≡◌, ◌↔◌, true, ℕ, ◌≤◌, ℤ, Option}
 use mathlib.Core.List.{List, [], ◌∷◌, Memᴰ}
 use Rattle.profile.specs.declared.Journey.{Journey}
 use Rattle.load.specs.Steps.{Opening}

@@ -1,7 +1,6 @@
 -- What was taken, as a `Feed`: what a search is given.
 -- RULES 8.
-use Rattle.std.specs.Prelude.{true, List}
-use Rattle.std.proofs.Math.Option.{none}
+use Rattle.std.specs.Prelude.{true, List, None}
 use Rattle.settings.specs.declared.Settings.{Settings}
 use Rattle.load.specs.declared.Load.{Load}
 use Rattle.load.specs.Filling.{Filling}
@@ -22,4 +21,4 @@ feed_of s t = record {
 
 -- the same with the horizon of a load's table, for the proofs
 abbrev pub feed_from : Settings → Load → List Filling → Feed
-feed_from s l fs = feed_of s (record { taken = fs; horizon = l.table_horizon; limits = l.table_limits; searched = l.searched; stopped = none; dates = none; closed = true })
+feed_from s l fs = feed_of s (record { taken = fs; horizon = l.table_horizon; limits = l.table_limits; searched = l.searched; stopped = None; dates = None; closed = true })

@@ -1,10 +1,9 @@
 -- A whole list of steps: each is answered for the first of its causes, and its answer says what is taken. "Each entry gets the load that
 -- the one before it returned"; here, what was taken before it. No load is read.
 -- RULES 1.2, 10, 11.3, 15.1.
-use Rattle.std.specs.Prelude.{◌≡◌, Bool, true, List, [], ◌∷◌, ℕ}
-use Rattle.std.proofs.Math.Option.{none, some}
-use Rattle.refusal.specs.declared.Answer.{Answer}
-use Rattle.refusal.specs.declared.Answer.TheVariants.{Taken, Outside, Refused}
+use Rattle.refusal.specs.First.{Answer}
+use Rattle.refusal.specs.declared.Accepted.TheVariants.{Taken, Outside}
+use Rattle.std.specs.Prelude.{◌≡◌, Bool, true, List, [], ◌∷◌, ℕ, None, Some, Err, Ok}
 use Rattle.refusal.specs.declared.Refusal.{Refusal}
 use Rattle.settings.specs.declared.Settings.{Settings}
 use Rattle.stops.specs.declared.StopInput.{StopInput}
@@ -26,27 +25,27 @@ use Rattle.comparison.specs.Causes.{First, causes_of}
 
 -- t stands taken, and is searched again where it was searched: "within the same limit" if it was stopped, which may then finish, else in full
 pub data Again (s : Settings) (t : State) : State → Type 0 where
-  in_full : t.stopped ≡ none → Again s t t
-  within : {n tested : ℕ} {os : List Journey} {finishes : Bool} → t.stopped ≡ some n → Within (feed_of s t) n os tested finishes → Again s t (limited_to n finishes t)
+  in_full : t.stopped ≡ None → Again s t t
+  within : {n tested : ℕ} {os : List Journey} {finishes : Bool} → t.stopped ≡ Some n → Within (feed_of s t) n os tested finishes → Again s t (limited_to n finishes t)
 
 -- where t was taken, a step that is answered so leaves this taken. A call and a withdrawal leave the same before a search and after it, but
 -- for a limit: the search again of a searched load takes nothing more
 pub data After (s : Settings) (t : State) : Step → Answer → State → Type 0 where
-  sent_back : {x : Step} {r : Refusal} → After s t x (Refused r) t
-  a_stop : {id name parent : List ℕ} {i : StopInput} → After s t (filling (stop id name parent i)) Taken (more t (stop id name parent i))
-  a_rule : {i : RuleInput} → After s t (filling (rule i)) Taken (more t (rule i))
+  sent_back : {x : Step} {r : Refusal} → After s t x (Err r) t
+  a_stop : {id name parent : List ℕ} {i : StopInput} → After s t (filling (stop id name parent i)) (Ok Taken) (more t (stop id name parent i))
+  a_rule : {i : RuleInput} → After s t (filling (rule i)) (Ok Taken) (more t (rule i))
   -- an answered call closes the services; a cut that it made stays, also where it is outside after it
-  a_call : {name : List ℕ} {i : CallInput} {h m : ℕ} {u : State} → Fits s (calls_in t.taken) i t.horizon t.limits Taken h m
-      → Again s (up_to (more t (call name i)) h m) u → After s t (filling (call name i)) Taken (shut u)
+  a_call : {name : List ℕ} {i : CallInput} {h m : ℕ} {u : State} → Fits s (calls_in t.taken) i t.horizon t.limits (Ok Taken) h m
+      → Again s (up_to (more t (call name i)) h m) u → After s t (filling (call name i)) (Ok Taken) (shut u)
   -- of one whose service doesn't run the times are unread
-  resting : {name : List ℕ} {i : CallInput} → Resting t name i.day → After s t (filling (call name i)) Outside (shut t)
-  outside : {name : List ℕ} {i : CallInput} {h m : ℕ} {u : State} → (Resting t name i.day → ⊥) → Fits s (calls_in t.taken) i t.horizon t.limits Outside h m
-      → Again s (up_to t h m) u → After s t (filling (call name i)) Outside (shut u)
-  a_service : {name : List ℕ} {weekdays start end : ℕ} → After s t (filling (service name weekdays start end)) Taken (more t (service name weekdays start end))
-  an_exception : {name : List ℕ} {date kind : ℕ} → After s t (filling (exception name date kind)) Taken (more t (exception name date kind))
-  a_withdrawal : {k : CallKey} {u v : State} → Withdrawn s t k u → Again s u v → After s t (withdraw k) Taken v
-  a_search : After s t search Taken (done none t)
-  a_limited : {n tested : ℕ} {os : List Journey} {finishes : Bool} → Within (feed_of s t) n os tested finishes → After s t (limited n) Taken (limited_to n finishes t)
+  resting : {name : List ℕ} {i : CallInput} → Resting t name i.day → After s t (filling (call name i)) (Ok Outside) (shut t)
+  outside : {name : List ℕ} {i : CallInput} {h m : ℕ} {u : State} → (Resting t name i.day → ⊥) → Fits s (calls_in t.taken) i t.horizon t.limits (Ok Outside) h m
+      → Again s (up_to t h m) u → After s t (filling (call name i)) (Ok Outside) (shut u)
+  a_service : {name : List ℕ} {weekdays start end : ℕ} → After s t (filling (service name weekdays start end)) (Ok Taken) (more t (service name weekdays start end))
+  an_exception : {name : List ℕ} {date kind : ℕ} → After s t (filling (exception name date kind)) (Ok Taken) (more t (exception name date kind))
+  a_withdrawal : {k : CallKey} {u v : State} → Withdrawn s t k u → Again s u v → After s t (withdraw k) (Ok Taken) v
+  a_search : After s t search (Ok Taken) (done None t)
+  a_limited : {n tested : ℕ} {os : List Journey} {finishes : Bool} → Within (feed_of s t) n os tested finishes → After s t (limited n) (Ok Taken) (limited_to n finishes t)
 
 -- the steps, handed in where t was taken, are answered so and leave v taken
 pub data Runs (s : Settings) : State → List Step → List Answer → State → Type 0 where
@@ -70,4 +69,4 @@ pub record Finished (o : Opening) (xs : List Step) : Type 0 where
   pub answers : List Answer
   pub end : State
   pub runs : Runs o.settings (fresh o.dates) xs answers end
-  pub finished : end.stopped ≡ none
+  pub finished : end.stopped ≡ None

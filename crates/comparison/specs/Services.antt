@@ -1,7 +1,6 @@
 -- Request 03: when a service runs, by what was handed in; which call names a service that was not taken, or that doesn't run on its day.
 -- RULES 4.
-use Rattle.std.specs.Prelude.{◌≡◌, ◌⊎◌, ℕ, ◌/◌, ◌%◌, ◌^◌, ◌≤◌, get_or}
-use Rattle.std.proofs.Math.Option.{some}
+use Rattle.std.specs.Prelude.{◌≡◌, ◌⊎◌, ℕ, ◌/◌, ◌%◌, ◌^◌, ◌≤◌, get_or, Some}
 use mathlib.Core.List.{List, Memᴰ}
 use Rattle.calendar.specs.Dates.{weekday_of}
 use Rattle.calendar.specs.Promises.{Parts}
@@ -30,13 +29,13 @@ Named fs name = (g : ServiceGiven) × Memᴰ g (services_in fs) × (g.name ≡ n
 
 -- with dates, "a service not taken"
 abbrev pub Unknown : State → List ℕ → Type 0
-Unknown t name = (dates : List ℕ) × (t.dates ≡ some dates) × (Named t.taken name → ⊥)
+Unknown t name = (dates : List ℕ) × (t.dates ≡ Some dates) × (Named t.taken name → ⊥)
 
 -- with dates, a service with the name runs on the date of the day
 abbrev pub Running : State → List ℕ → ℕ → Type 0
 Running t name day =
-    (dates : List ℕ) × (t.dates ≡ some dates) × ((g : ServiceGiven) × Memᴰ g (services_in t.taken) × (g.name ≡ name) × RunsOn t.taken g (get_or dates day 0))
+    (dates : List ℕ) × (t.dates ≡ Some dates) × ((g : ServiceGiven) × Memᴰ g (services_in t.taken) × (g.name ≡ name) × RunsOn t.taken g (get_or dates day 0))
 
 -- with dates, none does: "on a day when that doesn't run"
 abbrev pub Resting : State → List ℕ → ℕ → Type 0
-Resting t name day = ((dates : List ℕ) × (t.dates ≡ some dates)) × (Running t name day → ⊥)
+Resting t name day = ((dates : List ℕ) × (t.dates ≡ Some dates)) × (Running t name day → ⊥)

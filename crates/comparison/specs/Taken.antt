@@ -1,7 +1,6 @@
 -- What was taken so far of a list of steps, as it was handed in: nothing is read here but the steps and their answers.
 -- RULES 1.1, 1.4, 4.3, 11.3.
-use Rattle.std.specs.Prelude.{Bool, true, false, List, [], ◌∷◌, ◌++◌, ℕ}
-use Rattle.std.proofs.Math.Option.{Option, none, some}
+use Rattle.std.specs.Prelude.{Bool, true, false, List, [], ◌∷◌, ◌++◌, ℕ, None, Option, Some}
 use Rattle.stops.specs.declared.StopInput.{StopInput}
 use Rattle.calls.specs.declared.CallInput.{CallInput}
 use Rattle.rules.specs.declared.RuleInput.{RuleInput}
@@ -68,12 +67,12 @@ pub record State : Type 0 where
 
 -- "Loads opened without dates answer as before, and a service or exception there meets 15": there they are closed from the opening
 abbrev pub without : Option (List ℕ) → Bool
-without none = true
-without (some dates) = false
+without None = true
+without (Some dates) = false
 
 -- "Opening gives an empty load with horizon 21600 and limits 0"
 abbrev pub fresh : Option (List ℕ) → State
-fresh dates = record { taken = []; horizon = 21600; limits = 0; searched = false; stopped = none; dates = dates; closed = without dates }
+fresh dates = record { taken = []; horizon = 21600; limits = 0; searched = false; stopped = None; dates = dates; closed = without dates }
 
 -- with one more taken
 abbrev pub more : State → Filling → State
@@ -93,8 +92,8 @@ done limit t = record { taken = t.taken; horizon = t.horizon; limits = t.limits;
 
 -- what a search within the limit n leaves, finished or not
 abbrev pub limited_to : ℕ → Bool → State → State
-limited_to n true t = done none t
-limited_to n false t = done (some n) t
+limited_to n true t = done None t
+limited_to n false t = done (Some n) t
 
 -- "Services and exceptions come before the search and the first answered call"
 abbrev pub shut : State → State

@@ -1,22 +1,19 @@
 -- The premises of the demands can be met, by lists that keep a journey: of one ride, of two that a rule joins, of three, of a service with
 -- dates, of one that is added after the search and withdrawn again, of searches that a limit stops and not. Each by computation.
 -- RULES 15.
-use Rattle.std.specs.Prelude.{◌≡◌, true, false, List, [], ◌∷◌, ◌++◌, map, ℕ, pos}
-use Rattle.std.proofs.Math.Option.{none, some}
+use Rattle.refusal.specs.First.{Answer}
+use Rattle.refusal.specs.declared.Accepted.TheVariants.{Taken}
+use Rattle.std.specs.Prelude.{◌≡◌, true, false, List, [], ◌∷◌, ◌++◌, map, ℕ, pos, None, Some, Ok}
 use Rattle.std.specs.Float.{binary64}
 use Rattle.std.specs.Float.Ieee.{of_bits}
-use Rattle.refusal.specs.declared.Answer.{Answer}
-use Rattle.refusal.specs.declared.Answer.TheVariants.{Taken}
 use Rattle.settings.specs.declared.Settings.{Settings}
 use Rattle.stops.specs.declared.StopInput.{StopInput}
 use Rattle.calls.specs.declared.CallInput.{CallInput}
-use Rattle.calls.specs.declared.Seconds.TheVariants.{Given}
 use Rattle.profile.specs.declared.Journey.{Journey}
-use Rattle.profile.specs.Figures.{Figures}
+use Rattle.profile.specs.declared.figures.Figures.{Figures}
 use Rattle.profile.specs.Journeys.{journey_figures}
 use Rattle.profile.specs.Instances.{figures_of}
 use Rattle.load.specs.Sound.{Opens}
-use Rattle.rules.specs.declared.MinTime.TheVariants as min-time
 use Rattle.load.specs.Steps.{Opening, undated, dated}
 use Rattle.load.specs.Filling.{stop, call, rule, service, exception}
 use Rattle.best.specs.Best.{kept_of}
@@ -62,8 +59,8 @@ call_of trip seq at time = record {
   day = 0;
   sequence = seq;
   stop = at;
-  arrival = Given time;
-  departure = Given time;
+  arrival = Some time;
+  departure = Some time;
   pickup = 0;
   drop_off = 0;
 }
@@ -94,7 +91,7 @@ two_trips departs =
     ∷ filling (stop (66 ∷ []) [] [] (some_stop 0))
     ∷ filling (stop (67 ∷ []) [] [] (some_stop 0))
     ∷ filling (stop (68 ∷ []) [] [] (some_stop 16))
-    ∷ filling (rule (record { from = 1; to = 2; transfer_type = 2; seconds = min-time.Given 240 }))
+    ∷ filling (rule (record { from = 1; to = 2; transfer_type = 2; seconds = Some 240 }))
     ∷ filling (call [] (call_of 1 1 0 600))
     ∷ filling (call [] (call_of 1 2 1 1000))
     ∷ filling (call [] (call_of 2 1 2 departs))
@@ -111,10 +108,10 @@ three_trips departs =
     ∷ filling (stop (66 ∷ []) [] [] (some_stop 0))
     ∷ filling (stop (67 ∷ []) [] [] (some_stop 0))
     ∷ filling (stop (68 ∷ []) [] [] (some_stop 16))
-    ∷ filling (rule (record { from = 1; to = 1; transfer_type = 2; seconds = min-time.Given 240 }))
-    ∷ filling (rule (record { from = 2; to = 2; transfer_type = 2; seconds = min-time.Given 240 }))
-    ∷ filling (rule (record { from = 1; to = 2; transfer_type = 3; seconds = min-time.Given 0 }))
-    ∷ filling (rule (record { from = 2; to = 0; transfer_type = 3; seconds = min-time.Given 0 }))
+    ∷ filling (rule (record { from = 1; to = 1; transfer_type = 2; seconds = Some 240 }))
+    ∷ filling (rule (record { from = 2; to = 2; transfer_type = 2; seconds = Some 240 }))
+    ∷ filling (rule (record { from = 1; to = 2; transfer_type = 3; seconds = Some 0 }))
+    ∷ filling (rule (record { from = 2; to = 0; transfer_type = 3; seconds = Some 0 }))
     ∷ filling (call [] (call_of 1 1 0 600))
     ∷ filling (call [] (call_of 1 2 1 1000))
     ∷ filling (call [] (call_of 2 1 1 1240))
@@ -129,7 +126,7 @@ abbrev pub limited_trips : ℕ → List Step
 limited_trips n =
     filling (stop (65 ∷ []) [] [] (some_stop 1))
     ∷ filling (stop (66 ∷ []) [] [] (some_stop 16))
-    ∷ filling (rule (record { from = 1; to = 0; transfer_type = 3; seconds = min-time.Absent }))
+    ∷ filling (rule (record { from = 1; to = 0; transfer_type = 3; seconds = None }))
     ∷ filling (call [] (call_of 1 1 0 600))
     ∷ filling (call [] (call_of 1 2 1 1200))
     ∷ filling (call [] (call_of 2 1 0 700))
@@ -170,7 +167,7 @@ kept_figures xs = kept_by some_opening xs
 -- the list is taken whole
 pub record AllTaken (xs : List Step) : Type 0 where
   pub end : State
-  pub runs : Runs some_settings (fresh none) xs (Taken ∷ Taken ∷ Taken ∷ Taken ∷ Taken ∷ []) end
+  pub runs : Runs some_settings (fresh None) xs (Ok Taken ∷ Ok Taken ∷ Ok Taken ∷ Ok Taken ∷ Ok Taken ∷ []) end
   pub searched : end.searched ≡ true
 
 -- a journey with these figures is admitted
@@ -184,7 +181,7 @@ pub record StoppedAt (o : Opening) (xs : List Step) (n : ℕ) : Type 0 where
   pub answers : List Answer
   pub end : State
   pub runs : Runs o.settings (fresh o.dates) xs answers end
-  pub limit : end.stopped ≡ some n
+  pub limit : end.stopped ≡ Some n
 
 pub record Met : Type 0 where
   pub opens : Opens some_opening

@@ -1,4 +1,5 @@
 -- A change, from the rules as they are held.
+use Rattle.std.specs.Prelude.{Option}
 use mathlib.Core.Path.{◌≡◌, refl, ap, ◌∙◌}
 use mathlib.Core.List.{List}
 use Prim.Native.Nat.{ℕ, ◌≤◌}
@@ -8,8 +9,6 @@ use Rattle.laws.proofs.Bounds.{least_under, take-least}
 use Rattle.calls.specs.declared.Call.{Call}
 use Rattle.rules.specs.declared.Rule.{Rule}
 use Rattle.transfer.specs.declared.Ends.{Ends}
-use Rattle.transfer.specs.declared.Chosen.{Chosen}
-use Rattle.transfer.specs.declared.Change.{Change}
 use Rattle.transfer.specs.Choice.{chosen}
 use Rattle.transfer.specs.Copied.{rules_of}
 use Rattle.transfer.specs.Changes.{ends_of_of, transfer_of}
@@ -19,7 +18,7 @@ use Rattle.connection.specs.Changes.{number_in, pair_tests, rule_at, change_test
 
 module _ (i : ℕ) (rules : List Rule) (count : ℕ) (flat parents places : List ℕ) (seconds : ℕ) (b a c : Call) (rest : Told) (long : length rules ≡ 128)
     (read : (n : ℕ) → n ≤ 128 → rules_of flat n ≡ take n rules) where
-  pub change-by : (ends : Ends) (rule : Chosen) (change : Change) (number : ℕ) (r : Told)
+  pub change-by : (ends : Ends) (rule : Option Rule) (change : Option ℕ) (number : ℕ) (r : Told)
       → ends ≡ ends_of_of parents a.stop c.stop → rule ≡ chosen ends (rules_of flat (least count 128))
       → change ≡ transfer_of (rules_of flat (least count 128)) parents places a.stop c.stop seconds
       → number ≡ number_in (take count rules) rule → r ≡ first_then_of (pair_tests i rule number change b a c) rest

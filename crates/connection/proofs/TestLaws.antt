@@ -1,4 +1,5 @@
 -- The tests, one after another: each function hands on what the next one tells.
+use Rattle.std.specs.Prelude.{Option}
 use mathlib.Core.Path.{◌≡◌, refl, sym, ap, ◌∙◌}
 use mathlib.Core.Bool.{Bool, true, false, not, cond}
 use mathlib.Core.List.{List, [], ◌∷◌, ◌++◌}
@@ -8,8 +9,6 @@ use borrow.Author.Tests.{lt-ltb, le-ltb, le-leb, lt-leb, eq-eqb, ne_eqb}
 use Rattle.calls.specs.declared.Call.{Call}
 use Rattle.rules.specs.declared.Rule.{Rule}
 use Rattle.rules.specs.Rules.{same_pair}
-use Rattle.transfer.specs.declared.Chosen.{Chosen}
-use Rattle.transfer.specs.declared.Change.{Change}
 use Rattle.offers.specs.Offers.{same_run}
 use Rattle.connection.specs.declared.Leg.{Leg}
 use Rattle.connection.specs.declared.FoundLeg.{FoundLeg}
@@ -52,7 +51,7 @@ pub end-chain : (origins targets o k from to walk departure : ℕ) (rest r₁ r�
     → r₃ ≡ first_then_of (end_tests origins targets o k from to walk departure) rest
 end-chain origins targets o k from to walk departure rest r₁ r₂ r₃ w t s x y z e₁ e₂ e₃ = rw (e₃, e₂, e₁, x, y, z) refl
 
-pub pair-chain : (i : ℕ) (rule : Chosen) (number : ℕ) (change : Change) (b a c : Call) (rest r₁ r₂ r₃ r₄ r₅ : Told) (seconds : ℕ) (enough never forbidden near same : Bool)
+pub pair-chain : (i : ℕ) (rule : Option Rule) (number : ℕ) (change : Option ℕ) (b a c : Call) (rest r₁ r₂ r₃ r₄ r₅ : Told) (seconds : ℕ) (enough never forbidden near same : Bool)
     → seconds ≡ needed change → enough ≡ leb (a.arrival + seconds) c.departure → never ≡ is_never change → forbidden ≡ forbids rule
     → near ≡ in_reach a.stop c.stop → same ≡ same_run b c
     → r₁ ≡ cond (not enough) (Because (TooShort i seconds a.arrival c.departure)) rest

@@ -1,13 +1,9 @@
 -- What is asked of a change. "`join`: trip or day differs, and arrival + transfer seconds is at most departure."
-use Rattle.std.specs.Prelude.{Bool, true, false, not, ◌&&◌, List, [], ◌∷◌, ℕ, ◌+◌, ◌-◌, eqb, ltb, leb}
+use Rattle.std.specs.Prelude.{Bool, true, false, not, ◌&&◌, List, [], ◌∷◌, ℕ, ◌+◌, ◌-◌, eqb, ltb, leb, None, Option, Some}
 use Rattle.calls.specs.declared.Call.{Call}
 use Rattle.withdrawal.specs.Removal.{last_of}
 use Rattle.rules.specs.declared.Rule.{Rule}
 use Rattle.rules.specs.Rules.{same_pair}
-use Rattle.transfer.specs.declared.Chosen.{Chosen}
-use Rattle.transfer.specs.declared.Chosen.TheVariants.{By, Open}
-use Rattle.transfer.specs.declared.Change.{Change}
-use Rattle.transfer.specs.declared.Change.TheVariants.{Takes, Never}
 use Rattle.transfer.specs.Choice.{chosen}
 use Rattle.transfer.specs.Changes.{ends_of_of, transfer_of}
 use Rattle.offers.specs.Offers.{same_run}
@@ -19,25 +15,25 @@ unfoldable pub in_reach : ℕ → ℕ → Bool
 in_reach from to = ltb from 128 && ltb to 128
 
 -- type 3
-abbrev pub forbids : Chosen → Bool
-forbids (By r) = eqb r.transfer_type 3
-forbids Open = false
+abbrev pub forbids : Option Rule → Bool
+forbids (Some r) = eqb r.transfer_type 3
+forbids None = false
 
 -- its place among the rules: a pair may be taken once
-abbrev pub number_in : List Rule → Chosen → ℕ
-number_in rs (By r) = last_of (same_pair r.from r.to) rs - 1
-number_in rs Open = 0
+abbrev pub number_in : List Rule → Option Rule → ℕ
+number_in rs (Some r) = last_of (same_pair r.from r.to) rs - 1
+number_in rs None = 0
 
-abbrev pub is_never : Change → Bool
-is_never (Takes s) = false
-is_never Never = true
+abbrev pub is_never : Option ℕ → Bool
+is_never (Some s) = false
+is_never None = true
 
-abbrev pub needed : Change → ℕ
-needed (Takes s) = s
-needed Never = 0
+abbrev pub needed : Option ℕ → ℕ
+needed (Some s) = s
+needed None = 0
 
 -- change i, from the ride that boards at b and alights at a to one that boards at c, by the rule that holds, of that number, and the change
-abbrev pub pair_tests : ℕ → Chosen → ℕ → Change → Call → Call → Call → List (Bool × Cause)
+abbrev pub pair_tests : ℕ → Option Rule → ℕ → Option ℕ → Call → Call → Call → List (Bool × Cause)
 pair_tests i rule number change b a c =
     (same_run b c, SameRun i)
     ∷ (not (in_reach a.stop c.stop), NoChange i)
@@ -47,7 +43,7 @@ pair_tests i rule number change b a c =
     ∷ []
 
 -- by the rules taken, and each stop's parent and place
-abbrev pub rule_at : List Rule → List ℕ → ℕ → ℕ → Chosen
+abbrev pub rule_at : List Rule → List ℕ → ℕ → ℕ → Option Rule
 rule_at rs parents from to = chosen (ends_of_of parents from to) rs
 
 unfoldable pub change_tests : ℕ → List Rule → List ℕ → List ℕ → ℕ → Call → Call → Call → List (Bool × Cause)

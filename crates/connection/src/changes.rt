@@ -15,7 +15,6 @@ use transfer::copied::flat_rules;
 use transfer::pair::transfer;
 use transfer::parts::ends_of;
 use transfer::reads::at_most;
-use transfer::{Change, Chosen};
 
 fn same_run(b: Call, c: Call) -> bool
     ensures { result ≡ same_run b c }
@@ -26,13 +25,11 @@ fn same_run(b: Call, c: Call) -> bool
     false
 }
 
+#[tactic(auto, unfolding(crate::specs::Changes::in_reach))]
 fn in_reach(from: u16, to: u16) -> bool
     ensures { result ≡ in_reach from to }
 {
-    if from < 128 {
-        return to < 128;
-    }
-    false
+    from < 128 && to < 128
 }
 
 fn is_pair(rule: Rule, from: u16, to: u16) -> bool
@@ -59,61 +56,44 @@ fn pair_place(rules: [Rule; 128], count: usize, from: u16, to: u16) -> usize
     0
 }
 
-// A place counted from 0 that was counted from 1.
-fn less_one(n: usize) -> usize
-    ensures { result ≡ n - 1 }
-{
-    if 0 < n {
-        return n - 1;
-    }
-    0
-}
-
-fn forbids_rule(rule: Chosen) -> bool
+fn forbids_rule(rule: Option<Rule>) -> bool
     ensures { result ≡ forbids rule }
 {
     match rule {
-        Chosen::By(by) => {
-            return by.transfer_type == 3;
-        }
-        Chosen::Open => {
-            return false;
-        }
+        Some(by) => by.transfer_type == 3,
+        None => false,
     }
 }
 
 // The number of a rule that was chosen among the first `count`.
-fn rule_number(rules: [Rule; 128], count: usize, rule: Chosen) -> usize
+fn rule_number(rules: [Rule; 128], count: usize, rule: Option<Rule>) -> usize
     ensures { result ≡ number_in (take count rules) rule }
 {
     match rule {
-        Chosen::By(by) => {
+        Some(by) => {
             let at = pair_place(rules, count, by.from, by.to);
-            return less_one(at);
+            return at.saturating_sub(1);
         }
-        Chosen::Open => {
+        None => {
             return 0;
         }
     }
 }
 
-fn is_never(change: Change) -> bool
+fn is_never(change: Option<u16>) -> bool
     ensures { result ≡ is_never change }
 {
     match change {
-        Change::Takes(_) => false,
-        Change::Never => true,
+        Some(_) => false,
+        None => true,
     }
 }
 
 // The seconds that a change takes, 0 for one that is never made.
-fn needed_of(change: Change) -> u16
+fn needed_of(change: Option<u16>) -> u16
     ensures { result ≡ needed change }
 {
-    match change {
-        Change::Takes(seconds) => seconds,
-        Change::Never => 0,
-    }
+    change.unwrap_or(0)
 }
 
 fn is_enough(arrival: u16, needed: u16, departure: u16) -> bool
@@ -125,9 +105,9 @@ fn is_enough(arrival: u16, needed: u16, departure: u16) -> bool
 // By the rule that holds and the change between the stops. `number` is the rule's.
 fn pair_told(
     i: u8,
-    rule: Chosen,
+    rule: Option<Rule>,
     number: usize,
-    change: Change,
+    change: Option<u16>,
     b: Call,
     a: Call,
     c: Call,

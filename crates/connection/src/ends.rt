@@ -28,13 +28,11 @@ fn low_digit(k: u8, m: u8) -> bool
     false
 }
 
+#[tactic(auto, unfolding(crate::specs::Ends::is_member_of))]
 pub fn is_member(count: u8, k: u8, m: u8) -> bool
     ensures { result ≡ is_member_of count k m }
 {
-    if k < count {
-        return low_digit(k, m);
-    }
-    false
+    k < count && low_digit(k, m)
 }
 
 // The membership byte of a stop, 0 past the last.

@@ -4,21 +4,22 @@ ghost use Rattle.connection.specs.Find.{find_in, find_leg, way_of};
 
 use crate::{FoundCall, FoundLeg, Leg, Way};
 use calls::{Call, blank_call};
+use prefix::first;
 use withdrawal::{CallKey, last_of};
 
 // The last of the first `count` calls with the key; of a searched load there is one at most.
 pub fn find(calls: [Call; 512], count: usize, key: CallKey) -> FoundCall
     ensures { result ≡ find_in (take count calls) key }
 {
-    let at = last_of(calls, count, key);
-    if at == 0 {
+    let held = first(&calls, count);
+    let Some(at) = last_of(held, key) else {
         let none = blank_call();
         return FoundCall {
             there: false,
             call: none,
         };
-    }
-    let call = calls[at - 1];
+    };
+    let call = held[at];
     FoundCall { there: true, call }
 }
 

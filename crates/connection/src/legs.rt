@@ -6,13 +6,11 @@ ghost use Rattle.connection.specs.Legs.{ride_right, ride_tests, leg_tests, legs_
 use crate::tests::{unless, when};
 use crate::{Cause, FoundLeg, Leg, Told, Way};
 
+#[tactic(auto, unfolding(crate::specs::Legs::ride_right))]
 fn ride_right(n: u8) -> bool
     ensures { result ≡ ride_right n }
 {
-    if 1 <= n {
-        return n <= 3;
-    }
-    false
+    1 <= n && n <= 3
 }
 
 pub fn rides_told(n: u8, rest: Told) -> Told

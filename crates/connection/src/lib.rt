@@ -11,7 +11,7 @@ pub mod tests;
 use calls::Call;
 
 // A ride as it is named: the sequences of the calls where it boards and alights.
-#[derive(Clone, Copy)]
+#[derive(Clone, Copy, Debug, PartialEq, Eq)]
 pub struct Leg {
     pub trip: u16,
     pub day: u8,
@@ -20,7 +20,7 @@ pub struct Leg {
 }
 
 // The first `rides` of the legs count.
-#[derive(Clone, Copy)]
+#[derive(Clone, Copy, Debug, PartialEq, Eq)]
 pub struct Connection {
     pub origin: u8,
     pub target: u8,
@@ -29,7 +29,7 @@ pub struct Connection {
 }
 
 // Why a connection can't be made. The number that comes first is that of the leg, or of the change, from 0.
-#[derive(Clone, Copy)]
+#[derive(Clone, Copy, Debug, PartialEq, Eq)]
 pub enum Cause {
     // No ride, or more than three: how many.
     RideCount(u8),
@@ -57,7 +57,7 @@ pub enum Cause {
 }
 
 // A cause, or none.
-#[derive(Clone, Copy)]
+#[derive(Clone, Copy, Debug, PartialEq, Eq)]
 pub enum Told {
     Because(Cause),
     Free,

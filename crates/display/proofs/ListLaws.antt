@@ -1,7 +1,7 @@
 -- Lists in order by arrival: those due by a window stand first; the first of them that passes a test.
+use Rattle.std.specs.Prelude.{None, Some}
 use mathlib.Core.Path.{◌≡◌, refl, sym, ap, ◌∙◌}
 use mathlib.Core.Bool.{Bool, true, false, cond}
-use mathlib.Core.Option.{none, some}
 use mathlib.Core.List.{List, [], ◌∷◌, ◌++◌, Memᴰ}
 use Prim.Native.Nat.{ℕ, zero, suc, ◌-◌, ◌≤◌, ◌<◌}
 use native.Mathlib.Omega.{arith}
@@ -125,7 +125,7 @@ first-due : (p : Journey → Bool) (w : ℕ) (ks : List Journey) → In ks → f
 first-due p w [] o = refl
 first-due p w (x ∷ ks) (f, o) = spread (is_due w x) ∙ go (is_due w x) refl (p x) (first-due p w ks o)
   where
-    spread : (b : Bool) → firstb p (cond b (x ∷ shown_by w ks) (shown_by w ks)) ≡ cond b (cond (p x) (some x) (firstb p (shown_by w ks))) (firstb p (shown_by w ks))
+    spread : (b : Bool) → firstb p (cond b (x ∷ shown_by w ks) (shown_by w ks)) ≡ cond b (cond (p x) (Some x) (firstb p (shown_by w ks))) (firstb p (shown_by w ks))
     spread true = refl
     spread false = refl
 
@@ -133,21 +133,21 @@ first-due p w (x ∷ ks) (f, o) = spread (is_due w x) ∙ go (is_due w x) refl (
     none_left e = late-none w x ks (leb-false x.arrival w e) (λ y m. after x y (f y m))
 
     due : is_due w x ≡ true → (c : Bool) → firstb p (shown_by w ks) ≡ read_none_of w (firstb p ks)
-        → cond c (some x) (firstb p (shown_by w ks)) ≡ read_none_of w (cond c (some x) (firstb p ks))
+        → cond c (Some x) (firstb p (shown_by w ks)) ≡ read_none_of w (cond c (Some x) (firstb p ks))
     due e true ih = sym (cond-by _ _ e)
     due e false ih = ih
 
     late : is_due w x ≡ false → (c : Bool) → firstb p (shown_by w ks) ≡ read_none_of w (firstb p ks)
-        → firstb p (shown_by w ks) ≡ read_none_of w (cond c (some x) (firstb p ks))
+        → firstb p (shown_by w ks) ≡ read_none_of w (cond c (Some x) (firstb p ks))
     late e true ih = ap (firstb p) (none_left e) ∙ sym (cond-not _ _ e)
     late e false ih = ih
 
     go : (b : Bool) → is_due w x ≡ b → (c : Bool) → firstb p (shown_by w ks) ≡ read_none_of w (firstb p ks)
-        → cond b (cond c (some x) (firstb p (shown_by w ks))) (firstb p (shown_by w ks)) ≡ read_none_of w (cond c (some x) (firstb p ks))
+        → cond b (cond c (Some x) (firstb p (shown_by w ks))) (firstb p (shown_by w ks)) ≡ read_none_of w (cond c (Some x) (firstb p ks))
     go true e c ih = due e c ih
     go false e c ih = late e c ih
 
-none_passes : (p : Journey → Bool) (ks : List Journey) → ((k : Journey) → Memᴰ k ks → p k ≡ false) → firstb p ks ≡ none
+none_passes : (p : Journey → Bool) (ks : List Journey) → ((k : Journey) → Memᴰ k ks → p k ≡ false) → firstb p ks ≡ None
 none_passes p [] f = refl
 none_passes p (x ∷ ks) f = cond-not _ _ (f x (Memᴰ.head refl)) ∙ none_passes p ks (λ k m. f k (Memᴰ.tail m))
 
@@ -160,10 +160,10 @@ first_read ks w h o a l (pos t) = go (ltb w t) refl (ltb h t) refl
     p : Journey → Bool
     p k = leb t k.leave
 
-    gone : w < t → firstb p (shown_by w ks) ≡ none
+    gone : w < t → firstb p (shown_by w ks) ≡ None
     gone q = none_passes p (shown_by w ks) (λ k m. let (n, d) = filterb-mem (is_due w) ks m in lt-leb t k.leave (omega (arith, a k n, leb-true k.arrival w d)))
 
-    go : (b : Bool) → ltb w t ≡ b → (c : Bool) → ltb h t ≡ c → cond b none (firstb p (shown_by w ks)) ≡ read_none_of w (cond c none (firstb p ks))
+    go : (b : Bool) → ltb w t ≡ b → (c : Bool) → ltb h t ≡ c → cond b None (firstb p (shown_by w ks)) ≡ read_none_of w (cond c None (firstb p ks))
     go true e true f = refl
     go true e false f = sym (gone (ltb-true w t e)) ∙ first-due p w ks o
     go false e true f = absurd (omega (arith, ltb-false w t e, ltb-true h t f))

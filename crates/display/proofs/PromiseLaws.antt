@@ -1,8 +1,10 @@
 -- The promises of specs/Promises.antt, each from the laws of lists in order and of the groups of a display.
+use Rattle.refusal.specs.First.{Answer}
+use Rattle.refusal.specs.declared.Accepted.TheVariants.{Taken}
+use Rattle.std.specs.Prelude.{None, Option, Some, Err, Ok}
 use mathlib.Core.Path.{◌≡◌, refl, sym, ap, subst, ◌∙◌}
 use mathlib.Core.Logic.{◌⊎◌, inl, inr}
 use mathlib.Core.Bool.{Bool, true, false, cond, true≢false}
-use mathlib.Core.Option.{Option, none, some}
 use mathlib.Core.List.{List, [], ◌∷◌, Memᴰ}
 use Prim.Native.Nat.{ℕ, zero, suc, ◌+◌, ◌-◌, ◌≤◌, ◌<◌}
 use native.Mathlib.Omega.{arith}
@@ -13,8 +15,6 @@ use lib.Seq.{take-take}
 use borrow.Author.Tests.{ltb-true, ltb-false, lt-ltb, le-leb}
 use Rattle.laws.proofs.Bools.{cond-by, cond-not, and-true, and-true-left, and-true-right, test}
 use Rattle.laws.proofs.Lists.{filterb-all, length-filterb}
-use Rattle.refusal.specs.declared.Answer.{Answer}
-use Rattle.refusal.specs.declared.Answer.TheVariants.{Taken, Refused}
 use Rattle.refusal.specs.declared.Refusal.TheVariants.{DisplayGroups}
 use Rattle.shares.specs.Shares.{total, shares_of}
 use Rattle.shares.specs.Promises.{Shared}
@@ -23,10 +23,9 @@ use Rattle.profile.specs.declared.Journey.{Journey}
 use Rattle.profile.specs.Journeys.{no_journey, journey_figures}
 use Rattle.profile.specs.Best.{Ordered, firstℤ}
 use Rattle.load.specs.declared.Load.{Load}
-use Rattle.best.specs.Best.{found_of, answer_of, kept_of, first_leaving, best_spec}
+use Rattle.best.specs.Best.{answer_of, kept_of, first_leaving, best_spec}
 use Rattle.groups.specs.declared.Group.{Group}
-use Rattle.groups.specs.declared.Slot.{Slot}
-use Rattle.groups.specs.Groups.{no_slot, group_of, list_of, group_at}
+use Rattle.groups.specs.Groups.{group_of, list_of, group_at}
 use Rattle.groups.specs.Refused.{turned_away}
 use Rattle.groups.proofs.RefusedLaws.{not-away, group-found, group-cases}
 use Rattle.display.specs.declared.part.Part.{Part}
@@ -74,7 +73,7 @@ module _ (gs : List Group) (g : Group) (w : Given gs g) where
 
   pub given-part : group_part gs g.number ≡ shown_part (list_of g) (share_of gs g.number) g.horizon
   unfolding part_in
-  given-part = part-stands gs w.stands g.number low ∙ ap (λ (s : Slot). part_in s (share_of gs g.number)) (group-found gs g w.stands w.given)
+  given-part = part-stands gs w.stands g.number low ∙ ap (λ (s : Option Group). part_in s (share_of gs g.number)) (group-found gs g w.stands w.given)
 
   -- its list is as long as the shares say
   given-count : get_or (counts gs) g.number 0 ≡ length (list_of g)
@@ -97,10 +96,10 @@ pub refused-whole : RefusedWhole
 unfolding display_of
 refused-whole gs = ((λ e. ap (λ (d : Display). d.answer) (cond-by _ _ e), λ q. go (turned_away gs) refl q), parts-away gs)
   where
-    go : (b : Bool) → turned_away gs ≡ b → (display_of gs).answer ≡ Refused DisplayGroups → b ≡ true
+    go : (b : Bool) → turned_away gs ≡ b → (display_of gs).answer ≡ Err DisplayGroups → b ≡ true
     go true e q = refl
     go false e q =
-        let r : ◌≡◌ {A = Answer} Taken (Refused DisplayGroups) = sym (ap (λ (d : Display). d.answer) (cond-not _ _ e)) ∙ q in
+        let r : ◌≡◌ {A = Answer} (Ok Taken) (Err DisplayGroups) = sym (ap (λ (d : Display). d.answer) (cond-not _ _ e)) ∙ q in
         absurd (let z : ◌≡◌ {A = ℕ} 0 1 = cc in omega arith)
 
 -- ---- 11
@@ -120,7 +119,7 @@ unfolding shown_part
 refused-shows _ _ _ e = cond-by _ _ e
 
 shown-shows : (ks : List Journey) (share h : ℕ) → falls_below (length ks) share (window_of ks share h) ≡ false
-    → shown_part ks share h ≡ record { shows = true; answer = Taken; window = window_of ks share h; count = length (shown_by (window_of ks share h) ks) }
+    → shown_part ks share h ≡ record { shows = true; answer = Ok Taken; window = window_of ks share h; count = length (shown_by (window_of ks share h) ks) }
 unfolding shown_part
 shown-shows _ _ _ e = cond-not _ _ e
 
@@ -169,7 +168,7 @@ shown-right gs g w o s = record { window = ap (λ (p : Part). p.window) part; sh
     up : falls_below (length ks) n v ≡ false
     up = stays_up ks n g.horizon (sym (ap (λ (p : Part). p.shows) (given-part gs g w)) ∙ s)
 
-    part : group_part gs g.number ≡ record { shows = true; answer = Taken; window = v; count = length (shown_by v ks) }
+    part : group_part gs g.number ≡ record { shows = true; answer = Ok Taken; window = v; count = length (shown_by v ks) }
     part = given-part gs g w ∙ shown-shows ks n g.horizon up
 
     large : n < length ks → 3600 ≤ v
@@ -205,7 +204,7 @@ given-window gs g w o s f = subst (λ (v : ℕ). v ≤ g.horizon) (sym (shown-ri
 pub sixteen-shown : SixteenShown
 sixteen-shown gs g w few due =
     given-part gs g w ∙ shown-shows ks n h (up (test (falls_below (length ks) n (window_of ks n h))))
-    ∙ (λ i. record { shows = true; answer = Taken; window = whole i; count = (ap (λ (v : ℕ). length (shown_by v ks)) whole ∙ ap {A = List Journey} length all) i })
+    ∙ (λ i. record { shows = true; answer = Ok Taken; window = whole i; count = (ap (λ (v : ℕ). length (shown_by v ks)) whole ∙ ap {A = List Journey} length all) i })
   where
     ks : List Journey
     ks = list_of g
@@ -252,8 +251,8 @@ part_count : (gs : List Group) → turned_away gs ≡ false → ((g : Group) →
 unfolding part_in
 part_count gs e o i l = go (group-cases gs i)
   where
-    go : (group_at i gs ≡ no_slot) ⊎ ((g : Group) × Memᴰ g gs × (g.number ≡ i)) → (group_part gs i).count ≤ share_of gs i
-    go (inl q) = omega (arith, ap (λ (p : Part). p.count) (part-stands gs e i l ∙ ap (λ (s : Slot). part_in s (share_of gs i)) q))
+    go : (group_at i gs ≡ None) ⊎ ((g : Group) × Memᴰ g gs × (g.number ≡ i)) → (group_part gs i).count ≤ share_of gs i
+    go (inl q) = omega (arith, ap (λ (p : Part). p.count) (part-stands gs e i l ∙ ap (λ (s : Option Group). part_in s (share_of gs i)) q))
     go (inr (g, m, q)) = subst (λ (k : ℕ). (group_part gs k).count ≤ share_of gs k) q (refused-count gs g (record { stands = e; given = m }) (o g m))
 
 four : (ns : List ℕ) → length ns ≡ 4 → get_or ns 0 0 + (get_or ns 1 0 + (get_or ns 2 0 + get_or ns 3 0)) ≡ total ns
@@ -281,10 +280,9 @@ sixty_four gs o = go (turned_away gs) refl
 
 -- ---- best by group
 
-back-again : (o : Option Journey) → answer_of (found_of o) ≡ o
-unfolding found_of
-back-again none = refl
-back-again (some j) = refl
+back-again : (o : Option Journey) → answer_of o ≡ o
+back-again None = refl
+back-again (Some j) = refl
 
 best-is : (g : Group) (p : Part) (s : ℤ) → p.shows ≡ true → answer_of (best_of_group g p s) ≡ firstℤ journey_figures (take p.count g.journeys) p.window s
 unfolding best_of_group first_leaving

@@ -1,6 +1,6 @@
 -- A display, dealt at once from the groups given: turned away with 23, or the part of each group by its number.
-use Rattle.std.specs.Prelude.{cond, List, [], ◌∷◌, ℕ, ltb, get_or, replicate}
-use Rattle.refusal.specs.declared.Answer.TheVariants.{Taken, Refused}
+use Rattle.refusal.specs.declared.Accepted.TheVariants.{Taken}
+use Rattle.std.specs.Prelude.{cond, List, [], ◌∷◌, ℕ, ltb, get_or, replicate, Err, Ok}
 use Rattle.refusal.specs.declared.Refusal.TheVariants.{DisplayGroups}
 use Rattle.shares.specs.Shares.{shares_of}
 use Rattle.groups.specs.declared.Group.{Group}
@@ -11,7 +11,7 @@ use Rattle.display.specs.declared.Display.{Display}
 use Rattle.display.specs.Parts.{no_part, part_in, count_in}
 
 abbrev pub refused_display : Display
-refused_display = record { answer = Refused DisplayGroups; parts = replicate 4 no_part }
+refused_display = record { answer = Err DisplayGroups; parts = replicate 4 no_part }
 
 -- the lengths of the lists, by group number
 abbrev pub counts : List Group → List ℕ
@@ -27,7 +27,7 @@ part_at gs i = part_in (group_at i gs) (share_of gs i)
 unfoldable pub display_of : List Group → Display
 display_of gs =
     cond (turned_away gs) refused_display
-    (record { answer = Taken; parts = part_at gs 0 ∷ part_at gs 1 ∷ part_at gs 2 ∷ part_at gs 3 ∷ [] })
+    (record { answer = Ok Taken; parts = part_at gs 0 ∷ part_at gs 1 ∷ part_at gs 2 ∷ part_at gs 3 ∷ [] })
 
 -- the part of a group; none above 3
 unfoldable pub part_of : Display → ℕ → Part

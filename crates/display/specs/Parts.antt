@@ -1,22 +1,21 @@
 -- "A group's journeys are ranked by arrival, equals in list order; its window is its horizon or, where one doesn't fit, a second before the
 -- arrival of the first that doesn't, and only those due by then are shown .. If a window would fall below 3600, that group's display is
 -- refused with 11." A searched load's list stands in that order (`RankedInList` in specs/Promises), so the ranks are places of the list.
-use Rattle.std.specs.Prelude.{Bool, true, false, cond, ◌&&◌, List, [], ◌∷◌, ℕ, ◌-◌, leb, ltb, length, drop}
+use Rattle.refusal.specs.declared.Accepted.TheVariants.{Taken}
+use Rattle.std.specs.Prelude.{Bool, true, false, cond, ◌&&◌, List, [], ◌∷◌, ℕ, ◌-◌, leb, ltb, length, drop, None, Option, Some, Err, Ok}
 use Rattle.laws.specs.Lists.{filterb}
-use Rattle.refusal.specs.declared.Answer.TheVariants.{Taken, Refused}
 use Rattle.refusal.specs.declared.Refusal.TheVariants.{NoRoom}
 use Rattle.profile.specs.declared.Journey.{Journey}
 use Rattle.groups.specs.declared.Group.{Group}
-use Rattle.groups.specs.declared.Slot.{Slot}
 use Rattle.groups.specs.Groups.{list_of}
 use Rattle.display.specs.declared.part.Part.{Part}
 
 -- a group that isn't given has no part; one that is refused has 11
 abbrev pub no_part : Part
-no_part = record { shows = false; answer = Taken; window = 0; count = 0 }
+no_part = record { shows = false; answer = Ok Taken; window = 0; count = 0 }
 
 abbrev pub refused_part : Part
-refused_part = record { shows = false; answer = Refused NoRoom; window = 0; count = 0 }
+refused_part = record { shows = false; answer = Err NoRoom; window = 0; count = 0 }
 
 -- a second before the arrival of the first of those that don't fit; the horizon where all do
 unfoldable pub window_before : List Journey → ℕ → ℕ
@@ -38,22 +37,20 @@ is_due w j = leb j.arrival w
 abbrev pub shown_by : ℕ → List Journey → List Journey
 shown_by w ks = filterb (is_due w) ks
 
--- 1 for a journey that is, else 0
-unfoldable pub is_shown : ℕ → Journey → ℕ
-is_shown w j = cond (is_due w j) 1 0
-
 -- the part of a list with such a share and horizon
 unfoldable pub shown_part : List Journey → ℕ → ℕ → Part
 shown_part ks share h =
     cond (falls_below (length ks) share (window_of ks share h)) refused_part
-    (record { shows = true; answer = Taken; window = window_of ks share h; count = length (shown_by (window_of ks share h) ks) })
+    (record { shows = true; answer = Ok Taken; window = window_of ks share h; count = length (shown_by (window_of ks share h) ks) })
 
 abbrev pub part_for : Group → ℕ → Part
 part_for g share = shown_part (list_of g) share g.horizon
 
-unfoldable pub part_in : Slot → ℕ → Part
-part_in s share = cond s.given (part_for s.group share) no_part
+unfoldable pub part_in : Option Group → ℕ → Part
+part_in None share = no_part
+part_in (Some g) share = part_for g share
 
 -- how long the list of a group is; 0 where the group isn't given
-unfoldable pub count_in : Slot → ℕ
-count_in s = cond s.given (length (list_of s.group)) 0
+unfoldable pub count_in : Option Group → ℕ
+count_in None = 0
+count_in (Some g) = length (list_of g)

@@ -1,9 +1,8 @@
 -- What is claimed of a display, beside its definition: what is shown, of whom, and what best of a group answers.
-use Rattle.std.specs.Prelude.{◌≡◌, ◌↔◌, Bool, true, false, cond, ℕ, ◌+◌, ◌-◌, ◌≤◌, ◌<◌, leb, ltb, ℤ, length, take, get_or}
-use Rattle.std.proofs.Math.Option.{Option, none, some}
+use Rattle.refusal.specs.declared.Accepted.TheVariants.{Taken}
+use Rattle.std.specs.Prelude.{◌≡◌, ◌↔◌, Bool, true, false, cond, ℕ, ◌+◌, ◌-◌, ◌≤◌, ◌<◌, leb, ltb, ℤ, length, take, get_or, None, Option, Some, Err, Ok}
 use mathlib.Core.List.{List, Memᴰ}
 use Rattle.laws.specs.Sort.{sort}
-use Rattle.refusal.specs.declared.Answer.TheVariants.{Taken, Refused}
 use Rattle.refusal.specs.declared.Refusal.TheVariants.{DisplayGroups}
 use Rattle.profile.specs.declared.Journey.{Journey}
 use Rattle.profile.specs.Journeys.{no_journey, journey_figures}
@@ -45,7 +44,7 @@ FallsBelow gs g = (share_of gs g.number < length (list_of g)) × ((get_or (list_
 
 -- the whole display is refused with 23 exactly where its groups turn it away; then no group has a part
 abbrev pub RefusedWhole : Type 0
-RefusedWhole = (gs : List Group) → ((turned_away gs ≡ true) ↔ ((display_of gs).answer ≡ Refused DisplayGroups)) × (turned_away gs ≡ true → (i : ℕ) → group_part gs i ≡ no_part)
+RefusedWhole = (gs : List Group) → ((turned_away gs ≡ true) ↔ ((display_of gs).answer ≡ Err DisplayGroups)) × (turned_away gs ≡ true → (i : ℕ) → group_part gs i ≡ no_part)
 
 -- a group's display is refused with 11 exactly where the window would fall below 3600; otherwise it shows those due by its window
 abbrev pub RefusedAlone : Type 0
@@ -66,7 +65,7 @@ ShownRight = (gs : List Group) (g : Group) → Given gs g → Ordered journey_fi
 -- "a group with 16 or fewer shows all of them whatever the others load", up to its own horizon
 abbrev pub SixteenShown : Type 0
 SixteenShown = (gs : List Group) (g : Group) → Given gs g → length (list_of g) ≤ 16 → ((k : Journey) → Memᴰ k (list_of g) → k.arrival ≤ g.horizon)
-    → group_part gs g.number ≡ record { shows = true; answer = Taken; window = g.horizon; count = length (list_of g) }
+    → group_part gs g.number ≡ record { shows = true; answer = Ok Taken; window = g.horizon; count = length (list_of g) }
 
 -- at most 64 are shown in all
 abbrev pub SixtyFour : Type 0
@@ -75,8 +74,8 @@ SixtyFour = (gs : List Group) → ((g : Group) → Memᴰ g gs → Ordered journ
 
 -- an answer, read as none if it is due after w
 abbrev pub read_none_of : ℕ → Option Journey → Option Journey
-read_none_of w none = none
-read_none_of w (some j) = cond (leb j.arrival w) (some j) none
+read_none_of w None = None
+read_none_of w (Some j) = cond (leb j.arrival w) (Some j) None
 
 -- best by group is best of the load, read as none past the window, at every second
 abbrev pub BestByGroup : Type 0

@@ -1,15 +1,14 @@
 -- "Best and next-after take a group and its window .. A group without a display answers none."
-use Rattle.std.specs.Prelude.{cond, ℤ, take}
+use Rattle.std.specs.Prelude.{cond, ℤ, take, None, Option}
 use Rattle.profile.specs.declared.Journey.{Journey}
-use Rattle.best.specs.declared.Found.{Found}
 use Rattle.best.specs.Best.{first_leaving, after_of}
 use Rattle.groups.specs.declared.Group.{Group}
 use Rattle.display.specs.declared.part.Part.{Part}
 
 -- of the journeys shown, the first that leaves at the second or later; none before 0 and after the window
-unfoldable pub best_of_group : Group → Part → ℤ → Found
-best_of_group g p s = cond p.shows (first_leaving (take p.count g.journeys) p.window s) Found.Nothing
+unfoldable pub best_of_group : Group → Part → ℤ → Option Journey
+best_of_group g p s = cond p.shows (first_leaving (take p.count g.journeys) p.window s) None
 
 -- at the larger of the second and the given leave + 1
-unfoldable pub next_of_group : Group → Part → ℤ → Journey → Found
+unfoldable pub next_of_group : Group → Part → ℤ → Journey → Option Journey
 next_of_group g p s j = best_of_group g p (after_of s j.leave)

@@ -4,7 +4,6 @@ use mathlib.Core.Bool.{true}
 use mathlib.Core.List.{List, [], ◌∷◌}
 use Prim.Native.Nat.{ℕ}
 use lib.IntN.{pos}
-use lib.ListN.{take}
 use Rattle.profile.specs.declared.Journey.{Journey}
 use Rattle.groups.specs.declared.Group.{Group}
 use Rattle.display.specs.declared.part.Part.{Part}
@@ -13,7 +12,7 @@ use Rattle.display.specs.Display.{display_of, part_of}
 use Rattle.display_c.specs.Full.{list_due, full_group, four_full}
 
 pub window-of : (k l m n : List ℕ) (a b c d : Group) (e : Display) (p : Part) → a ≡ full_group 0 k → b ≡ full_group 1 l → c ≡ full_group 2 m → d ≡ full_group 3 n
-    → e ≡ display_of (take 4 (a ∷ b ∷ c ∷ d ∷ [])) → p ≡ part_of e 3 → p.window ≡ (part_of (display_of (four_full k l m n)) 3).window
+    → e ≡ display_of (a ∷ b ∷ c ∷ d ∷ []) → p ≡ part_of e 3 → p.window ≡ (part_of (display_of (four_full k l m n)) 3).window
 window-of k l m n a b c d e p ea eb ec ed q r =
     ap (λ (x : Part). x.window) (r ∙ ap (λ (x : Display). part_of x 3) (q ∙ (λ i. display_of (ea i ∷ eb i ∷ ec i ∷ ed i ∷ []))))
 

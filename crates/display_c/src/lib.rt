@@ -11,19 +11,18 @@ use profile::{Journey, no_journey};
 fn due_at(arrival: u16) -> Journey
     ensures { result ≡ due_at arrival }
 {
-    let mut j = no_journey();
-    j.arrival = arrival;
-    j
+    Journey {
+        arrival,
+        ..no_journey()
+    }
 }
 
 fn list_due(arrivals: &[u16; 64]) -> [Journey; 64]
     ensures { result ≡ list_due arrivals.now }
 {
     let mut journeys = [due_at(0); 64];
-    let mut i: usize = 0;
-    while i < 64 {
-        journeys[i] = due_at(arrivals[i]);
-        i += 1;
+    for (i, journey) in journeys.iter_mut().enumerate() {
+        *journey = due_at(arrivals[i]);
     }
     journeys
 }
@@ -48,11 +47,11 @@ fn full_group(number: u8, arrivals: &[u16; 64]) -> Group
 pub extern "C" fn full_display(a: &[u16; 64], b: &[u16; 64], c: &[u16; 64], d: &[u16; 64]) -> u16
     ensures { result ≡ last_window a.now b.now c.now d.now }
 {
-    let first = full_group(0, a);
-    let second = full_group(1, b);
-    let third = full_group(2, c);
-    let fourth = full_group(3, d);
-    let given = [first, second, third, fourth];
-    let part = part_of(deal(given, 4), 3);
-    part.window
+    let given = [
+        full_group(0, a),
+        full_group(1, b),
+        full_group(2, c),
+        full_group(3, d),
+    ];
+    part_of(deal(&given), 3).window
 }

@@ -1,87 +1,41 @@
-// Calls, calls that name a service, and withdrawals, which a load takes before its search and after it: whether its fields fill a record,
-// and the step that it hands to the load.
-ghost use Rattle.std.specs.Prelude.{◌≤◌};
-
-use crate::numbers::{u8_at, u16_at, u32_at};
-use crate::week_records::first;
+// Calls, calls that name a service, and withdrawals, which a load takes before its search and after it.
+use crate::record_fields::{Fields, Malformed};
 use again::{add, withdraw};
-use fields::layout::{call_filled, kind_of, pickup_at};
+use calls::CallInput;
+use fields::layout::{call_filled, pickup_at};
 use fields::records::call_in;
-use file::Reader;
 use load::{Load, Stepped};
-use stdio::out::least;
 use withdrawal::CallKey;
 
-// ---- call: one that names no service has the empty name
-
-fn call(load: Load, b: &[u8]) -> Stepped {
-    let none: [u8; 0] = [];
-    add(load, &none, call_in(b))
-}
-
-// ---- call that names a service: the name stands behind the call's own fields
-
-fn service_at(b: &[u8]) -> usize
-    ensures { result ≤ 64 }
-{
-    pickup_at(b) + 2
-}
-
-fn call_of_filled(b: &[u8]) -> bool {
-    let at = service_at(b);
-    let size = u8_at(b, at) as usize;
-    if at + 1 + size == b.len() {
-        return call_filled(first(b, at));
+fn call_of(b: &[u8]) -> Result<CallInput, Malformed> {
+    if call_filled(b) {
+        Ok(call_in(b))
+    } else {
+        Err(Malformed)
     }
-    false
 }
 
-fn call_of(load: Load, b: &[u8]) -> Stepped {
-    let from = least(service_at(b) + 1, b.len());
-    add(load, &b[from..], call_in(b))
+// One that names no service has the empty name.
+pub fn call(load: Load, b: &[u8]) -> Result<Stepped, Malformed> {
+    Ok(add(load, b"", call_of(b)?))
 }
 
-// ---- withdrawal: trip, day, sequence
+// The service's name stands behind the call's own fields.
+pub fn service_call(load: Load, b: &[u8]) -> Result<Stepped, Malformed> {
+    let (own, name) = b.split_at_checked(pickup_at(b) + 2).ok_or(Malformed)?;
+    let mut fields = Fields::new(name);
+    let name = fields.text()?;
+    fields.end()?;
+    Ok(add(load, name, call_of(own)?))
+}
 
-fn withdrawal(load: Load, b: &[u8]) -> Stepped {
+// A withdrawal: trip, day, sequence.
+pub fn withdrawal(load: Load, mut fields: Fields<'_>) -> Result<Stepped, Malformed> {
     let key = CallKey {
-        trip: u16_at(b, 1),
-        day: u8_at(b, 3),
-        sequence: u32_at(b, 4),
+        trip: fields.u16()?,
+        day: fields.u8()?,
+        sequence: fields.u32()?,
     };
-    withdraw(load, key)
-}
-
-// ---- the three
-
-pub fn is_kind(kind: u8) -> bool {
-    match kind {
-        3 => true,
-        8 => true,
-        10 => true,
-        _ => false,
-    }
-}
-
-pub fn filled(b: &[u8]) -> bool {
-    let kind = kind_of(b);
-    if kind == 3 {
-        return call_filled(b);
-    }
-    if kind == 8 {
-        return b.len() == 8;
-    }
-    call_of_filled(b)
-}
-
-pub fn step(reader: Reader, b: &[u8]) -> Stepped {
-    let load = reader.load;
-    let kind = kind_of(b);
-    if kind == 3 {
-        return call(load, b);
-    }
-    if kind == 8 {
-        return withdrawal(load, b);
-    }
-    call_of(load, b)
+    fields.end()?;
+    Ok(withdraw(load, key))
 }

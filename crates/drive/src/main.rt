@@ -5,80 +5,61 @@
 
 mod call_records;
 mod display_records;
-mod limit_records;
-mod numbers;
-mod records;
+mod kind;
+mod printed;
+mod query_records;
+mod record_fields;
 mod run;
-mod settings_record;
+mod settings_records;
 mod week_records;
 mod write_record;
 
-use std::io::{Stdin, Stdout};
-use stdio::{input, out};
+use record_fields::Malformed;
+use std::io::Stdin;
+use stdio::input;
+use stdio::out::Out;
 
-// As long as the longest file.
+// As long as the longest file. A function of its own: the proof of `main` can't hold an array of that length.
 fn buffer() -> [u8; 1048576] {
-    [0u8; 1048576]
-}
-
-// Whether the input begins with byte 83; `got` bytes of it are in the buffer.
-fn is_step_file(buf: &[u8], got: usize) -> bool {
-    if got == 0 {
-        return false;
-    }
-    fields::layout::kind_of(buf) == 83
-}
-
-// The first `size` bytes of the buffer as a step file; malformed, if it isn't so long.
-fn file(stdout: Stdout, out: &mut [u8; 65536], buf: &[u8], size: usize) -> usize {
-    if size <= buf.len() {
-        return run::file(stdout, out, &buf[..size]);
-    }
-    records::malformed(stdout, out, 0)
+    [0; 1048576]
 }
 
 // The whole input as one step file. If it fills the buffer, it may be longer.
-fn one(stdin: Stdin, stdout: Stdout, out: &mut [u8; 65536], buf: &mut [u8], got: usize) {
+fn one(stdin: Stdin, out: &mut Out, buf: &mut [u8], got: usize) {
     let size = input::rest(stdin, buf, got);
     if size < buf.len() {
-        let to = file(stdout, out, buf, size);
-        out::end(stdout, out, to);
-        return;
+        run::file(out, &buf[..size]);
+    } else {
+        writeln!(out, "{Malformed}");
     }
-    let to = records::malformed(stdout, out, 0);
-    out::end(stdout, out, to);
+    out.flush();
 }
 
-// The file whose length is in the buffer; whether there is another.
-fn turn(stdin: Stdin, stdout: Stdout, out: &mut [u8; 65536], buf: &mut [u8]) -> bool {
-    let size = input::body(stdin, buf);
-    if size > buf.len() {
-        return false;
+// The files of a batch; `got` bytes of the first one's length are in the buffer.
+fn batch(stdin: Stdin, out: &mut Out, buf: &mut [u8], got: usize) {
+    let mut got = got;
+    for _ in 0..u64::MAX {
+        if got < 4 {
+            return;
+        }
+        let Some(size) = input::body(stdin, buf) else {
+            return;
+        };
+        run::file(out, &buf[..size]);
+        out.end_file();
+        got = input::head(stdin, buf);
     }
-    let to = file(stdout, out, buf, size);
-    out::end_file(stdout, out, to);
-    input::head(stdin, buf) == 4
 }
 
 fn main(rt: HostRuntime) {
     let stdin = rt.stdin();
-    let stdout = rt.stdout();
-    let mut out = [0u8; 65536];
+    let mut out = Out::new(rt.stdout());
     let mut bytes = buffer();
     let buf: &mut [u8] = &mut bytes;
     let got = input::head(stdin, buf);
-    if is_step_file(buf, got) {
-        one(stdin, stdout, &mut out, buf, got);
-        return;
-    }
-    let mut more = got == 4;
-    let mut turns: u64 = 18446744073709551615;
-    while turns > 0 {
-        if more {
-            more = turn(stdin, stdout, &mut out, buf);
-            turns -= 1;
-        } else {
-            return;
-        }
+    if 0 < got && buf.first() == Some(&83) {
+        one(stdin, &mut out, buf, got);
+    } else {
+        batch(stdin, &mut out, buf, got);
     }
 }

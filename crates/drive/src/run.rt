@@ -1,140 +1,186 @@
-// A step file from its first byte to the lines of its last load.
-ghost use Rattle.std.specs.Prelude.{◌≤◌, length};
+// A step file from its first byte to the lines of its last load: each record is handed to the load, or asks it, and a line says what came
+// of it.
+ghost use Rattle.std.specs.Prelude.{◌<◌, IfSome, length};
+ghost use Rattle.std.specs.Iterator.{at_most};
 
-use crate::display_records::{Board, display_step, empty_board, is_display};
-use crate::records::{malformed, step};
-use fields::layout::{kind_of, length_of};
+use crate::display_records::Board;
+use crate::kind::Kind;
+use crate::printed::told;
+use crate::record_fields::{Fields, Malformed};
+use crate::{call_records, query_records, settings_records, week_records, write_record};
 use file::Reader;
-use load::Load;
-use reader::fresh;
-use std::io::Stdout;
+use file::record::record;
+use load::{Load, Stepped};
+use refusal::{Answer, Refusal};
 use stdio::load_lines::{horizon, journeys, table};
-use stdio::out;
+use stdio::out::Out;
+
+// The records of a file behind its first byte, each without its length.
+#[derive(Drop)]
+struct Records<'a> {
+    rest: &'a [u8],
+}
+
+impl<'a> Iterator for Records<'a> {
+    type Item = Result<&'a [u8], Malformed>;
+
+    ghost remaining = { λ s. at_most (length s.rest.now) };
+
+    fn next(&mut self) -> Option<Result<&'a [u8], Malformed>> {
+        if self.rest.is_empty() {
+            return None;
+        }
+        match split(self.rest) {
+            Some((first, rest)) => {
+                self.rest = rest;
+                Some(Ok(first))
+            }
+            None => {
+                self.rest = &[];
+                Some(Err(Malformed))
+            }
+        }
+    }
+}
+
+// The first record and what follows it, if it is there whole.
+fn split(bytes: &[u8]) -> Option<(&[u8], &[u8])>
+    ensures { IfSome result (λ parts. length parts.1.now < length bytes.now) }
+{
+    let (size, rest) = bytes.split_first_chunk::<2>()?;
+    rest.split_at_checked(usize::from(u16::from_be_bytes(*size)))
+}
+
+// The open load, if there is one, and what is set aside and shown.
+#[derive(Drop)]
+struct State {
+    load: Option<Load>,
+    board: Board,
+}
+
+impl State {
+    fn new() -> Self {
+        State {
+            load: None,
+            board: Board::empty(),
+        }
+    }
+
+    // The open load, which a record needs.
+    fn load(&self) -> Result<Load, Malformed> {
+        self.load.ok_or(Malformed)
+    }
+
+    // An opening: another load in place of this one, unless it is refused.
+    fn opened(&mut self, out: &mut Out, s: Stepped) {
+        told(out, s.answer, "opened");
+        if s.answer.is_ok() {
+            self.load = Some(s.load);
+        }
+    }
+
+    // A step on the open load.
+    fn stepped<F: FnOnce(Load) -> Result<Stepped, Malformed>>(
+        &mut self,
+        out: &mut Out,
+        step: F,
+    ) -> Result<(), Malformed>
+        requires { F.IsAlwaysCallable step }
+    {
+        let s = step(self.load()?)?;
+        told(out, s.answer, "taken");
+        self.load = Some(s.load);
+        Ok(())
+    }
+
+    // The record, without its length.
+    fn record(&mut self, out: &mut Out, b: &[u8]) -> Result<(), Malformed> {
+        let (kind, fields) = b.split_first().ok_or(Malformed)?;
+        let fields = Fields::new(fields);
+        match Kind::try_from(*kind)? {
+            Kind::Settings => self.opened(out, settings_records::opening(b)?),
+            Kind::DatedSettings => self.opened(out, settings_records::dated_opening(b)?),
+            Kind::Stop | Kind::Rule | Kind::Search => self.stepped(out, |load| filled(load, b))?,
+            Kind::Call => self.stepped(out, |load| call_records::call(load, b))?,
+            Kind::ServiceCall => self.stepped(out, |load| call_records::service_call(load, b))?,
+            Kind::Withdrawal => self.stepped(out, |load| call_records::withdrawal(load, fields))?,
+            Kind::Service => self.stepped(out, |load| week_records::service(load, fields))?,
+            Kind::Exception => self.stepped(out, |load| week_records::exception(load, fields))?,
+            Kind::LimitedSearch => {
+                self.load = Some(query_records::limited(out, self.load()?, fields)?);
+            }
+            Kind::Best => query_records::best(out, self.load()?, fields)?,
+            Kind::Next => query_records::next(out, self.load()?, fields)?,
+            Kind::Write => write_record::write(out, self.load()?, fields)?,
+            Kind::Aside => {
+                let load = self.load()?;
+                self.board.set_aside(out, load, fields)?;
+            }
+            Kind::Display => self.board.deal(out, fields)?,
+            Kind::GroupBest => self.board.best(out, fields)?,
+            Kind::GroupNext => self.board.next(out, fields)?,
+        }
+        Ok(())
+    }
+}
+
+// A stop, rule or search, as a load file has it.
+fn filled(load: Load, b: &[u8]) -> Result<Stepped, Malformed> {
+    let reader = Reader {
+        opened: true,
+        second: false,
+        load,
+    };
+    let t = record(reader, b);
+    if is_malformed(t.answer) {
+        return Err(Malformed);
+    }
+    Ok(Stepped {
+        answer: t.answer,
+        load: t.reader.load,
+    })
+}
+
+// Whether a record was turned away before it was handed to the load.
+fn is_malformed(answer: Answer) -> bool {
+    matches!(
+        answer,
+        Err(Refusal::FileVersion | Refusal::RecordLength | Refusal::RecordKind)
+    )
+}
 
 // A load at the end.
-fn load_lines(stdout: Stdout, out: &mut [u8; 65536], at: usize, load: Load) -> usize {
-    let calls = load.calls;
-    let kept = load.journeys;
-    let a = table(stdout, out, at, calls, load.call_count);
-    let b = journeys(stdout, out, a, kept, load.journey_count);
-    let c = horizon(stdout, out, b, load.horizon, load.limits);
-    let d = out::text(out, c, b"searched");
-    let e = out::flag(out, d, load.searched);
-    let f = out::text(out, e, b" stopped");
-    let g = out::flag(out, f, load.stopped);
-    out::line(stdout, out, g)
-}
-
-fn last_lines(stdout: Stdout, out: &mut [u8; 65536], at: usize, reader: Reader) -> usize {
-    if reader.opened {
-        let load = reader.load;
-        return load_lines(stdout, out, at, load);
-    }
-    at
-}
-
-// Where the record ends that starts at a place, its length included; that place, if it isn't there whole.
-fn record_end(bytes: &[u8], at: usize) -> usize
-    requires { at ≤ length bytes.now }
-    ensures { result ≤ length bytes.now }
-{
-    let left = bytes.len() - at;
-    if left < 2 {
-        return at;
-    }
-    let size = length_of(&bytes[at..]) as usize;
-    if size > left - 2 {
-        return at;
-    }
-    at + 2 + size
-}
-
-// After a record: where the text goes on, the load, and what is set aside and shown; `going` unless the record is malformed.
-#[derive(Clone, Copy)]
-struct Run {
-    going: bool,
-    to: usize,
-    reader: Reader,
-    board: Board,
-}
-
-// A record of a display, or one of the load.
-fn record(
-    stdout: Stdout,
-    out: &mut [u8; 65536],
-    at: usize,
-    reader: Reader,
-    board: Board,
-    b: &[u8],
-) -> Run {
-    if is_display(kind_of(b)) {
-        let t = display_step(stdout, out, at, reader, board, b);
-        let next = t.board;
-        return Run {
-            going: t.going,
-            to: t.to,
-            reader,
-            board: next,
-        };
-    }
-    let t = step(stdout, out, at, reader, b);
-    let after = t.reader;
-    Run {
-        going: t.going,
-        to: t.to,
-        reader: after,
-        board,
-    }
-}
-
-// A record with its length before it.
-fn whole(
-    stdout: Stdout,
-    out: &mut [u8; 65536],
-    at: usize,
-    reader: Reader,
-    board: Board,
-    b: &[u8],
-) -> Run {
-    let from = out::least(2, b.len());
-    record(stdout, out, at, reader, board, &b[from..])
+fn load_lines(out: &mut Out, load: Load) {
+    table(out, load.calls, load.call_count);
+    journeys(out, &load.journeys[..load.journey_count.min(64)]);
+    horizon(out, load.horizon, load.limits);
+    writeln!(
+        out,
+        "searched {} stopped {}",
+        u8::from(load.searched),
+        u8::from(load.stopped)
+    );
 }
 
 // The records after the first byte, up to one that is malformed; then the load.
-fn records(stdout: Stdout, out: &mut [u8; 65536], bytes: &[u8]) -> usize {
-    let mut to: usize = 0;
-    let mut reader = fresh(true);
-    let mut board = empty_board();
-    let mut at: usize = 0;
-    while at < bytes.len() {
-        let end = record_end(bytes, at);
-        if end <= at {
-            return malformed(stdout, out, to);
-        }
-        let t = whole(stdout, out, to, reader, board, &bytes[at..end]);
-        to = t.to;
-        if t.going {
-            let after = t.reader;
-            reader = after;
-            let next = t.board;
-            board = next;
-            at = end;
-        } else {
-            return to;
-        }
+fn run(out: &mut Out, bytes: &[u8]) -> Result<(), Malformed> {
+    let mut state = State::new();
+    for record in (Records { rest: bytes }) {
+        state.record(out, record?)?;
     }
-    last_lines(stdout, out, to, reader)
+    if let Some(load) = state.load {
+        load_lines(out, load);
+    }
+    Ok(())
 }
 
 // A file that doesn't begin with byte 83 is no step file.
-pub fn file(stdout: Stdout, out: &mut [u8; 65536], bytes: &[u8]) -> usize
-    ensures { result ≤ 65536 }
-{
-    if bytes.len() == 0 {
-        return malformed(stdout, out, 0);
+pub fn file(out: &mut Out, bytes: &[u8]) {
+    let ran = match bytes {
+        [83, rest @ ..] => run(out, rest),
+        _ => Err(Malformed),
+    };
+    if let Err(malformed) = ran {
+        writeln!(out, "{malformed}");
     }
-    if kind_of(bytes) == 83 {
-        return out::least(records(stdout, out, &bytes[1..]), 65536);
-    }
-    malformed(stdout, out, 0)
 }

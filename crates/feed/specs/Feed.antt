@@ -3,6 +3,7 @@
 -- The changes have, at from * 128 + to, the seconds of a change between two stops, 65536 where there is none. Below, the tests and sums on what is
 -- read.
 use Rattle.std.specs.Prelude.{Bool, cond, not, ◌&&◌, List, ℕ, ◌+◌, ◌-◌, ◌*◌, ◌/◌, ◌%◌, eqb, leb, ltb, get_or}
+use Rattle.profile.specs.declared.figures.Figures.{Figures}
 use Rattle.feed.specs.declared.FeedCall.{FeedCall}
 use Rattle.feed.specs.declared.FirstRide.{FirstRide}
 
@@ -51,6 +52,10 @@ leave_of walk departure = departure - walk * 60
 
 unfoldable pub arrival_of : ℕ → ℕ → ℕ
 arrival_of walk alighting = alighting + walk * 60
+
+-- the figures of a journey after a first ride, of so many rides, that is due at `arrival`
+abbrev pub figures_of : FirstRide → ℕ → ℕ → Figures
+figures_of f arrival rides = record { leave = f.leave; arrival = arrival; rides = rides; walk = f.walk }
 
 -- trip or day differs, and arrival + transfer seconds is at most departure
 unfoldable pub joined : FirstRide → FeedCall → ℕ → Bool

@@ -2,10 +2,15 @@
 #![tactic(auto)]
 
 ghost use Rattle.std.specs.Prelude.{◌≡◌, ◌*◌, min, leb};
-ghost use Rattle.feed.specs.Feed.{member_at, origin_mask, target_mask, change_at, same_run, leave_of, arrival_of, joined};
+ghost use Rattle.feed.specs.Feed.{member_at, origin_mask, target_mask, change_at, same_run, leave_of, arrival_of, figures_of, joined};
+
+pub mod layout;
+
+use crate::layout::{CALLS, CHANGES_SIZE, Changes, Feed, MEMBERS, NO_CHANGE, STOPS};
+use profile::figures::Figures;
 
 // A call, as the loops read it.
-#[derive(Clone, Copy)]
+#[derive(Clone, Copy, Debug, PartialEq, Eq)]
 pub struct FeedCall {
     pub trip: u16,
     pub day: u16,
@@ -17,7 +22,7 @@ pub struct FeedCall {
 }
 
 // A first ride: the figures, the origin and the places of its calls that its rows have, and what a join asks of it.
-#[derive(Clone, Copy)]
+#[derive(Clone, Copy, Debug, PartialEq, Eq)]
 pub struct FirstRide {
     pub leave: u16,
     pub walk: u16,
@@ -30,50 +35,65 @@ pub struct FirstRide {
     pub arrival: u16,
 }
 
+impl FirstRide {
+    // The figures of a journey of so many rides that begins with this one and is due at `arrival`.
+    pub fn figures(self, arrival: u16, rides: u16) -> Figures
+        ensures { result ≡ figures_of self arrival rides }
+    {
+        Figures {
+            leave: self.leave,
+            arrival,
+            rides,
+            walk: self.walk,
+        }
+    }
+}
+
 // The membership byte of a stop.
-pub fn member_at(feed: &[u16; 3208], stop: u16) -> u16
+#[tactic(auto, unfolding(crate::specs::Feed::member_at))]
+pub fn member_at(feed: &Feed, stop: u16) -> u16
     ensures { result ≡ member_at feed.now stop }
 {
-    if stop < 128 {
-        return feed[3072 + stop as usize];
+    if (stop as usize) < STOPS {
+        return feed[MEMBERS + stop as usize];
     }
     0
 }
 
 // The origins of a stop.
-pub fn origins_of(feed: &[u16; 3208], stop: u16) -> u8
+#[tactic(auto, unfolding(crate::specs::Feed::origin_mask))]
+pub fn origins_of(feed: &Feed, stop: u16) -> u8
     ensures { result ≡ origin_mask feed.now stop }
 {
     (member_at(feed, stop) % 16) as u8
 }
 
 // The targets of a stop.
-pub fn targets_of(feed: &[u16; 3208], stop: u16) -> u8
+#[tactic(auto, unfolding(crate::specs::Feed::target_mask))]
+pub fn targets_of(feed: &Feed, stop: u16) -> u8
     ensures { result ≡ target_mask feed.now stop }
 {
     (member_at(feed, stop) / 16 % 16) as u8
 }
 
 // The seconds of a change between two stops.
-pub fn change_at(changes: &[u32; 16384], from: u16, to: u16) -> u32
+#[tactic(auto, unfolding(crate::specs::Feed::change_at))]
+pub fn change_at(changes: &Changes, from: u16, to: u16) -> u32
     ensures { result ≡ change_at changes.now from to }
 {
-    let at = from as usize * 128 + to as usize;
-    if at < 16384 {
+    let at = from as usize * STOPS + to as usize;
+    if at < CHANGES_SIZE {
         return changes[at];
     }
-    65536
+    NO_CHANGE
 }
 
 // Whether two calls are of one trip and day.
+#[tactic(auto, unfolding(crate::specs::Feed::same_run))]
 pub fn same_run(b: FeedCall, a: FeedCall) -> bool
     ensures { result ≡ same_run b a }
 {
-    if b.trip == a.trip {
-        b.day == a.day
-    } else {
-        false
-    }
+    b.trip == a.trip && b.day == a.day
 }
 
 // Whether the departure leaves time to walk.
@@ -83,6 +103,7 @@ pub fn can_walk(walk: u16, departure: u16) -> bool
     walk as u32 * 60 <= departure as u32
 }
 
+#[tactic(auto, unfolding(crate::specs::Feed::leave_of))]
 pub fn leave_of(walk: u16, departure: u16) -> u16
     ensures { result ≡ leave_of walk departure }
 {
@@ -93,6 +114,7 @@ pub fn leave_of(walk: u16, departure: u16) -> u16
     0
 }
 
+#[tactic(auto, unfolding(crate::specs::Feed::arrival_of))]
 pub fn arrival_of(walk: u16, alighting: u16) -> u32
     ensures { result ≡ arrival_of walk alighting }
 {
@@ -100,20 +122,16 @@ pub fn arrival_of(walk: u16, alighting: u16) -> u32
 }
 
 // Whether the first ride joins one that boards at b, if the change takes so many seconds.
+#[tactic(auto, unfolding(crate::specs::Feed::joined))]
 pub fn join(f: FirstRide, b: FeedCall, seconds: u32) -> bool
     ensures { result ≡ joined f b seconds }
 {
-    if f.trip == b.trip {
-        if f.day == b.day {
-            return false;
-        }
-    }
-    f.arrival as u64 + seconds as u64 <= b.departure as u64
+    !(f.trip == b.trip && f.day == b.day) && f.arrival as u64 + seconds as u64 <= b.departure as u64
 }
 
 // How many calls are read.
 pub fn at_most_512(n: usize) -> usize
     ensures { result ≡ min n 512 }
 {
-    if n < 512 { n } else { 512 }
+    n.min(CALLS)
 }

@@ -15,7 +15,7 @@ use Rattle.calls.specs.declared.Call.{Call}
 use Rattle.calls.specs.Tables.{blank_call}
 use Rattle.laws.specs.Regions.{Region, Blocks}
 use Rattle.feed_array.specs.Feeds.{stop_number, flags_of, six_of, masked_of, Feeds}
-use Rattle.laws.proofs.Regions.{region-as, region-puts}
+use Rattle.laws.proofs.Regions.{region-puts}
 
 -- ---- a call
 
@@ -60,19 +60,6 @@ halves l h a b = (omega arith, omega arith)
 masked : (o t m : ℕ) → (masked_of o t m % 16 ≡ m % 2 ^ min o 4) × (masked_of o t m / 16 % 16 ≡ m / 16 % 2 ^ min t 4)
 unfolding masked_of
 masked o t m = halves (m % 2 ^ min o 4) (m / 16 % 2 ^ min t 4) (digits o m) (digits t (m / 16))
-
--- ---- walks
-
-pub walks-region : (l : List ℕ) (at : ℕ) (walks : List ℕ) (a b c d : ℕ) → a ≡ get_or walks 0 0 → b ≡ get_or walks 1 0 → c ≡ get_or walks 2 0 → d ≡ get_or walks 3 0
-    → at + 4 ≤ length l → Region (λ k. get_or walks k 0) at 4 l (puts (set l at a) at 1 (b ∷ c ∷ d ∷ []))
-walks-region l at walks a b c d ea eb ec ed h = region-as (λ k. get_or walks k 0) each (region-puts l at a (b ∷ c ∷ d ∷ []) (omega arith))
-  where
-    each : (k : ℕ) → k < 4 → get_or (a ∷ b ∷ c ∷ d ∷ []) k 0 ≡ get_or walks k 0
-    each zero u = ea
-    each (suc zero) u = eb
-    each (suc (suc zero)) u = ec
-    each (suc (suc (suc zero))) u = ed
-    each (suc (suc (suc (suc k)))) u = absurd (omega arith)
 
 -- ---- the whole
 

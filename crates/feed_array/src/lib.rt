@@ -1,52 +1,46 @@
 // The feed of a search: its calls, the members of its stops and its walks as numbers in one array.
 #![tactic(auto)]
 
-ghost use Rattle.std.specs.Prelude.{◌≡◌, ℕ, ◌+◌, ◌*◌, ◌%◌, ◌^◌, ◌<◌, ◌≤◌, min, length, get_or};
+ghost use Rattle.std.specs.Prelude.{◌≡◌, ℕ, ◌+◌, ◌*◌, ◌%◌, ◌^◌, ◌<◌, ◌≤◌, min, get_or};
 ghost use Rattle.calls.specs.Tables.{blank_call};
 ghost use Rattle.stops.specs.Sound.{stop_at};
 ghost use Rattle.laws.specs.Regions.{Region, Blocks};
 ghost use Rattle.feed_array.specs.Feeds.{stop_number, flags_of, six_of, masked_of, Feeds};
 
 use calls::Call;
+use feed::layout::{
+    CALL_WIDTH, CALLS, FEED_SIZE, Feed, MEMBERS, ORIGIN_WALKS, STOPS, TARGET_WALKS,
+};
 use settings::Settings;
 use stops::Stop;
 
-// The array that is lent has its length.
-pub fn known_feed(feed: [u16; 3208])
-    ensures { length feed ≡ 3208 }
-{}
-
 // A stop past the 128th is 65535.
+#[tactic(auto, unfolding(crate::specs::Feeds::stop_number))]
 fn stop_number(stop: u16) -> u16
     ensures { result ≡ stop_number stop }
 {
-    if stop < 128 { stop } else { 65535 }
+    if (stop as usize) < STOPS {
+        stop
+    } else {
+        u16::MAX
+    }
 }
 
 #[tactic(auto, unfolding(crate::specs::Feeds::flags_of))]
 fn flags_of(board: bool, alight: bool) -> u16
     ensures { result ≡ flags_of board alight }
 {
-    if board {
-        if alight {
-            return 3;
-        }
-        return 1;
-    }
-    if alight {
-        return 2;
-    }
-    0
+    board as u16 + alight as u16 * 2
 }
 
 // The six numbers of a call.
-fn put_call(feed: &mut [u16; 3208], i: usize, call: Call)
-    requires { (length feed.old ≡ 3208) × (i < 512) }
+fn put_call(feed: &mut Feed, i: usize, call: Call)
+    requires { i < 512 }
     ensures { Region (λ k. get_or (six_of call) k 0) (i * 6) 6 feed.old feed.new }
 {
     let stop = stop_number(call.stop);
     let flags = flags_of(call.board, call.alight);
-    let at = i * 6;
+    let at = i * CALL_WIDTH;
     feed[at] = call.trip;
     feed[at + 1] = call.day as u16;
     feed[at + 2] = stop;
@@ -56,15 +50,11 @@ fn put_call(feed: &mut [u16; 3208], i: usize, call: Call)
 }
 
 // Every call.
-fn put_calls(feed: &mut [u16; 3208], calls: [Call; 512])
+fn put_calls(feed: &mut Feed, calls: [Call; 512])
     ensures { Blocks 6 (λ i k. get_or (six_of (get_or calls i blank_call)) k 0) 512 feed.old feed.new }
 {
-    known_feed(*feed);
-    let mut i: usize = 0;
-    while i < 512 {
-        let call = calls[i];
-        put_call(feed, i, call);
-        i += 1;
+    for i in 0..CALLS {
+        put_call(feed, i, calls[i]);
     }
 }
 
@@ -72,19 +62,7 @@ fn put_calls(feed: &mut [u16; 3208], calls: [Call; 512])
 fn power_of(count: u8) -> u8
     ensures { (result ≡ 2 ^ min count 4) × (0 < result) × (result ≤ 16) }
 {
-    if count == 0 {
-        return 1;
-    }
-    if count == 1 {
-        return 2;
-    }
-    if count == 2 {
-        return 4;
-    }
-    if count == 3 {
-        return 8;
-    }
-    16
+    1 << count.min(4)
 }
 
 // The lowest digits, as many as the count says, at most 4.
@@ -105,50 +83,32 @@ fn masked_of(members: u8, origins: u8, targets: u8) -> u16
 }
 
 // The members of every stop.
-fn put_members(feed: &mut [u16; 3208], stops: [Stop; 128], origins: u8, targets: u8)
+fn put_members(feed: &mut Feed, stops: [Stop; 128], origins: u8, targets: u8)
     ensures { Region (λ k. masked_of origins targets (stop_at stops k).members) 3072 128 feed.old feed.new }
 {
-    known_feed(*feed);
-    let mut k: usize = 0;
-    while k < 128 {
-        let stop = stops[k];
-        feed[3072 + k] = masked_of(stop.members, origins, targets);
-        k += 1;
+    for k in 0..STOPS {
+        feed[MEMBERS + k] = masked_of(stops[k].members, origins, targets);
     }
 }
 
-fn wide(x: u8) -> u16
-    ensures { result ≡ x }
-{
-    x as u16
-}
-
 // Four walks from a place on.
-fn put_walks(feed: &mut [u16; 3208], at: usize, walks: [u8; 4])
+fn put_walks(feed: &mut Feed, at: usize, walks: [u8; 4])
     requires { at ≤ 3204 }
     ensures { Region (λ k. get_or walks k 0) at 4 feed.old feed.new }
 {
-    known_feed(*feed);
-    let a = wide(walks[0]);
-    let b = wide(walks[1]);
-    let c = wide(walks[2]);
-    let d = wide(walks[3]);
-    feed[at] = a;
-    feed[at + 1] = b;
-    feed[at + 2] = c;
-    feed[at + 3] = d;
+    for k in 0..4 {
+        feed[at + k] = walks[k] as u16;
+    }
 }
 
 // What a search reads of a load.
-pub fn feed_of(calls: [Call; 512], stops: [Stop; 128], settings: Settings) -> [u16; 3208]
+pub fn feed_of(calls: [Call; 512], stops: [Stop; 128], settings: Settings) -> Feed
     ensures { Feeds result calls stops settings }
 {
-    let origin_walks = settings.origin_walks;
-    let target_walks = settings.target_walks;
-    let mut feed = [0u16; 3208];
+    let mut feed = [0; FEED_SIZE];
     put_calls(&mut feed, calls);
     put_members(&mut feed, stops, settings.origins, settings.targets);
-    put_walks(&mut feed, 3200, origin_walks);
-    put_walks(&mut feed, 3204, target_walks);
+    put_walks(&mut feed, ORIGIN_WALKS, settings.origin_walks);
+    put_walks(&mut feed, TARGET_WALKS, settings.target_walks);
     feed
 }

@@ -1,14 +1,12 @@
 -- What a filled record hands in.
-use Rattle.std.specs.Prelude.{ℕ, ◌+◌, ◌*◌, cond, List, [], ◌∷◌}
+use Rattle.std.specs.Prelude.{ℕ, ◌+◌, ◌*◌, cond, List, [], ◌∷◌, None, Option, Some}
 use Rattle.std.specs.Float.{binary64}
 use Rattle.std.specs.Float.Ieee.{of_bits}
 use Rattle.place.specs.declared.Degrees.{Degrees}
 use Rattle.settings.specs.declared.Settings.{Settings}
 use Rattle.stops.specs.declared.StopInput.{StopInput}
 use Rattle.calls.specs.declared.CallInput.{CallInput}
-use Rattle.calls.specs.declared.Seconds.{Seconds}
 use Rattle.rules.specs.declared.RuleInput.{RuleInput}
-use Rattle.rules.specs.declared.MinTime.{MinTime}
 use Rattle.fields.specs.Numbers.{byte_at, u16_at, u32_at, i64_at, f64_at}
 use Rattle.fields.specs.Layout.{has_at, name_at, parent_at, type_at, position_at, members_at, target_walks_at, minutes_at, departure_at, pickup_at}
 
@@ -46,8 +44,8 @@ stop_in b = record {
   members = byte_at b (members_at b);
 }
 
-unfoldable pub seconds_at : List ℕ → ℕ → Seconds
-seconds_at b at = cond (has_at b at) (Seconds.Given (u32_at b (at + 1))) Seconds.Absent
+unfoldable pub seconds_at : List ℕ → ℕ → Option ℕ
+seconds_at b at = cond (has_at b at) (Some (u32_at b (at + 1))) None
 
 unfoldable pub call_in : List ℕ → CallInput
 call_in b = record {
@@ -61,8 +59,8 @@ call_in b = record {
   drop_off = byte_at b (pickup_at b + 1);
 }
 
-unfoldable pub min_time_at : List ℕ → ℕ → MinTime
-min_time_at b at = cond (has_at b at) (MinTime.Given (u16_at b (at + 1))) MinTime.Absent
+unfoldable pub min_time_at : List ℕ → ℕ → Option ℕ
+min_time_at b at = cond (has_at b at) (Some (u16_at b (at + 1))) None
 
 unfoldable pub rule_in : List ℕ → RuleInput
 rule_in b = record { from = u16_at b 1; to = u16_at b 3; transfer_type = byte_at b 5; seconds = min_time_at b 6 }

@@ -1,4 +1,5 @@
-// Where the fields of a record stand, and whether they fill it.
+// Where the fields of a record stand, and whether they fill it. Fields are read by their places and not in order, so the bytes and a place
+// stay two parameters: a cursor would be made anew for each field.
 ghost use Rattle.std.specs.Prelude.{◌≡◌, ◌+◌, ◌≤◌};
 ghost use Rattle.fields.specs.Numbers.{byte_at, u16_at};
 ghost use Rattle.fields.specs.Layout.{
@@ -9,7 +10,6 @@ ghost use Rattle.fields.specs.Layout.{
   option_text_end,
   target_walks_at,
   minutes_at,
-  settings_filled_of,
   name_at,
   parent_at,
   type_at,
@@ -21,7 +21,7 @@ ghost use Rattle.fields.specs.Layout.{
   rule_filled_of,
   search_filled_of,
 };
-ghost use Rattle.fields.specs.Second.{second_settings_filled_of, settings_filled_by};
+ghost use Rattle.fields.specs.Second.{settings_filled_by};
 
 use crate::numbers::{byte_at, u16_at};
 
@@ -44,7 +44,7 @@ fn text_end(b: &[u8], at: usize) -> usize
     ensures value { result ≡ text_end b.now at }
     ensures near { result ≤ at + 256 }
 {
-    at + 1 + byte_at(b, at) as usize
+    at + 1 + usize::from(byte_at(b, at))
 }
 
 // Whether an optional field is there.
@@ -60,26 +60,26 @@ fn mark_at(b: &[u8], at: usize) -> bool
     byte_at(b, at) <= 1
 }
 
+#[tactic(auto, unfolding(crate::specs::Layout::option_end))]
 fn option_end(b: &[u8], at: usize, size: usize) -> usize
     requires { (at ≤ 2048) × (size ≤ 16) }
     ensures value { result ≡ option_end b.now at size }
     ensures near { result ≤ at + 17 }
 {
-    if has_at(b, at) {
-        return at + 1 + size;
-    }
-    at + 1
+    if has_at(b, at) { at + 1 + size } else { at + 1 }
 }
 
+#[tactic(auto, unfolding(crate::specs::Layout::option_text_end))]
 fn option_text_end(b: &[u8], at: usize) -> usize
     requires { at ≤ 2047 }
     ensures value { result ≡ option_text_end b.now at }
     ensures near { result ≤ at + 257 }
 {
     if has_at(b, at) {
-        return text_end(b, at + 1);
+        text_end(b, at + 1)
+    } else {
+        at + 1
     }
-    at + 1
 }
 
 // ---- settings
@@ -87,37 +87,22 @@ fn option_text_end(b: &[u8], at: usize) -> usize
 pub fn target_walks_at(b: &[u8]) -> usize
     ensures { result ≡ target_walks_at b.now }
 {
-    3 + byte_at(b, 1) as usize
+    3 + usize::from(byte_at(b, 1))
 }
 
 pub fn minutes_at(b: &[u8]) -> usize
     ensures value { result ≡ minutes_at b.now }
     ensures near { result ≤ 513 }
 {
-    3 + byte_at(b, 1) as usize + byte_at(b, 2) as usize
+    3 + usize::from(byte_at(b, 1)) + usize::from(byte_at(b, 2))
 }
 
-pub fn settings_filled(b: &[u8]) -> bool
-    ensures { result ≡ settings_filled_of b.now }
-{
-    minutes_at(b) + 34 == b.len()
-}
-
-// In a file of version 2 there is a byte more.
-fn second_settings_filled(b: &[u8]) -> bool
-    ensures { result ≡ second_settings_filled_of b.now }
-{
-    minutes_at(b) + 35 == b.len()
-}
-
-// By whether the file is of version 2.
+// By whether the file is of version 2, where there is a byte more.
+#[tactic(auto, unfolding(crate::specs::Layout::settings_filled_of, crate::specs::Second::second_settings_filled_of))]
 pub fn settings_filled_by(second: bool, b: &[u8]) -> bool
     ensures { result ≡ settings_filled_by second b.now }
 {
-    if second {
-        return second_settings_filled(b);
-    }
-    settings_filled(b)
+    minutes_at(b) + 34 + usize::from(second) == b.len()
 }
 
 // ---- stop
@@ -150,17 +135,14 @@ pub fn members_at(b: &[u8]) -> usize
     option_end(b, type_at(b) + 1, 16)
 }
 
+#[tactic(auto, unfolding(crate::specs::Layout::stop_filled_of))]
 pub fn stop_filled(b: &[u8]) -> bool
     ensures { result ≡ stop_filled_of b.now }
 {
-    if members_at(b) + 1 == b.len() {
-        if mark_at(b, name_at(b)) {
-            if mark_at(b, parent_at(b)) {
-                return mark_at(b, type_at(b) + 1);
-            }
-        }
-    }
-    false
+    members_at(b) + 1 == b.len()
+        && mark_at(b, name_at(b))
+        && mark_at(b, parent_at(b))
+        && mark_at(b, type_at(b) + 1)
 }
 
 // ---- call
@@ -179,28 +161,23 @@ pub fn pickup_at(b: &[u8]) -> usize
     option_end(b, departure_at(b), 4)
 }
 
+#[tactic(auto, unfolding(crate::specs::Layout::call_filled_of))]
 pub fn call_filled(b: &[u8]) -> bool
     ensures { result ≡ call_filled_of b.now }
 {
-    if pickup_at(b) + 2 == b.len() {
-        if mark_at(b, 10) {
-            return mark_at(b, departure_at(b));
-        }
-    }
-    false
+    pickup_at(b) + 2 == b.len() && mark_at(b, 10) && mark_at(b, departure_at(b))
 }
 
 // ---- rule and search
 
+#[tactic(auto, unfolding(crate::specs::Layout::rule_filled_of))]
 pub fn rule_filled(b: &[u8]) -> bool
     ensures { result ≡ rule_filled_of b.now }
 {
-    if option_end(b, 6, 2) == b.len() {
-        return mark_at(b, 6);
-    }
-    false
+    option_end(b, 6, 2) == b.len() && mark_at(b, 6)
 }
 
+#[tactic(auto, unfolding(crate::specs::Layout::search_filled_of))]
 pub fn search_filled(b: &[u8]) -> bool
     ensures { result ≡ search_filled_of b.now }
 {

@@ -1,59 +1,61 @@
 // Big-endian numbers of a record. A byte past the record's end reads as 0.
 // A number is read only near a record's start, so the places of its bytes fit.
 ghost use Rattle.std.specs.Prelude.{◌≡◌, ◌≤◌};
-ghost use Rattle.std.specs.Float.{nan, binary64};
+ghost use Rattle.std.specs.Float.{binary64};
 ghost use Rattle.std.specs.Float.Ieee.{nan_bits};
-ghost use Rattle.fields.specs.Numbers.{byte_at, u16_at, u32_at, u64_at, signed_of, i64_at, f64_at};
+ghost use Rattle.fields.specs.Numbers.{byte_at, u16_at, u32_at, u64_at, i64_at, f64_at};
 
 pub fn byte_at(b: &[u8], at: usize) -> u8
     ensures { result ≡ byte_at b.now at }
 {
-    if at < b.len() { b[at] } else { 0 }
+    b.get(at).copied().unwrap_or(0)
 }
 
+#[tactic(auto, unfolding(crate::specs::Numbers::u16_at))]
 pub fn u16_at(b: &[u8], at: usize) -> u16
     requires { at ≤ 4096 }
     ensures { result ≡ u16_at b.now at }
 {
-    (byte_at(b, at) as u16) * 256 + byte_at(b, at + 1) as u16
+    u16::from_be_bytes([byte_at(b, at), byte_at(b, at + 1)])
 }
 
+#[tactic(auto, unfolding(crate::specs::Numbers::u16_at, crate::specs::Numbers::u32_at))]
 pub fn u32_at(b: &[u8], at: usize) -> u32
     requires { at ≤ 4094 }
     ensures { result ≡ u32_at b.now at }
 {
-    (u16_at(b, at) as u32) * 65536 + u16_at(b, at + 2) as u32
+    u32::from_be_bytes([
+        byte_at(b, at),
+        byte_at(b, at + 1),
+        byte_at(b, at + 2),
+        byte_at(b, at + 3),
+    ])
 }
 
+#[tactic(auto, unfolding(crate::specs::Numbers::u16_at, crate::specs::Numbers::u32_at, crate::specs::Numbers::u64_at))]
 pub fn u64_at(b: &[u8], at: usize) -> u64
     requires { at ≤ 4090 }
     ensures { result ≡ u64_at b.now at }
 {
-    (u32_at(b, at) as u64) * 4294967296 + u32_at(b, at + 4) as u64
+    u64::from_be_bytes([
+        byte_at(b, at),
+        byte_at(b, at + 1),
+        byte_at(b, at + 2),
+        byte_at(b, at + 3),
+        byte_at(b, at + 4),
+        byte_at(b, at + 5),
+        byte_at(b, at + 6),
+        byte_at(b, at + 7),
+    ])
 }
 
 // Two's complement.
-fn signed(n: u64) -> i64
-    ensures { result ≡ signed_of n }
-{
-    if n < 9223372036854775808 {
-        return n as i64;
-    }
-    let below = 18446744073709551615 - n;
-    -1 - (below as i64)
-}
-
+#[tactic(auto, unfolding(crate::specs::Numbers::signed_of))]
 pub fn i64_at(b: &[u8], at: usize) -> i64
     requires { at ≤ 4090 }
     ensures { result ≡ i64_at b.now at }
 {
-    signed(u64_at(b, at))
-}
-
-fn not_a_number() -> f64
-    ensures { result ≡ nan }
-{
-    0.0 / 0.0
+    u64_at(b, at).cast_signed()
 }
 
 // Whether the bits are a pattern of a NaN: the exponent's digits all set, and one of the fraction's.
@@ -70,7 +72,8 @@ pub fn f64_at(b: &[u8], at: usize) -> f64
 {
     let bits = u64_at(b, at);
     if is_nan(bits) {
-        return not_a_number();
+        f64::NAN
+    } else {
+        f64::from_bits(bits)
     }
-    f64::from_bits(bits)
 }

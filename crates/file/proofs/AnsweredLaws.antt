@@ -1,4 +1,6 @@
 -- A whole file is answered for its version, for the first cause of a record, or for its end.
+use Rattle.refusal.specs.declared.Accepted.TheVariants.{Taken}
+use Rattle.std.specs.Prelude.{Err, Ok}
 use mathlib.Core.Path.{◌≡◌, refl, sym, ap, ◌∙◌, subst}
 use mathlib.Core.Bool.{Bool, true, false}
 use mathlib.Core.List.{List}
@@ -9,10 +11,8 @@ use lib.Dec.{eqb}
 use lib.ListN.{length, drop, length-drop}
 use lib.Seq.{drop-drop}
 use Rattle.laws.proofs.Bools.{cond-by}
-use Rattle.refusal.specs.declared.Answer.{Answer}
 use Rattle.refusal.specs.declared.Refusal.TheVariants.{FileVersion}
-use Rattle.refusal.specs.declared.Answer.TheVariants.{Taken, Refused}
-use Rattle.refusal.specs.First.{is_refused}
+use Rattle.refusal.specs.First.{is_refused, Answer}
 use Rattle.refusal.proofs.FirstLaws.{answer-is-first}
 use Rattle.fields.specs.Numbers.{byte_at}
 use Rattle.file.specs.declared.Reader.{Reader}
@@ -27,7 +27,7 @@ use Rattle.file.proofs.RecordLaws.{record-answered}
 data Ends (second : Bool) (bytes : List ℕ) : Fed → Type 0 where
   at-refused : {r : Reader} {at : ℕ} → Reached second bytes r at → starts_whole (drop at bytes) ≡ true → is_refused (record_spec r (body_of (drop at bytes))).answer ≡ true
       → Ends second bytes (record { answer = (record_spec r (body_of (drop at bytes))).answer; used = at; reader = r })
-  at-end : {r : Reader} {at : ℕ} → Reached second bytes r at → starts_whole (drop at bytes) ≡ false → Ends second bytes (record { answer = Taken; used = at; reader = r })
+  at-end : {r : Reader} {at : ℕ} → Reached second bytes r at → starts_whole (drop at bytes) ≡ false → Ends second bytes (record { answer = Ok Taken; used = at; reader = r })
 
 no_more : (at : ℕ) (a : Answer) (r : Reader) → later at (record { answer = a; used = 0; reader = r }) ≡ record { answer = a; used = at; reader = r }
 no_more at a r = λ t. record { answer = a; used = same at t; reader = r }
@@ -48,7 +48,7 @@ module _ (second : Bool) (bytes : List ℕ) (r : Reader) (at : ℕ) (reach : Rea
   after = fed_from bytes (record_spec r (body_of rest)).reader (at + size_of rest)
 
   ends-none : starts_whole rest ≡ false → Ends second bytes (fed_from bytes r at)
-  ends-none e = subst (Ends second bytes) (sym (ap (later at) (fed-stops r rest e) ∙ no_more at Taken r)) (at-end reach e)
+  ends-none e = subst (Ends second bytes) (sym (ap (later at) (fed-stops r rest e) ∙ no_more at (Ok Taken) r)) (at-end reach e)
 
   ends-refused : starts_whole rest ≡ true → is_refused (record_spec r (body_of rest)).answer ≡ true → Ends second bytes (fed_from bytes r at)
   ends-refused e f = subst (Ends second bytes) (sym (ap (later at) (fed-refuses r rest e f) ∙ no_more at (record_spec r (body_of rest)).answer r)) (at-refused reach e f)
@@ -94,7 +94,7 @@ version-two : (xs : List ℕ) → byte_at xs 0 ≡ 2 → read_spec_of xs ≡ end
 unfolding read_spec_of version_answer
 version-two xs e = rw e refl
 
-version-none : (xs : List ℕ) → eqb (byte_at xs 0) 1 ≡ false → eqb (byte_at xs 0) 2 ≡ false → read_spec_of xs ≡ record { answer = Refused FileVersion; reader = fresh_reader false }
+version-none : (xs : List ℕ) → eqb (byte_at xs 0) 1 ≡ false → eqb (byte_at xs 0) 2 ≡ false → read_spec_of xs ≡ record { answer = Err FileVersion; reader = fresh_reader false }
 unfolding read_spec_of version_answer
 version-none xs e f = rw (e, f) refl
 

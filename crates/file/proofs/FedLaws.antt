@@ -1,14 +1,15 @@
 -- Whole records at the start of bytes: enough turns are enough, and bytes may be read in parts.
+use Rattle.refusal.specs.declared.Accepted.TheVariants.{Taken}
+use Rattle.std.specs.Prelude.{Ok}
 use mathlib.Core.Path.{◌≡◌, refl, sym, ap, ◌∙◌, subst}
 use mathlib.Core.Bool.{Bool, true, false, cond, false≢true}
 use mathlib.Core.List.{List, [], ◌∷◌, ◌++◌}
-use Prim.Native.Nat.{ℕ, zero, suc, ◌+◌, ◌-◌, ◌≤◌}
+use Prim.Native.Nat.{ℕ, zero, suc, ◌+◌, ◌≤◌}
 use native.Mathlib.Nat.{zero-add, add_assoc}
 use native.Mathlib.Omega.{arith}
 use lib.ListN.{length, drop, length-append, length-drop}
 use lib.Seq.{take-append-le, drop-append-le, drop-drop}
 use borrow.Author.Tests.{leb-true, le-leb}
-use Rattle.refusal.specs.declared.Answer.TheVariants.{Taken}
 use Rattle.refusal.specs.First.{is_refused}
 use Rattle.fields.specs.Numbers.{u16_at}
 use Rattle.file.specs.declared.Reader.{Reader}
@@ -51,7 +52,7 @@ none-whole = refl
 unfoldable turned : Bool → Bool → Reader → List ℕ → Fed → Fed
 turned whole refused r xs next =
     cond whole (cond refused (record { answer = (record_spec r (body_of xs)).answer; used = 0; reader = r }) (later (size_of xs) next))
-    (record { answer = Taken; used = 0; reader = r })
+    (record { answer = Ok Taken; used = 0; reader = r })
 
 fed-turned : (n : ℕ) (r : Reader) (xs : List ℕ)
     → fed_by (suc n) r xs ≡ turned (starts_whole xs) (is_refused (record_spec r (body_of xs)).answer) r xs (fed_by n (record_spec r (body_of xs)).reader (drop (size_of xs) xs))
@@ -100,7 +101,7 @@ fed-enough (suc n) (suc m) r xs h k =
 
 -- ---- the three ways of a turn
 
-pub fed-stops : (r : Reader) (xs : List ℕ) → starts_whole xs ≡ false → fed_spec r xs ≡ record { answer = Taken; used = 0; reader = r }
+pub fed-stops : (r : Reader) (xs : List ℕ) → starts_whole xs ≡ false → fed_spec r xs ≡ record { answer = Ok Taken; used = 0; reader = r }
 unfolding fed_spec fed_by
 fed-stops r [] e = refl
 fed-stops r (x ∷ xs) e = rw e refl

@@ -1,4 +1,6 @@
 -- A file that is read to its end gives the load that its settings and its steps give.
+use Rattle.refusal.specs.declared.Accepted.TheVariants.{Taken}
+use Rattle.std.specs.Prelude.{Err, Ok}
 use mathlib.Core.Path.{◌≡◌, refl, sym, ap, ◌∙◌, subst}
 use mathlib.Core.Bool.{Bool, true, false, not, cond, true≢false, false≢true}
 use mathlib.Core.List.{List, [], ◌∷◌, map}
@@ -7,7 +9,6 @@ use native.Mathlib.Omega.{arith}
 use lib.Dec.{eqb}
 use lib.ListN.{length, drop, length-drop}
 use Rattle.refusal.specs.declared.Refusal.TheVariants.{SettingsRange, ClockRange, RecordLength, RecordKind}
-use Rattle.refusal.specs.declared.Answer.TheVariants.{Taken, Refused}
 use Rattle.refusal.specs.First.{first_answer, is_refused}
 use Rattle.settings.specs.declared.Settings.{Settings}
 use Rattle.settings.specs.Settings.{over_counts, all_near, settings_tests}
@@ -32,11 +33,11 @@ unfolding stepped_by
 steps r b o k = (taken-settled r b k).1 ∙ rw o refl
 
 -- settings that are not sent back open a load
-not-sent-back : (s : Settings) → is_refused (open_answer (undated s)) ≡ false → open_answer (undated s) ≡ Taken
+not-sent-back : (s : Settings) → is_refused (open_answer (undated s)) ≡ false → open_answer (undated s) ≡ Ok Taken
 unfolding open_answer first_answer settings_tests
 not-sent-back s e = go (over_counts s.origins s.targets s.max_transfers s.transfer_seconds) (not (all_near s.now s.epochs)) e
   where
-    go : (x y : Bool) → is_refused (cond x (Refused SettingsRange) (cond y (Refused ClockRange) Taken)) ≡ false → cond x (Refused SettingsRange) (cond y (Refused ClockRange) Taken) ≡ Taken
+    go : (x y : Bool) → is_refused (cond x (Err SettingsRange) (cond y (Err ClockRange) (Ok Taken))) ≡ false → cond x (Err SettingsRange) (cond y (Err ClockRange) (Ok Taken)) ≡ Ok Taken
     go true y e = absurd (true≢false e)
     go false true e = absurd (true≢false e)
     go false false e = refl
@@ -94,30 +95,30 @@ hands (suc n) r xs h o =
 -- ---- the whole file
 
 -- it ends with a load that was opened
-end-opened : (o : Bool) (left : ℕ) → end_answer o left ≡ Taken → o ≡ true
+end-opened : (o : Bool) (left : ℕ) → end_answer o left ≡ Ok Taken → o ≡ true
 unfolding end_answer first_answer
 end-opened o left e = go (not (eqb left 0)) o e
   where
-    go : (x o : Bool) → cond x (Refused RecordLength) (cond (not o) (Refused RecordKind) Taken) ≡ Taken → o ≡ true
+    go : (x o : Bool) → cond x (Err RecordLength) (cond (not o) (Err RecordKind) (Ok Taken)) ≡ Ok Taken → o ≡ true
     go x true e = refl
     go true false e = absurd (true≢false (ap is_refused e))
     go false false e = absurd (true≢false (ap is_refused e))
 
 -- no record was refused on the way
-ended : (xs : List ℕ) (f : Fed) → (ended_by xs f).answer ≡ Taken → (is_refused f.answer ≡ false) × (f.reader.opened ≡ true)
+ended : (xs : List ℕ) (f : Fed) → (ended_by xs f).answer ≡ Ok Taken → (is_refused f.answer ≡ false) × (f.reader.opened ≡ true)
 ended xs f e = go (is_refused f.answer) refl e
   where
-    go : (c : Bool) → is_refused f.answer ≡ c → cond c f.answer (end_answer f.reader.opened (length (drop f.used xs))) ≡ Taken → (is_refused f.answer ≡ false) × (f.reader.opened ≡ true)
+    go : (c : Bool) → is_refused f.answer ≡ c → cond c f.answer (end_answer f.reader.opened (length (drop f.used xs))) ≡ Ok Taken → (is_refused f.answer ≡ false) × (f.reader.opened ≡ true)
     go true q k = absurd (true≢false (sym q ∙ ap is_refused k))
     go false q k = (q, end-opened f.reader.opened (length (drop f.used xs)) k)
 
 -- past the version
-read-on : (xs : List ℕ) → (read_spec_of xs).answer ≡ Taken → read_spec_of xs ≡ ended_by (drop 1 xs) (fed_spec (fresh_reader (is_second xs)) (drop 1 xs))
+read-on : (xs : List ℕ) → (read_spec_of xs).answer ≡ Ok Taken → read_spec_of xs ≡ ended_by (drop 1 xs) (fed_spec (fresh_reader (is_second xs)) (drop 1 xs))
 unfolding read_spec_of
 read-on xs e = go (is_refused (version_answer xs)) refl e
   where
     go : (c : Bool) → is_refused (version_answer xs) ≡ c
-        → (cond c (record { answer = version_answer xs; reader = (fresh_reader (is_second xs)) }) (ended_by (drop 1 xs) (fed_spec (fresh_reader (is_second xs)) (drop 1 xs)))).answer ≡ Taken
+        → (cond c (record { answer = version_answer xs; reader = (fresh_reader (is_second xs)) }) (ended_by (drop 1 xs) (fed_spec (fresh_reader (is_second xs)) (drop 1 xs)))).answer ≡ Ok Taken
         → cond c (record { answer = version_answer xs; reader = (fresh_reader (is_second xs)) }) (ended_by (drop 1 xs) (fed_spec (fresh_reader (is_second xs)) (drop 1 xs))) ≡ ended_by (drop 1 xs) (fed_spec (fresh_reader (is_second xs)) (drop 1 xs))
     go true q k = absurd (true≢false (sym q ∙ ap is_refused k))
     go false q k = refl

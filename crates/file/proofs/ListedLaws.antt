@@ -1,4 +1,6 @@
 -- The number of a whole file is one of those listed: that of its version, of a record or of its end.
+use Rattle.refusal.specs.declared.Accepted.TheVariants.{Taken}
+use Rattle.std.specs.Prelude.{Err, Ok}
 use mathlib.Core.Path.{◌≡◌, refl, sym, ap, ◌∙◌}
 use mathlib.Core.Logic.{◌⊎◌, inl, inr}
 use mathlib.Core.Bool.{Bool, true, false, not, cond, ◌&&◌, true≢false, false≢true}
@@ -8,10 +10,8 @@ use borrow.Author.Tests.{eqb-true}
 use lib.Dec.{eqb}
 use lib.ListN.{length, drop}
 use Rattle.laws.proofs.Bools.{or-true-cases, and-true-left, and-true-right}
-use Rattle.refusal.specs.declared.Answer.{Answer}
-use Rattle.refusal.specs.declared.Answer.TheVariants.{Taken, Refused}
 use Rattle.refusal.specs.declared.Refusal.TheVariants.{RecordLength, RecordKind}
-use Rattle.refusal.specs.First.{first_answer, First, is_refused, answer_number}
+use Rattle.refusal.specs.First.{first_answer, First, is_refused, answer_number, Answer}
 use Rattle.refusal.proofs.FirstLaws.{first-is-answer}
 use Rattle.laws.specs.Lists.{one_of}
 use Rattle.settings.specs.declared.Settings.{Settings}
@@ -141,7 +141,7 @@ end-inside : (opened : Bool) (left : ℕ) (a : Answer) → First a (end_tests op
 unfolding first_answer
 end-inside opened left a f = ap (λ (c : Answer). one_of (answer_number c) file_numbers) (first-is-answer a (end_tests opened left) f) ∙ go (not (eqb left 0)) (not opened)
   where
-    go : (x y : Bool) → one_of (answer_number (cond x (Refused RecordLength) (cond y (Refused RecordKind) Taken))) file_numbers ≡ true
+    go : (x y : Bool) → one_of (answer_number (cond x (Err RecordLength) (cond y (Err RecordKind) (Ok Taken)))) file_numbers ≡ true
     go true y = refl
     go false true = refl
     go false false = refl

@@ -1,4 +1,6 @@
 -- A record is answered for its first cause alone, a refused one changes nothing, and a taken one opens the load or is handed to it.
+use Rattle.refusal.specs.declared.Accepted.TheVariants.{Taken, Outside}
+use Rattle.std.specs.Prelude.{Err, Ok}
 use mathlib.Core.Path.{◌≡◌, refl, sym, ap, ◌∙◌, subst}
 use mathlib.Core.Logic.{◌⊎◌, inl, inr}
 use mathlib.Core.Bool.{Bool, true, false, not, cond, true≢false, false≢true}
@@ -8,9 +10,7 @@ use lib.Dec.{eqb}
 use lib.ListN.{length}
 use Rattle.laws.proofs.Bools.{or-true-cases, or-true-left, or_true_right, cond-by}
 use Rattle.refusal.specs.declared.Refusal.TheVariants.{RecordLength, RecordKind}
-use Rattle.refusal.specs.declared.Answer.{Answer}
-use Rattle.refusal.specs.declared.Answer.TheVariants.{Taken, Outside, Refused}
-use Rattle.refusal.specs.First.{First, AllFail, first_answer, is_refused, answer_number}
+use Rattle.refusal.specs.First.{First, AllFail, first_answer, is_refused, answer_number, Answer}
 use Rattle.refusal.proofs.FirstLaws.{answer-is-first, first-append, first_past}
 use Rattle.laws.specs.Lists.{one_of}
 use Rattle.fields.specs.Numbers.{byte_at}
@@ -23,17 +23,17 @@ use Rattle.file.specs.declared.Reader.{Reader}
 use Rattle.file.specs.declared.Took.{Took}
 use Rattle.file.specs.Record.{open_reader, kind_right, filled, record_tests, step_in, stepped_by, settled, record_spec, causes_by, numbers_by, RecordAnswered}
 
-refused-not-taken : (a : Answer) → is_refused a ≡ true → a ≡ Taken → ⊥
-refused-not-taken Taken e q = false≢true e
-refused-not-taken Outside e q = false≢true e
-refused-not-taken (Refused r) e q = false≢true (sym (ap is_refused q) ∙ e)
+refused-not-taken : (a : Answer) → is_refused a ≡ true → a ≡ Ok Taken → ⊥
+refused-not-taken (Ok Taken) e q = false≢true e
+refused-not-taken (Ok Outside) e q = false≢true e
+refused-not-taken (Err r) e q = false≢true (sym (ap is_refused q) ∙ e)
 
 -- every test sends the record back, so one that is not sent back fails each
 all-fail : (opened second : Bool) (b : List ℕ) → is_refused (first_answer (record_tests opened second b)) ≡ false → AllFail (record_tests opened second b)
 unfolding record_tests first_answer
 all-fail opened second b e = go (eqb (length b) 0) (not (kind_right opened (byte_at b 0))) (not (filled second b)) e
   where
-    go : (x y z : Bool) → is_refused (cond x (Refused RecordLength) (cond y (Refused RecordKind) (cond z (Refused RecordLength) Taken))) ≡ false → (x ≡ false) × ((y ≡ false) × ((z ≡ false) × Unit {0}))
+    go : (x y z : Bool) → is_refused (cond x (Err RecordLength) (cond y (Err RecordKind) (cond z (Err RecordLength) (Ok Taken)))) ≡ false → (x ≡ false) × ((y ≡ false) × ((z ≡ false) × Unit {0}))
     go true y z e = absurd (true≢false e)
     go false true z e = absurd (true≢false e)
     go false false true e = absurd (true≢false e)
@@ -42,7 +42,7 @@ all-fail opened second b e = go (eqb (length b) 0) (not (kind_right opened (byte
 -- what the load, or the opening, answers
 record Stepping (r : Reader) (b : List ℕ) (a : Answer) : Type 0 where
   first : First a (causes_by r b)
-  taken : a ≡ Taken → AllFail (causes_by r b)
+  taken : a ≡ Ok Taken → AllFail (causes_by r b)
   listed : one_of (answer_number a) (0 ∷ numbers_by r b) ≡ true
 
 stepping : (r : Reader) (b : List ℕ) → Stepping r b (stepped_by r b).answer
@@ -58,8 +58,8 @@ pub tests-listed : (opened second : Bool) (b : List ℕ) (ns : List ℕ) → is_
 unfolding record_tests first_answer
 tests-listed opened second b ns e = go (eqb (length b) 0) (not (kind_right opened (byte_at b 0))) (not (filled second b)) e
   where
-    go : (x y z : Bool) → is_refused (cond x (Refused RecordLength) (cond y (Refused RecordKind) (cond z (Refused RecordLength) Taken))) ≡ true
-        → one_of (answer_number (cond x (Refused RecordLength) (cond y (Refused RecordKind) (cond z (Refused RecordLength) Taken)))) (0 ∷ 18 ∷ 19 ∷ ns) ≡ true
+    go : (x y z : Bool) → is_refused (cond x (Err RecordLength) (cond y (Err RecordKind) (cond z (Err RecordLength) (Ok Taken)))) ≡ true
+        → one_of (answer_number (cond x (Err RecordLength) (cond y (Err RecordKind) (cond z (Err RecordLength) (Ok Taken))))) (0 ∷ 18 ∷ 19 ∷ ns) ≡ true
     go true y z e = refl
     go false true z e = refl
     go false false true e = refl
@@ -95,7 +95,7 @@ settled-taken r s e = rw e refl
 
 record Answers (r : Reader) (b : List ℕ) (t : Took) : Type 0 where
   first : First t.answer (record_tests r.opened r.second b ++ causes_by r b)
-  taken : t.answer ≡ Taken → AllFail (record_tests r.opened r.second b ++ causes_by r b)
+  taken : t.answer ≡ Ok Taken → AllFail (record_tests r.opened r.second b ++ causes_by r b)
   listed : one_of (answer_number t.answer) (0 ∷ 18 ∷ 19 ∷ numbers_by r b) ≡ true
   unchanged : is_refused t.answer ≡ true → t.reader ≡ r
 

@@ -1,9 +1,7 @@
 -- Why a whole file is answered as it is: for its version, for a record's first cause, or for its end.
-use Rattle.std.specs.Prelude.{ℕ, ◌+◌, ◌≡◌, Bool, true, false, List, [], ◌∷◌, ◌++◌, length, drop}
+use Rattle.std.specs.Prelude.{ℕ, ◌+◌, ◌≡◌, Bool, true, false, List, [], ◌∷◌, ◌++◌, length, drop, Err}
 use Rattle.refusal.specs.declared.Refusal.TheVariants.{FileVersion}
-use Rattle.refusal.specs.declared.Answer.{Answer}
-use Rattle.refusal.specs.declared.Answer.TheVariants.{Refused}
-use Rattle.refusal.specs.First.{First, is_refused, answer_number}
+use Rattle.refusal.specs.First.{First, is_refused, answer_number, Answer}
 use Rattle.laws.specs.Lists.{one_of}
 use Rattle.fields.specs.Numbers.{byte_at}
 use Rattle.file.specs.declared.Reader.{Reader}
@@ -24,7 +22,7 @@ pub data Version (xs : List ℕ) : Bool → Type 0 where
 
 -- of a file xs: 17; a record sent back for its first cause, with the reader before it; or the end, with 18, 19 or none
 pub data FileAnswered (xs : List ℕ) : Took → Type 0 where
-  version : (byte_at xs 0 ≡ 1 → ⊥) → (byte_at xs 0 ≡ 2 → ⊥) → FileAnswered xs (record { answer = Refused FileVersion; reader = fresh_reader false })
+  version : (byte_at xs 0 ≡ 1 → ⊥) → (byte_at xs 0 ≡ 2 → ⊥) → FileAnswered xs (record { answer = Err FileVersion; reader = fresh_reader false })
   refused : {second : Bool} {r : Reader} {at : ℕ} {a : Answer} → Version xs second → Reached second (drop 1 xs) r at → starts_whole (drop at (drop 1 xs)) ≡ true
       → First a (record_tests r.opened r.second (body_of (drop at (drop 1 xs))) ++ causes_by r (body_of (drop at (drop 1 xs)))) → is_refused a ≡ true
       → FileAnswered xs (record { answer = a; reader = r })

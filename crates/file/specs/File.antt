@@ -1,9 +1,8 @@
 -- A load file: byte 0 is version 1 or 2; then come records, each after its length of two bytes, tested and taken one by one.
-use Rattle.std.specs.Prelude.{ℕ, zero, suc, ◌+◌, ◌≡◌, Bool, not, cond, ◌||◌, List, [], ◌∷◌, ◌++◌, eqb, leb, length, take, drop}
+use Rattle.refusal.specs.declared.Accepted.TheVariants.{Taken}
+use Rattle.std.specs.Prelude.{ℕ, zero, suc, ◌+◌, ◌≡◌, Bool, not, cond, ◌||◌, List, [], ◌∷◌, ◌++◌, eqb, leb, length, take, drop, Err, Ok}
 use Rattle.refusal.specs.declared.Refusal.TheVariants.{FileVersion, RecordLength, RecordKind}
-use Rattle.refusal.specs.declared.Answer.{Answer}
-use Rattle.refusal.specs.declared.Answer.TheVariants.{Taken, Refused}
-use Rattle.refusal.specs.First.{first_answer, is_refused}
+use Rattle.refusal.specs.First.{first_answer, is_refused, Answer}
 use Rattle.fields.specs.Numbers.{byte_at, u16_at}
 use Rattle.file.specs.declared.Reader.{Reader}
 use Rattle.file.specs.declared.Took.{Took}
@@ -13,7 +12,7 @@ use Rattle.file.specs.Record.{fresh_reader, record_spec}
 -- ---- 17, before all else: another or no version
 
 unfoldable pub version_answer : List ℕ → Answer
-version_answer xs = cond (eqb (byte_at xs 0) 1 || eqb (byte_at xs 0) 2) Taken (Refused FileVersion)
+version_answer xs = cond (eqb (byte_at xs 0) 1 || eqb (byte_at xs 0) 2) (Ok Taken) (Err FileVersion)
 
 -- version 2, whose settings have two bytes of seconds
 abbrev pub is_second : List ℕ → Bool
@@ -37,7 +36,7 @@ unfoldable pub next_spec : Reader → List ℕ → Fed
 next_spec r xs =
     cond (starts_whole xs)
     (record { answer = (record_spec r (body_of xs)).answer; used = size_of xs; reader = (record_spec r (body_of xs)).reader })
-    (record { answer = Taken; used = 0; reader = r })
+    (record { answer = Ok Taken; used = 0; reader = r })
 
 -- so many bytes were used before
 abbrev pub later : ℕ → Fed → Fed
@@ -45,12 +44,12 @@ later n f = record { answer = f.answer; used = n + f.used; reader = f.reader }
 
 -- the whole records at the start of the bytes, up to the first that is refused; at most n of them
 unfoldable pub fed_by : ℕ → Reader → List ℕ → Fed
-fed_by zero r xs = record { answer = Taken; used = 0; reader = r }
+fed_by zero r xs = record { answer = Ok Taken; used = 0; reader = r }
 fed_by (suc n) r xs =
     cond (starts_whole xs) (cond (is_refused (record_spec r (body_of xs)).answer)
     (record { answer = (record_spec r (body_of xs)).answer; used = 0; reader = r })
     (later (size_of xs) (fed_by n (record_spec r (body_of xs)).reader (drop (size_of xs) xs))))
-    (record { answer = Taken; used = 0; reader = r })
+    (record { answer = Ok Taken; used = 0; reader = r })
 
 -- each record takes two bytes or more, so there are no more turns than bytes
 unfoldable pub fed_spec : Reader → List ℕ → Fed
@@ -59,7 +58,7 @@ fed_spec r xs = fed_by (length xs) r xs
 -- ---- the end: 18, a record that runs past it; 19, a file with no record
 
 abbrev pub end_tests : Bool → ℕ → List (Bool × Answer)
-end_tests opened left = (not (eqb left 0), Refused RecordLength) ∷ (not opened, Refused RecordKind) ∷ []
+end_tests opened left = (not (eqb left 0), Err RecordLength) ∷ (not opened, Err RecordKind) ∷ []
 
 unfoldable pub end_answer : Bool → ℕ → Answer
 end_answer opened left = first_answer (end_tests opened left)

@@ -1,6 +1,6 @@
 -- What a load file hands in: the settings of its first record, and a step for each of the others. Demands 2 and 3 speak of both.
-use Rattle.std.specs.Prelude.{◌≡◌, cond, List, [], ◌∷◌, map, ℕ, zero, suc, length, drop}
-use Rattle.refusal.specs.declared.Answer.TheVariants.{Taken}
+use Rattle.refusal.specs.declared.Accepted.TheVariants.{Taken}
+use Rattle.std.specs.Prelude.{◌≡◌, cond, List, [], ◌∷◌, map, ℕ, zero, suc, length, drop, Ok}
 use Rattle.fields.specs.Second.{settings_by}
 use Rattle.load.specs.Steps.{undated}
 use Rattle.load.specs.Sound.{Opens}
@@ -26,4 +26,4 @@ pub record Handed (xs : List ℕ) : Type 0 where
 
 -- of every file that is read to its end
 abbrev pub ReadHands : Type 0
-ReadHands = (xs : List ℕ) → (read_spec_of xs).answer ≡ Taken → Handed xs
+ReadHands = (xs : List ℕ) → (read_spec_of xs).answer ≡ Ok Taken → Handed xs

@@ -1,6 +1,6 @@
 -- "Files of version 1 keep minutes and are multiplied by 60 when read" (request 05): what a whole file gives.
-use Rattle.std.specs.Prelude.{◌≡◌, List, ◌∷◌, map, ℕ, ◌*◌}
-use Rattle.refusal.specs.declared.Answer.TheVariants.{Taken}
+use Rattle.refusal.specs.declared.Accepted.TheVariants.{Taken}
+use Rattle.std.specs.Prelude.{◌≡◌, List, ◌∷◌, map, ℕ, ◌*◌, Ok}
 use Rattle.settings.specs.declared.Settings.{Settings}
 use Rattle.fields.specs.Numbers.{byte_at}
 use Rattle.fields.specs.Layout.{minutes_at}
@@ -31,5 +31,5 @@ pub record InSeconds (xs : List ℕ) (b : List ℕ) (bs : List (List ℕ)) (m : 
 
 -- of every file of version 1 that is read to its end, by the byte of minutes m in its first record
 abbrev pub MinutesRead : Type 0
-MinutesRead = (xs : List ℕ) → byte_at xs 0 ≡ 1 → (read_spec_of xs).answer ≡ Taken → (b : List ℕ) (bs : List (List ℕ)) → bodies_of xs ≡ b ∷ bs
+MinutesRead = (xs : List ℕ) → byte_at xs 0 ≡ 1 → (read_spec_of xs).answer ≡ Ok Taken → (b : List ℕ) (bs : List (List ℕ)) → bodies_of xs ≡ b ∷ bs
     → (m : ℕ) → byte_at b (minutes_at b) ≡ m → InSeconds xs b bs m

@@ -1,9 +1,8 @@
 -- A record of a load file, tested and taken. Its body is what follows its length: the kind byte and the fields.
-use Rattle.std.specs.Prelude.{ℕ, Bool, true, false, not, cond, ◌&&◌, ◌≡◌, List, [], ◌∷◌, ◌++◌, eqb, leb, length}
+use Rattle.refusal.specs.declared.Accepted.TheVariants.{Taken}
+use Rattle.std.specs.Prelude.{ℕ, Bool, true, false, not, cond, ◌&&◌, ◌≡◌, List, [], ◌∷◌, ◌++◌, eqb, leb, length, Err, Ok}
 use Rattle.refusal.specs.declared.Refusal.TheVariants.{RecordLength, RecordKind}
-use Rattle.refusal.specs.declared.Answer.{Answer}
-use Rattle.refusal.specs.declared.Answer.TheVariants.{Taken, Refused}
-use Rattle.refusal.specs.First.{First, AllFail, first_answer, is_refused, answer_number}
+use Rattle.refusal.specs.First.{First, AllFail, first_answer, is_refused, answer_number, Answer}
 use Rattle.fields.specs.Numbers.{byte_at}
 use Rattle.fields.specs.Layout.{text_at, option_text_at, name_at, parent_at, stop_filled_of, call_filled_of, rule_filled_of, search_filled_of}
 use Rattle.fields.specs.Records.{stop_in, call_in, rule_in}
@@ -40,9 +39,9 @@ filled second b =
 -- why a record is turned away, in request 01's order; the step's own refusals come after these
 unfoldable pub record_tests : Bool → Bool → List ℕ → List (Bool × Answer)
 record_tests opened second b =
-    (eqb (length b) 0, Refused RecordLength)
-    ∷ (not (kind_right opened (byte_at b 0)), Refused RecordKind)
-    ∷ (not (filled second b), Refused RecordLength)
+    (eqb (length b) 0, Err RecordLength)
+    ∷ (not (kind_right opened (byte_at b 0)), Err RecordKind)
+    ∷ (not (filled second b), Err RecordLength)
     ∷ []
 
 -- what a record of kind 2 to 5 hands in
@@ -75,7 +74,7 @@ numbers_by r b = cond r.opened (numbers r.load.searched (step_in b)) (1 ∷ 2 �
 -- the answer is that of the first cause that holds: the record's, then the opening's or the step's own; a taken record has none, and a refused one changes nothing
 pub record Answered (r : Reader) (b : List ℕ) : Type 0 where
   pub first : First (record_spec r b).answer (record_tests r.opened r.second b ++ causes_by r b)
-  pub taken : (record_spec r b).answer ≡ Taken → AllFail (record_tests r.opened r.second b ++ causes_by r b)
+  pub taken : (record_spec r b).answer ≡ Ok Taken → AllFail (record_tests r.opened r.second b ++ causes_by r b)
   -- its number is 18, 19, one that the scope lists for the opening or the step, or 0
   pub listed : one_of (answer_number (record_spec r b).answer) (0 ∷ 18 ∷ 19 ∷ numbers_by r b) ≡ true
   pub unchanged : is_refused (record_spec r b).answer ≡ true → (record_spec r b).reader ≡ r

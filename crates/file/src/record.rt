@@ -16,54 +16,48 @@ use fields::layout::{
 };
 use fields::records::{call_in, rule_in, settings_by, stop_in};
 use load::{Load, Stepped};
-use refusal::{Answer, Refusal, is_refused};
+use refusal::{Accepted, Answer, Refusal, is_refused};
 use search::search;
 
+#[tactic(auto, unfolding(crate::specs::Record::kind_right))]
 fn kind_right(opened: bool, kind: u8) -> bool
     ensures { result ≡ kind_right opened kind }
 {
     if opened {
-        if 2 <= kind {
-            return kind <= 5;
-        }
-        return false;
+        2 <= kind && kind <= 5
+    } else {
+        kind == 1
     }
-    kind == 1
 }
 
+// The kind stays a byte: what these promise holds for every byte, so an enum would need an arm for those that are no kind.
+#[tactic(auto, unfolding(crate::specs::Record::filled))]
 fn is_filled(second: bool, b: &[u8]) -> bool
     ensures { result ≡ filled second b.now }
 {
-    let kind = kind_of(b);
-    if kind == 1 {
-        return settings_filled_by(second, b);
+    match kind_of(b) {
+        1 => settings_filled_by(second, b),
+        2 => stop_filled(b),
+        3 => call_filled(b),
+        4 => rule_filled(b),
+        _ => search_filled(b),
     }
-    if kind == 2 {
-        return stop_filled(b);
-    }
-    if kind == 3 {
-        return call_filled(b);
-    }
-    if kind == 4 {
-        return rule_filled(b);
-    }
-    search_filled(b)
 }
 
 // Why a record is turned away before it is handed to the load: 18, 19, 18.
+#[tactic(auto, unfolding(crate::specs::Record::record_tests, refusal::specs::First::first_answer))]
 fn record_answer(opened: bool, second: bool, b: &[u8]) -> Answer
     ensures { result ≡ first_answer (record_tests opened second b.now) }
 {
     if b.len() == 0 {
-        return Answer::Refused(Refusal::RecordLength);
+        Err(Refusal::RecordLength)
+    } else if !kind_right(opened, kind_of(b)) {
+        Err(Refusal::RecordKind)
+    } else if !is_filled(second, b) {
+        Err(Refusal::RecordLength)
+    } else {
+        Ok(Accepted::Taken)
     }
-    if kind_right(opened, kind_of(b)) {
-        if is_filled(second, b) {
-            return Answer::Taken;
-        }
-        return Answer::Refused(Refusal::RecordLength);
-    }
-    Answer::Refused(Refusal::RecordKind)
 }
 
 fn stop_record(load: Load, b: &[u8]) -> Stepped
@@ -76,29 +70,24 @@ fn stop_record(load: Load, b: &[u8]) -> Stepped
 fn call_record(load: Load, input: CallInput) -> Stepped
     ensures { result ≡ add_spec_of load [] input }
 {
-    let none: [u8; 0] = [];
-    add(load, &none, input)
+    add(load, &[], input)
 }
 
 // A record is handed to the load, or opens it.
+#[tactic(auto, unfolding(crate::specs::Record::stepped_by, crate::specs::Record::step_in, steps::specs::Steps::stepped))]
 fn stepped_by(reader: Reader, b: &[u8]) -> Stepped
     ensures { result ≡ stepped_by reader b.now }
 {
     let load = reader.load;
-    if reader.opened {
-        let kind = kind_of(b);
-        if kind == 2 {
-            return stop_record(load, b);
-        }
-        if kind == 3 {
-            return call_record(load, call_in(b));
-        }
-        if kind == 4 {
-            return load.rule(rule_in(b));
-        }
-        return search(load);
+    if !reader.opened {
+        return Load::open(settings_by(reader.second, b));
     }
-    Load::open(settings_by(reader.second, b))
+    match kind_of(b) {
+        2 => stop_record(load, b),
+        3 => call_record(load, call_in(b)),
+        4 => load.rule(rule_in(b)),
+        _ => search(load),
+    }
 }
 
 // The body of a record: what follows its length.

@@ -1,5 +1,5 @@
 // The three texts of a stop's record, as parts of its bytes.
-ghost use Rattle.std.specs.Prelude.{◌≡◌, ◌-◌, ◌≤◌, min, take, drop};
+ghost use Rattle.std.specs.Prelude.{◌≡◌, ◌-◌, ◌≤◌, take, drop};
 ghost use Rattle.fields.specs.Layout.{text_at, option_text_from, option_text_at, name_at, parent_at};
 
 use fields::layout::{has_at, name_at, parent_at, type_at};
@@ -12,19 +12,12 @@ fn text_from(b: &[u8], at: usize) -> usize
     if has_at(b, at) { at + 2 } else { at + 1 }
 }
 
-fn smaller(a: usize, b: usize) -> usize
-    ensures { result ≡ min a b }
-{
-    if a < b { a } else { b }
-}
-
 // What the bytes hold of a part; a record that is not filled may end before the part does.
 fn part(b: &[u8], from: usize, end: usize) -> &[u8]
     ensures { result.now ≡ take (end - from) (drop from b.now) }
 {
-    let to = smaller(end, b.len());
-    let start = smaller(from, to);
-    &b[start..to]
+    let to = end.min(b.len());
+    &b[from.min(to)..to]
 }
 
 pub fn id_text(b: &[u8]) -> &[u8]
@@ -36,17 +29,11 @@ pub fn id_text(b: &[u8]) -> &[u8]
 pub fn name_text(b: &[u8]) -> &[u8]
     ensures { result.now ≡ option_text_at b.now (name_at b.now) }
 {
-    let name = name_at(b);
-    let end = parent_at(b);
-    let from = text_from(b, name);
-    part(b, from, end)
+    part(b, text_from(b, name_at(b)), parent_at(b))
 }
 
 pub fn parent_text(b: &[u8]) -> &[u8]
     ensures { result.now ≡ option_text_at b.now (parent_at b.now) }
 {
-    let parent = parent_at(b);
-    let end = type_at(b);
-    let from = text_from(b, parent);
-    part(b, from, end)
+    part(b, text_from(b, parent_at(b)), type_at(b))
 }

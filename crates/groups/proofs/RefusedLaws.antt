@@ -1,21 +1,24 @@
 -- A display is turned away exactly by one of its four causes.
+use Rattle.std.specs.Prelude.{None, Option, Some}
 use mathlib.Core.Path.{◌≡◌, refl, sym, ap, subst, ◌∙◌}
 use mathlib.Core.Logic.{◌⊎◌, inl, inr}
 use mathlib.Core.Bool.{Bool, true, false, not, cond, true≢false, ◌||◌}
-use mathlib.Core.Option.{Option, none, some}
 use mathlib.Core.List.Memᴰ
 use mathlib.Core.List.{List, [], ◌∷◌, ◌++◌, Memᴰ}
 use Prim.Native.Nat.{ℕ, suc, ◌≤◌}
 use native.Mathlib.Omega.{arith}
-use lib.Dec.{ltb}
+use lib.Dec.{ltb, eqb}
 use lib.IntN.{ℤ, pos, negsuc}
 use lib.Signed.{lt_z}
+use mir.Syntax.{w64}
+use mir.Val.{to_z, of_z}
 use borrow.Author.Tests.{ltb-true, ltb-false, le-ltb, eqb-true, eqb-false, eq-eqb, ne_eqb}
-use Rattle.laws.specs.Lists.{anyb, firstb}
+use Rattle.std.specs.List.{find}
+use Rattle.laws.specs.Lists.{anyb}
 use Rattle.laws.proofs.Bools.{or-true-cases, or-true-left, or_true_right, or-false-left, or-false-right, or-not, cond-by, cond-not}
 use Rattle.laws.proofs.Lists.{anyb-mem, mem-anyb, anyb-not}
 use Rattle.groups.specs.declared.Group.{Group}
-use Rattle.groups.specs.Groups.{no_slot, slot_of, has_number, group_at, start_or, lowest_start}
+use Rattle.groups.specs.Groups.{has_number, group_at, start_or, lowest_start}
 use Rattle.groups.specs.Refused.{unlike, is_wrong, twice, turned_away, Above, Twice, Unsearched, Lowest, Unlike, TurnedAwayExactly}
 
 -- ---- starts
@@ -42,6 +45,36 @@ like-same a b e = go (lt_z a b) refl (lt_z b a) refl e
 unlike-apart : (a b : ℤ) → unlike a b ≡ true → a ≡ b → ⊥
 unfolding unlike
 unlike-apart a b e q = true≢false (sym e ∙ ap (λ (z : ℤ). lt_z a z || lt_z z a) (sym q) ∙ or-not _ (same-lt_z a) ∙ same-lt_z a)
+
+-- two starts in bits are one, or unlike
+pub unlike-bits : (a b : ℤ) → to_z w64 (of_z w64 a) ≡ a → to_z w64 (of_z w64 b) ≡ b → not (eqb (of_z w64 a) (of_z w64 b)) ≡ unlike a b
+unlike-bits a b p q = go (eqb (of_z w64 a) (of_z w64 b)) (unlike a b) refl refl
+  where
+    go : (s t : Bool) → eqb (of_z w64 a) (of_z w64 b) ≡ s → unlike a b ≡ t → not s ≡ t
+    go true true e f = absurd (unlike-apart a b f (sym p ∙ ap (to_z w64) (eqb-true _ _ e) ∙ q))
+    go true false e f = refl
+    go false true e f = refl
+    go false false e f = absurd (eqb-false _ _ e (ap (of_z w64) (like-same a b f)))
+
+-- above 3 or unsearched, or else of another start
+module _ (low : ℤ) (g : Group) {v : Bool} (is : v ≡ (ltb 3 g.number || not g.searched)) where
+  pub wrong-first : v ≡ true → v ≡ is_wrong low g
+  unfolding is_wrong
+  wrong-first e = e ∙ go (ltb 3 g.number) (not g.searched) (sym is ∙ e)
+    where
+      go : (x y : Bool) → (x || y) ≡ true → true ≡ (x || (y || unlike g.now low))
+      go true y p = refl
+      go false true p = refl
+      go false false p = absurd (true≢false (sym p))
+
+  pub wrong-last : {r : Bool} → v ≡ false → r ≡ unlike g.now low → r ≡ is_wrong low g
+  unfolding is_wrong
+  wrong-last e f = f ∙ go (ltb 3 g.number) (not g.searched) (sym is ∙ e)
+    where
+      go : (x y : Bool) → (x || y) ≡ false → unlike g.now low ≡ (x || (y || unlike g.now low))
+      go true y p = absurd (true≢false p)
+      go false true p = absurd (true≢false p)
+      go false false p = refl
 
 -- ---- a number that stands twice
 
@@ -78,19 +111,19 @@ twice_in (x ∷ xs) g q ys zs e = or_true_right (anyb (has_number x.number) (xs 
 
 -- ---- the lowest group
 
-first_some : (p : Group → Bool) (gs : List Group) (g : Group) → firstb p gs ≡ some g → Memᴰ g gs × (p g ≡ true)
+first_some : (p : Group → Bool) (gs : List Group) (g : Group) → find p gs ≡ Some g → Memᴰ g gs × (p g ≡ true)
 first_some p [] g e = absurd (let z : ◌≡◌ {A = ℕ} 0 1 = cc in omega arith)
 first_some p (x ∷ gs) g e = go (λ r. first_some p gs g r) (p x) refl e
   where
-    go : (firstb p gs ≡ some g → Memᴰ g gs × (p g ≡ true)) → (b : Bool) → p x ≡ b → cond b (some x) (firstb p gs) ≡ some g → Memᴰ g (x ∷ gs) × (p g ≡ true)
+    go : (find p gs ≡ Some g → Memᴰ g gs × (p g ≡ true)) → (b : Bool) → p x ≡ b → cond b (Some x) (find p gs) ≡ Some g → Memᴰ g (x ∷ gs) × (p g ≡ true)
     go f true q r = let s : x ≡ g = cc in (Memᴰ.head (sym s), subst (λ (y : Group). p y ≡ true) s q)
     go f false q r = let (m, t) = f r in (Memᴰ.tail m, t)
 
-first-none : (p : Group → Bool) (gs : List Group) → firstb p gs ≡ none → (g : Group) → Memᴰ g gs → p g ≡ false
+first-none : (p : Group → Bool) (gs : List Group) → find p gs ≡ None → (g : Group) → Memᴰ g gs → p g ≡ false
 first-none p [] e g m = absurd (Memᴰ.not-nil m)
 first-none p (x ∷ gs) e g m = go (λ r n. first-none p gs r g n) (p x) refl e (Memᴰ.cases_cons m)
   where
-    go : (firstb p gs ≡ none → Memᴰ g gs → p g ≡ false) → (b : Bool) → p x ≡ b → cond b (some x) (firstb p gs) ≡ none → (g ≡ x) ⊎ Memᴰ g gs → p g ≡ false
+    go : (find p gs ≡ None → Memᴰ g gs → p g ≡ false) → (b : Bool) → p x ≡ b → cond b (Some x) (find p gs) ≡ None → (g ≡ x) ⊎ Memᴰ g gs → p g ≡ false
     go f true q r s = absurd (let z : ◌≡◌ {A = ℕ} 0 1 = cc in omega arith)
     go f false q r (inl s) = subst (λ (y : Group). p y ≡ false) (sym s) q
     go f false q r (inr n) = f r n
@@ -106,12 +139,12 @@ module _ (gs : List Group) where
 
   -- number i is given, or all are higher
   start-at : (i : ℕ) (z : ℤ) → From i → (From (suc i) → Starts z) → Starts (start_or (group_at i gs) z)
-  unfolding start_or group_at slot_of
-  start-at i z f next = go (firstb (has_number i) gs) refl
+  unfolding start_or group_at
+  start-at i z f next = go (find (has_number i) gs) refl
     where
-      go : (o : Option Group) → firstb (has_number i) gs ≡ o → Starts (start_or (slot_of o) z)
-      go none e = next (λ g m. let n : ¬ (g.number ≡ i) = eqb-false g.number i (first-none (has_number i) gs e g m) in omega (arith, f g m))
-      go (some l) e =
+      go : (o : Option Group) → find (has_number i) gs ≡ o → Starts (start_or o z)
+      go None e = next (λ g m. let n : ¬ (g.number ≡ i) = eqb-false g.number i (first-none (has_number i) gs e g m) in omega (arith, f g m))
+      go (Some l) e =
           let (m, t) = first_some (has_number i) gs l e in
           (l, (m, λ g n. omega (arith, eqb-true l.number i t, f g n)), refl)
 
@@ -176,27 +209,27 @@ turned-away-exactly gs = (away-out gs, away-in gs)
 
 -- ---- the group of a number, where the display isn't turned away
 
-first-given : (gs : List Group) (g : Group) → twice gs ≡ false → Memᴰ g gs → firstb (has_number g.number) gs ≡ some g
+first-given : (gs : List Group) (g : Group) → twice gs ≡ false → Memᴰ g gs → find (has_number g.number) gs ≡ Some g
 unfolding twice
 first-given [] g e m = absurd (Memᴰ.not-nil m)
 first-given (x ∷ gs) g e m = go (λ n. first-given gs g (or-false-right (anyb (has_number x.number) gs) (twice gs) e) n) (Memᴰ.cases_cons m)
   where
-    go : (Memᴰ g gs → firstb (has_number g.number) gs ≡ some g) → (g ≡ x) ⊎ Memᴰ g gs
-        → cond (has_number g.number x) (some x) (firstb (has_number g.number) gs) ≡ some g
-    go f (inl q) = cond-by _ _ (eq-eqb x.number g.number (ap (λ (y : Group). y.number) (sym q))) ∙ ap {B = Option Group} some (sym q)
+    go : (Memᴰ g gs → find (has_number g.number) gs ≡ Some g) → (g ≡ x) ⊎ Memᴰ g gs
+        → cond (has_number g.number x) (Some x) (find (has_number g.number) gs) ≡ Some g
+    go f (inl q) = cond-by _ _ (eq-eqb x.number g.number (ap (λ (y : Group). y.number) (sym q))) ∙ ap {B = Option Group} Some (sym q)
     go f (inr n) =
         let a : ¬ (g.number ≡ x.number) = eqb-false g.number x.number (anyb-not (has_number x.number) (or-false-left _ (twice gs) e) n) in
         cond-not _ _ (ne_eqb x.number g.number (λ q. a (sym q))) ∙ f n
 
-pub group-found : (gs : List Group) (g : Group) → turned_away gs ≡ false → Memᴰ g gs → group_at g.number gs ≡ record { given = true; group = g }
-unfolding turned_away group_at slot_of
-group-found gs g e m = ap slot_of (first-given gs g (or-false-left (twice gs) _ e) m)
+pub group-found : (gs : List Group) (g : Group) → turned_away gs ≡ false → Memᴰ g gs → group_at g.number gs ≡ Some g
+unfolding turned_away group_at
+group-found gs g e m = first-given gs g (or-false-left (twice gs) _ e) m
 
 -- a number that isn't given, or a group of it
-pub group-cases : (gs : List Group) (i : ℕ) → (group_at i gs ≡ no_slot) ⊎ ((g : Group) × Memᴰ g gs × (g.number ≡ i))
-unfolding group_at slot_of
-group-cases gs i = go (firstb (has_number i) gs) refl
+pub group-cases : (gs : List Group) (i : ℕ) → (group_at i gs ≡ None) ⊎ ((g : Group) × Memᴰ g gs × (g.number ≡ i))
+unfolding group_at
+group-cases gs i = go (find (has_number i) gs) refl
   where
-    go : (o : Option Group) → firstb (has_number i) gs ≡ o → (slot_of o ≡ no_slot) ⊎ ((g : Group) × Memᴰ g gs × (g.number ≡ i))
-    go none e = inl refl
-    go (some g) e = let (m, t) = first_some (has_number i) gs g e in inr (g, m, eqb-true g.number i t)
+    go : (o : Option Group) → find (has_number i) gs ≡ o → (o ≡ None) ⊎ ((g : Group) × Memᴰ g gs × (g.number ≡ i))
+    go None e = inl refl
+    go (Some g) e = let (m, t) = first_some (has_number i) gs g e in inr (g, m, eqb-true g.number i t)

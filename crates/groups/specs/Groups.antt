@@ -1,12 +1,10 @@
 -- What a display reads of a group's load, and the group of a number among those given.
-use Rattle.std.specs.Prelude.{Bool, true, false, cond, List, ℕ, eqb, ℤ, pos, take, replicate}
-use Rattle.std.proofs.Math.Option.{Option, none, some}
-use Rattle.laws.specs.Lists.{firstb}
+use Rattle.std.specs.Prelude.{Bool, false, List, ℕ, eqb, ℤ, pos, take, replicate, None, Option, Some}
+use Rattle.std.specs.List.{find}
 use Rattle.profile.specs.declared.Journey.{Journey}
 use Rattle.profile.specs.Journeys.{no_journey}
 use Rattle.load.specs.declared.Load.{Load}
 use Rattle.groups.specs.declared.Group.{Group}
-use Rattle.groups.specs.declared.Slot.{Slot}
 
 abbrev pub no_group : Group
 no_group = record { number = 0; searched = false; now = pos 0; horizon = 0; count = 0; journeys = replicate 64 no_journey }
@@ -26,23 +24,17 @@ group_of n l = record {
 abbrev pub list_of : Group → List Journey
 list_of g = take g.count g.journeys
 
-abbrev pub no_slot : Slot
-no_slot = record { given = false; group = no_group }
-
-unfoldable pub slot_of : Option Group → Slot
-slot_of none = no_slot
-slot_of (some g) = record { given = true; group = g }
-
 abbrev pub has_number : ℕ → Group → Bool
 has_number i g = eqb g.number i
 
 -- the group of a number: the first that is given so
-unfoldable pub group_at : ℕ → List Group → Slot
-group_at i gs = slot_of (firstb (has_number i) gs)
+unfoldable pub group_at : ℕ → List Group → Option Group
+group_at i gs = find (has_number i) gs
 
 -- the start of a group; another, where the group isn't given
-unfoldable pub start_or : Slot → ℤ → ℤ
-start_or s z = cond s.given s.group.now z
+unfoldable pub start_or : Option Group → ℤ → ℤ
+start_or None z = z
+start_or (Some g) z = g.now
 
 -- the start of the lowest group
 unfoldable pub lowest_start : List Group → ℤ

@@ -1,16 +1,16 @@
 // The groups of a display (request 08): what is read of each one's load, the group of a number, and why a display is turned away.
 #![tactic(auto)]
 
-ghost use Rattle.std.specs.Prelude.{◌≡◌, ◌||◌, ◌≤◌, take, drop, eqb};
+ghost use Rattle.std.specs.Prelude.{◌≡◌, eqb};
 ghost use Rattle.laws.specs.Lists.{anyb};
-ghost use Rattle.groups.specs.Groups.{no_group, no_slot, group_of, has_number, group_at, start_or, lowest_start};
-ghost use Rattle.groups.specs.Refused.{unlike, is_wrong, twice, turned_away};
+ghost use Rattle.groups.specs.Groups.{no_group, group_of, has_number, group_at, lowest_start};
+ghost use Rattle.groups.specs.Refused.{is_wrong, twice, turned_away};
 
 use load::Load;
 use profile::{Journey, no_journey};
 
-// What a display reads of a load, which is given for the group of a number.
-#[derive(Clone, Copy)]
+// What a display reads of a load, which is given for the group of a number. Its list stands by value, as in the load: no heap.
+#[derive(Clone, Copy, Debug, PartialEq, Eq)]
 pub struct Group {
     pub number: u8,
     pub searched: bool,
@@ -20,26 +20,17 @@ pub struct Group {
     pub journeys: [Journey; 64],
 }
 
-// The group of a number; the blank group, where none is given.
-#[derive(Clone, Copy)]
-pub struct Slot {
-    pub given: bool,
-    pub group: Group,
-}
-
 // The blank group, which stands where there is none.
 pub fn no_group() -> Group
     ensures { result ≡ no_group }
 {
-    let none = no_journey();
-    let journeys = [none; 64];
     Group {
         number: 0,
         searched: false,
         now: 0,
         horizon: 0,
         count: 0,
-        journeys,
+        journeys: [no_journey(); 64],
     }
 }
 
@@ -47,149 +38,74 @@ pub fn no_group() -> Group
 pub fn group_of(number: u8, load: Load) -> Group
     ensures { result ≡ group_of number load }
 {
-    let settings = load.settings;
     let journeys = load.journeys;
     Group {
         number,
         searched: load.searched,
-        now: settings.now,
+        now: load.settings.now,
         horizon: load.horizon,
         count: load.journey_count,
         journeys,
     }
 }
 
-fn no_slot() -> Slot
-    ensures { result ≡ no_slot }
+// The first of the groups that has the number.
+pub fn group_at(given: &[Group], number: u8) -> Option<Group>
+    ensures { result ≡ group_at number given.now }
 {
-    let group = no_group();
-    Slot {
-        given: false,
-        group,
-    }
-}
-
-// The first of the first n groups that has the number.
-pub fn group_at(given: [Group; 4], n: usize, number: u8) -> Slot
-    ensures { result ≡ group_at number (take n given) }
-{
-    let mut k: usize = 0;
-    while k < 4 {
-        if n <= k {
-            return no_slot();
-        }
-        let group = given[k];
-        if group.number == number {
-            return Slot { given: true, group };
-        }
-        k += 1;
-    }
-    no_slot()
-}
-
-// The start of a group; another, where the group isn't given.
-fn start_or(slot: Slot, other: i64) -> i64
-    ensures { result ≡ start_or slot other }
-{
-    if slot.given {
-        let group = slot.group;
-        return group.now;
-    }
-    other
+    given.iter().find(|group| group.number == number).copied()
 }
 
 // The start of the lowest group.
-fn lowest_start(given: [Group; 4], n: usize) -> i64
-    ensures { result ≡ lowest_start (take n given) }
+fn lowest_start(given: &[Group]) -> i64
+    ensures { result ≡ lowest_start given.now }
 {
-    let d = start_or(group_at(given, n, 3), 0);
-    let c = start_or(group_at(given, n, 2), d);
-    let b = start_or(group_at(given, n, 1), c);
-    start_or(group_at(given, n, 0), b)
-}
-
-fn differ(a: i64, b: i64) -> bool
-    ensures { result ≡ unlike a b }
-{
-    if a < b {
-        return true;
+    let lowest = group_at(given, 0)
+        .or(group_at(given, 1))
+        .or(group_at(given, 2))
+        .or(group_at(given, 3));
+    match lowest {
+        Some(group) => group.now,
+        None => 0,
     }
-    b < a
 }
 
 // Whether a group turns the display away, where the lowest group starts so.
-fn is_wrong(group: Group, low: i64) -> bool
-    ensures { result ≡ is_wrong low group }
+fn is_wrong(group: &Group, low: i64) -> bool
+    ensures { result ≡ is_wrong low group.entry.now }
 {
-    if 3 < group.number {
-        return true;
-    }
-    if group.searched {
-        return differ(group.now, low);
-    }
-    true
+    3 < group.number || !group.searched || group.now != low
 }
 
-fn any_wrong(given: [Group; 4], n: usize, low: i64) -> bool
-    ensures { result ≡ anyb (is_wrong low) (take n given) }
+fn any_wrong(given: &[Group], low: i64) -> bool
+    ensures { result ≡ anyb (is_wrong low) given.now }
 {
-    let mut k: usize = 0;
-    while k < 4 {
-        if n <= k {
-            return false;
-        }
-        let group = given[k];
-        if is_wrong(group, low) {
-            return true;
-        }
-        k += 1;
-    }
-    false
+    given.iter().any(|group| is_wrong(group, low))
 }
 
-// Whether one of the groups from a place on has the number.
-fn has_number(given: [Group; 4], n: usize, from: usize, number: u8) -> bool
-    requires { from ≤ 4 }
-    ensures { result ≡ anyb (has_number number) (drop from (take n given)) }
+fn has_number(given: &[Group], number: u8) -> bool
+    ensures { result ≡ anyb (has_number number) given.now }
 {
-    let mut k = from;
-    while k < 4 {
-        if n <= k {
-            return false;
-        }
-        let group = given[k];
-        if group.number == number {
-            return true;
-        }
-        k += 1;
-    }
-    false
+    given.iter().any(|group| group.number == number)
 }
 
 // Whether a group is given twice.
-fn given_twice(given: [Group; 4], n: usize) -> bool
-    ensures { result ≡ twice (take n given) }
+fn given_twice(given: &[Group]) -> bool
+    ensures { result ≡ twice given.now }
 {
-    let mut k: usize = 0;
-    while k < 4 {
-        if n <= k {
-            return false;
-        }
-        let group = given[k];
-        if has_number(given, n, k + 1, group.number) {
+    let mut rest = given;
+    while let [group, behind @ ..] = rest {
+        if has_number(behind, group.number) {
             return true;
         }
-        k += 1;
+        rest = behind;
     }
     false
 }
 
-// Whether the first n groups turn the display away, with 23.
-pub fn turned_away(given: [Group; 4], n: usize) -> bool
-    ensures { result ≡ turned_away (take n given) }
+// Whether the groups turn the display away, with 23.
+pub fn turned_away(given: &[Group]) -> bool
+    ensures { result ≡ turned_away given.now }
 {
-    if given_twice(given, n) {
-        return true;
-    }
-    any_wrong(given, n, lowest_start(given, n))
+    given_twice(given) || any_wrong(given, lowest_start(given))
 }

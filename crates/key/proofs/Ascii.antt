@@ -1,8 +1,9 @@
 -- Names of bytes below 128 are read and hashed byte by byte; é and e are two names.
+use Rattle.key.specs.declared.NameError.{NameError}
+use Rattle.key.specs.declared.NameError.TheVariants.{Control, NoWord, NotLatin}
+use Rattle.std.specs.Prelude.{Err, Ok, Result}
 use Rattle.std.proofs.Common.{◌≡◌, ℕ, Bool, true, false, cond, eqb, List, [], ◌∷◌, ◌++◌, map, sym, refl, ap, ◌∙◌, ap₂, inl, inr, arith, ltb-true, lt-ltb}
 use Rattle.laws.specs.Lists.{filterb}
-use Rattle.key.specs.declared.NameKey.{NameKey}
-use Rattle.key.specs.declared.NameKey.TheVariants.{Hash, NoWord, Control, NotLatin}
 use Rattle.key.specs.Hash.{step_of, key_of}
 use Rattle.key.specs.Utf8.{encoded_of, utf8, point_of, is_pair, pair_of, is_latin}
 use Rattle.key.specs.Name.{is_space, is_control, is_capital, is_bad, lower_of, on_first, pieces, full, words, spaced, joined, normalized, points_key, name_key, usable, answer}
@@ -69,11 +70,11 @@ ascii-answered s h =
 -- ---- é and e
 
 -- whether a key is the hash of the letter e
-abbrev is_e : NameKey → Bool
-is_e (Hash h) = eqb h 0xaf63d84c8601e5c0
-is_e NoWord = false
-is_e Control = false
-is_e NotLatin = false
+abbrev is_e : Result ℕ NameError → Bool
+is_e (Ok h) = eqb h 0xaf63d84c8601e5c0
+is_e (Err NoWord) = false
+is_e (Err Control) = false
+is_e (Err NotLatin) = false
 
 plain-e : is_e (name_key (utf8 (101 ∷ []))) ≡ true
 unfolding name_key points_key encoded_of point_of is_pair pair_of is_bad is_latin is_control is_space is_capital lower_of step_of

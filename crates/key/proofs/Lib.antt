@@ -1,5 +1,6 @@
 pub mod Points
 pub mod Decoding
+pub mod Fronts
 pub mod Stream
 pub mod Words
 pub mod Names

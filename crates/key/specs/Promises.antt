@@ -1,9 +1,9 @@
 -- What is proved of hashes and names.
-use Rattle.std.specs.Prelude.{◌≡◌, ℕ, ◌^◌, ◌<◌, true, false, cond, List, [], ◌∷◌, ◌++◌, map, ◌≢◌}
+use Rattle.key.specs.declared.NameError.{NameError}
+use Rattle.key.specs.declared.NameError.TheVariants.{NoWord}
+use Rattle.std.specs.Prelude.{◌≡◌, ℕ, ◌^◌, ◌<◌, true, false, cond, List, [], ◌∷◌, ◌++◌, map, ◌≢◌, Err, Ok, Result}
 use Rattle.std.proofs.Common.{inl, inr}
 use Rattle.laws.specs.Lists.{anyb}
-use Rattle.key.specs.declared.NameKey.TheVariants.{Hash, NoWord}
-use Rattle.key.specs.declared.NameKey.{NameKey}
 use Rattle.key.specs.Hash.{hashed, key_of}
 use Rattle.key.specs.Utf8.{utf8, points, encoded_of}
 use Rattle.key.specs.Folding.{Fold, parting, barred, to, fold_of}
@@ -23,10 +23,10 @@ FirstBad = (s t : List ℕ) (b : ℕ) → anyb is_bad s ≡ false → is_bad b �
 
 -- a name without a bad code point lacks only a word, or has its key
 abbrev pub Wordless : Type 0
-Wordless = (s : List ℕ) → anyb is_bad s ≡ false → full (words s) ≡ false → points_key s ≡ NoWord
+Wordless = (s : List ℕ) → anyb is_bad s ≡ false → full (words s) ≡ false → points_key s ≡ Err NoWord
 
 abbrev pub Keyed : Type 0
-Keyed = (s : List ℕ) → usable s ≡ true → points_key s ≡ Hash (key_of (utf8 (normalized s)))
+Keyed = (s : List ℕ) → usable s ≡ true → points_key s ≡ Ok (key_of (utf8 (normalized s)))
 
 abbrev pub Idempotent : Type 0
 Idempotent = (s : List ℕ) → normalized (normalized s) ≡ normalized s
@@ -101,10 +101,10 @@ abbrev pub IllFormed : Type 0
 IllFormed = (s : List ℕ) → ((ps : List ℕ) → AllLatin ps → utf8 ps ≢ s) → answer (name_key s) ≡ inr 8
 
 -- what a name of one code point gives
-abbrev pub alone_of_of : ℕ → Fold → NameKey
-alone_of_of p parting = NoWord
+abbrev pub alone_of_of : ℕ → Fold → Result ℕ NameError
+alone_of_of p parting = Err NoWord
 alone_of_of p barred = reason_of p
-alone_of_of p (to q) = Hash (key_of (encoded_of q))
+alone_of_of p (to q) = Ok (key_of (encoded_of q))
 
 abbrev pub Alone : Type 0
 Alone = (p : ℕ) → p < 256 → name_key (encoded_of p) ≡ alone_of_of p (fold_of p)

@@ -9,9 +9,7 @@ pub mod Within
 pub mod Turns
 pub mod Slots
 pub mod AtMost
-pub mod Cut
 pub mod Tests
-pub mod Halves
 pub mod Arrays
 pub mod Regions
 pub mod Maps
@@ -26,3 +24,7 @@ pub mod Bounds
 pub mod Every
 pub mod Lex
 pub mod Agree
+pub mod Options
+pub mod Halves
+pub mod Chains
+pub mod Prefixes

@@ -1,6 +1,5 @@
 -- Lists filtered, searched, folded and packed by a Bool test. Definitions only; their laws are in proofs/.
-use Rattle.std.specs.Prelude.{Bool, false, cond, ◌||◌, List, [], ◌∷◌, ◌++◌, ℕ, zero, suc, ◌-◌, eqb, length, replicate}
-use Rattle.std.proofs.Math.Option.{Option, none, some}
+use Rattle.std.specs.Prelude.{Bool, false, cond, ◌||◌, List, [], ◌∷◌, ◌++◌, ℕ, zero, suc, ◌-◌, eqb, length, replicate, None, Option, Some}
 
 module _ {A : Type 0} where
   -- the elements that pass the test, in order
@@ -15,8 +14,8 @@ module _ {A : Type 0} where
 
   -- the first element that passes the test
   abbrev pub firstb : (A → Bool) → List A → Option A
-  firstb p [] = none
-  firstb p (x ∷ xs) = cond (p x) (some x) (firstb p xs)
+  firstb p [] = None
+  firstb p (x ∷ xs) = cond (p x) (Some x) (firstb p xs)
 
   -- the elements in front of the first that fails the test
   abbrev pub take_while : (A → Bool) → List A → List A

@@ -1,9 +1,8 @@
 -- Journeys of plain numbers, and the numbers of an answer.
-use Rattle.std.specs.Prelude.{List, [], ◌∷◌, ℕ, ℤ, get_or, take}
+use Rattle.std.specs.Prelude.{List, [], ◌∷◌, ℕ, ℤ, get_or, take, None, Option, Some}
 use Rattle.laws.specs.Tables.{table}
 use Rattle.profile.specs.declared.Journey.{Journey}
 use Rattle.profile.specs.Journeys.{no_ride}
-use Rattle.best.specs.declared.Found.{Found}
 use Rattle.best.specs.Best.{best_of_of, first_leaving}
 
 -- a journey of four figures; it bears its number as its origin, at which best does not look
@@ -15,9 +14,9 @@ unfoldable pub journeys_of : List ℕ → List ℕ → List ℕ → List ℕ →
 journeys_of leaves arrivals rides walks = table 64 (λ i. journey_with i (get_or leaves i 0) (get_or arrivals i 0) (get_or rides i 0) (get_or walks i 0))
 
 -- number, leave, arrival, rides and walk; for none 65535 and zeros
-unfoldable pub answer_of : Found → List ℕ
-answer_of (Found.Best j) = j.origin ∷ j.leave ∷ j.arrival ∷ j.rides ∷ j.walk ∷ []
-answer_of Found.Nothing = 65535 ∷ 0 ∷ 0 ∷ 0 ∷ 0 ∷ []
+unfoldable pub answer_of : Option Journey → List ℕ
+answer_of (Some j) = j.origin ∷ j.leave ∷ j.arrival ∷ j.rides ∷ j.walk ∷ []
+answer_of None = 65535 ∷ 0 ∷ 0 ∷ 0 ∷ 0 ∷ []
 
 -- the answer over the first n of them, up to the horizon h, at the second s
 unfoldable pub best_numbers : List ℕ → List ℕ → List ℕ → List ℕ → ℕ → ℕ → ℤ → List ℕ

@@ -5,7 +5,8 @@
 ghost use Rattle.std.specs.Prelude.{◌≡◌};
 ghost use Rattle.lent_c.specs.Plain.{journey_with, journeys_of, answer_of, best_numbers, first_numbers};
 
-use best::Found;
+use best::{best_over, first_leaving, front};
+use lent::best_lent;
 use profile::{Journey, no_ride};
 
 fn journey_with(number: u8, leave: u16, arrival: u16, rides: u8, walk: u8) -> Journey
@@ -34,30 +35,28 @@ fn journeys_of(
     ensures { result ≡ journeys_of leaves.now arrivals.now rides.now walks.now }
 {
     let mut journeys = [journey_with(0, 0, 0, 0, 0); 64];
-    let mut i: usize = 0;
-    while i < 64 {
-        journeys[i] = journey_with(i as u8, leaves[i], arrivals[i], rides[i], walks[i]);
-        i += 1;
+    for (i, journey) in journeys.iter_mut().enumerate() {
+        *journey = journey_with(i as u8, leaves[i], arrivals[i], rides[i], walks[i]);
     }
     journeys
 }
 
-fn answer_of(found: Found) -> [u16; 5]
+fn answer_of(found: Option<Journey>) -> [u16; 5]
     ensures { result ≡ answer_of found }
 {
     match found {
-        Found::Best(j) => [
+        Some(j) => [
             j.origin as u16,
             j.leave,
             j.arrival,
             j.rides as u16,
             j.walk as u16,
         ],
-        Found::Nothing => [65535, 0, 0, 0, 0],
+        None => [65535, 0, 0, 0, 0],
     }
 }
 
-// Best over the first `count` journeys, by value (`best_over`): its number, leave, arrival, rides and walk; for none 65535 and four
+// Best over the first `count` journeys (`best_over`): its number, leave, arrival, rides and walk; for none 65535 and four
 // zeros.
 #[unsafe(no_mangle)]
 pub extern "C" fn best_over_numbers(
@@ -73,11 +72,10 @@ pub extern "C" fn best_over_numbers(
     ensures { answer.new ≡ best_numbers leaves.now arrivals.now rides.now walks.now count horizon second }
 {
     let journeys = journeys_of(leaves, arrivals, rides, walks);
-    let numbers = answer_of(best::best_over(journeys, count, horizon, second));
-    *answer = numbers;
+    *answer = answer_of(best_over(front(&journeys, count), horizon, second));
 }
 
-// The same over lent journeys (`best_lent`).
+// The same by `best_lent`.
 #[unsafe(no_mangle)]
 pub extern "C" fn best_lent_numbers(
     leaves: &[u16; 64],
@@ -92,8 +90,7 @@ pub extern "C" fn best_lent_numbers(
     ensures { answer.new ≡ best_numbers leaves.now arrivals.now rides.now walks.now count horizon second }
 {
     let journeys = journeys_of(leaves, arrivals, rides, walks);
-    let numbers = answer_of(lent::best_lent(journeys, count, horizon, second));
-    *answer = numbers;
+    *answer = answer_of(best_lent(&journeys, count, horizon, second));
 }
 
 // The first of them that leaves in time (`first_leaving`): best, where they stand in order.
@@ -111,6 +108,5 @@ pub extern "C" fn first_numbers(
     ensures { answer.new ≡ first_numbers leaves.now arrivals.now rides.now walks.now count horizon second }
 {
     let journeys = journeys_of(leaves, arrivals, rides, walks);
-    let numbers = answer_of(best::first_leaving(journeys, count, horizon, second));
-    *answer = numbers;
+    *answer = answer_of(first_leaving(front(&journeys, count), horizon, second));
 }

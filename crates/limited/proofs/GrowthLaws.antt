@@ -1,8 +1,8 @@
 -- Of unbeaten journeys of few kinds few arrive together; of more than 64 one arrives before the latest, so that the least arrival is never cut.
+use Rattle.std.specs.Prelude.{None, Option, Some}
 use mathlib.Core.Path.{◌≡◌, refl, sym, ap, ◌∙◌}
 use mathlib.Core.Logic.{◌⊎◌, inl, inr}
 use mathlib.Core.Bool.{Bool, true, false, not, cond, true≢false, false≢true}
-use mathlib.Core.Option.{Option, none, some}
 use mathlib.Core.List.{List, [], ◌∷◌, ◌++◌, append_assoc, append-nil, Memᴰ}
 use Prim.Native.Nat.{ℕ, zero, suc, ◌-◌, ◌≤◌, ◌<◌}
 use native.Mathlib.Omega.{arith}
@@ -13,7 +13,8 @@ use Rattle.laws.specs.Lists.{filterb}
 use Rattle.laws.proofs.Bools.{test, not-true, and-true, or-false-left, or-false-right}
 use Rattle.laws.proofs.Lists.{filterb-mem, mem-filterb, filterb-all, snoc-ind}
 use Rattle.laws.proofs.Folds.{foldl-append}
-use Rattle.profile.specs.Figures.{Figures, covᶠ, dueᶠ, lexb}
+use Rattle.profile.specs.declared.figures.Figures.{Figures}
+use Rattle.profile.specs.Figures.{covᶠ, dueᶠ, lexb}
 use Rattle.profile.specs.Front.{front}
 use Rattle.profile.specs.Walk.{Antichain}
 use Rattle.profile.specs.Kept.{St, going, refused, latest, settle, offer, run}
@@ -260,16 +261,16 @@ module _ {A : Type 0} (fig : A → Figures) where
   best-zero : (ks : List A) (h : ℕ) → best fig ks h 0 ≡ pick fig ks
   best-zero ks h = rw (le-ltb h 0 (omega arith)) (ap (pick fig) (filterb-all (λ k. leb 0 (fig k).leave) ks (λ k m. le-leb 0 (fig k).leave (omega arith))))
 
-  least : (ks : List A) (a : ℕ) (k : A) → Memᴰ k ks → (fig k).arrival ≤ a → (r : Option A) → Picked fig ks r → (j : A) × (r ≡ some j) × ((fig j).arrival ≤ a)
-  least ks a k m d none w = absurd (w k m)
-  least ks a k m d (some j) (i, w) = (j, refl, omega (arith, prefer-arrival (fig j) (fig k) (w k m)))
+  least : (ks : List A) (a : ℕ) (k : A) → Memᴰ k ks → (fig k).arrival ≤ a → (r : Option A) → Picked fig ks r → (j : A) × (r ≡ Some j) × ((fig j).arrival ≤ a)
+  least ks a k m d None w = absurd (w k m)
+  least ks a k m d (Some j) (i, w) = (j, refl, omega (arith, prefer-arrival (fig j) (fig k) (w k m)))
 
-  one-of : (ks : List A) (j : A) (r : Option A) → r ≡ some j → Picked fig ks r → Memᴰ j ks
-  one-of ks j none e w = absurd (false≢true cc)
-  one-of ks j (some k) e (i, w) = let q : k ≡ j = cc in rw q at i
+  one-of : (ks : List A) (j : A) (r : Option A) → r ≡ Some j → Picked fig ks r → Memᴰ j ks
+  one-of ks j None e w = absurd (false≢true cc)
+  one-of ks j (Some k) e (i, w) = let q : k ≡ j = cc in rw q at i
 
   -- an answer for second 0 is one of the list
-  pub best-mem : (ks : List A) (h : ℕ) (j : A) → best fig ks h 0 ≡ some j → Memᴰ j ks
+  pub best-mem : (ks : List A) (h : ℕ) (j : A) → best fig ks h 0 ≡ Some j → Memᴰ j ks
   best-mem ks h j b = one-of ks j (pick fig ks) (sym (best-zero ks h) ∙ b) (pick-picked fig ks)
 
   pub never-later : NeverLater fig

@@ -1,8 +1,8 @@
 -- A search within a limit: its joins and their count, that a finished one is the full search, and what its answer for second 0 owes to a larger limit.
+use Rattle.std.specs.Prelude.{Some}
 use mathlib.Core.Path.{◌≡◌, refl, sym, ap, ◌∙◌}
 use mathlib.Core.Logic.{◌⊎◌, inl, inr}
 use mathlib.Core.Bool.{Bool, true, false, cond, false≢true}
-use mathlib.Core.Option.{some}
 use mathlib.Core.List.Memᴰ
 use mathlib.Core.List.{List, [], ◌++◌, map, Memᴰ, Permᴰ}
 use Prim.Native.Nat.{ℕ, ◌+◌, ◌-◌, ◌*◌, ◌≤◌, ◌<◌, min}
@@ -191,7 +191,7 @@ larger-never-later n m t h₀ l₀ ks ks' h h' l l' le e e' j b =
     let (clear', k', w', q') = within-found m t h₀ l₀ h' l' ks' e' in
     let (ys, p) = within-goes-on n m t le in
     let few : Kinds journey_figures kind 8 (offers_within n t ++ ys) = rw p at (within-kinds m t) in
-    let b' : bestℤ journey_figures k h (pos 0) ≡ some j = sym (best-ordered k h (pos 0)) ∙ (rw q at b) in
+    let b' : bestℤ journey_figures k h (pos 0) ≡ Some j = sym (best-ordered k h (pos 0)) ∙ (rw q at b) in
     let (j', r, s) = never-later journey_figures kind 8 h₀ l₀ (offers_within n t) ys k k' h h' l l' (omega arith) few w (rw p at w') j b' in
     (j', ap (λ (x : List Journey). bestℤ journey_figures x h' (pos 0)) q' ∙ best-ordered k' h' (pos 0) ∙ r, s)
 

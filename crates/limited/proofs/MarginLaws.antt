@@ -1,8 +1,8 @@
 -- The earliest arrival of a ride at a target, and the margin that comes from it.
+use Rattle.std.specs.Prelude.{None, Option, Some}
 use mathlib.Core.Path.{◌≡◌, refl, sym, ap, ◌∙◌}
 use mathlib.Core.Logic.{◌⊎◌, inl, inr}
 use mathlib.Core.Bool.{Bool, true, false, cond, false≢true}
-use mathlib.Core.Option.{Option, none, some}
 use mathlib.Core.List.Memᴰ
 use mathlib.Core.List.{List, [], ◌∷◌, map, Memᴰ}
 use Prim.Native.Nat.{ℕ, ◌+◌, ◌-◌, ◌≤◌, min}
@@ -118,17 +118,17 @@ earliest-is t e b a k r x = earliest-at t e b a k r x
 
 -- ---- answers
 
-answered : (o : Outcome) (j : Journey) → answer_at0 o ≡ some j → (ks : List Journey) × (h : ℕ) × (l : ℕ) × (o ≡ found ks h l) × (bestℤ journey_figures ks h (pos 0) ≡ some j)
+answered : (o : Outcome) (j : Journey) → answer_at0 o ≡ Some j → (ks : List Journey) × (h : ℕ) × (l : ℕ) × (o ≡ found ks h l) × (bestℤ journey_figures ks h (pos 0) ≡ Some j)
 answered clashing j e = absurd (false≢true cc)
 answered falling j e = absurd (false≢true cc)
 answered (found ks h l) j e = (ks, h, l, refl, e)
 
 -- an answer of a search within a limit is one of its offers
-answer-after : (n : ℕ) (t : Timetable) (h₀ l₀ h l : ℕ) (ks : List Journey) (j : Journey) → search_within n t h₀ l₀ ≡ found ks h l → bestℤ journey_figures ks h (pos 0) ≡ some j
+answer-after : (n : ℕ) (t : Timetable) (h₀ l₀ h l : ℕ) (ks : List Journey) (j : Journey) → search_within n t h₀ l₀ ≡ found ks h l → bestℤ journey_figures ks h (pos 0) ≡ Some j
     → Earliest t (earliest t) × (earliest t ≤ j.arrival)
 answer-after n t h₀ l₀ h l ks j e b =
     let (clear, k, w, q) = within-found n t h₀ l₀ h l ks e in
-    let b' : bestℤ journey_figures k h (pos 0) ≡ some j = sym (best-ordered k h (pos 0)) ∙ (rw q at b) in
+    let b' : bestℤ journey_figures k h (pos 0) ≡ Some j = sym (best-ordered k h (pos 0)) ∙ (rw q at b) in
     let m = best-mem journey_figures k h j b' in
     offer-after t clear j (within-offer n t ((run-kept (figures-order journey_figures) 64 3600 (omega arith) h₀ l₀ _ k h l w).3 j m).0)
 
@@ -139,16 +139,16 @@ answer-after-earliest n t h l j e =
 
 -- ---- the margin
 
-margin-of : (t : Timetable) (o : Option Journey) (m : ℕ) → margin_of t o ≡ some m → (j : Journey) × (o ≡ some j) × (m ≡ j.arrival - earliest t)
-margin-of t none m e = absurd (false≢true cc)
-margin-of t (some j) m e = (j, refl, cc)
+margin-of : (t : Timetable) (o : Option Journey) (m : ℕ) → margin_of t o ≡ Some m → (j : Journey) × (o ≡ Some j) × (m ≡ j.arrival - earliest t)
+margin-of t None m e = absurd (false≢true cc)
+margin-of t (Some j) m e = (j, refl, cc)
 
-margin-answer : (n : ℕ) (t : Timetable) (h l m : ℕ) → margin_within n t h l ≡ some m → (j : Journey) × (answer_at0 (search_within n t h l) ≡ some j) × (m ≡ j.arrival - earliest t)
+margin-answer : (n : ℕ) (t : Timetable) (h l m : ℕ) → margin_within n t h l ≡ Some m → (j : Journey) × (answer_at0 (search_within n t h l) ≡ Some j) × (m ≡ j.arrival - earliest t)
 unfolding margin_within
 margin-answer n t h l m e = go (finished_within n t) e
   where
-    go : (b : Bool) → cond b none (margin_of t (answer_at0 (search_within n t h l))) ≡ some m
-        → (j : Journey) × (answer_at0 (search_within n t h l) ≡ some j) × (m ≡ j.arrival - earliest t)
+    go : (b : Bool) → cond b None (margin_of t (answer_at0 (search_within n t h l))) ≡ Some m
+        → (j : Journey) × (answer_at0 (search_within n t h l) ≡ Some j) × (m ≡ j.arrival - earliest t)
     go true e = absurd (false≢true cc)
     go false e = margin-of t (answer_at0 (search_within n t h l)) m e
 

@@ -1,9 +1,9 @@
 -- What an answer for second 0 owes to more offers: of few kinds few arrive together, so that no cut of the horizon takes the earliest.
-use Rattle.std.specs.Prelude.{◌≡◌, ℕ, zero, suc, ◌≤◌, ◌<◌, eqb, length}
-use Rattle.std.proofs.Math.Option.{some}
+use Rattle.std.specs.Prelude.{◌≡◌, ℕ, zero, suc, ◌≤◌, ◌<◌, eqb, length, Some}
 use mathlib.Core.List.{List, [], ◌∷◌, ◌++◌, Memᴰ}
 use Rattle.laws.specs.Lists.{filterb}
-use Rattle.profile.specs.Figures.{Figures, covᶠ, dueᶠ}
+use Rattle.profile.specs.declared.figures.Figures.{Figures}
+use Rattle.profile.specs.Figures.{covᶠ, dueᶠ}
 use Rattle.profile.specs.Front.{front}
 use Rattle.profile.specs.Kept.{searched}
 use Rattle.profile.specs.Instances.{figures_of, ends}
@@ -28,7 +28,7 @@ module _ {A : Type 0} (fig : A → Figures) where
   abbrev pub NeverLater : Type 0
   NeverLater = (kind : A → ℕ) (n h₀ l₀ : ℕ) (xs ys ks ks' : List A) (h h' l l' : ℕ) → n ≤ 64 → Kinds kind n (xs ++ ys)
       → Keeps fig h₀ l₀ xs ks h l → Keeps fig h₀ l₀ (xs ++ ys) ks' h' l'
-      → (j : A) → best fig ks h 0 ≡ some j → (j' : A) × (best fig ks' h' 0 ≡ some j') × ((fig j').arrival ≤ (fig j).arrival)
+      → (j : A) → best fig ks h 0 ≡ Some j → (j' : A) × (best fig ks' h' 0 ≡ Some j') × ((fig j').arrival ≤ (fig j).arrival)
 
   -- and a cut never empties the list: of each offer due by the horizon at the start, one is kept that arrives no later
   abbrev pub NeverEmptied : Type 0

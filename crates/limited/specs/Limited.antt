@@ -1,7 +1,6 @@
 -- A search within a limit on joins, from the timetable, its horizon and its mark. A timetable with max_transfers above 1 has no such search:
 -- "With `max_transfers` 2 a limited search meets 1".
-use Rattle.std.specs.Prelude.{◌≡◌, ◌↔◌, Bool, true, cond, ℕ, ◌*◌, ◌≤◌, min, eqb, pos, length}
-use Rattle.std.proofs.Math.Option.{some}
+use Rattle.std.specs.Prelude.{◌≡◌, ◌↔◌, Bool, true, cond, ℕ, ◌*◌, ◌≤◌, min, eqb, pos, length, Some}
 use mathlib.Core.List.{List, [], Memᴰ, Permᴰ}
 use Rattle.laws.specs.Lists.{filterb}
 use Rattle.ways.specs.Rides.{rides, first_rides}
@@ -90,8 +89,8 @@ EightTogether = (n : ℕ) (t : Timetable) (h a : ℕ)
 abbrev pub LargerNeverLater : Type 0
 LargerNeverLater = (n m : ℕ) (t : Timetable) (h₀ l₀ : ℕ) (ks ks' : List Journey) (h h' l l' : ℕ) → n ≤ m
     → search_within n t h₀ l₀ ≡ found ks h l → search_within m t h₀ l₀ ≡ found ks' h' l'
-    → (j : Journey) → bestℤ journey_figures ks h (pos 0) ≡ some j
-    → (j' : Journey) × (bestℤ journey_figures ks' h' (pos 0) ≡ some j') × (j'.arrival ≤ j.arrival)
+    → (j : Journey) → bestℤ journey_figures ks h (pos 0) ≡ Some j
+    → (j' : Journey) × (bestℤ journey_figures ks' h' (pos 0) ≡ Some j') × (j'.arrival ≤ j.arrival)
 
 -- the order in which the calls were taken is nothing to a search within a limit
 pub record WithinSame (n : ℕ) (t u : Timetable) (h l : ℕ) : Type 0 where

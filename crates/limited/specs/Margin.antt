@@ -1,8 +1,7 @@
 -- The margin of a stopped search's answer for second 0: "its arrival less the earliest arrival, walk included, of any ride in the table at a
 -- target, and the finished answer, where the full search is accepted, is at most that much earlier. With nothing found yet there is no
 -- margin."
-use Rattle.std.specs.Prelude.{◌≡◌, cond, List, [], ◌∷◌, map, ℕ, ◌+◌, ◌-◌, ◌≤◌, min, pos}
-use Rattle.std.proofs.Math.Option.{Option, none, some}
+use Rattle.std.specs.Prelude.{◌≡◌, cond, List, [], ◌∷◌, map, ℕ, ◌+◌, ◌-◌, ◌≤◌, min, pos, None, Option, Some}
 use Rattle.laws.specs.Lists.{concat_map}
 use Rattle.ways.specs.Rides.{rides}
 use Rattle.calls.specs.declared.Call.{Call}
@@ -33,18 +32,18 @@ earliest t = least_of (target_arrivals t)
 
 -- the answer for second 0
 abbrev pub answer_at0 : Outcome → Option Journey
-answer_at0 clashing = none
-answer_at0 falling = none
+answer_at0 clashing = None
+answer_at0 falling = None
 answer_at0 (found ks h l) = bestℤ journey_figures ks h (pos 0)
 
 -- its arrival less the earliest; none where there is no answer
 abbrev pub margin_of : Timetable → Option Journey → Option ℕ
-margin_of t none = none
-margin_of t (some j) = some (j.arrival - earliest t)
+margin_of t None = None
+margin_of t (Some j) = Some (j.arrival - earliest t)
 
 -- the margin of a search within a limit; none where it is finished
 unfoldable pub margin_within : ℕ → Timetable → ℕ → ℕ → Option ℕ
-margin_within n t h l = cond (finished_within n t) none (margin_of t (answer_at0 (search_within n t h l)))
+margin_within n t h l = cond (finished_within n t) None (margin_of t (answer_at0 (search_within n t h l)))
 
 -- ---- what is claimed
 
@@ -64,11 +63,11 @@ EarliestIs = (t : Timetable) → Clear t → (b a : Call) (k : ℕ) → Rides t.
 
 -- where a search has an answer, some ride alights at a target, and the answer arrives no earlier
 abbrev pub AnswerAfter : Type 0
-AnswerAfter = (n : ℕ) (t : Timetable) (h l : ℕ) (j : Journey) → answer_at0 (search_within n t h l) ≡ some j → Earliest t (earliest t) × (earliest t ≤ j.arrival)
+AnswerAfter = (n : ℕ) (t : Timetable) (h l : ℕ) (j : Journey) → answer_at0 (search_within n t h l) ≡ Some j → Earliest t (earliest t) × (earliest t ≤ j.arrival)
 
 -- a search with the margin m: it has an answer j; where the full search is accepted, its answer is there, no later, and at most m earlier
 abbrev pub WithinMargin : Type 0
 WithinMargin = (n : ℕ) (t : Timetable) (h₀ l₀ m : ℕ) (ks : List Journey) (h l : ℕ) → OneChange t
-    → margin_within n t h₀ l₀ ≡ some m → search_of t h₀ l₀ ≡ found ks h l
-    → (j : Journey) × (j' : Journey) × (answer_at0 (search_within n t h₀ l₀) ≡ some j) × (bestℤ journey_figures ks h (pos 0) ≡ some j')
+    → margin_within n t h₀ l₀ ≡ Some m → search_of t h₀ l₀ ≡ found ks h l
+    → (j : Journey) × (j' : Journey) × (answer_at0 (search_within n t h₀ l₀) ≡ Some j) × (bestℤ journey_figures ks h (pos 0) ≡ Some j')
     × (j'.arrival ≤ j.arrival) × (j.arrival ≤ j'.arrival + m)

@@ -1,21 +1,19 @@
 -- How the earliest arrival of a ride at a target is found: over the targets of a call, over the calls from the right.
 use mathlib.Core.Path.{◌≡◌, refl, sym, ap, ◌∙◌}
-use mathlib.Core.Bool.{Bool, true, false, cond}
+use mathlib.Core.Bool.{Bool, true, false, cond, ◌&&◌}
 use mathlib.Core.List.{List, [], ◌∷◌, ◌++◌, map}
 use Prim.Native.Nat.{ℕ, ◌+◌, ◌-◌, ◌≤◌, ◌<◌, min}
 use native.Mathlib.Omega.{arith}
 use Rattle.laws.specs.Lists.{concat_map, span}
-use Rattle.laws.specs.Bits.{bits_of, low_of, cleared}
-use Rattle.laws.proofs.Bits.{bits_none, lowest-first}
+use Rattle.laws.specs.Bits.{bits_of}
 use Rattle.laws.proofs.Places.{span-cons, span-nil, concat_map-cong, tails-span}
-use Rattle.feed.specs.declared.FeedCall.{FeedCall}
 use Rattle.feed.specs.Feed.{call_at, same_run, target_mask, target_walk_of, arrival_of}
 use Rattle.rides.specs.Rows.{network_of}
 use Rattle.rides.specs.Loops.{later_from}
 use Rattle.rides.specs.Sheets.{joins_of, sheet_of}
-use Rattle.rides.proofs.LoopLaws.{later-other, later-nil}
+use lib.Dec.{ltb}
+use Rattle.rides.proofs.LoopLaws.{run-end, run-next, run-on}
 use Rattle.limited_rides.specs.Earliest.{soonest, target_due, alight_due, later_due, board_due, ride_due, DueByRides}
-use Rattle.limited_rides.proofs.MadeLaws.{after}
 use Rattle.limited_rides.proofs.EventRowLaws.{over-rides}
 
 -- ---- the least of a list
@@ -38,55 +36,39 @@ soonest-none = refl
 
 -- t and what is left give the least of all
 pub record InDue (feed : List ℕ) (a mask t left : ℕ) : Type 0 where
-  pub small : left < 16
   pub most : t ≤ 4294967295
   pub rest : min t (soonest (target_due feed a left)) ≡ soonest (target_due feed a mask)
 
-pub due-start : {feed : List ℕ} {a mask : ℕ} → mask < 16 → InDue feed a mask 4294967295 mask
-due-start {feed} {a} {mask} h = let s = soonest-top (target_due feed a mask) in record { small = h; most = omega arith; rest = omega arith }
+pub due-start : {feed : List ℕ} {a mask : ℕ} → InDue feed a mask 4294967295 mask
+due-start {feed} {a} {mask} = let s = soonest-top (target_due feed a mask) in record { most = omega arith; rest = omega arith }
 
-module _ {feed : List ℕ} {a mask t left : ℕ} (f : left ≡ 0 → ⊥) (i : InDue feed a mask t left) where
-  pub due-low : {x : ℕ} → x ≡ low_of left → x < 4
-  due-low e = rw e (lowest-first left f i.small).low
-
-  pub due-less : {left' : ℕ} → left' ≡ cleared left → left' < left
-  due-less e = rw e (lowest-first left f i.small).less
-
-  first : soonest (target_due feed a left) ≡ min (arrival_of (target_walk_of feed (low_of left)) a) (soonest (target_due feed a (cleared left)))
-  unfolding soonest target_due
-  first = rw (lowest-first left f i.small).parts refl
-
-  pub due-turn : {x left' w d t' : ℕ} → x ≡ low_of left → left' ≡ cleared left → w ≡ target_walk_of feed x → d ≡ arrival_of w a → t' ≡ min t d → InDue feed a mask t' left'
-  due-turn {x} {left'} {w} {d} {t'} ex el ew ed et =
-      let less : left' < left = due-less el in
-      let d' : d ≡ arrival_of (target_walk_of feed (low_of left)) a = ed ∙ ap (λ (y : ℕ). arrival_of y a) (ew ∙ ap (target_walk_of feed) ex) in
-      let e : soonest (target_due feed a left) ≡ min d (soonest (target_due feed a left')) = rw (d', el) first in
-      record { small = omega (arith, i.small); most = omega (arith, i.most); rest = omega (arith, i.rest, e) }
-
-none-due : (feed : List ℕ) (a left : ℕ) → left ≡ 0 → soonest (target_due feed a left) ≡ 4294967295
+pub due-turn : {feed : List ℕ} {a mask t left left' x w d t' : ℕ} → bits_of left ≡ x ∷ bits_of left' → w ≡ target_walk_of feed x → d ≡ arrival_of w a → t' ≡ min t d
+    → InDue feed a mask t left → InDue feed a mask t' left'
 unfolding soonest target_due
-none-due feed a left e = rw (e, bits_none) refl
+due-turn {feed} {a} {mask} {t} {left} {left'} {x} {w} {d} {t'} eb ew ed et i =
+    let d' : d ≡ arrival_of (target_walk_of feed x) a = ed ∙ ap (λ (y : ℕ). arrival_of y a) ew in
+    let e : soonest (target_due feed a left) ≡ min d (soonest (target_due feed a left')) = rw (d', eb) refl in
+    record { most = omega (arith, i.most); rest = omega (arith, i.rest, e) }
 
-pub due-done : {feed : List ℕ} {a mask t left : ℕ} → left ≡ 0 → InDue feed a mask t left → t ≡ soonest (target_due feed a mask)
-due-done {feed} {a} {left = left} e i = omega (arith, i.rest, i.most, none-due feed a left e)
+pub due-done : {feed : List ℕ} {a mask t left : ℕ} → bits_of left ≡ [] → InDue feed a mask t left → t ≡ soonest (target_due feed a mask)
+unfolding soonest target_due
+due-done {feed} {a} {left = left} e i =
+    let none : soonest (target_due feed a left) ≡ 4294967295 = rw e refl in
+    omega (arith, i.rest, i.most, none)
 
 -- ---- the calls of a run
 
-module _ (feed : List ℕ) (n j : ℕ) where
-  pub later-end : n ≤ j + 1 → 4294967295 ≡ soonest (later_due feed n j)
+module _ (feed : List ℕ) (n j : ℕ) {r : Bool} (er : r ≡ (ltb (j + 1) n && same_run (call_at feed j) (call_at feed (j + 1)))) where
+  pub later-end : r ≡ false → 4294967295 ≡ soonest (later_due feed n j)
   unfolding later_due soonest
-  later-end h = rw (later-nil (call_at feed) n j (j + 1) h) refl
+  later-end e = rw (run-end (call_at feed) n j er e) refl
 
-  module _ {b a : FeedCall} {r : Bool} (h : j + 1 < n) (eb : b ≡ call_at feed j) (ea : a ≡ call_at feed (j + 1)) (er : r ≡ same_run b a) where
-    pub later-apart : r ≡ false → 4294967295 ≡ soonest (later_due feed n j)
-    unfolding later_due soonest
-    later-apart e = rw (later-other (call_at feed) n j (j + 1) h eb ea er e) refl
-
-    pub later-one : {v next t : ℕ} → r ≡ true → v ≡ soonest (alight_due feed (j + 1)) → next ≡ soonest (later_due feed n (j + 1)) → t ≡ min v next → t ≡ soonest (later_due feed n j)
-    unfolding later_due
-    later-one e ev en et =
-        rw (after feed n j h eb ea er e)
-        (et ∙ rw (ev, en) (sym (soonest-append (alight_due feed (j + 1)) (concat_map (alight_due feed) (later_from (call_at feed) n (j + 1) (j + 1 + 1))))))
+  pub later-one : {v next t : ℕ} → r ≡ true → v ≡ soonest (alight_due feed (j + 1)) → (j + 1 < n → next ≡ soonest (later_due feed n (j + 1))) → t ≡ min v next
+      → t ≡ soonest (later_due feed n j)
+  unfolding later_due
+  later-one e ev en et =
+      rw (run-on (call_at feed) n j er e)
+      (et ∙ rw (ev, en (run-next (call_at feed) n j er e)) (sym (soonest-append (alight_due feed (j + 1)) (concat_map (alight_due feed) (later_from (call_at feed) n (j + 1) (j + 1 + 1))))))
 
 -- ---- the loop stands at j
 
@@ -122,9 +104,9 @@ calls-turn {feed} {n} {j'} {next'} {least'} j {next} {t} {least} h ej w en et el
         rw (span-cons j n (omega (arith, w.low)), q, soonest-append (board_due feed n j) (concat_map (board_due feed n) (span j' (n - j'))))
         (omega (arith, w.all, here, el))
 
-pub calls-done : {feed : List ℕ} {n j next least : ℕ} → j ≤ 0 → Due feed n j next least → least ≡ soonest (ride_due feed n)
+pub calls-done : {feed : List ℕ} {n j next least : ℕ} → j ≡ 0 → Due feed n j next least → least ≡ soonest (ride_due feed n)
 unfolding ride_due
-calls-done {feed} {n} {j} h w = let e : j ≡ 0 = omega arith in w.all ∙ ap (λ (i : ℕ). soonest (concat_map (board_due feed n) (span i (n - i)))) e
+calls-done {feed} {n} {j} e w = w.all ∙ ap (λ (i : ℕ). soonest (concat_map (board_due feed n) (span i (n - i)))) e
 
 -- ---- these are the rides
 

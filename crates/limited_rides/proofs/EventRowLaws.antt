@@ -1,28 +1,27 @@
 -- The loops come to the events of a search over places: loop by loop, from the innermost.
 use mathlib.Core.Path.{◌≡◌, refl, sym, ap, ◌∙◌}
 use mathlib.Core.Bool.{Bool, true, false, cond}
-use mathlib.Core.List.{List, [], ◌∷◌, ◌++◌, map}
-use Prim.Native.Nat.{ℕ, ◌+◌, ◌-◌, ◌*◌, min}
+use mathlib.Core.List.{List, [], ◌∷◌, map}
+use Prim.Native.Nat.{ℕ, ◌+◌, ◌-◌, min}
 use native.Mathlib.Omega.{arith}
-use lib.Dec.{eqb, leb}
+use lib.Dec.{eqb}
 use Rattle.laws.specs.Lists.{concat_map, take_while, span}
 use Rattle.laws.specs.Tails.{over_tails}
 use Rattle.laws.specs.Bits.{bits_of}
 use Rattle.laws.proofs.Flat.{tails-agree, concat_map-filterb, flat-cond, flat-tails, flat-single}
 use Rattle.laws.proofs.Places.{concat_map-cong, concat_map-map, tails-span}
-use Rattle.ways.specs.Rides.{Leg, leg, First, first_ride, Network, alightings, rides, directs}
-use Rattle.ways.proofs.RideLaws.{over-firsts}
+use Rattle.ways.specs.Rides.{Leg, leg, first_ride, Network, alightings, rides, first_rides, directs}
 use Rattle.ways.proofs.RideLaws as listed
 use Rattle.profile.specs.declared.Row.{Row}
 use Rattle.feed.specs.Feed.{same_run, joined}
 use Rattle.counted.specs.Events.{tested, offered}
 use Rattle.counted.specs.Joins.{join_of, events}
 use Rattle.counted.specs.Joins as search
-use Rattle.rides.specs.Rows.{Sheet, Joins, first_of, direct_row, change_row, direct_by, change_by, network_of}
+use Rattle.rides.specs.Rows.{Sheet, Joins, first_of, first_at, direct_row, change_row, direct_by, change_by, network_of}
 use Rattle.rides.specs.Loops.{later_from, over_bits, last_at, last_alight_rows, direct_at, direct_rows}
 use Rattle.rides.specs.Sheets.{joins_of, sheet_of}
 use Rattle.limited_rides.specs.Runs.{RowEvent}
-use Rattle.limited_rides.specs.RowEvents.{run_events, call_events, bits_events, join_then, last_joined, last_apart, board_events, change_events, alight_events, origin_events, boarding_events, row_events, events_at, EventsByLoops}
+use Rattle.limited_rides.specs.RowEvents.{run_events, call_events, join_then, last_joined, last_apart, board_events, change_events, first_events, row_events, events_at, EventsByLoops}
 
 -- what is listed for each ride, as loops over the calls list it
 pub over-rides : {C A : Type 0} (N : Network C) (g : Leg C → List A) (s : List C)
@@ -89,33 +88,12 @@ module _ (s : Sheet) (joins : Joins) (free : (i o k j : ℕ) → joins (first_of
         (over-rides (network_of s joins) (search.join_events (network_of s joins) (direct_by s) (change_by s) (first_ride o i k)) (span 0 n)
         ∙ tails-span _ n n 0 (omega arith) ∙ calls_by _ (board_events s joins n (first_of s i o k)) board-events)
 
-    alight-events : cond (s.at k).alight (map offered (directs (network_of s joins) (direct_by s) (change_by s) (first_ride o i k))
-        ++ cond (eqb depth 1) (search.change_events (network_of s joins) (direct_by s) (change_by s) (span 0 n) (first_ride o i k)) []) [] ≡ alight_events s joins depth n i o k
-    unfolding alight_events
-    alight-events = rw (direct-rows, change-events) refl
-
-  after : First ℕ → List RowEvent
-  after f = map offered (directs (network_of s joins) (direct_by s) (change_by s) f) ++ cond (eqb depth 1) (search.change_events (network_of s joins) (direct_by s) (change_by s) (span 0 n) f) []
-
-  origin-events : (i o : ℕ) → cond (leb (s.origin_walk o * 60) (s.at i).departure) (listed.over_run (network_of s joins) (λ k. after (first_ride o i k)) i (span (i + 1) (n - (i + 1)))) []
-      ≡ origin_events s joins depth n i o
-  unfolding origin_events network_of run_events later_from after
-  origin-events i o =
-      ap (λ (r : List RowEvent). cond (leb (s.origin_walk o * 60) (s.at i).departure) r [])
-      (concat_map-cong _ (alight_events s joins depth n i o) (alight-events i o) (take_while (λ m. same_run (s.at i) (s.at m)) (span (i + 1) (n - (i + 1)))))
-
-  first-events : (i : ℕ) → cond ((network_of s joins).board i) (concat_map (λ o. listed.over_run (network_of s joins) (λ k. after (first_ride o i k)) i (span (i + 1) (n - (i + 1)))) ((network_of s joins).origins i)) []
-      ≡ boarding_events s joins depth n i
-  unfolding boarding_events network_of bits_events
-  first-events i =
-      ap (λ (r : List RowEvent). cond (s.at i).board r [])
-      (concat_map-filterb (λ o. leb (s.origin_walk o * 60) (s.at i).departure) _ (bits_of (s.origins (s.at i).stop))
-      ∙ concat_map-cong _ (origin_events s joins depth n i) (origin-events i) (bits_of (s.origins (s.at i).stop)))
-
   -- a join reads no origin: the loops come to every event, in order
   by_loops : events (network_of s joins) (direct_by s) (change_by s) depth (span 0 n) ≡ row_events s joins depth n
-  unfolding events row_events after
-  by_loops = over-firsts (network_of s joins) after (span 0 n) ∙ tails-span _ n n 0 (omega arith) ∙ calls_by _ (boarding_events s joins depth n) first-events
+  unfolding events row_events first_events
+  by_loops =
+      concat_map-cong _ (λ f. first_events s joins depth n (first_at s f))
+      (λ f. rw (direct-rows f.ride.b f.o f.ride.a, change-events f.ride.b f.o f.ride.a) refl) (first_rides (network_of s joins) (span 0 n))
 
 pub events-by-loops : EventsByLoops
 unfolding events_at joins_of joined first_of

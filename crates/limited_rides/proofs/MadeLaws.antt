@@ -1,48 +1,38 @@
 -- How the counts of rides are put in, from the right.
 use mathlib.Core.Path.{◌≡◌, refl, sym, ap, ◌∙◌}
 use mathlib.Core.Logic.{◌≢◌, ◌⊎◌, inl, inr}
-use mathlib.Core.Bool.{Bool, true, false, cond}
+use mathlib.Core.Bool.{Bool, true, false, cond, ◌&&◌}
 use mathlib.Core.List.{List, [], ◌∷◌}
 use Prim.Native.Nat.{ℕ, zero, suc, ◌+◌, ◌-◌, ◌*◌, ◌≤◌, ◌<◌}
 use native.Mathlib.Omega.{arith}
 use native.Mathlib.Nat.{eq-or-lt_of_le}
 use lib.ListN.{length, get_or, set, length-set}
 use lib.Seq.{get_or-set_same, get_or-set_other}
-use Rattle.laws.specs.Lists.{span, take_while}
+use lib.Dec.{ltb}
+use Rattle.laws.specs.Lists.{span, take_while, filterb}
 use Rattle.laws.proofs.Lists.{length-filterb}
 use Rattle.laws.proofs.Places.{span-cons, span-nil}
 use Rattle.feed.specs.declared.FeedCall.{FeedCall}
 use Rattle.feed.specs.Feed.{call_at, same_run}
 use Rattle.rides.specs.Loops.{later_from}
-use Rattle.rides.proofs.LoopLaws.{later-cons, later-other, later-nil}
-use Rattle.rides.proofs.BoundLaws.{later-next}
+use Rattle.rides.proofs.LoopLaws.{run-end, run-next, run-on}
 use Rattle.limited_rides.specs.Counts.{alights_from, rides_from, sum_of, rides_in, Counts}
 
 -- ---- one call
 
-module _ (feed : List ℕ) (n j : ℕ) where
-  pub alights-end : n ≤ j + 1 → 0 ≡ alights_from (call_at feed) n j
+module _ (feed : List ℕ) (n j : ℕ) {r : Bool} (er : r ≡ (ltb (j + 1) n && same_run (call_at feed j) (call_at feed (j + 1)))) where
+  pub alights-end : r ≡ false → 0 ≡ alights_from (call_at feed) n j
   unfolding alights_from
-  alights-end h = rw (later-nil (call_at feed) n j (j + 1) h)
+  alights-end e = rw (run-end (call_at feed) n j er e)
 
-  module _ {b a : FeedCall} {r : Bool} (h : j + 1 < n) (eb : b ≡ call_at feed j) (ea : a ≡ call_at feed (j + 1)) (er : r ≡ same_run b a) where
-    pub alights-other : r ≡ false → 0 ≡ alights_from (call_at feed) n j
-    unfolding alights_from
-    alights-other e = rw (later-other (call_at feed) n j (j + 1) h eb ea er e)
-
-    pub after : r ≡ true → later_from (call_at feed) n j (j + 1) ≡ (j + 1) ∷ later_from (call_at feed) n (j + 1) (j + 1 + 1)
-    after e = later-cons (call_at feed) n j (j + 1) h eb ea er e ∙ ap {B = List ℕ} (λ zs. (j + 1) ∷ zs) (later-next feed n j 0 h eb ea er e)
-
-    alight-is : (t : Bool) → a.alight ≡ t → (call_at feed (j + 1)).alight ≡ t
-    alight-is t y = ap (λ (z : FeedCall). z.alight) (sym ea) ∙ y
-
-    pub alights-one : (v : ℕ) → r ≡ true → a.alight ≡ true → v ≡ alights_from (call_at feed) n (j + 1) → v + 1 ≡ alights_from (call_at feed) n j
-    unfolding alights_from
-    alights-one v e y ev = rw (after e, alight-is true y) (omega arith)
-
-    pub alights-none : (v : ℕ) → r ≡ true → a.alight ≡ false → v ≡ alights_from (call_at feed) n (j + 1) → v ≡ alights_from (call_at feed) n j
-    unfolding alights_from
-    alights-none v e y ev = rw (after e, alight-is false y) ev
+  pub alights-one : {c : FeedCall} {v : ℕ} → r ≡ true → c ≡ call_at feed (j + 1) → (j + 1 < n → v ≡ alights_from (call_at feed) n (j + 1))
+      → cond c.alight (v + 1) v ≡ alights_from (call_at feed) n j
+  unfolding alights_from
+  alights-one {c} {v} e ec ev = rw (run-on (call_at feed) n j er e, ← ec) (go c.alight)
+    where
+      go : (b : Bool) → cond b (v + 1) v ≡ length (cond b ((j + 1) ∷ filterb (λ m. (call_at feed m).alight) (later_from (call_at feed) n (j + 1) (j + 1 + 1))) (filterb (λ m. (call_at feed m).alight) (later_from (call_at feed) n (j + 1) (j + 1 + 1))))
+      go true = let h = ev (run-next (call_at feed) n j er e) in omega arith
+      go false = ev (run-next (call_at feed) n j er e)
 
 length-take_while : (p : ℕ → Bool) (xs : List ℕ) → length (take_while p xs) ≤ length xs
 length-take_while p [] = omega arith
@@ -66,7 +56,7 @@ alights-few feed n j =
 -- ---- the loop stands at j
 
 pub record Counted (k feed : List ℕ) (n j next total : ℕ) : Type 0 where
-  pub long : length k ≡ 513
+  pub long : length k ≡ 512
   pub low : j ≤ n
   pub board : (i : ℕ) → j ≤ i → i < n → get_or k i 0 ≡ rides_from (call_at feed) n i
   pub here : j < n → next ≡ alights_from (call_at feed) n j
@@ -74,7 +64,7 @@ pub record Counted (k feed : List ℕ) (n j next total : ℕ) : Type 0 where
   pub sum : total ≡ sum_of (rides_from (call_at feed) n) (span j (n - j))
   pub bound : total ≤ (n - j) * 512
 
-pub counted_start : {k feed : List ℕ} {n : ℕ} → length k ≡ 513 → Counted k feed n n 0 0
+pub counted_start : {k feed : List ℕ} {n : ℕ} → length k ≡ 512 → Counted k feed n n 0 0
 counted_start {k} {feed} {n} h =
     record {
       long = h;
@@ -123,13 +113,12 @@ module _ {k feed : List ℕ} {n j' next' total : ℕ} (j : ℕ) {next v : ℕ} (
           let q : j + 1 ≡ j' = omega arith in
           rw (span-cons j n (omega (arith, w.low)), q) (omega (arith, w.sum, is))
 
-pub counted-done : {k feed : List ℕ} {n j next total : ℕ} → n ≤ 512 → j ≤ 0 → Counted k feed n j next total → Counts (set k 512 total) feed n
+pub counted-done : {k : List ℕ} {feed : List ℕ} {n j next total : ℕ} → j ≡ 0 → Counted k feed n j next total → Counts (record { board = k; all = total }) feed n
 unfolding rides_in
-counted-done {k} {feed} {n} {j} {next} {total} hn h w =
-    let e : j ≡ 0 = omega arith in
+counted-done {k} {feed} {n} {j} {next} {total} e w =
     record {
-      board = λ i g. let z : i ≢ 512 = λ q. omega arith in get_or-set_other k 512 i total 0 z ∙ w.board i (omega arith) g;
-      all = get_or-set_same k 512 total 0 (omega (arith, w.long)) ∙ w.sum ∙ ap (λ (i : ℕ). sum_of (rides_from (call_at feed) n) (span i (n - i))) e;
+      board = λ i g. w.board i (omega arith) g;
+      all = w.sum ∙ ap (λ (i : ℕ). sum_of (rides_from (call_at feed) n) (span i (n - i))) e;
     }
 
 -- what the next call of the loop is handed

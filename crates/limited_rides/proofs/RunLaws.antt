@@ -2,13 +2,13 @@
 use mathlib.Core.Path.{◌≡◌, refl, sym, ap, ◌∙◌}
 use mathlib.Core.Logic.{◌⊎◌, inl, inr}
 use mathlib.Core.Bool.{Bool, true, false, not, cond, true≢false, false≢true}
+use Rattle.std.specs.Prelude.{Option, Some, None}
+use Rattle.std.specs.Option.{SomeIff}
 use mathlib.Core.List.{List, [], ◌∷◌, ◌++◌, map}
-use Prim.Native.Nat.{ℕ, zero, suc, ◌-◌, ◌≤◌, ◌<◌}
+use Prim.Native.Nat.{ℕ, zero, suc, ◌-◌, ◌≤◌}
 use native.Mathlib.Omega.{arith}
-use lib.Dec.{eqb, leb}
-use lib.ListN.{length, get_or, set}
-use lib.Seq.{get_or-set_same, get_or-set_other}
-use borrow.Author.Tests.{le-leb, lt-leb, leb-true, leb-false, eq-eqb, ne_eqb}
+use lib.Dec.{leb}
+use borrow.Author.Tests.{le-leb, lt-leb, leb-true, leb-false}
 use Rattle.laws.specs.Lists.{foldl}
 use Rattle.laws.proofs.Bools.{test}
 use Rattle.laws.proofs.Folds.{foldl-append}
@@ -56,64 +56,52 @@ pub skip-over : (s : St Row) (m : ℕ) → skip m (over s) ≡ over s
 unfolding skip
 skip-over s m = refl
 
-module _ {k : List ℕ} {n : ℕ} where
-  pub spent_some : length k ≡ 2 → get_or k 1 0 ≡ 0 → n ≤ get_or k 0 0 → Spent k (set k 0 (get_or k 0 0 - n)) n
-  unfolding run_at
-  spent_some long e h =
-      record {
-        is = λ s.
-            rw (get_or-set_other k 0 1 (get_or k 0 0 - n) 0 (λ q. omega arith), get_or-set_same k 0 (get_or k 0 0 - n) 0 (omega arith), eq-eqb (get_or k 1 0) 0 e)
-            (sym (skip-go s (get_or k 0 0) n ∙ rw (le-leb n (get_or k 0 0) h)));
-      }
+pub spent-some : {m n : ℕ} {k : Option ℕ} → SomeIff k (n ≤ m) (m - n) → Spent (Some m) k n
+unfolding run_at
+spent-some {m} {n} {k} e = record { is = λ s. go s k e }
+  where
+    go : (s : St Row) (k : Option ℕ) → SomeIff k (n ≤ m) (m - n) → run_at s k ≡ skip n (run_at s (Some m))
+    go s (Some x) (h, q) = sym (skip-go s m n ∙ rw (le-leb n m h, ← q))
+    go s None h = sym (skip-go s m n ∙ rw (lt-leb n m (omega arith)))
 
-  pub spent_all : length k ≡ 2 → get_or k 1 0 ≡ 0 → get_or k 0 0 < n → Spent k (set k 1 1) n
-  unfolding run_at
-  spent_all long e h =
-      record {
-        is = λ s.
-            rw (get_or-set_same k 1 1 0 (omega arith), eq-eqb (get_or k 1 0) 0 e)
-            (sym (skip-go s (get_or k 0 0) n ∙ rw (lt-leb n (get_or k 0 0) h)));
-      }
-
-  pub spent-none : (get_or k 1 0 ≡ 0 → ⊥) → Spent k k n
-  unfolding run_at
-  spent-none f = record { is = λ s. rw (ne_eqb (get_or k 1 0) 0 f) (sym (skip-over s n)) }
+pub spent-none : {n : ℕ} → Spent None None n
+unfolding run_at
+spent-none {n} = record { is = λ s. sym (skip-over s n) }
 
 -- ---- whether it is over
 
-module _ (l k : List ℕ) where
-  refused_over : (n : ℕ) (b : Bool) → open_of l ≡ b → is_over (go_on (view l) n) ≡ not b
-  unfolding is_over go_on view
-  refused_over n true e = rw e
-  refused_over n false e = rw e
+refused_over : (l : List ℕ) (n : ℕ) (b : Bool) → open_of l ≡ b → is_over (go_on (view l) n) ≡ not b
+unfolding is_over go_on view
+refused_over l n true e = rw e
+refused_over l n false e = rw e
 
-  pub over-refused : {r : Bool} → get_or k 1 0 ≡ 0 → r ≡ not (open_of l) → r ≡ is_over (run_at (view l) k)
-  unfolding run_at
-  over-refused e q = rw (eq-eqb (get_or k 1 0) 0 e) (q ∙ sym (refused_over (get_or k 0 0) (open_of l) refl))
+pub over-refused : (l : List ℕ) (n : ℕ) {r : Bool} → r ≡ not (open_of l) → r ≡ is_over (run_at (view l) (Some n))
+unfolding run_at
+over-refused l n e = e ∙ sym (refused_over l n (open_of l) refl)
 
-  pub over-stopped : (get_or k 1 0 ≡ 0 → ⊥) → true ≡ is_over (run_at (view l) k)
-  unfolding run_at is_over
-  over-stopped f = rw (ne_eqb (get_or k 1 0) 0 f)
+pub over-stopped : (l : List ℕ) → true ≡ is_over (run_at (view l) None)
+unfolding run_at is_over
+over-stopped l = refl
 
 -- ---- events one after the other
 
-pub nothing : {l k : List ℕ} → Met l k l k []
+pub nothing : {l : List ℕ} {k : Option ℕ} → Met l k l k []
 unfolding meet_all
 nothing = record { is = refl }
 
-pub both : {l k l' k' l'' k'' : List ℕ} {xs ys : List RowEvent} → Met l k l' k' xs → Met l' k' l'' k'' ys → Met l k l'' k'' (xs ++ ys)
+pub both : {l l' l'' : List ℕ} {k k' k'' : Option ℕ} {xs ys : List RowEvent} → Met l k l' k' xs → Met l' k' l'' k'' ys → Met l k l'' k'' (xs ++ ys)
 unfolding meet_all
 both {l} {k} {xs = xs} {ys = ys} a b =
     record { is = b.is ∙ ap (λ (y : Run). meet_all y ys) a.is ∙ sym (foldl-append meet (run_at (view l) k) xs ys) }
 
 -- an array of the same state may stand for the last, or for the first
-pub met-last : {l k l' k' l'' : List ℕ} {es : List RowEvent} → view l'' ≡ view l' → Met l k l' k' es → Met l k l'' k' es
+pub met-last : {l l' l'' : List ℕ} {k k' : Option ℕ} {es : List RowEvent} → view l'' ≡ view l' → Met l k l' k' es → Met l k l'' k' es
 met-last {k' = k'} e w = record { is = ap (λ (s : St Row). run_at s k') e ∙ w.is }
 
-pub met-first : {l k l' k' l'' : List ℕ} {es : List RowEvent} → view l'' ≡ view l → Met l'' k l' k' es → Met l k l' k' es
+pub met-first : {l l' l'' : List ℕ} {k k' : Option ℕ} {es : List RowEvent} → view l'' ≡ view l → Met l'' k l' k' es → Met l k l' k' es
 met-first {k = k} {es = es} e w = record { is = w.is ∙ ap (λ (s : St Row). meet_all (run_at s k) es) e }
 
-pub over-met : {l k : List ℕ} {es : List RowEvent} {r : Bool} → r ≡ is_over (run_at (view l) k) → r ≡ true → Met l k l k es
+pub over-met : {l : List ℕ} {k : Option ℕ} {es : List RowEvent} {r : Bool} → r ≡ is_over (run_at (view l) k) → r ≡ true → Met l k l k es
 over-met {l} {k} {es} e t = record { is = sym (over-all (run_at (view l) k) es (sym e ∙ t)) }
 
 refused-fold : (os : List Row) → foldl offer_to refused os ≡ refused
@@ -134,13 +122,10 @@ is-over : (s : St Row) → true ≡ is_over (over s)
 unfolding is_over
 is-over s = refl
 
-pub offered-met : {l k l' : List ℕ} {os : List Row} {r : Bool} → r ≡ is_over (run_at (view l) k) → r ≡ false → Offered l l' os → Met l k l' k (map offered os)
+pub offered-met : {l l' : List ℕ} {k : Option ℕ} {os : List Row} {r : Bool} → r ≡ is_over (run_at (view l) k) → r ≡ false → Offered l l' os → Met l k l' k (map offered os)
 unfolding run_at
-offered-met {l} {k} {l'} {os} e f o = go (test (eqb (get_or k 1 0) 0))
-  where
-    go : (eqb (get_or k 1 0) 0 ≡ true) ⊎ (eqb (get_or k 1 0) 0 ≡ false) → Met l k l' k (map offered os)
-    go (inl q) = record { is = rw (q, o.is) (sym (offers-run (view l) (get_or k 0 0) os)) }
-    go (inr q) = let w : true ≡ is_over (run_at (view l) k) = rw q (is-over (view l)) in absurd (true≢false (w ∙ sym e ∙ f))
+offered-met {l} {k = Some n} {os} e f o = record { is = rw o.is (sym (offers-run (view l) n os)) }
+offered-met {l} {k = None} e f o = absurd (true≢false (is-over (view l) ∙ sym e ∙ f))
 
 -- ---- what it comes to
 
@@ -179,7 +164,7 @@ skip-one (over s) j = refl
 skip-one (on s zero) j = refl
 skip-one (on s (suc n)) j = let e : suc n - 1 ≡ n = omega arith in rw (le-leb 1 (suc n) (omega arith), e) refl
 
-pub join-then : {l k l' k' : List ℕ} {j : Join ℕ} {es : List RowEvent} → Spent k k' 1 → Met l k' l' k' es → Met l k l' k' (tested j ∷ es)
+pub join-then : {l l' : List ℕ} {k k' : Option ℕ} {j : Join ℕ} {es : List RowEvent} → Spent k k' 1 → Met l k' l' k' es → Met l k l' k' (tested j ∷ es)
 unfolding meet_all
-join-then {l} {k} {l'} {k'} {j} {es} w m =
+join-then {l} {k = k} {j = j} {es = es} w m =
     record { is = m.is ∙ ap (λ (y : Run). meet_all y es) (w.is (view l) ∙ skip-one (run_at (view l) k) j) }

@@ -7,6 +7,7 @@ use Rattle.feed.specs.Feed.{call_at}
 use Rattle.counted.specs.Events.{joins_in}
 use Rattle.rides.specs.Rows.{Sheet, Joins}
 use Rattle.rides.specs.Loops.{later_from}
+use Rattle.limited_rides.specs.declared.counts.RideCounts.{RideCounts}
 use Rattle.limited_rides.specs.RowEvents.{board_events, change_events}
 
 -- the later calls of a run where one can alight
@@ -23,10 +24,10 @@ sum_of g (x ∷ xs) = g x + sum_of g xs
 unfoldable pub rides_in : (ℕ → FeedCall) → ℕ → ℕ
 rides_in at n = sum_of (rides_from at n) (span 0 (n - 0))
 
--- what the loops ask of the array k
-pub record Counts (k feed : List ℕ) (n : ℕ) : Type 0 where
-  pub board : (j : ℕ) → j < n → get_or k j 0 ≡ rides_from (call_at feed) n j
-  pub all : get_or k 512 0 ≡ rides_in (call_at feed) n
+-- what the loops ask of the counts
+pub record Counts (k : RideCounts) (feed : List ℕ) (n : ℕ) : Type 0 where
+  pub board : (j : ℕ) → j < n → get_or k.board j 0 ≡ rides_from (call_at feed) n j
+  pub all : k.all ≡ rides_in (call_at feed) n
 
 -- ---- what is claimed
 

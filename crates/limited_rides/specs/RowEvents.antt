@@ -1,28 +1,24 @@
 -- The events that the loops of a search within a limit come to, each from where it stands: the contracts of their functions. That together they
 -- come to the events of crate `counted`, over places, is `events-by-loops`.
-use Rattle.std.specs.Prelude.{◌≡◌, cond, List, [], ◌∷◌, ◌++◌, map, ℕ, ◌+◌, ◌-◌, ◌*◌, min, eqb, leb}
+use Rattle.std.specs.Prelude.{◌≡◌, cond, List, [], ◌∷◌, ◌++◌, map, ℕ, ◌+◌, ◌-◌, min, eqb}
 use Rattle.laws.specs.Lists.{concat_map, span}
-use Rattle.laws.specs.Bits.{bits_of}
-use Rattle.ways.specs.Rides.{leg, First, first_ride}
+use Rattle.ways.specs.Rides.{leg, First, first_ride, first_rides}
 use Rattle.profile.specs.declared.Row.{Row}
 use Rattle.feed.specs.declared.FeedCall.{FeedCall}
 use Rattle.feed.specs.declared.FirstRide.{FirstRide}
 use Rattle.counted.specs.Events.{tested, offered, offers_of}
 use Rattle.counted.specs.Joins.{join_of, events}
-use Rattle.rides.specs.Rows.{Sheet, Joins, first_of, direct_by, change_by, network_of}
+use Rattle.rides.specs.Rows.{Sheet, Joins, first_at, direct_by, change_by, network_of}
 use Rattle.rides.specs.Loops.{later_from, last_alight_rows, change_rows, direct_rows}
 use Rattle.rides.specs.Sheets.{sheet_of, joins_of}
 use Rattle.limited_rides.specs.Runs.{RowEvent}
 
--- the ways of three loops, each from where it stands
+-- the ways of two loops, each from where it stands
 unfoldable pub run_events : (ℕ → List RowEvent) → (ℕ → FeedCall) → ℕ → ℕ → ℕ → List RowEvent
 run_events g at n i j = concat_map g (later_from at n i j)
 
 unfoldable pub call_events : (ℕ → List RowEvent) → ℕ → ℕ → List RowEvent
 call_events g n i = concat_map g (span i (n - i))
-
-unfoldable pub bits_events : (ℕ → List RowEvent) → ℕ → List RowEvent
-bits_events g m = concat_map g (bits_of m)
 
 -- the first ride by its places
 abbrev pub places_of : FirstRide → First ℕ
@@ -48,18 +44,12 @@ unfoldable pub change_events : Sheet → Joins → ℕ → ℕ → FirstRide →
 change_events s joins depth n f = cond (eqb depth 1) (call_events (board_events s joins n f) n 0) []
 
 -- a first ride: its direct journeys, then the joins
-unfoldable pub alight_events : Sheet → Joins → ℕ → ℕ → ℕ → ℕ → ℕ → List RowEvent
-alight_events s joins depth n i o k = cond (s.at k).alight (map offered (direct_rows s (first_of s i o k)) ++ change_events s joins depth n (first_of s i o k)) []
-
-unfoldable pub origin_events : Sheet → Joins → ℕ → ℕ → ℕ → ℕ → List RowEvent
-origin_events s joins depth n i o = cond (leb (s.origin_walk o * 60) (s.at i).departure) (run_events (alight_events s joins depth n i o) s.at n i (i + 1)) []
-
-unfoldable pub boarding_events : Sheet → Joins → ℕ → ℕ → ℕ → List RowEvent
-boarding_events s joins depth n i = cond (s.at i).board (bits_events (origin_events s joins depth n i) (s.origins (s.at i).stop)) []
+unfoldable pub first_events : Sheet → Joins → ℕ → ℕ → FirstRide → List RowEvent
+first_events s joins depth n f = map offered (direct_rows s f) ++ change_events s joins depth n f
 
 -- every event, in order
 unfoldable pub row_events : Sheet → Joins → ℕ → ℕ → List RowEvent
-row_events s joins depth n = call_events (boarding_events s joins depth n) n 0
+row_events s joins depth n = concat_map (λ f. first_events s joins depth n (first_at s f)) (first_rides (network_of s joins) (span 0 n))
 
 -- every event of a search over the lent arrays and their first n calls, of which there are at most 512
 unfoldable pub events_at : List ℕ → List ℕ → ℕ → ℕ → List RowEvent

@@ -1,5 +1,5 @@
 -- A search that goes on, with the joins that are left, or is over: refused, or stopped at a join past the limit. What is over stays as it is.
-use Rattle.std.specs.Prelude.{◌≡◌, Bool, true, false, cond, List, ℕ, zero, suc, ◌-◌, eqb, leb, get_or}
+use Rattle.std.specs.Prelude.{◌≡◌, Bool, true, false, cond, List, ℕ, zero, suc, ◌-◌, leb, Option, Some, None}
 use Rattle.laws.specs.Lists.{foldl}
 use Rattle.profile.specs.declared.Row.{Row}
 use Rattle.profile.specs.Kept.{St, going, refused}
@@ -45,16 +45,17 @@ unfoldable pub state_of : Run → St Row
 state_of (on s n) = s
 state_of (over s) = s
 
--- the state s with the array k: the joins left, and 0 if the search has not stopped
-unfoldable pub run_at : St Row → List ℕ → Run
-run_at s k = cond (eqb (get_or k 1 0) 0) (go_on s (get_or k 0 0)) (over s)
+-- the state s with the joins left; with none of them the search has stopped
+unfoldable pub run_at : St Row → Option ℕ → Run
+run_at s (Some n) = go_on s n
+run_at s None = over s
 
--- the arrays l' and k' are the state and the joins left of l and k after the events
-pub record Met (l k l' k' : List ℕ) (es : List RowEvent) : Type 0 where
+-- the array l' and k' are the state and the joins left of l and k after the events
+pub record Met (l : List ℕ) (k : Option ℕ) (l' : List ℕ) (k' : Option ℕ) (es : List RowEvent) : Type 0 where
   pub is : run_at (view l') k' ≡ meet_all (run_at (view l) k) es
 
--- the array k' is k after m joins, whatever the state
-pub record Spent (k k' : List ℕ) (m : ℕ) : Type 0 where
+-- k' is what is left of k after m joins, whatever the state
+pub record Spent (k k' : Option ℕ) (m : ℕ) : Type 0 where
   pub is : (s : St Row) → run_at s k' ≡ skip m (run_at s k)
 
 -- ---- what is claimed

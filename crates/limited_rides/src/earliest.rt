@@ -3,91 +3,71 @@ ghost use Rattle.std.specs.Prelude.{◌≡◌, cond, ◌+◌, ◌≤◌, ◌<◌
 ghost use Rattle.feed.specs.Feed.{call_at};
 ghost use Rattle.limited_rides.specs.Earliest.{soonest, target_due, alight_due, later_due, ride_due};
 
-use feed::{arrival_of, at_most_512, same_run, targets_of};
-use rides::bits::{clear_lowest, lowest};
-use rides::reads::{call_at, target_walk};
+use feed::arrival_of;
+use feed::layout::Feed;
+use rides::bits::Digits;
+use rides::calls::Calls;
 
-fn earlier(a: u32, b: u32) -> u32
-    ensures { result ≡ min a b }
-{
-    if a < b { a } else { b }
-}
+// Later than any ride.
+const NEVER: u32 = u32::MAX;
 
-// The earliest of the targets of a mask.
-fn at_targets(feed: &[u16; 3208], a: u16, mask: u8) -> u32
-    requires { mask < 16 }
-    ensures { result ≡ soonest (target_due feed.now a mask) }
+// The earliest of these targets.
+fn at_targets(calls: &Calls, a: u16, targets: Digits) -> u32
+    ensures { result ≡ soonest (target_due calls.now.feed.now a targets.left) }
 {
-    let mut t = 4294967295u32;
-    let mut left = mask;
-    while left != 0 {
-        let x = lowest(left);
-        let due = arrival_of(target_walk(feed, x), a);
-        t = earlier(t, due);
-        left = clear_lowest(left);
+    let mut t = NEVER;
+    for x in targets {
+        t = t.min(arrival_of(calls.target_walk(x), a));
     }
     t
 }
 
 // The same of the targets of the stop at place m, if one can alight there.
-fn at_alighting(feed: &[u16; 3208], m: usize) -> u32
+fn at_alighting(calls: &Calls, m: usize) -> u32
     requires { m < 512 }
-    ensures { result ≡ soonest (alight_due feed.now m) }
+    ensures { result ≡ soonest (alight_due calls.now.feed.now m) }
 {
-    let c = call_at(feed, m);
+    let c = calls.at(m);
     if c.alight {
-        return at_targets(feed, c.arrival, targets_of(feed, c.stop));
+        return at_targets(calls, c.arrival, calls.targets(c.stop));
     }
-    4294967295
+    NEVER
 }
 
 // The earliest for whoever boards at j: that of the next call of its run, or of whoever boards there, which is `next`.
-fn at_later(feed: &[u16; 3208], n: usize, j: usize, next: u32) -> u32
-    requires { (n ≤ 512) × (j < n) × (j + 1 < n → next ≡ soonest (later_due feed.now n (j + 1))) }
-    ensures { result ≡ soonest (later_due feed.now n j) }
+fn at_later(calls: &Calls, j: usize, next: u32) -> u32
+    requires { (j < calls.now.n) × (j + 1 < calls.now.n → next ≡ soonest (later_due calls.now.feed.now calls.now.n (j + 1))) }
+    ensures { result ≡ soonest (later_due calls.now.feed.now calls.now.n j) }
 {
-    let m = j + 1;
-    if m < n {
-        let b = call_at(feed, j);
-        let a = call_at(feed, m);
-        if same_run(b, a) {
-            return earlier(at_alighting(feed, m), next);
-        }
+    if calls.goes_on(j) {
+        return at_alighting(calls, j + 1).min(next);
     }
-    4294967295
+    NEVER
 }
 
 // t, if one can board at j.
-fn at_boarding(feed: &[u16; 3208], j: usize, t: u32) -> u32
+fn at_boarding(calls: &Calls, j: usize, t: u32) -> u32
     requires { j < 512 }
-    ensures { result ≡ cond (call_at feed.now j).board t 4294967295 }
+    ensures { result ≡ cond (call_at calls.now.feed.now j).board t 4294967295 }
 {
-    let b = call_at(feed, j);
-    if b.board {
-        return t;
-    }
-    4294967295
+    if calls.at(j).board { t } else { NEVER }
 }
 
-fn least_of(feed: &[u16; 3208], n: usize) -> u32
-    requires { n ≤ 512 }
-    ensures { result ≡ soonest (ride_due feed.now n) }
+fn least_of(calls: &Calls) -> u32
+    ensures { result ≡ soonest (ride_due calls.now.feed.now calls.now.n) }
 {
-    let mut j = n;
-    let mut next = 4294967295u32;
-    let mut least = 4294967295u32;
-    while j > 0 {
-        j -= 1;
-        next = at_later(feed, n, j, next);
-        let t = at_boarding(feed, j, next);
-        least = earlier(least, t);
+    let mut next = NEVER;
+    let mut least = NEVER;
+    for j in (0..calls.n).rev() {
+        next = at_later(calls, j, next);
+        least = least.min(at_boarding(calls, j, next));
     }
     least
 }
 
 // The earliest of every ride over the first n calls; 4294967295 where none alights at a target.
-pub fn earliest_of(feed: &[u16; 3208], n: usize) -> u32
+pub fn earliest_of(feed: &Feed, n: usize) -> u32
     ensures { result ≡ soonest (ride_due feed.now (min n 512)) }
 {
-    least_of(feed, at_most_512(n))
+    least_of(&Calls::first(feed, n))
 }

@@ -1,11 +1,11 @@
 -- The answer's lines, once they are put at the start of the buffer.
+use Rattle.refusal.specs.First.{Answer}
 use mathlib.Core.Path.{◌≡◌}
 use mathlib.Core.Bool.{true, false}
 use mathlib.Core.List.{List}
 use Prim.Native.Nat.{ℕ, ◌≤◌}
 use native.Mathlib.Omega.{arith}
 use lib.ListN.{length, take}
-use Rattle.refusal.specs.declared.Answer.{Answer}
 use Rattle.load.specs.declared.Load.{Load}
 use Rattle.lines.specs.Buffer.{Put, Counts}
 use Rattle.lines.specs.Lines.{lines_of}

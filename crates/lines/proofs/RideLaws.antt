@@ -1,4 +1,8 @@
 -- The lines of both kinds: how long they are at most, and what they are put together from.
+use Rattle.refusal.specs.First.{Answer}
+use Rattle.refusal.specs.declared.Accepted.{Accepted}
+use Rattle.refusal.specs.declared.Accepted.TheVariants.{Taken, Outside}
+use Rattle.std.specs.Prelude.{Err, Ok}
 use mathlib.Core.Path.{◌≡◌, refl, sym, ap}
 use mathlib.Core.Bool.{Bool, true, false, cond}
 use mathlib.Core.List.{List, [], ◌∷◌, ◌++◌, append-nil}
@@ -6,8 +10,6 @@ use Prim.Native.Nat.{ℕ, ◌*◌, ◌≤◌}
 use native.Mathlib.Omega.{arith}
 use lib.Dec.{leb}
 use Rattle.laws.specs.Lists.{concat_map}
-use Rattle.refusal.specs.declared.Answer.{Answer}
-use Rattle.refusal.specs.declared.Answer.TheVariants.{Taken, Outside, Refused}
 use Rattle.refusal.specs.declared.Refusal.{Refusal}
 use Rattle.refusal.specs.Causes.{number_of}
 use Rattle.profile.specs.declared.Journey.{Journey}
@@ -54,26 +56,20 @@ module _ (l : Load) {rides : Bool} {a b : ℕ} {l₀ l₁ l₂ : List ℕ} where
   without e p q = rw e (put_then (rw e at p) q)
 
 module _ (rides : Bool) (l : Load) {a : Answer} {r : ℕ} {l₀ l₁ : List ℕ} where
-  pub taken-put : a ≡ Taken → Put (lines_most rides) (load_for rides l) 0 l₀ r l₁ → Put (lines_most rides) (lines_for rides a l) 0 l₀ r l₁
+  pub accepted-put : {x : Accepted} → a ≡ Ok x → Put (lines_most rides) (load_for rides l) 0 l₀ r l₁ → Put (lines_most rides) (lines_for rides a l) 0 l₀ r l₁
   unfolding lines_for ride_lines_of lines_of load_for
-  taken-put e p = rw e (go rides p)
+  accepted-put {x} e p = rw e (go x rides p)
     where
-      go : (b : Bool) → Put (lines_most b) (load_for b l) 0 l₀ r l₁ → Put (lines_most b) (lines_for b Taken l) 0 l₀ r l₁
-      go true p = p
-      go false p = p
+      go : (x : Accepted) (b : Bool) → Put (lines_most b) (load_for b l) 0 l₀ r l₁ → Put (lines_most b) (lines_for b (Ok x) l) 0 l₀ r l₁
+      go Taken true p = p
+      go Taken false p = p
+      go Outside true p = p
+      go Outside false p = p
 
-  pub outside-put : a ≡ Outside → Put (lines_most rides) (load_for rides l) 0 l₀ r l₁ → Put (lines_most rides) (lines_for rides a l) 0 l₀ r l₁
-  unfolding lines_for ride_lines_of lines_of load_for
-  outside-put e p = rw e (go rides p)
-    where
-      go : (b : Bool) → Put (lines_most b) (load_for b l) 0 l₀ r l₁ → Put (lines_most b) (lines_for b Outside l) 0 l₀ r l₁
-      go true p = p
-      go false p = p
-
-  pub refused-put : {x : Refusal} {n : ℕ} → a ≡ Refused x → number_of x ≡ n → Put 14 (refused_line_of n) 0 l₀ r l₁ → Put (lines_most rides) (lines_for rides a l) 0 l₀ r l₁
+  pub refused-put : {x : Refusal} {n : ℕ} → a ≡ Err x → number_of x ≡ n → Put 14 (refused_line_of n) 0 l₀ r l₁ → Put (lines_most rides) (lines_for rides a l) 0 l₀ r l₁
   unfolding lines_for ride_lines_of lines_of lines_most
   refused-put {x} {n} e f p = rw e (go rides)
     where
-      go : (b : Bool) → Put (cond b 12458 2843) (lines_for b (Refused x) l) 0 l₀ r l₁
+      go : (b : Bool) → Put (cond b 12458 2843) (lines_for b (Err x) l) 0 l₀ r l₁
       go true = put_as (ap refused_line_of (sym f)) (put-within _ (omega (arith, p.small)) p)
       go false = put_as (ap refused_line_of (sym f)) (put-within _ (omega (arith, p.small)) p)

@@ -1,8 +1,8 @@
 -- The lines that are printed of a load: one for each kept journey in list order, then horizon and limits; or the refusal alone.
-use Rattle.std.specs.Prelude.{ℕ, List, [], ◌∷◌, ◌++◌}
+use Rattle.refusal.specs.First.{Answer}
+use Rattle.refusal.specs.declared.Accepted.TheVariants.{Taken, Outside}
+use Rattle.std.specs.Prelude.{ℕ, List, [], ◌∷◌, ◌++◌, Err, Ok}
 use Rattle.laws.specs.Lists.{concat_map}
-use Rattle.refusal.specs.declared.Answer.{Answer}
-use Rattle.refusal.specs.declared.Answer.TheVariants.{Taken, Outside, Refused}
 use Rattle.refusal.specs.Causes.{number_of}
 use Rattle.profile.specs.declared.Journey.{Journey}
 use Rattle.load.specs.declared.Load.{Load}
@@ -31,6 +31,6 @@ load_lines l = concat_map journey_line_of (kept_of l) ++ horizon_line_of l.horiz
 
 -- after the last record was answered so
 unfoldable pub lines_of : Answer → Load → List ℕ
-lines_of Taken l = load_lines l
-lines_of Outside l = load_lines l
-lines_of (Refused r) l = refused_line_of (number_of r)
+lines_of (Ok Taken) l = load_lines l
+lines_of (Ok Outside) l = load_lines l
+lines_of (Err r) l = refused_line_of (number_of r)

@@ -1,6 +1,6 @@
 -- The lines of the first starred instance: "journey 300 1320 1 5 0 0" and "horizon 21600 limits 0".
-use Rattle.std.specs.Prelude.{◌≡◌, List, [], ◌∷◌, ◌++◌, ℕ}
-use Rattle.refusal.specs.declared.Answer.TheVariants.{Taken}
+use Rattle.refusal.specs.declared.Accepted.TheVariants.{Taken}
+use Rattle.std.specs.Prelude.{◌≡◌, List, [], ◌∷◌, ◌++◌, ℕ, Ok}
 use Rattle.profile.specs.declared.Journey.{Journey}
 use Rattle.load.specs.declared.Load.{Load}
 use Rattle.best.specs.Best.{kept_of}
@@ -35,4 +35,4 @@ FirstHorizon = horizon_line_of 21600 0 ≡ first_horizon
 abbrev pub FirstLines : Type 0
 FirstLines =
     (l : Load) (j : Journey) → First j → kept_of l ≡ j ∷ [] → l.horizon ≡ 21600 → l.limits ≡ 0
-    → lines_of Taken l ≡ first_journey ++ first_horizon
+    → lines_of (Ok Taken) l ≡ first_journey ++ first_horizon

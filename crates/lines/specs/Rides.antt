@@ -1,8 +1,8 @@
 -- The lines of a load with the rides of each kept journey, and whether it was searched.
-use Rattle.std.specs.Prelude.{ℕ, Bool, true, false, cond, List, [], ◌∷◌, ◌++◌, leb}
+use Rattle.refusal.specs.First.{Answer}
+use Rattle.refusal.specs.declared.Accepted.TheVariants.{Taken, Outside}
+use Rattle.std.specs.Prelude.{ℕ, Bool, true, false, cond, List, [], ◌∷◌, ◌++◌, leb, Err, Ok}
 use Rattle.laws.specs.Lists.{concat_map}
-use Rattle.refusal.specs.declared.Answer.{Answer}
-use Rattle.refusal.specs.declared.Answer.TheVariants.{Taken, Outside, Refused}
 use Rattle.refusal.specs.Causes.{number_of}
 use Rattle.profile.specs.declared.Journey.{Journey}
 use Rattle.profile.specs.declared.Ride.{Ride}
@@ -34,9 +34,9 @@ load_rides l = concat_map ride_line (kept_of l) ++ (horizon_line_of l.horizon l.
 
 -- after the last record was answered so
 unfoldable pub ride_lines_of : Answer → Load → List ℕ
-ride_lines_of Taken l = load_rides l
-ride_lines_of Outside l = load_rides l
-ride_lines_of (Refused r) l = refused_line_of (number_of r)
+ride_lines_of (Ok Taken) l = load_rides l
+ride_lines_of (Ok Outside) l = load_rides l
+ride_lines_of (Err r) l = refused_line_of (number_of r)
 
 -- ---- the same functions put both: with rides, or without
 unfoldable pub line_for : Bool → Journey → List ℕ

@@ -1,5 +1,5 @@
 // A line for each journey, with its rides or without.
-ghost use Rattle.std.specs.Prelude.{◌≡◌, cond, [], ◌+◌, ◌*◌, ◌≤◌, leb, take};
+ghost use Rattle.std.specs.Prelude.{◌≡◌, cond, [], ◌+◌, ◌*◌, ◌≤◌, length};
 ghost use Rattle.laws.specs.Lists.{concat_map};
 ghost use Rattle.lines.specs.Buffer.{Put};
 ghost use Rattle.lines.specs.Lines.{journey_text};
@@ -12,9 +12,15 @@ fn put_journey(out: &mut [u8], at: usize, j: Journey) -> usize
     requires { at + 43 ≤ 65536 }
     ensures { Put 43 (journey_text j) at out.old result out.new }
 {
-    let a = put_word(out, at, *b"journey");
-    let b = put_three(out, a, j.leave, j.arrival, j.rides as u16);
-    put_three(out, b, j.walk as u16, j.origin as u16, j.target as u16)
+    let a = put_word(out, at, b"journey");
+    let b = put_three(out, a, j.leave, j.arrival, u16::from(j.rides));
+    put_three(
+        out,
+        b,
+        u16::from(j.walk),
+        u16::from(j.origin),
+        u16::from(j.target),
+    )
 }
 
 fn put_ride(out: &mut [u8], at: usize, r: Ride) -> usize
@@ -23,7 +29,7 @@ fn put_ride(out: &mut [u8], at: usize, r: Ride) -> usize
 {
     let a = put_byte(out, at, b' ');
     let b = put_byte(out, a, b'|');
-    let c = put_three(out, b, r.trip, r.day as u16, r.from);
+    let c = put_three(out, b, r.trip, u16::from(r.day), r.from);
     let d = put_three(out, c, r.to, r.departure, r.arrival);
     let e = put_flag(out, d, r.board_request);
     put_flag(out, e, r.alight_request)
@@ -34,30 +40,16 @@ fn put_there(out: &mut [u8], at: usize, there: bool, r: Ride) -> usize
     requires { at + 50 ≤ 65536 }
     ensures { Put 50 (cond there (ride_text r) []) at out.old result out.new }
 {
-    if there {
-        return put_ride(out, at, r);
-    }
-    at
-}
-
-fn at_least(count: u8, number: u8) -> bool
-    ensures { result ≡ leb number count }
-{
-    number <= count
+    if there { put_ride(out, at, r) } else { at }
 }
 
 fn put_rides(out: &mut [u8], at: usize, j: Journey) -> usize
     requires { at + 150 ≤ 65536 }
     ensures { Put 150 (concat_map ride_text (rides_of j)) at out.old result out.new }
 {
-    let first = j.first;
-    let middle = j.middle;
-    let last = j.last;
-    let three = at_least(j.rides, 3);
-    let two = at_least(j.rides, 2);
-    let a = put_ride(out, at, first);
-    let b = put_there(out, a, three, middle);
-    put_there(out, b, two, last)
+    let a = put_ride(out, at, j.first);
+    let b = put_there(out, a, 3 <= j.rides, j.middle);
+    put_there(out, b, 2 <= j.rides, j.last)
 }
 
 // The line of a journey, with its rides if they are asked for.
@@ -73,17 +65,14 @@ fn journey_line(out: &mut [u8], at: usize, rides: bool, j: Journey) -> usize
     put_byte(out, a, b'\n')
 }
 
-// A line for each of the first `count` journeys, from the start of the buffer.
-pub fn journey_lines(out: &mut [u8], rides: bool, journeys: [Journey; 64], count: usize) -> usize
-    ensures { Put (line_most rides * 64) (concat_map (line_for rides) (take count journeys)) 0 out.old result out.new }
+// A line for each journey, from the start of the buffer.
+pub fn journey_lines(out: &mut [u8], rides: bool, journeys: &[Journey]) -> usize
+    requires { length journeys.now ≤ 64 }
+    ensures { Put (line_most rides * 64) (concat_map (line_for rides) journeys.now) 0 out.old result out.new }
 {
-    let n: usize = if count < 64 { count } else { 64 };
-    let mut at: usize = 0;
-    let mut i: usize = 0;
-    while i < n {
-        let j = journeys[i];
-        at = journey_line(out, at, rides, j);
-        i += 1;
+    let mut at = 0;
+    for j in journeys {
+        at = journey_line(out, at, rides, *j);
     }
     at
 }

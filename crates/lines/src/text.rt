@@ -1,16 +1,17 @@
-// Bytes put into a buffer, one after the other. A byte past the buffer's end is left out; a place stays within 65536.
+// Bytes put into a buffer, one after the other. A byte past the buffer's end is left out; a place stays below a bound, so that it fits.
+// The buffer and the place stay two parameters: a struct with the `&mut` would need, beside that bound, a clause in each method that it
+// holds the same one. No `write!`: of a text that may fail to be written nothing is known at `Err`, and these can't fail.
 ghost use Rattle.std.specs.Prelude.{◌≡◌, [], ◌∷◌, ◌++◌, ◌+◌, ◌<◌, ◌≤◌};
 ghost use Rattle.lines.specs.Buffer.{Put};
 ghost use Rattle.lines.specs.Decimal.{decimal, spaced, bit};
 ghost use Rattle.lines.specs.Lines.{horizon_line_of, refused_line_of};
 
 pub fn put_byte(out: &mut [u8], at: usize, byte: u8) -> usize
-    requires { at + 1 ≤ 65536 }
+    requires { at + 1 ≤ 1000000 }
     ensures { Put 1 (byte ∷ []) at out.old result out.new }
 {
     if at < out.len() {
         out[at] = byte;
-        return at + 1;
     }
     at + 1
 }
@@ -19,7 +20,7 @@ fn digit(n: u16) -> u8
     requires { n < 10 }
     ensures { result ≡ 48 + n }
 {
-    48 + n as u8
+    b'0' + n as u8
 }
 
 // A number's decimal digits.
@@ -58,22 +59,17 @@ pub fn put_flag(out: &mut [u8], at: usize, flag: bool) -> usize
     requires { at + 6 ≤ 65536 }
     ensures { Put 6 (spaced (bit flag)) at out.old result out.new }
 {
-    if flag {
-        return put_spaced(out, at, 1);
-    }
-    put_spaced(out, at, 0)
+    put_spaced(out, at, u16::from(flag))
 }
 
 // A word. Each of them has seven bytes.
-pub fn put_word(out: &mut [u8], at: usize, word: [u8; 7]) -> usize
+pub fn put_word(out: &mut [u8], at: usize, word: &[u8; 7]) -> usize
     requires { at + 7 ≤ 65536 }
-    ensures { Put 7 word at out.old result out.new }
+    ensures { Put 7 word.now at out.old result out.new }
 {
     let mut to = at;
-    let mut i: usize = 0;
-    while i < 7 {
-        to = put_byte(out, to, word[i]);
-        i += 1;
+    for byte in word {
+        to = put_byte(out, to, *byte);
     }
     to
 }
@@ -82,17 +78,17 @@ pub fn horizon_line(out: &mut [u8], at: usize, horizon: u16, limits: u8) -> usiz
     requires { at + 27 ≤ 65536 }
     ensures { Put 27 (horizon_line_of horizon limits) at out.old result out.new }
 {
-    let a = put_word(out, at, *b"horizon");
+    let a = put_word(out, at, b"horizon");
     let b = put_spaced(out, a, horizon);
-    let c = put_word(out, b, *b" limits");
-    let d = put_spaced(out, c, limits as u16);
+    let c = put_word(out, b, b" limits");
+    let d = put_spaced(out, c, u16::from(limits));
     put_byte(out, d, b'\n')
 }
 
 pub fn refused_line(out: &mut [u8], number: u8) -> usize
     ensures { Put 14 (refused_line_of number) 0 out.old result out.new }
 {
-    let a = put_word(out, 0, *b"refused");
-    let b = put_spaced(out, a, number as u16);
+    let a = put_word(out, 0, b"refused");
+    let b = put_spaced(out, a, u16::from(number));
     put_byte(out, b, b'\n')
 }

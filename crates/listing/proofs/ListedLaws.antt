@@ -10,18 +10,13 @@ use lib.ListN.{length, take, drop, get_or, length-take, drop_of_length-le}
 use lib.Seq.{drop-cons, get_or-take}
 use borrow.Author.Tests.{eq-eqb, ne_eqb, lt-ltb, le-ltb}
 use Rattle.laws.proofs.Bools.{cond-by, cond-not}
-use Rattle.profile.specs.declared.Row.{Row}
 use Rattle.profile.specs.declared.Journey.{Journey}
 use Rattle.profile.specs.Figures.{covᶠ}
-use Rattle.profile.specs.Journeys.{journey_figures, no_journey, cov}
+use Rattle.profile.specs.Journeys.{journey_figures, no_journey}
 use Rattle.listing.specs.declared.Verdict.{Verdict}
 use Rattle.listing.specs.declared.Verdict.TheVariants.{Late, Listed, AsGood, Beaten, Uncovered}
 use Rattle.listing.specs.Same.{same_figures, same_journey}
-use Rattle.listing.specs.Listed.{figures_row, meets_as, place_from, by_place, listed_in_of, judged_in}
-
-pub rows-cover : (a b : Journey) (x y : Row) (r : Bool) → x ≡ figures_row a → y ≡ figures_row b → r ≡ cov x y → r ≡ covᶠ journey_figures a b
-unfolding cov figures_row
-rows-cover a b x y r ex ey e = e ∙ (λ i. cov (ex i) (ey i))
+use Rattle.listing.specs.Listed.{meets_as, place_from, by_place, listed_in_of, judged_in}
 
 -- ---- how two journeys meet
 

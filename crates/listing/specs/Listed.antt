@@ -1,15 +1,11 @@
 -- What a list of journeys says of one: listed, as good as one of the list, or beaten by one.
 use Rattle.std.specs.Prelude.{Bool, cond, List, [], ◌∷◌, ℕ, suc, ◌-◌, eqb, ltb}
-use Rattle.profile.specs.declared.Row.{Row}
 use Rattle.profile.specs.declared.Journey.{Journey}
 use Rattle.profile.specs.Figures.{covᶠ}
-use Rattle.profile.specs.Journeys.{journey_figures, row}
+use Rattle.profile.specs.Journeys.{journey_figures}
 use Rattle.listing.specs.declared.Verdict.{Verdict}
 use Rattle.listing.specs.declared.Verdict.TheVariants.{Late, Listed, AsGood, Beaten, Uncovered}
 use Rattle.listing.specs.Same.{same_figures, same_journey}
-
-unfoldable pub figures_row : Journey → Row
-figures_row j = row j.leave j.arrival j.rides j.walk 0 0 0 0 0 0 0 0
 
 -- 0: k is j; 1: it is as good; else it equals or beats j
 unfoldable pub meets_as : ℕ → Journey → Journey → Bool

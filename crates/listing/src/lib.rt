@@ -6,11 +6,10 @@ pub mod same;
 ghost use Rattle.std.specs.Prelude.{◌≡◌, take};
 ghost use Rattle.profile.specs.Figures.{covᶠ};
 ghost use Rattle.profile.specs.Journeys.{journey_figures};
-ghost use Rattle.listing.specs.Listed.{figures_row, meets_as, place_from, listed_in_of, judged_in};
+ghost use Rattle.listing.specs.Listed.{meets_as, place_from, listed_in_of, judged_in};
 
 use connection::Cause;
-use profile::figures::covers;
-use profile::{Journey, Ride, Row};
+use profile::{Journey, Ride};
 use same::{same_figures, same_journey};
 
 // What is said of a connection. A journey of the list is named by its place, from 0.
@@ -29,31 +28,11 @@ pub enum Verdict {
     Impossible(Cause),
 }
 
-// A row with the figures of a journey, and no more.
-fn row_of(j: Journey) -> Row
-    ensures { result ≡ figures_row j }
-{
-    Row {
-        leave: j.leave,
-        arrival: j.arrival,
-        rides: j.rides as u16,
-        walk: j.walk as u16,
-        origin: 0,
-        target: 0,
-        board: 0,
-        alight: 0,
-        board2: 0,
-        alight2: 0,
-        middle_board: 0,
-        middle_alight: 0,
-    }
-}
-
 // Whether a equals or beats b.
 pub fn covers_journey(a: Journey, b: Journey) -> bool
     ensures { result ≡ covᶠ journey_figures a b }
 {
-    covers(row_of(a), row_of(b))
+    a.figures().covers(b.figures())
 }
 
 // 0: k is j; 1: it is as good; else it equals or beats j.

@@ -1,12 +1,12 @@
 -- Each step's answer is that of the first of its causes that holds, a taken step has none, and a refused load comes back unchanged.
+use Rattle.refusal.specs.declared.Accepted.TheVariants.{Taken, Outside}
+use Rattle.std.specs.Prelude.{Err, Ok}
 use mathlib.Core.Path.{◌≡◌, refl, sym, ap, subst}
 use mathlib.Core.Bool.{Bool, true, false, false≢true, true≢false}
 use mathlib.Core.List.{List, ◌∷◌, ◌++◌}
 use Prim.Native.Nat.{ℕ}
 use Rattle.laws.proofs.Bools.{cond-by, cond-not}
-use Rattle.refusal.specs.declared.Answer.{Answer}
-use Rattle.refusal.specs.declared.Answer.TheVariants.{Taken, Outside, Refused}
-use Rattle.refusal.specs.First.{First, hit, miss, is_refused, is_taken}
+use Rattle.refusal.specs.First.{First, hit, miss, is_refused, is_taken, Answer}
 use Rattle.refusal.proofs.FirstLaws.{answer-is-first, first-append, first_taken}
 use Rattle.stops.specs.Answer.{stop_tests}
 use Rattle.calls.specs.declared.CallInput.{CallInput}
@@ -26,9 +26,9 @@ use Rattle.load.specs.Filling.{stop, call, rule, service, exception, window_test
 use Rattle.load.proofs.StepLaws.{Called, without, goes_on, stays_out, sent_back, called, gate-passed}
 
 refused-not-taken : (a : Answer) → is_refused a ≡ true → is_taken a ≡ false
-refused-not-taken Taken e = absurd (false≢true e)
-refused-not-taken Outside e = refl
-refused-not-taken (Refused r) e = refl
+refused-not-taken (Ok Taken) e = absurd (false≢true e)
+refused-not-taken (Ok Outside) e = refl
+refused-not-taken (Err r) e = refl
 
 -- two tests more that fail
 insert-two : {a b c d e : Answer} {p q x y : Bool} {ts : List (Bool × Answer)} → x ≡ false → y ≡ false → First a ((p, b) ∷ (q, c) ∷ ts) → First a ((p, b) ∷ (q, c) ∷ (x, d) ∷ (y, e) ∷ ts)
@@ -42,7 +42,7 @@ module _ (l : Load) (name : List ℕ) (i : CallInput) where
   unfolding plain_call call_tests
   plain-first r e = insert-two (ap is_unknown e) (ap is_resting e) (call-answered l.settings l.searched l.stop_count (table_of l) i)
 
-  gate-first : (a : Answer) → gate_answer l.searched l.stop_count (running l.week name i.day) i ≡ a → (a ≡ Taken → ⊥) → First a (causes l (call name i))
+  gate-first : (a : Answer) → gate_answer l.searched l.stop_count (running l.week name i.day) i ≡ a → (a ≡ Ok Taken → ⊥) → First a (causes l (call name i))
   unfolding gate_answer
   gate-first a e n =
       first-append a (field_tests l.searched l.stop_count i ++ running_tests (running l.week name i.day)) (time_tests i ++ window_tests l i)
@@ -57,8 +57,8 @@ module _ (l : Load) (name : List ℕ) (i : CallInput) where
       go : (r : Stepped) → Called l name i r → First r.answer (causes l (call name i))
       go _ (without d) = plain-first _ (undated-runs d)
       go _ (goes_on d e) = plain-first _ (gate-passed l.searched l.stop_count i _ e).1.1
-      go _ (stays_out d e) = gate-first Outside e (λ q. true≢false (sym (ap is_taken q)))
-      go _ (sent_back d r e) = gate-first (Refused r) e (λ q. true≢false (sym (ap is_taken q)))
+      go _ (stays_out d e) = gate-first (Ok Outside) e (λ q. true≢false (sym (ap is_taken q)))
+      go _ (sent_back d r e) = gate-first (Err r) e (λ q. true≢false (sym (ap is_taken q)))
 
   plain-unchanged : is_refused (plain_call l i).answer ≡ true → (plain_call l i).load ≡ l
   unfolding plain_call

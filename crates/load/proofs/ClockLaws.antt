@@ -1,8 +1,8 @@
 -- What settings that open have passed, and the time of a call from their start.
+use Rattle.std.specs.Prelude.{None, Option, Some}
 use Prim.Native.Nat.{ℕ, zero, suc, ◌≤◌}
 use mathlib.Core.Path.{◌≡◌, refl}
 use mathlib.Core.Bool.{true, false, not, ◌&&◌}
-use mathlib.Core.Option.{Option, none, some}
 use mathlib.Core.List.{List, ◌++◌}
 use native.Mathlib.Omega.{arith}
 use lib.IntN.{pos}
@@ -24,8 +24,8 @@ unfolding settings_tests
 opening-tests o = go o.dates
   where
     go : (d : Option (List ℕ)) → takes_none (settings_tests o.settings ++ date_tests d) ≡ true
-    go none = refl
-    go (some dates) = refl
+    go None = refl
+    go (Some dates) = refl
 
 pub open-fails : (o : Opening) → Opens o → (over_counts o.settings.origins o.settings.targets o.settings.max_transfers o.settings.transfer_seconds ≡ false) × (not (all_near o.settings.now o.settings.epochs) ≡ false)
 unfolding open_answer settings_tests

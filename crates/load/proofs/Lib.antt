@@ -4,3 +4,4 @@ pub mod AnswerLaws
 pub mod TableLaws
 pub mod ClockLaws
 pub mod WeekLaws
+pub mod Held

@@ -1,8 +1,8 @@
 -- An opened load is sound, and the steps that fill it keep it sound.
+use Rattle.std.specs.Prelude.{None, Option, Some}
 use Prim.Native.Nat.{ℕ, ◌+◌}
 use mathlib.Core.Path.{◌≡◌, refl}
 use mathlib.Core.Bool.{Bool, true, false, cond, false≢true}
-use mathlib.Core.Option.{Option, none, some}
 use mathlib.Core.List.{List}
 use native.Mathlib.Omega.{arith}
 use Rattle.refusal.specs.First.{is_refused, is_taken}
@@ -28,8 +28,8 @@ use Rattle.load.specs.Sound.{Sound, OpenSound, FillKeepsSound}
 use Rattle.load.proofs.StepLaws.{Called, without, goes_on, stays_out, sent_back, called}
 
 pub week-sound : (d : Option (List ℕ)) → WeekSound (week_of d)
-week-sound none = undated-sound
-week-sound (some dates) = dated-sound dates
+week-sound None = undated-sound
+week-sound (Some dates) = dated-sound dates
 
 pub open-sound : OpenSound
 unfolding empty_of

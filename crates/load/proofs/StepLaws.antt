@@ -1,4 +1,6 @@
 -- The load that a step returns, by its answer: laws that the steps' proofs cite.
+use Rattle.refusal.specs.declared.Accepted.TheVariants.{Taken, Outside}
+use Rattle.std.specs.Prelude.{Err, Ok}
 use Prim.Native.Nat.{ℕ, ◌+◌, ◌<◌}
 use mathlib.Core.Path.{◌≡◌, refl, sym, ap, ◌∙◌}
 use mathlib.Core.Bool.{Bool, true, false, not, cond, true≢false}
@@ -6,11 +8,9 @@ use mathlib.Core.List.{List, [], ◌∷◌, ◌++◌}
 use borrow.Author.Tests.{not-false}
 use lib.ListN.{set}
 use Rattle.laws.proofs.Bools.{cond-by, cond-not}
-use Rattle.refusal.specs.declared.Answer.{Answer}
 use Rattle.refusal.specs.declared.Refusal.TheVariants.{SettingsRange, ClockRange, AlreadySearched, FieldRange, DateWrong, ServiceUnknown}
-use Rattle.refusal.specs.declared.Answer.TheVariants.{Taken, Outside, Refused}
 use Rattle.refusal.specs.declared.Refusal.{Refusal}
-use Rattle.refusal.specs.First.{AllFail, hit, miss, none as no_test, first_answer, is_refused, is_taken}
+use Rattle.refusal.specs.First.{AllFail, hit, miss, none as no_test, first_answer, is_refused, is_taken, Answer}
 use Rattle.refusal.proofs.FirstLaws.{taken_is, first-is-answer, answer-is-first, first-append, first_taken}
 use Rattle.settings.specs.declared.Settings.{Settings}
 use Rattle.settings.specs.Settings.{over_counts, all_near, settings_tests}
@@ -72,7 +72,7 @@ settings-pass : (s : Settings) → is_refused (first_answer (settings_tests s)) 
 unfolding settings_tests first_answer
 settings-pass s e = go (over_counts s.origins s.targets s.max_transfers s.transfer_seconds) (not (all_near s.now s.epochs)) e
   where
-    go : (x y : Bool) → is_refused (cond x (Refused SettingsRange) (cond y (Refused ClockRange) Taken)) ≡ false → (x ≡ false) × ((y ≡ false) × Unit {0})
+    go : (x y : Bool) → is_refused (cond x (Err SettingsRange) (cond y (Err ClockRange) (Ok Taken))) ≡ false → (x ≡ false) × ((y ≡ false) × Unit {0})
     go true y q = absurd (true≢false q)
     go false true q = absurd (true≢false q)
     go false false q = (refl, (refl, tt))
@@ -81,13 +81,13 @@ settings-pass s e = go (over_counts s.origins s.targets s.max_transfers s.transf
 module _ (s : Settings) (dates : List ℕ) (a : Answer) (h : a ≡ first_answer (settings_tests s)) where
   pub settings-refuse : is_refused a ≡ true → a ≡ open_answer (dated s dates)
   unfolding open_answer
-  settings-refuse e = h ∙ first-is-answer _ _ (first-append _ (settings_tests s) ((dates_wrong dates, Refused DateWrong) ∷ []) (answer-is-first (settings_tests s)) (λ t. true≢false (sym e ∙ ap is_refused (h ∙ t))))
+  settings-refuse e = h ∙ first-is-answer _ _ (first-append _ (settings_tests s) ((dates_wrong dates, Err DateWrong) ∷ []) (answer-is-first (settings_tests s)) (λ t. true≢false (sym e ∙ ap is_refused (h ∙ t))))
 
-  pub dates-refuse : is_refused a ≡ false → dates_wrong dates ≡ true → Refused DateWrong ≡ open_answer (dated s dates)
+  pub dates-refuse : is_refused a ≡ false → dates_wrong dates ≡ true → Err DateWrong ≡ open_answer (dated s dates)
   unfolding open_answer settings_tests
   dates-refuse e d = let f = settings-pass s (ap is_refused (sym h) ∙ e) in first-is-answer _ _ (miss f.0 (miss f.1.0 (hit d)))
 
-  pub dates-pass : is_refused a ≡ false → dates_wrong dates ≡ false → Taken ≡ open_answer (dated s dates)
+  pub dates-pass : is_refused a ≡ false → dates_wrong dates ≡ false → Ok Taken ≡ open_answer (dated s dates)
   unfolding open_answer settings_tests
   dates-pass e d = let f = settings-pass s (ap is_refused (sym h) ∙ e) in first-is-answer _ _ (miss f.0 (miss f.1.0 (miss d no_test)))
 
@@ -137,26 +137,26 @@ module _ (l : Load) (i : CallInput) where
   pub call-room : (c : Call) → uncut_call ≡ In c → l.call_count < 512
   call-room c e = told.room c e
 
-  pub call-goes-in : (c : Call) → uncut_call ≡ In c → plain_call l i ≡ record { answer = Taken; load = with_table l (put (table_of l) c) }
+  pub call-goes-in : (c : Call) → uncut_call ≡ In c → plain_call l i ≡ record { answer = Ok Taken; load = with_table l (put (table_of l) c) }
   call-goes-in c e = sym (call-taken l i _ (sym (told.goes_in c e)) refl)
 
-  pub call-outside : uncut_call ≡ Beyond → plain_call l i ≡ record { answer = Outside; load = with_table l (table_of l) }
+  pub call-outside : uncut_call ≡ Beyond → plain_call l i ≡ record { answer = Ok Outside; load = with_table l (table_of l) }
   call-outside e = sym (call-taken l i _ (sym (told.outside e)) refl)
 
 -- ---- call on a dated load
 
 -- the answer of the service itself
 abbrev pub told_of : Running → Answer
-told_of Unknown = Refused ServiceUnknown
-told_of Rests = Outside
-told_of Runs = Taken
+told_of Unknown = Err ServiceUnknown
+told_of Rests = Ok Outside
+told_of Runs = Ok Taken
 
 module _ (searched : Bool) (stops : ℕ) (i : CallInput) where
-  pub gate-searched : (r : Running) → searched ≡ true → Refused AlreadySearched ≡ gate_answer searched stops r i
+  pub gate-searched : (r : Running) → searched ≡ true → Err AlreadySearched ≡ gate_answer searched stops r i
   unfolding gate_answer
   gate-searched r e = first-is-answer _ _ (hit e)
 
-  pub gate-wrong : (r : Running) → searched ≡ false → known stops i ≡ false → Refused FieldRange ≡ gate_answer searched stops r i
+  pub gate-wrong : (r : Running) → searched ≡ false → known stops i ≡ false → Err FieldRange ≡ gate_answer searched stops r i
   unfolding gate_answer
   gate-wrong r e k = first-is-answer _ _ (miss e (hit (ap not k)))
 
@@ -167,10 +167,10 @@ module _ (searched : Bool) (stops : ℕ) (i : CallInput) where
   gate-told Runs e k = first-is-answer _ _ (miss e (miss (ap not k) (miss refl (miss refl no_test))))
 
   -- what is outside by its service is of one that doesn't run
-  pub gate-rests : (r : Running) → gate_answer searched stops r i ≡ Outside → (known stops i ≡ true) × (r ≡ Rests)
+  pub gate-rests : (r : Running) → gate_answer searched stops r i ≡ Ok Outside → (known stops i ≡ true) × (r ≡ Rests)
   gate-rests r e = go searched refl (known stops i) refl
     where
-      by : (r : Running) → told_of r ≡ Outside → r ≡ Rests
+      by : (r : Running) → told_of r ≡ Ok Outside → r ≡ Rests
       by Unknown q = absurd (true≢false (ap is_refused q))
       by Rests q = refl
       by Runs q = absurd (true≢false (ap is_taken q))
@@ -181,7 +181,7 @@ module _ (searched : Bool) (stops : ℕ) (i : CallInput) where
       go false s true k = (k, by r (gate-told r s k ∙ e))
 
   -- what goes on has passed them all
-  pub gate-passed : (r : Running) → gate_answer searched stops r i ≡ Taken → (searched ≡ false) × ((known stops i ≡ true) × (r ≡ Runs))
+  pub gate-passed : (r : Running) → gate_answer searched stops r i ≡ Ok Taken → (searched ≡ false) × ((known stops i ≡ true) × (r ≡ Runs))
   unfolding gate_answer
   gate-passed r e = let f = first_taken _ _ refl (answer-is-first (field_tests searched stops i ++ running_tests r)) e in (f.0, (not-false _ f.1.0, go r f.1.1.0 f.1.1.1.0))
     where
@@ -199,17 +199,17 @@ module _ (l : Load) (r : Running) (i : CallInput) (a : Answer) (h : a ≡ gate_a
   gate-refused e = go a refl ∙ by-gate
     where
       go : (b : Answer) → a ≡ b → ◌≡◌ {A = Stepped} (record { answer = a; load = l }) (gated l i a)
-      go Taken q = absurd (true≢false (sym e ∙ ap is_refused q))
-      go Outside q = absurd (true≢false (sym e ∙ ap is_refused q))
-      go (Refused x) q = rw q refl
+      go (Ok Taken) q = absurd (true≢false (sym e ∙ ap is_refused q))
+      go (Ok Outside) q = absurd (true≢false (sym e ∙ ap is_refused q))
+      go (Err x) q = rw q refl
 
   pub gate-outside : is_refused a ≡ false → is_taken a ≡ false → (w : Week) → w ≡ closed_week l.week → ◌≡◌ {A = Stepped} (record { answer = a; load = with_week l w }) (dated_call l r i)
   gate-outside e t w we = (λ k. record { answer = a; load = with_week l (we k) }) ∙ go a refl ∙ by-gate
     where
       go : (b : Answer) → a ≡ b → ◌≡◌ {A = Stepped} (record { answer = a; load = closed_load l }) (gated l i a)
-      go Taken q = absurd (true≢false (sym (ap is_taken q) ∙ t))
-      go Outside q = rw q refl
-      go (Refused x) q = absurd (true≢false (sym (ap is_refused q) ∙ e))
+      go (Ok Taken) q = absurd (true≢false (sym (ap is_taken q) ∙ t))
+      go (Ok Outside) q = rw q refl
+      go (Err x) q = absurd (true≢false (sym (ap is_refused q) ∙ e))
 
   passes : is_taken a ≡ true → closing l (plain_call l i) ≡ dated_call l r i
   passes t = ap (gated l i) (sym (taken_is a t)) ∙ by-gate
@@ -237,20 +237,20 @@ module _ (l : Load) (name : List ℕ) (i : CallInput) where
 -- what became of a call, by its week and its gate
 pub data Called (l : Load) (name : List ℕ) (i : CallInput) : Stepped → Type 0 where
   without : l.week.dated ≡ false → Called l name i (plain_call l i)
-  goes_on : l.week.dated ≡ true → gate_answer l.searched l.stop_count (running l.week name i.day) i ≡ Taken → Called l name i (closing l (plain_call l i))
-  stays_out : l.week.dated ≡ true → gate_answer l.searched l.stop_count (running l.week name i.day) i ≡ Outside
-      → Called l name i (record { answer = Outside; load = closed_load l })
-  sent_back : l.week.dated ≡ true → (r : Refusal) → gate_answer l.searched l.stop_count (running l.week name i.day) i ≡ Refused r
-      → Called l name i (record { answer = Refused r; load = l })
+  goes_on : l.week.dated ≡ true → gate_answer l.searched l.stop_count (running l.week name i.day) i ≡ Ok Taken → Called l name i (closing l (plain_call l i))
+  stays_out : l.week.dated ≡ true → gate_answer l.searched l.stop_count (running l.week name i.day) i ≡ Ok Outside
+      → Called l name i (record { answer = Ok Outside; load = closed_load l })
+  sent_back : l.week.dated ≡ true → (r : Refusal) → gate_answer l.searched l.stop_count (running l.week name i.day) i ≡ Err r
+      → Called l name i (record { answer = Err r; load = l })
 
 pub called : (l : Load) (name : List ℕ) (i : CallInput) → Called l name i (call_spec l name i)
 unfolding call_spec dated_call
 called l name i = go l.week.dated refl
   where
     by : l.week.dated ≡ true → (a : Answer) → gate_answer l.searched l.stop_count (running l.week name i.day) i ≡ a → Called l name i (gated l i a)
-    by d Taken e = goes_on d e
-    by d Outside e = stays_out d e
-    by d (Refused r) e = sent_back d r e
+    by d (Ok Taken) e = goes_on d e
+    by d (Ok Outside) e = stays_out d e
+    by d (Err r) e = sent_back d r e
 
     go : (b : Bool) → l.week.dated ≡ b → Called l name i (cond b (gated l i (gate_answer l.searched l.stop_count (running l.week name i.day) i)) (plain_call l i))
     go true d = by d _ refl

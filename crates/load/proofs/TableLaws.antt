@@ -1,4 +1,5 @@
 -- The table lemma: after any steps the table is the calls answered taken, as the window shows them at its horizon.
+use Rattle.std.specs.Prelude.{None}
 use Prim.Native.Nat.{ℕ, ◌+◌, ◌≤◌}
 use mathlib.Core.Path.{◌≡◌, refl, sym, ap, ◌∙◌}
 use mathlib.Core.Bool.{Bool, true, false, cond}
@@ -14,7 +15,6 @@ use Rattle.stops.specs.Taken.{stop_of}
 use Rattle.rules.specs.Rules.{rule_of}
 use Rattle.calls.specs.declared.CallInput.{CallInput}
 use Rattle.calls.specs.declared.Table.{Table}
-use Rattle.calls.specs.declared.View.TheVariants.{Out}
 use Rattle.calls.specs.Calls.{window}
 use Rattle.calls.specs.Shown.{windowed, table_calls, Shows, taken_of, Meets}
 use Rattle.calls.proofs.ShownLaws.{step-shows, refused-same}
@@ -237,7 +237,7 @@ same-table l h m = λ k. record {
   week = l.week;
 }
 
-plain-unchanged : (l : Load) (i : CallInput) → Sound l → l.searched ≡ false → window l.settings l.table_horizon i ≡ Out → (plain_call l i).load ≡ l
+plain-unchanged : (l : Load) (i : CallInput) → Sound l → l.searched ≡ false → window l.settings l.table_horizon i ≡ None → (plain_call l i).load ≡ l
 unfolding plain_call
 plain-unchanged l i w u o = go (is_refused (call_fitted l i).answer)
   where

@@ -1,14 +1,14 @@
 -- What a call does to the week of its load, and where its service runs.
+use Rattle.refusal.specs.declared.Accepted.TheVariants.{Outside}
+use Rattle.std.specs.Prelude.{Err, Ok}
 use Prim.Native.Nat.{ℕ}
 use mathlib.Core.Path.{◌≡◌, refl, sym, ap, subst, ◌∙◌}
 use mathlib.Core.Bool.{Bool, true, false, not, cond, true≢false}
 use mathlib.Core.List.{List, ◌∷◌}
 use Rattle.laws.proofs.Bools.{cond-by}
-use Rattle.refusal.specs.declared.Answer.{Answer}
-use Rattle.refusal.specs.declared.Answer.TheVariants.{Outside, Refused}
 use Rattle.refusal.specs.declared.Refusal.{Refusal}
 use Rattle.refusal.specs.declared.Refusal.TheVariants.{AlreadySearched, FieldRange}
-use Rattle.refusal.specs.First.{First, hit, miss, is_refused}
+use Rattle.refusal.specs.First.{First, hit, miss, is_refused, Answer}
 use Rattle.calls.specs.declared.CallInput.{CallInput}
 use Rattle.calls.specs.Calls.{known, call_tests}
 use Rattle.calls.proofs.ReachedLaws.{call-answered}
@@ -24,24 +24,24 @@ use Rattle.load.proofs.StepLaws.{Called, without, goes_on, stays_out, sent_back,
 
 module _ (l : Load) (i : CallInput) where
   -- the call's own answer where a field test holds
-  plain-15 : l.searched ≡ true → (plain_call l i).answer ≡ Refused AlreadySearched
+  plain-15 : l.searched ≡ true → (plain_call l i).answer ≡ Err AlreadySearched
   unfolding plain_call call_tests
   plain-15 e = go (call-answered l.settings l.searched l.stop_count (table_of l) i)
     where
-      go : {a : Answer} {ts : List (Bool × Answer)} → First a ((l.searched, Refused AlreadySearched) ∷ ts) → a ≡ Refused AlreadySearched
+      go : {a : Answer} {ts : List (Bool × Answer)} → First a ((l.searched, Err AlreadySearched) ∷ ts) → a ≡ Err AlreadySearched
       go (hit h) = refl
       go (miss h f) = absurd (true≢false (sym e ∙ h))
 
-  plain-9 : l.searched ≡ false → known l.stop_count i ≡ false → (plain_call l i).answer ≡ Refused FieldRange
+  plain-9 : l.searched ≡ false → known l.stop_count i ≡ false → (plain_call l i).answer ≡ Err FieldRange
   unfolding plain_call call_tests
   plain-9 e k = go (call-answered l.settings l.searched l.stop_count (table_of l) i)
     where
-      go : {a : Answer} {ts : List (Bool × Answer)} → First a ((l.searched, Refused AlreadySearched) ∷ (not (known l.stop_count i), Refused FieldRange) ∷ ts) → a ≡ Refused FieldRange
+      go : {a : Answer} {ts : List (Bool × Answer)} → First a ((l.searched, Err AlreadySearched) ∷ (not (known l.stop_count i), Err FieldRange) ∷ ts) → a ≡ Err FieldRange
       go (hit h) = absurd (true≢false (sym h ∙ e))
       go (miss h (hit g)) = refl
       go (miss h (miss g f)) = absurd (true≢false (sym (ap not k) ∙ g))
 
-  closing-refused : (r : Refusal) → (plain_call l i).answer ≡ Refused r → ◌≡◌ {A = Stepped} (record { answer = Refused r; load = l }) (closing l (plain_call l i))
+  closing-refused : (r : Refusal) → (plain_call l i).answer ≡ Err r → ◌≡◌ {A = Stepped} (record { answer = Err r; load = l }) (closing l (plain_call l i))
   closing-refused r e =
       let same : l ≡ (closing l (plain_call l i)).load = sym (cond-by _ _ (ap is_refused e)) in
       λ k. record { answer = sym e k; load = same k }
@@ -65,8 +65,8 @@ module _ (l : Load) (name : List ℕ) (i : CallInput) (d : l.week.dated ≡ true
       go : (r : Stepped) → Called l name i r → r ≡ closing l (plain_call l i)
       go _ (without n) = absurd (true≢false (sym d ∙ n))
       go _ (goes_on n g) = refl
-      go _ (stays_out n g) = by-gate l i Outside (sym g ∙ at)
-      go _ (sent_back n r g) = by-gate l i (Refused r) (sym g ∙ at)
+      go _ (stays_out n g) = by-gate l i (Ok Outside) (sym g ∙ at)
+      go _ (sent_back n r g) = by-gate l i (Err r) (sym g ∙ at)
 
   -- of one that doesn't: the load but for its week
   pub call-rests : {X : Type 0} (f : Load → X) → ((m : Load) (w : Week) → f (with_week m w) ≡ f m) → (running l.week name i.day ≡ Runs → ⊥) → f (call_spec l name i).load ≡ f l

@@ -1,8 +1,7 @@
 -- The steps that fill a load, as one type, and a list of them: each gets the load that the one before it returned.
-use Rattle.std.specs.Prelude.{ℕ, ◌≡◌, Bool, true, List, [], ◌∷◌, ◌++◌}
-use Rattle.refusal.specs.declared.Answer.{Answer}
-use Rattle.refusal.specs.declared.Answer.TheVariants.{Taken}
-use Rattle.refusal.specs.First.{First, AllFail, is_refused}
+use Rattle.refusal.specs.declared.Accepted.TheVariants.{Taken}
+use Rattle.std.specs.Prelude.{ℕ, ◌≡◌, Bool, true, List, [], ◌∷◌, ◌++◌, Ok}
+use Rattle.refusal.specs.First.{First, AllFail, is_refused, Answer}
 use Rattle.stops.specs.declared.StopInput.{StopInput}
 use Rattle.stops.specs.Answer.{stop_tests}
 use Rattle.calls.specs.declared.CallInput.{CallInput}
@@ -56,7 +55,7 @@ causes l (exception name date kind) = exception_tests l.searched l.week.closed l
 -- each step's answer is that of the first of its causes that holds, a taken step has none, and a refused load comes back unchanged
 pub record Answered (l : Load) (x : Filling) : Type 0 where
   pub first : First (filled l x).answer (causes l x)
-  pub taken : (filled l x).answer ≡ Taken → AllFail (causes l x)
+  pub taken : (filled l x).answer ≡ Ok Taken → AllFail (causes l x)
   pub unchanged : is_refused (filled l x).answer ≡ true → (filled l x).load ≡ l
 
 abbrev pub StepAnswered : Type 0

@@ -1,8 +1,7 @@
 -- A load that the steps make: sound stops, calls, rules and week, every call at one of its stops, journeys in order, none before the search, one
 -- horizon until then, and a limit only where a search was stopped at it.
-use Rattle.std.specs.Prelude.{ℕ, ◌-◌, ◌≤◌, ◌≡◌, true, false, List, length, take, drop, replicate}
-use Rattle.std.proofs.Math.Option.{Option, none, some}
-use Rattle.refusal.specs.declared.Answer.TheVariants.{Taken}
+use Rattle.refusal.specs.declared.Accepted.TheVariants.{Taken}
+use Rattle.std.specs.Prelude.{ℕ, ◌-◌, ◌≤◌, ◌≡◌, true, false, List, length, take, drop, replicate, None, Option, Some, Ok}
 use Rattle.stops.specs.Sound.{StopsSound}
 use Rattle.calls.specs.Sound.{TableSound, StopsKnown}
 use Rattle.rules.specs.Sound.{RulesSound}
@@ -16,12 +15,12 @@ use Rattle.load.specs.Filling.{Filling, filled}
 
 -- dates come by threes
 abbrev pub Three : Option (List ℕ) → Type 0
-Three none = Unit {0}
-Three (some dates) = length dates ≡ 3
+Three None = Unit {0}
+Three (Some dates) = length dates ≡ 3
 
 -- the opening is not sent back
 abbrev pub Opens : Opening → Type 0
-Opens o = (open_answer o ≡ Taken) × Three o.dates
+Opens o = (open_answer o ≡ Ok Taken) × Three o.dates
 
 pub record Sound (l : Load) : Type 0 where
   pub stops : StopsSound l.stops l.stop_count

@@ -1,15 +1,12 @@
 -- Opening, stop, call, rule, service and exception: the answer, and the load that is returned. A step that is sent back returns the load given.
-use Rattle.std.specs.Prelude.{ℕ, ◌+◌, Bool, true, false, cond, List, [], ◌∷◌, ◌++◌, set}
-use Rattle.std.proofs.Math.Option.{Option, none, some}
+use Rattle.refusal.specs.declared.Accepted.TheVariants.{Taken, Outside}
+use Rattle.std.specs.Prelude.{ℕ, ◌+◌, Bool, true, false, cond, List, [], ◌∷◌, ◌++◌, set, None, Option, Some, Err, Ok}
 use Rattle.refusal.specs.declared.Refusal.TheVariants.{DateWrong, ServiceUnknown}
-use Rattle.refusal.specs.declared.Answer.{Answer}
-use Rattle.refusal.specs.declared.Answer.TheVariants.{Taken, Outside, Refused}
-use Rattle.refusal.specs.First.{first_answer, is_refused, is_taken}
+use Rattle.refusal.specs.First.{first_answer, is_refused, is_taken, Answer}
 use Rattle.settings.specs.declared.Settings.{Settings}
 use Rattle.settings.specs.Settings.{settings_tests, canonical_of}
 use Rattle.stops.specs.declared.Stop.{Stop}
 use Rattle.stops.specs.declared.StopInput.{StopInput}
-use Rattle.stops.specs.declared.Found.{Found}
 use Rattle.stops.specs.Answer.{station_of, stop_tests}
 use Rattle.stops.specs.Taken.{stop_of}
 use Rattle.calls.specs.declared.CallInput.{CallInput}
@@ -34,14 +31,14 @@ pub record Opening : Type 0 where
   pub dates : Option (List ℕ)
 
 abbrev pub undated : Settings → Opening
-undated s = record { settings = s; dates = none }
+undated s = record { settings = s; dates = None }
 
 abbrev pub dated : Settings → List ℕ → Opening
-dated s dates = record { settings = s; dates = some dates }
+dated s dates = record { settings = s; dates = Some dates }
 
 abbrev pub date_tests : Option (List ℕ) → List (Bool × Answer)
-date_tests none = []
-date_tests (some dates) = (dates_wrong dates, Refused DateWrong) ∷ []
+date_tests None = []
+date_tests (Some dates) = (dates_wrong dates, Err DateWrong) ∷ []
 
 abbrev pub open_tests : Opening → List (Bool × Answer)
 open_tests o = settings_tests o.settings ++ date_tests o.dates
@@ -50,8 +47,8 @@ unfoldable pub open_answer : Opening → Answer
 open_answer o = first_answer (open_tests o)
 
 abbrev pub week_of : Option (List ℕ) → Week
-week_of none = undated_week
-week_of (some dates) = dated_week dates
+week_of None = undated_week
+week_of (Some dates) = dated_week dates
 
 -- the load of an opening that is not sent back
 abbrev pub opened : Opening → Load
@@ -62,7 +59,7 @@ open_spec_of o = record { answer = open_answer o; load = cond (is_refused (open_
 
 -- ---- stop: 15, 3, 5, 6, 7, 8, 4
 
-abbrev pub station_in : Load → List ℕ → StopInput → Found
+abbrev pub station_in : Load → List ℕ → StopInput → Option ℕ
 station_in l parent i = station_of l.stops l.stop_count i.has_parent parent
 
 abbrev pub stop_answer : Load → List ℕ → List ℕ → List ℕ → StopInput → Answer
@@ -102,7 +99,7 @@ is_resting Runs = false
 
 -- what is asked of the service that a call names: 21, outside on a day when it doesn't run
 abbrev pub running_tests : Running → List (Bool × Answer)
-running_tests r = (is_unknown r, Refused ServiceUnknown) ∷ (is_resting r, Outside) ∷ []
+running_tests r = (is_unknown r, Err ServiceUnknown) ∷ (is_resting r, Ok Outside) ∷ []
 
 -- on a dated load, before the call's times: 15, 9, 21, outside on a day when the service doesn't run
 unfoldable pub gate_answer : Bool → ℕ → Running → CallInput → Answer
@@ -117,9 +114,9 @@ abbrev pub closing : Load → Stepped → Stepped
 closing l r = record { answer = r.answer; load = cond (is_refused r.answer) l (with_week r.load (closed_week l.week)) }
 
 abbrev pub gated : Load → CallInput → Answer → Stepped
-gated l i Taken = closing l (plain_call l i)
-gated l i Outside = record { answer = Outside; load = closed_load l }
-gated l i (Refused r) = record { answer = Refused r; load = l }
+gated l i (Ok Taken) = closing l (plain_call l i)
+gated l i (Ok Outside) = record { answer = Ok Outside; load = closed_load l }
+gated l i (Err r) = record { answer = Err r; load = l }
 
 unfoldable pub dated_call : Load → Running → CallInput → Stepped
 dated_call l r i = gated l i (gate_answer l.searched l.stop_count r i)

@@ -1,9 +1,8 @@
 -- What the call table is after any steps, and when its horizon falls.
-use Rattle.std.specs.Prelude.{ℕ, ◌≤◌, ◌<◌, ◌≡◌, true, false, cond, List, [], ◌∷◌, ◌++◌}
+use Rattle.std.specs.Prelude.{ℕ, ◌≤◌, ◌<◌, ◌≡◌, true, false, cond, List, [], ◌∷◌, ◌++◌, None}
 use Rattle.refusal.specs.First.{is_taken}
 use Rattle.settings.specs.Settings.{canonical_of}
 use Rattle.calls.specs.declared.CallInput.{CallInput}
-use Rattle.calls.specs.declared.View.TheVariants.{Out}
 use Rattle.calls.specs.Calls.{window}
 use Rattle.calls.specs.Shown.{windowed, table_calls, Meets}
 use Rattle.calls.specs.Sound.{one_of, horizons}
@@ -45,4 +44,4 @@ FallsOnlyFull = (l : Load) (x : Filling) → (filled l x).load.table_horizon < l
 -- a call that is outside as it comes leaves a sound load without dates unchanged, until the search. (On a dated load it closes the services. One that is inside and meets a full table cuts it, and may
 -- then be outside: the cut stays.)
 abbrev pub OutsideUnchanged : Type 0
-OutsideUnchanged = (l : Load) (i : CallInput) → Sound l → l.searched ≡ false → l.week.dated ≡ false → (name : List ℕ) → window l.settings l.table_horizon i ≡ Out → (call_spec l name i).load ≡ l
+OutsideUnchanged = (l : Load) (i : CallInput) → Sound l → l.searched ≡ false → l.week.dated ≡ false → (name : List ℕ) → window l.settings l.table_horizon i ≡ None → (call_spec l name i).load ≡ l

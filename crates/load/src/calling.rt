@@ -5,25 +5,25 @@ ghost use Rattle.load.specs.Steps.{plain_call, gate_answer, dated_call, call_spe
 
 use crate::{Load, Stepped};
 use calls::{CallInput, Table, Uncut};
-use refusal::{Answer, Refusal, is_refused, is_taken};
+use refusal::{Accepted, Answer, Refusal, is_refused, is_taken};
 use table::step::{call_on, is_known, uncut};
 use week::{Running, closed};
 
 // What a call on a dated load is answered by its service: 15, 9, 21, outside on a day when that doesn't run; taken where it goes on.
+#[tactic(auto, unfolding(crate::specs::Steps::gate_answer, refusal::specs::First::first_answer))]
 fn gate_answer(searched: bool, stops: usize, told: Running, input: CallInput) -> Answer
     ensures { result ≡ gate_answer searched stops told input }
 {
     if searched {
-        return Answer::Refused(Refusal::AlreadySearched);
+        return Err(Refusal::AlreadySearched);
     }
-    if is_known(stops, input) {
-        match told {
-            Running::Unknown => Answer::Refused(Refusal::ServiceUnknown),
-            Running::Rests => Answer::Outside,
-            Running::Runs => Answer::Taken,
-        }
-    } else {
-        Answer::Refused(Refusal::FieldRange)
+    if !is_known(stops, input) {
+        return Err(Refusal::FieldRange);
+    }
+    match told {
+        Running::Unknown => Err(Refusal::ServiceUnknown),
+        Running::Rests => Ok(Accepted::Outside),
+        Running::Runs => Ok(Accepted::Taken),
     }
 }
 
@@ -96,7 +96,7 @@ impl Load {
                 next.horizon = self.table_horizon;
                 next.limits = self.table_limits;
                 Stepped {
-                    answer: Answer::Taken,
+                    answer: Ok(Accepted::Taken),
                     load: next,
                 }
             }
@@ -105,7 +105,7 @@ impl Load {
                 next.horizon = self.table_horizon;
                 next.limits = self.table_limits;
                 Stepped {
-                    answer: Answer::Outside,
+                    answer: Ok(Accepted::Outside),
                     load: next,
                 }
             }

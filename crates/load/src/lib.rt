@@ -8,8 +8,9 @@ ghost use Rattle.load.specs.Load.{blank_settings, empty_load, empty_of};
 ghost use Rattle.load.specs.Steps.{undated, dated, open_answer, open_spec_of, stop_spec, rule_spec, service_spec, exception_spec};
 
 use calls::{Call, blank_call};
+use prefix::first;
 use profile::{Journey, no_journey};
-use refusal::{Answer, Refusal, is_refused, is_taken};
+use refusal::{Accepted, Answer, Refusal, is_refused, is_taken};
 use rules::{Rule, RuleInput, blank_rule, rule_answer, rule_of};
 use services::dates_wrong;
 use settings::{Settings, canonical, settings_answer};
@@ -21,7 +22,7 @@ use week::{Week, dated, undated};
 // A slot past its count holds the blank record. `table_horizon` and `table_limits` are the call table's; `horizon` and
 // `limits` are what a query sees, and differ from them only after the search. A load whose search was stopped holds its limit on joins; any
 // other holds 0.
-#[derive(Clone, Copy)]
+#[derive(Clone, Copy, Debug, PartialEq)]
 pub struct Load {
     pub settings: Settings,
     pub stops: [Stop; 128],
@@ -43,7 +44,7 @@ pub struct Load {
 }
 
 // What a step answers, and the load that it returns: the load given, where the step is sent back.
-#[derive(Clone, Copy)]
+#[derive(Clone, Copy, Debug, PartialEq)]
 pub struct Stepped {
     pub answer: Answer,
     pub load: Load,
@@ -104,17 +105,15 @@ pub fn blank() -> Load
 }
 
 // Why an opening with dates is sent back: 1, 2, 20.
+#[tactic(auto, unfolding(crate::specs::Steps::open_answer, refusal::specs::First::first_answer, settings::specs::Settings::settings_tests))]
 fn dated_answer(settings: Settings, dates: [u32; 3]) -> Answer
     ensures { result ≡ open_answer (dated settings dates) }
 {
-    let answer = settings_answer(settings);
-    if is_refused(answer) {
-        return answer;
-    }
+    settings_answer(settings)?;
     if dates_wrong(dates) {
-        return Answer::Refused(Refusal::DateWrong);
+        return Err(Refusal::DateWrong);
     }
-    Answer::Taken
+    Ok(Accepted::Taken)
 }
 
 impl Load {
@@ -148,11 +147,11 @@ impl Load {
     pub fn stop(self, id: &[u8], name: &[u8], parent: &[u8], input: StopInput) -> Stepped
         ensures { result ≡ stop_spec self id.now name.now parent.now input }
     {
-        let stops = self.stops;
-        let at = self.stop_count;
-        let station = parent_of(stops, at, input.has_parent, parent);
-        let answer = stop_answer(self.searched, stops, at, station, id, name, input);
+        let stops = first(&self.stops, self.stop_count);
+        let station = parent_of(stops, input.has_parent, parent);
+        let answer = stop_answer(self.searched, stops, station, id, name, input);
         if is_taken(answer) {
+            let at = self.stop_count;
             let mut next = self;
             next.stops[at] = stop_of(id, name, station, input);
             next.stop_count = at + 1;
@@ -165,10 +164,10 @@ impl Load {
     pub fn rule(self, input: RuleInput) -> Stepped
         ensures { result ≡ rule_spec self input }
     {
-        let rules = self.rules;
-        let at = self.rule_count;
-        let answer = rule_answer(self.searched, self.stop_count, rules, at, input);
+        let rules = first(&self.rules, self.rule_count);
+        let answer = rule_answer(self.searched, self.stop_count, rules, input);
         if is_taken(answer) {
+            let at = self.rule_count;
             let mut next = self;
             next.rules[at] = rule_of(input);
             next.rule_count = at + 1;
@@ -176,29 +175,32 @@ impl Load {
         }
         Stepped { answer, load: self }
     }
+
     // A service is taken or sent back.
     pub fn service(self, name: &[u8], weekdays: u8, start: u32, end: u32) -> Stepped
         ensures { result ≡ service_spec self name.now weekdays start end }
     {
-        let week = self.week;
-        let s = week.service(self.searched, name, weekdays, start, end);
-        let answer = s.answer;
+        let s = self.week.service(self.searched, name, weekdays, start, end);
         let after = s.week;
         let mut next = self;
         next.week = after;
-        Stepped { answer, load: next }
+        Stepped {
+            answer: s.answer,
+            load: next,
+        }
     }
 
     // An exception to a service is taken or sent back.
     pub fn exception(self, name: &[u8], date: u32, kind: u8) -> Stepped
         ensures { result ≡ exception_spec self name.now date kind }
     {
-        let week = self.week;
-        let s = week.exception(self.searched, name, date, kind);
-        let answer = s.answer;
+        let s = self.week.exception(self.searched, name, date, kind);
         let after = s.week;
         let mut next = self;
         next.week = after;
-        Stepped { answer, load: next }
+        Stepped {
+            answer: s.answer,
+            load: next,
+        }
     }
 }

@@ -1,7 +1,6 @@
 -- A load searched many times, or a call added to it or withdrawn from it.
-use Rattle.std.specs.Prelude.{ℕ, zero, suc, ◌+◌, ◌%◌, Bool, cond, []}
+use Rattle.std.specs.Prelude.{ℕ, zero, suc, ◌+◌, ◌%◌, Bool, cond, [], Some}
 use Rattle.calls.specs.declared.CallInput.{CallInput}
-use Rattle.calls.specs.declared.Seconds.TheVariants.{Given}
 use Rattle.withdrawal.specs.Removal.{key_of}
 use Rattle.load.specs.declared.Load.{Load}
 use Rattle.load.specs.Load.{seen_of, with_seen}
@@ -29,8 +28,8 @@ call_at trip sequence stop second = record {
   day = 0;
   sequence = sequence;
   stop = stop;
-  arrival = Given second;
-  departure = Given second;
+  arrival = Some second;
+  departure = Some second;
   pickup = 0;
   drop_off = 0;
 }

@@ -5,7 +5,7 @@ ghost use Rattle.load_c.specs.Searches.{sum_of, call_at, horizon_with, horizon_w
 
 use crate::wide;
 use again::{add, withdraw};
-use calls::{CallInput, Seconds};
+use calls::CallInput;
 use load::Load;
 use reader::read;
 use withdrawal::CallKey;
@@ -18,8 +18,8 @@ fn call(trip: u16, sequence: u32, stop: u16, second: u32) -> CallInput
         day: 0,
         sequence,
         stop,
-        arrival: Seconds::Given(second),
-        departure: Seconds::Given(second),
+        arrival: Some(second),
+        departure: Some(second),
         pickup: 0,
         drop_off: 0,
     }

@@ -10,9 +10,10 @@ ghost use Rattle.best.specs.Best.{best_spec};
 ghost use Rattle.load_c.specs.Best.{times_of};
 ghost use Rattle.load_c.specs.Searches.{sum_of, horizon_after};
 
-use best::{Found, best};
+use best::best;
 use lines::lines;
 use load::Load;
+use profile::Journey;
 use reader::read;
 use search::search;
 
@@ -28,12 +29,12 @@ pub extern "C" fn load_lines(bytes: &[u8], out: &mut [u8; 4096]) -> usize
 }
 
 // When a journey leaves and arrives, as one number.
-fn times_of(found: Found) -> u64
+fn times_of(found: Option<Journey>) -> u64
     ensures { result ≡ times_of found }
 {
     match found {
-        Found::Best(j) => wide(j.leave) * 65536 + wide(j.arrival),
-        Found::Nothing => 4294967296,
+        Some(j) => wide(j.leave) * 65536 + wide(j.arrival),
+        None => 4294967296,
     }
 }
 

@@ -4,15 +4,9 @@
 ghost use Rattle.std.specs.Prelude.{◌≡◌, ◌-◌};
 ghost use Rattle.margin.specs.Stopped.{margin_spec};
 
-use best::{Found, best};
+use best::best;
 use load::Load;
 use search::earliest::earliest_arrival;
-
-#[derive(Clone, Copy)]
-pub enum Margin {
-    Is(u16),
-    Nothing,
-}
 
 // An arrival less a time that is no later; 0 for a later one.
 fn less(arrival: u16, t: u32) -> u16
@@ -25,16 +19,16 @@ fn less(arrival: u16, t: u32) -> u16
 }
 
 // None of a load that is not stopped, and none with nothing found yet.
-pub fn margin_of(load: Load) -> Margin
+pub fn margin_of(load: Load) -> Option<u16>
     ensures { result ≡ margin_spec load }
 {
     if load.stopped {
         let found = best(load, 0);
         match found {
-            Found::Best(j) => Margin::Is(less(j.arrival, earliest_arrival(load))),
-            Found::Nothing => Margin::Nothing,
+            Some(j) => Some(less(j.arrival, earliest_arrival(load))),
+            None => None,
         }
     } else {
-        Margin::Nothing
+        None
     }
 }

@@ -3,72 +3,36 @@
 // end that are fewer than a connection's are left out.
 ghost use Rattle.std.specs.Prelude.{◌≤◌};
 
-use crate::numbers::{u8_at, u16_at, u32_at};
 use crate::text;
 use connection::{Connection, Leg};
 use load::Load;
-use std::io::Stdout;
-use stdio::out;
+use stdio::out::Out;
 use verdict::verdict;
 
-fn leg_at(b: &[u8], at: usize) -> Leg
-    requires { at ≤ 64 }
+fn leg_at(b: &[u8; 36], at: usize) -> Leg
+    requires { at ≤ 25 }
 {
     Leg {
-        trip: u16_at(b, at),
-        day: u8_at(b, at + 2),
-        board: u32_at(b, at + 3),
-        alight: u32_at(b, at + 7),
+        trip: u16::from_be_bytes([b[at], b[at + 1]]),
+        day: b[at + 2],
+        board: u32::from_be_bytes([b[at + 3], b[at + 4], b[at + 5], b[at + 6]]),
+        alight: u32::from_be_bytes([b[at + 7], b[at + 8], b[at + 9], b[at + 10]]),
     }
 }
 
-fn connection_in(b: &[u8]) -> Connection {
-    let one = leg_at(b, 3);
-    let two = leg_at(b, 14);
-    let three = leg_at(b, 25);
-    let legs = [one, two, three];
+fn connection_in(b: &[u8; 36]) -> Connection {
     Connection {
-        origin: u8_at(b, 0),
-        target: u8_at(b, 1),
-        rides: u8_at(b, 2),
-        legs,
+        origin: b[0],
+        target: b[1],
+        rides: b[2],
+        legs: [leg_at(b, 3), leg_at(b, 14), leg_at(b, 25)],
     }
 }
 
-fn connection_at(b: &[u8], at: usize) -> Connection {
-    let from = out::least(at, b.len());
-    connection_in(&b[from..])
-}
-
-fn line(
-    stdout: Stdout,
-    out: &mut [u8; 65536],
-    at: usize,
-    load: Load,
-    b: &[u8],
-    from: usize,
-) -> usize
-    ensures { result ≤ 24576 }
-{
-    let v = verdict(load, connection_at(b, from));
-    text::verdict_line(stdout, out, at, v)
-}
-
-// A line for each connection of the first `size` bytes, up to as many as the longest part holds.
-pub fn verdicts(
-    stdout: Stdout,
-    out: &mut [u8; 65536],
-    at: usize,
-    load: Load,
-    b: &[u8],
-    size: usize,
-) -> usize
-    ensures { result ≤ 65536 }
-{
-    let n = out::least(size / 36, 29127);
-    let mut to = out::least(at, 65536);
-    for i in 0usize..n {
-        to = line(stdout, out, to, load, b, i * 36);
+// A line for each connection of the bytes.
+pub fn verdicts(out: &mut Out, load: Load, b: &[u8]) {
+    let (connections, _) = b.as_chunks::<36>();
+    for connection in connections {
+        text::verdict_line(out, verdict(load, connection_in(connection)));
     }
-    to
 }

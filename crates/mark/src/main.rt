@@ -3,93 +3,61 @@
 // Of a file that is refused, its refusal alone. A part that is longer than the buffer, or is not there whole, ends the run.
 #![tactic(auto)]
 
+ghost use Rattle.std.specs.Prelude.{◌≤◌, IfSome, length};
+
 mod connections;
-mod numbers;
 mod text;
 
 use file::Took;
-use load::Load;
 use reader::read;
-use refusal::{Answer, is_refused};
-use std::io::{Stdin, Stdout};
-use stdio::{input, out};
+use std::io::Stdin;
+use stdio::input;
+use stdio::out::Out;
 
-// As long as the longest file.
+// As long as the longest file. A function of its own: the proof of `main` can't hold an array of that length.
 fn buffer() -> [u8; 1048576] {
-    [0u8; 1048576]
+    [0; 1048576]
 }
 
-// As long as the longest list.
-fn said() -> [u8; 4096] {
-    [0u8; 4096]
-}
-
-// The next part, put at the start of the buffer; its size, or 4294967296 where there is none.
-fn part(stdin: Stdin, buf: &mut [u8]) -> usize {
+// The next part, put at the start of the buffer; its size, if it is there.
+fn part(stdin: Stdin, buf: &mut [u8]) -> Option<usize>
+    ensures { IfSome result (λ n. n ≤ length buf.new) }
+{
     if input::head(stdin, buf) < 4 {
-        return 4294967296;
+        return None;
     }
     input::body(stdin, buf)
 }
 
-// The list, or the refusal.
-fn list(out: &mut [u8; 65536], answer: Answer, load: Load) -> usize {
-    let mut lines = said();
-    let n = lines::lines(&mut lines, answer, load);
-    out::text(out, 0, &lines[..n])
+// What is said of a load file and its connections: the list, or the refusal, and the verdicts.
+fn item(out: &mut Out, file: Took, connections: &[u8]) {
+    let load = file.reader.load;
+    // As long as the longest list.
+    let mut list = [0; 4096];
+    let n = lines::lines(&mut list, file.answer, load);
+    out.text(&list[..n]);
+    if file.answer.is_ok() {
+        connections::verdicts(out, load, connections);
+    }
+    out.end_file();
 }
 
-// What is said of a load file and the connections in the first `size` bytes.
-fn item(stdout: Stdout, out: &mut [u8; 65536], t: Took, b: &[u8], size: usize) -> usize {
-    let answer = t.answer;
-    let reader = t.reader;
-    let load = reader.load;
-    let at = list(out, answer, load);
-    if is_refused(answer) {
-        return at;
-    }
-    connections::verdicts(stdout, out, at, load, b, size)
-}
-
-fn file(bytes: &[u8], size: usize) -> Took {
-    if size <= bytes.len() {
-        return read(&bytes[..size]);
-    }
-    read(bytes)
-}
-
-// The connections in the buffer, after their file; whether there may be another pair.
-fn second(stdin: Stdin, stdout: Stdout, out: &mut [u8; 65536], buf: &mut [u8], t: Took) -> bool {
-    let size = part(stdin, buf);
-    if size > buf.len() {
-        return false;
-    }
-    let at = item(stdout, out, t, buf, size);
-    out::end_file(stdout, out, at);
-    true
-}
-
-// One pair; whether there may be another.
-fn turn(stdin: Stdin, stdout: Stdout, out: &mut [u8; 65536], buf: &mut [u8]) -> bool {
-    let size = part(stdin, buf);
-    if size > buf.len() {
-        return false;
-    }
-    let t = file(buf, size);
-    second(stdin, stdout, out, buf, t)
+// One pair; none where a part of it is missing.
+fn pair(stdin: Stdin, out: &mut Out, buf: &mut [u8]) -> Option<()> {
+    let size = part(stdin, buf)?;
+    let file = read(&buf[..size]);
+    let size = part(stdin, buf)?;
+    item(out, file, &buf[..size]);
+    Some(())
 }
 
 fn main(rt: HostRuntime) {
     let stdin = rt.stdin();
-    let stdout = rt.stdout();
-    let mut out = [0u8; 65536];
+    let mut out = Out::new(rt.stdout());
     let mut bytes = buffer();
     let buf: &mut [u8] = &mut bytes;
-    let mut turns: u64 = 18446744073709551615;
-    while turns > 0 {
-        if turn(stdin, stdout, &mut out, buf) {
-            turns -= 1;
-        } else {
+    for _ in 0..u64::MAX {
+        if pair(stdin, &mut out, buf).is_none() {
             return;
         }
     }

@@ -17,76 +17,36 @@
 //     forbidden C N               change C, by rule N
 //     no-change C                 no rule, and neither one stop, one station nor one place
 //     short C N A D               change C takes N seconds; one arrives at A, and the next departs at D
-ghost use Rattle.std.specs.Prelude.{◌≤◌};
-
 use connection::Cause;
 use listing::Verdict;
-use std::io::Stdout;
-use stdio::out;
+use stdio::out::Out;
 
-// A word and a number.
-fn one(out: &mut [u8; 65536], at: usize, word: &[u8], n: u64) -> usize {
-    let a = out::text(out, at, word);
-    out::spaced(out, a, n)
-}
-
-// A word and two numbers.
-fn two(out: &mut [u8; 65536], at: usize, word: &[u8], n: u64, m: u64) -> usize {
-    let a = one(out, at, word, n);
-    out::spaced(out, a, m)
-}
-
-fn short(
-    out: &mut [u8; 65536],
-    at: usize,
-    c: u8,
-    needed: u16,
-    arrival: u16,
-    departure: u16,
-) -> usize {
-    let a = two(out, at, b" short", c as u64, needed as u64);
-    let b = out::spaced(out, a, arrival as u64);
-    out::spaced(out, b, departure as u64)
-}
-
-fn cause(out: &mut [u8; 65536], at: usize, c: Cause) -> usize {
+fn impossible(out: &mut Out, c: Cause) {
     match c {
-        Cause::RideCount(n) => one(out, at, b" rides", n as u64),
-        Cause::NoCall(r, s) => two(out, at, b" no-call", r as u64, s as u64),
-        Cause::BoardingBarred(r) => one(out, at, b" boarding", r as u64),
-        Cause::AlightingBarred(r) => one(out, at, b" alighting", r as u64),
-        Cause::NotLater(r) => one(out, at, b" not-later", r as u64),
-        Cause::NotOrigin => out::text(out, at, b" origin"),
-        Cause::NotTarget => out::text(out, at, b" target"),
-        Cause::TooEarly(w, d) => two(out, at, b" walk", w as u64, d as u64),
-        Cause::TooManyChanges(n) => one(out, at, b" changes", n as u64),
-        Cause::SameRun(c) => one(out, at, b" same-run", c as u64),
-        Cause::Forbidden(c, n) => two(out, at, b" forbidden", c as u64, n as u64),
-        Cause::NoChange(c) => one(out, at, b" no-change", c as u64),
-        Cause::TooShort(c, n, a, d) => short(out, at, c, n, a, d),
+        Cause::RideCount(n) => writeln!(out, "impossible rides {n}"),
+        Cause::NoCall(r, s) => writeln!(out, "impossible no-call {r} {s}"),
+        Cause::BoardingBarred(r) => writeln!(out, "impossible boarding {r}"),
+        Cause::AlightingBarred(r) => writeln!(out, "impossible alighting {r}"),
+        Cause::NotLater(r) => writeln!(out, "impossible not-later {r}"),
+        Cause::NotOrigin => writeln!(out, "impossible origin"),
+        Cause::NotTarget => writeln!(out, "impossible target"),
+        Cause::TooEarly(w, d) => writeln!(out, "impossible walk {w} {d}"),
+        Cause::TooManyChanges(n) => writeln!(out, "impossible changes {n}"),
+        Cause::SameRun(c) => writeln!(out, "impossible same-run {c}"),
+        Cause::Forbidden(c, n) => writeln!(out, "impossible forbidden {c} {n}"),
+        Cause::NoChange(c) => writeln!(out, "impossible no-change {c}"),
+        Cause::TooShort(c, n, a, d) => writeln!(out, "impossible short {c} {n} {a} {d}"),
     }
 }
 
-fn impossible(out: &mut [u8; 65536], at: usize, c: Cause) -> usize {
-    let a = out::text(out, at, b"impossible");
-    cause(out, a, c)
-}
-
-fn words(out: &mut [u8; 65536], at: usize, v: Verdict) -> usize {
+pub fn verdict_line(out: &mut Out, v: Verdict) {
     match v {
-        Verdict::NotFinished => out::text(out, at, b"unfinished"),
-        Verdict::Late => out::text(out, at, b"late"),
-        Verdict::Listed(j) => one(out, at, b"listed", j as u64),
-        Verdict::AsGood(j) => one(out, at, b"equal", j as u64),
-        Verdict::Beaten(j) => one(out, at, b"beaten", j as u64),
-        Verdict::Uncovered => out::text(out, at, b"uncovered"),
-        Verdict::Impossible(c) => impossible(out, at, c),
+        Verdict::NotFinished => writeln!(out, "unfinished"),
+        Verdict::Late => writeln!(out, "late"),
+        Verdict::Listed(j) => writeln!(out, "listed {j}"),
+        Verdict::AsGood(j) => writeln!(out, "equal {j}"),
+        Verdict::Beaten(j) => writeln!(out, "beaten {j}"),
+        Verdict::Uncovered => writeln!(out, "uncovered"),
+        Verdict::Impossible(c) => impossible(out, c),
     }
-}
-
-pub fn verdict_line(stdout: Stdout, out: &mut [u8; 65536], at: usize, v: Verdict) -> usize
-    ensures { result ≤ 24576 }
-{
-    let a = words(out, at, v);
-    out::line(stdout, out, a)
 }

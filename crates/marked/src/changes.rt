@@ -1,14 +1,15 @@
 // The scope's changes, of every kind, and its marked joins. Station 0 has the platforms 1 and 2, station 3 the
 // platform 4; 5 and 6 are of one place, 7 of none of theirs. The change time is 180 seconds.
-use crate::show;
+use crate::show::yes;
 use rules::{Rule, blank_rule};
-use std::io::Stdout;
-use transfer::Change;
+use std::io;
 use transfer::copied::flat_rules;
 use transfer::pair::{join, transfer};
 
+const NO_STOP: u16 = 65535;
+
 fn parents() -> [u16; 128] {
-    let mut parents = [65535u16; 128];
+    let mut parents = [NO_STOP; 128];
     parents[1] = 0;
     parents[2] = 0;
     parents[4] = 3;
@@ -16,7 +17,7 @@ fn parents() -> [u16; 128] {
 }
 
 fn places() -> [u16; 128] {
-    let mut places = [65535u16; 128];
+    let mut places = [NO_STOP; 128];
     places[1] = 0;
     places[2] = 0;
     places[4] = 1;
@@ -38,8 +39,7 @@ fn rule(from: u16, to: u16, transfer_type: u8, seconds: u16) -> Rule {
 
 // Ten rules, in the order taken.
 fn taken() -> [u16; 640] {
-    let none = blank_rule();
-    let mut rules = [none; 128];
+    let mut rules = [blank_rule(); 128];
     rules[0] = rule(1, 4, 2, 300);
     rules[1] = rule(2, 3, 2, 200);
     rules[2] = rule(0, 4, 2, 240);
@@ -53,57 +53,66 @@ fn taken() -> [u16; 640] {
     flat_rules(rules)
 }
 
-fn change(stdout: Stdout, label: &[u8], from: u16, to: u16) {
-    show::asked(stdout, b"transfer", label);
-    match transfer(&taken(), 10, &parents(), &places(), from, to, 180) {
-        Change::Takes(seconds) => show::number(stdout, seconds as u64),
-        Change::Never => show::text(stdout, b"none\n"),
+fn between(from: u16, to: u16) -> Option<u16> {
+    transfer(&taken(), 10, &parents(), &places(), from, to, 180)
+}
+
+fn change(rt: &impl Print, label: &str, from: u16, to: u16) -> io::Result<()> {
+    match between(from, to) {
+        Some(seconds) => println!(rt; "transfer \"{label}\" {seconds}"),
+        None => println!(rt; "transfer \"{label}\" none"),
     }
 }
 
-fn joined(stdout: Stdout, label: &[u8], from: u16, one_run: bool, departure: u16) {
-    let by = transfer(&taken(), 10, &parents(), &places(), from, 7, 180);
-    show::asked(stdout, b"join", label);
-    show::yes(stdout, join(by, one_run, 1000, departure));
+// Whether a ride that arrives at 1000 joins one from stop 7.
+fn joined(
+    rt: &impl Print,
+    label: &str,
+    from: u16,
+    one_run: bool,
+    departure: u16,
+) -> io::Result<()> {
+    let joins = join(between(from, 7), one_run, 1000, departure);
+    println!(rt; "join \"{label}\" {}", yes(joins))
 }
 
-fn by_rule(stdout: Stdout) {
-    change(stdout, b"both sides exact", 1, 4);
-    change(stdout, b"two half-exact rules", 2, 4);
-    change(stdout, b"one side exact before neither", 4, 1);
-    change(stdout, b"neither side exact", 4, 2);
-    change(stdout, b"type 3 between two stations", 0, 3);
-    change(stdout, b"type 3 between two of one place", 5, 6);
-    change(stdout, b"type 0 with 600 seconds", 7, 5);
-    change(stdout, b"type 1 with 600 seconds", 7, 6);
-    change(stdout, b"type 2 with 60 seconds", 6, 7);
+fn by_rule(rt: &impl Print) -> io::Result<()> {
+    change(rt, "both sides exact", 1, 4)?;
+    change(rt, "two half-exact rules", 2, 4)?;
+    change(rt, "one side exact before neither", 4, 1)?;
+    change(rt, "neither side exact", 4, 2)?;
+    change(rt, "type 3 between two stations", 0, 3)?;
+    change(rt, "type 3 between two of one place", 5, 6)?;
+    change(rt, "type 0 with 600 seconds", 7, 5)?;
+    change(rt, "type 1 with 600 seconds", 7, 6)?;
+    change(rt, "type 2 with 60 seconds", 6, 7)
 }
 
-fn by_nearness(stdout: Stdout) {
-    change(stdout, b"one stop", 7, 7);
-    change(stdout, b"one parent", 1, 2);
-    change(stdout, b"one place", 6, 5);
-    change(stdout, b"neither", 7, 1);
-    change(stdout, b"a platform and its station", 1, 0);
+fn by_nearness(rt: &impl Print) -> io::Result<()> {
+    change(rt, "one stop", 7, 7)?;
+    change(rt, "one parent", 1, 2)?;
+    change(rt, "one place", 6, 5)?;
+    change(rt, "neither", 7, 1)?;
+    change(rt, "a platform and its station", 1, 0)
 }
 
-pub fn run(stdout: Stdout) {
-    by_rule(stdout);
-    by_nearness(stdout);
+pub fn run(rt: &impl Print) -> io::Result<()> {
+    by_rule(rt)?;
+    by_nearness(rt)?;
     joined(
-        stdout,
-        b"same stop, arrival 1000 and departure 1180",
+        rt,
+        "same stop, arrival 1000 and departure 1180",
         7,
         false,
         1180,
-    );
+    )?;
     joined(
-        stdout,
-        b"same stop, arrival 1000 and departure 1179",
+        rt,
+        "same stop, arrival 1000 and departure 1179",
         7,
         false,
         1179,
-    );
-    joined(stdout, b"one trip and day", 7, true, 1180);
-    joined(stdout, b"no change", 1, false, 1180);
+    )?;
+    joined(rt, "one trip and day", 7, true, 1180)?;
+    joined(rt, "no change", 1, false, 1180)
 }

@@ -6,11 +6,17 @@ mod places;
 mod show;
 mod texts;
 
+use std::io;
+
+fn run(rt: &impl Print) -> io::Result<()> {
+    texts::hashes(rt)?;
+    texts::names(rt)?;
+    texts::times(rt)?;
+    places::run(rt)?;
+    changes::run(rt)
+}
+
+// A failed write goes unsaid, as what is printed is compared with the file `stdout`.
 fn main(rt: HostRuntime) {
-    let stdout = rt.stdout();
-    texts::hashes(stdout);
-    texts::names(stdout);
-    texts::times(stdout);
-    places::run(stdout);
-    changes::run(stdout);
+    let _ = run(&rt);
 }

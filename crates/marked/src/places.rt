@@ -1,98 +1,101 @@
 // The scope's marked places: pairs of positions at the edge of the place test, microdegrees, and a place key of each kind.
-use crate::show;
-use place::{Micro, PlaceKey, Position};
-use std::io::Stdout;
+use crate::show::yes;
+use place::{Degrees, PlaceKey};
+use std::io;
 
-// Whether two positions of one name are one place.
-fn same(stdout: Stdout, label: &[u8], alat: i32, alon: i32, blat: i32, blon: i32) {
-    let a = PlaceKey {
+// The key of a name at a position.
+fn named_at(lat: i32, lon: i32) -> PlaceKey {
+    PlaceKey {
         tag: b'N',
         hash: 7,
-        lat: alat,
-        lon: alon,
-    };
-    let b = PlaceKey {
-        tag: b'N',
-        hash: 7,
-        lat: blat,
-        lon: blon,
-    };
-    show::asked(stdout, b"same place", label);
-    show::yes(stdout, place::same_place_keys(a, b));
-}
-
-// Whether the latitude, at longitude 0, is so many microdegrees.
-fn micro(stdout: Stdout, label: &[u8], latitude: f64, lat: i32) {
-    show::asked(stdout, b"micro", label);
-    match place::coordinates(Position::Given(latitude, 0.0)) {
-        Micro::At(n, _) => show::yes(stdout, n == lat),
-        Micro::Nowhere => show::text(stdout, b"nowhere\n"),
+        lat,
+        lon,
     }
 }
 
+// Whether two positions of one name, latitude first, are one place.
+fn same(rt: &impl Print, label: &str, a: (i32, i32), b: (i32, i32)) -> io::Result<()> {
+    let same = place::same_place_keys(named_at(a.0, a.1), named_at(b.0, b.1));
+    println!(rt; "same place \"{label}\" {}", yes(same))
+}
+
+fn at(latitude: f64, longitude: f64) -> Option<Degrees> {
+    Some(Degrees {
+        latitude,
+        longitude,
+    })
+}
+
+// Whether the latitude, at longitude 0, is so many microdegrees.
+fn micro(rt: &impl Print, label: &str, latitude: f64, lat: i32) -> io::Result<()> {
+    let answer = match place::coordinates(at(latitude, 0.0)) {
+        Some(micro) => yes(micro.lat == lat),
+        None => "nowhere",
+    };
+    println!(rt; "micro \"{label}\" {answer}")
+}
+
 // The key of the stop "U1 Mitte" with the parent "S", or of the same without a parent.
-fn key(stdout: Stdout, label: &[u8], parent: bool, position: Position, named: bool) {
-    let k = place::place_key(parent, b"S", position, named, b"Stadt  Mitte", b"U1 Mitte");
-    show::asked(stdout, b"place key", label);
-    show::text(stdout, &[k.tag, b' ']);
-    show::hash(stdout, k.hash);
+fn key(
+    rt: &impl Print,
+    label: &str,
+    parent: bool,
+    position: Option<Degrees>,
+    named: bool,
+) -> io::Result<()> {
+    let parent: Option<&[u8]> = if parent { Some(b"S") } else { None };
+    let name: Option<&[u8]> = if named { Some(b"Stadt  Mitte") } else { None };
+    let key = place::place_key(parent, position, name, b"U1 Mitte");
+    println!(rt;
+        "place key \"{label}\" {} {:016x}",
+        char::from(key.tag),
+        key.hash
+    )
 }
 
-fn edges(stdout: Stdout) {
-    same(stdout, b"latitudes 0 and 1124", 0, 0, 1124, 0);
-    same(stdout, b"latitudes 0 and 1125", 0, 0, 1125, 0);
+fn edges(rt: &impl Print) -> io::Result<()> {
+    same(rt, "latitudes 0 and 1124", (0, 0), (1124, 0))?;
+    same(rt, "latitudes 0 and 1125", (0, 0), (1125, 0))?;
     same(
-        stdout,
-        b"longitudes 179999500 and -179999500",
-        0,
-        179999500,
-        0,
-        -179999500,
-    );
-    same(stdout, b"longitudes 0 and 1124", 0, 0, 0, 1124);
-    same(stdout, b"longitudes 0 and 1125", 0, 0, 0, 1125);
+        rt,
+        "longitudes 179999500 and -179999500",
+        (0, 179999500),
+        (0, -179999500),
+    )?;
+    same(rt, "longitudes 0 and 1124", (0, 0), (0, 1124))?;
+    same(rt, "longitudes 0 and 1125", (0, 0), (0, 1125))?;
     same(
-        stdout,
-        b"latitude 60, longitudes 0 and 2248",
-        60000000,
-        0,
-        60000000,
-        2248,
-    );
+        rt,
+        "latitude 60, longitudes 0 and 2248",
+        (60000000, 0),
+        (60000000, 2248),
+    )?;
     same(
-        stdout,
-        b"latitude 60, longitudes 0 and 2249",
-        60000000,
-        0,
-        60000000,
-        2249,
-    );
+        rt,
+        "latitude 60, longitudes 0 and 2249",
+        (60000000, 0),
+        (60000000, 2249),
+    )
 }
 
-fn degrees(stdout: Stdout) {
-    micro(stdout, b"-0.0000019 is -1", -0.0000019, -1);
-    micro(stdout, b"90 is 90000000", 90.0, 90000000);
-    micro(stdout, b"-90.00000000000001", -90.00000000000001, 0);
-    micro(stdout, b"-0.0 is 0", -0.0, 0);
+fn degrees(rt: &impl Print) -> io::Result<()> {
+    micro(rt, "-0.0000019 is -1", -0.0000019, -1)?;
+    micro(rt, "90 is 90000000", 90.0, 90000000)?;
+    micro(rt, "-90.00000000000001", -90.00000000000001, 0)?;
+    micro(rt, "-0.0 is 0", -0.0, 0)
 }
 
-fn keys(stdout: Stdout) {
-    let here = Position::Given(52.5, 13.4);
-    key(stdout, b"parent", true, here, true);
-    key(stdout, b"name at a position", false, here, true);
-    key(stdout, b"no name", false, here, false);
-    key(stdout, b"no position", false, Position::Absent, true);
-    key(
-        stdout,
-        b"not usable",
-        false,
-        Position::Given(91.0, 13.4),
-        true,
-    );
+fn keys(rt: &impl Print) -> io::Result<()> {
+    let here = at(52.5, 13.4);
+    key(rt, "parent", true, here, true)?;
+    key(rt, "name at a position", false, here, true)?;
+    key(rt, "no name", false, here, false)?;
+    key(rt, "no position", false, None, true)?;
+    key(rt, "not usable", false, at(91.0, 13.4), true)
 }
 
-pub fn run(stdout: Stdout) {
-    edges(stdout);
-    degrees(stdout);
-    keys(stdout);
+pub fn run(rt: &impl Print) -> io::Result<()> {
+    edges(rt)?;
+    degrees(rt)?;
+    keys(rt)
 }

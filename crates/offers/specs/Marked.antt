@@ -3,7 +3,7 @@ use Rattle.std.specs.Prelude.{◌≡◌, true, false, cond, not, ◌&&◌, List,
 use Rattle.refusal.specs.First.{answer_number}
 use Rattle.calls.specs.declared.Call.{Call}
 use Rattle.profile.specs.declared.Journey.{Journey}
-use Rattle.profile.specs.Figures.{Figures}
+use Rattle.profile.specs.declared.figures.Figures.{Figures}
 use Rattle.profile.specs.Kept.{searched}
 use Rattle.profile.specs.Journeys.{no_ride, journey_figures}
 use Rattle.profile.specs.Instances.{figures_of, a_second_apart}

@@ -1,9 +1,9 @@
 -- What a search answers, from the timetable, its horizon and its mark: "Search 15, 14, 11"; that a load is searched once (15) is not asked here.
-use Rattle.std.specs.Prelude.{◌≡◌, cond, ℕ}
+use Rattle.refusal.specs.First.{Answer}
+use Rattle.refusal.specs.declared.Accepted.TheVariants.{Taken}
+use Rattle.std.specs.Prelude.{◌≡◌, cond, ℕ, Err, Ok}
 use mathlib.Core.List.{List, [], Permᴰ}
 use Rattle.refusal.specs.declared.Refusal.TheVariants.{Neighbours, NoRoom}
-use Rattle.refusal.specs.declared.Answer.{Answer}
-use Rattle.refusal.specs.declared.Answer.TheVariants.{Taken, Refused}
 use Rattle.calls.specs.declared.Call.{Call}
 use Rattle.profile.specs.declared.Journey.{Journey}
 use Rattle.profile.specs.Figures.{covᶠ, dueᶠ}
@@ -24,9 +24,9 @@ pub data Outcome : Type 0 where
 
 -- 14, 11, or taken
 abbrev pub answer_of : Outcome → Answer
-answer_of clashing = Refused Neighbours
-answer_of falling = Refused NoRoom
-answer_of (found ks h l) = Taken
+answer_of clashing = Err Neighbours
+answer_of falling = Err NoRoom
+answer_of (found ks h l) = Ok Taken
 
 -- what is kept, by arrival, rides and walk, least first, then latest leave
 abbrev pub found_by : St Journey → Outcome

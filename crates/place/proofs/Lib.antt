@@ -6,3 +6,4 @@ pub mod Cosine
 pub mod Meridian
 pub mod SameKeys
 pub mod Placed
+pub mod Texts

@@ -1,16 +1,14 @@
 -- Microdegrees of a usable position are within ±90,000,000 and ±180,000,000, so Rust's sums of two of them fit an i32.
+use Rattle.std.specs.Prelude.{None, Option, Some}
 use Rattle.std.proofs.Common.{◌≡◌, ℕ, ◌+◌, ◌*◌, ◌^◌, ◌<◌, ◌≤◌, Bool, true, false, ◌&&◌, T, ℤ, pos, ◌+ℤ◌, ◌-ℤ◌, neg_ℤ, nat_abs, sym, subst, le_trans, le_of_eq, mul-one, arith, lit<, lit≤}
-use mathlib.Core.Option.{some}
 use lib.Ieee.{Float, nan, inf, fin, up, down, of_bits, le}
 use Rattle.laws.specs.Floats.{AtMost}
 use Rattle.laws.proofs.AtMost.{lt-or-eq, whole-stays, mul-at-most, cut-size}
 use Rattle.laws.proofs.Ints.{nat_abs-+ℤ, nat_abs-negℤ}
-use Rattle.place.specs.declared.Position.{Position}
-use Rattle.place.specs.declared.Position.TheVariants.{Given, Absent}
+use Rattle.place.specs.declared.Degrees.{Degrees}
 use Rattle.place.specs.declared.Micro.{Micro}
-use Rattle.place.specs.declared.Micro.TheVariants.{At, Nowhere}
 use Rattle.place.specs.Numbers.{n90, n180, n1_m, ◌⊗◌}
-use Rattle.place.specs.Positions.{in_reach, usable_degrees, micro, at_if, micro_value, micro_of}
+use Rattle.place.specs.Positions.{in_reach, usable_degrees, micro, at_if, micro_of}
 use Rattle.place.specs.Promises.{InRange, SumsFit}
 
 reach-at-most : (n k : ℕ) (x : Float) → T (in_reach (fin false n (pos k)) x) → AtMost x (n * 2 ^ k)
@@ -36,31 +34,26 @@ lon-size : (x : Float) → T (in_reach n180 x) → nat_abs (micro x) ≤ 1800000
 unfolding of_bits
 lon-size x t = micro-size x 180 (lit< tt) (reach-at-most 45 2 x t)
 
-abbrev Sized : Micro → Type 0
-Sized (At lat lon) = (nat_abs lat ≤ 90000000) × (nat_abs lon ≤ 180000000)
-Sized Nowhere = Unit {0}
+abbrev Sized : Option Micro → Type 0
+Sized (Some m) = (nat_abs m.lat ≤ 90000000) × (nat_abs m.lon ≤ 180000000)
+Sized None = Unit {0}
 
-sized : (p : Position) → Sized (micro_of p)
+sized : (p : Option Degrees) → Sized (micro_of p)
 unfolding micro_of usable_degrees
-sized (Given lat lon) = go (in_reach n90 lat) (in_reach n180 lon) (lat-size lat) (lon-size lon)
+sized (Some d) = go (in_reach n90 d.latitude) (in_reach n180 d.longitude) (lat-size d.latitude) (lon-size d.longitude)
   where
-    go : (s t : Bool) → (T s → nat_abs (micro lat) ≤ 90000000) → (T t → nat_abs (micro lon) ≤ 180000000) → Sized (at_if (s && t) (micro lat) (micro lon))
+    go : (s t : Bool) → (T s → nat_abs (micro d.latitude) ≤ 90000000) → (T t → nat_abs (micro d.longitude) ≤ 180000000)
+        → Sized (at_if (s && t) (micro d.latitude) (micro d.longitude))
     go true true f g = (f tt, g tt)
     go true false f g = tt
     go false t f g = tt
-sized Absent = tt
+sized None = tt
 
-pub in-range-at : (p : Position) (lat lon : ℤ) → micro_of p ≡ At lat lon → (nat_abs lat ≤ 90000000) × (nat_abs lon ≤ 180000000)
-in-range-at p lat lon e = subst Sized e (sized p)
-
-at_of : (m : Micro) (lat lon : ℤ) → micro_value m ≡ some (lat, lon) → m ≡ At lat lon
-at_of (At a b) lat lon e =
-    let p : ◌≡◌ {A = ℤ × ℤ} (a, b) (lat, lon) = cc in
-    λ k. At (p k).0 (p k).1
-at_of Nowhere lat lon e = let z : ◌≡◌ {A = ℕ} 0 1 = cc in absurd (omega arith)
+pub in-range-at : (p : Option Degrees) (m : Micro) → micro_of p ≡ Some m → (nat_abs m.lat ≤ 90000000) × (nat_abs m.lon ≤ 180000000)
+in-range-at p m e = subst Sized e (sized p)
 
 pub in-range : InRange
-in-range p lat lon e = in-range-at p lat lon (at_of (micro_of p) lat lon e)
+in-range p lat lon e = in-range-at p (record { lat = lat; lon = lon }) e
 
 -- ---- sums
 sum-size : (a b : ℤ) (k : ℕ) → nat_abs a ≤ k → nat_abs b ≤ k → nat_abs (a +ℤ b) ≤ k + k

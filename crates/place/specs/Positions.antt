@@ -1,20 +1,16 @@
 -- "A position is either given, as two f64 degrees, or absent." "Usable: finite, at most 90 and 180 in size.
 -- Microdegrees: the f64 product with 1,000,000, cut toward zero."
-use Rattle.std.specs.Prelude.{Bool, true, false, ◌&&◌, ℤ, Float}
-use Rattle.std.proofs.Math.Option.{Option, none, some}
+use Rattle.std.specs.Prelude.{Bool, true, false, ◌&&◌, ℤ, Float, None, Option, Some}
 use Rattle.std.specs.Float.{nan, inf, fin}
 use Rattle.std.specs.Float.Ieee.{le, to_signed}
 use Rattle.std.specs.Float.Ieee.Scale.{finite}
 use Rattle.place.specs.Numbers.{n90, n180, n1_m, ◌⊗◌}
 use Rattle.place.specs.declared.Degrees.{Degrees}
-use Rattle.place.specs.declared.Position.{Position}
-use Rattle.place.specs.declared.Position.TheVariants.{Given, Absent}
 use Rattle.place.specs.declared.Micro.{Micro}
-use Rattle.place.specs.declared.Micro.TheVariants.{At, Nowhere}
 
-abbrev pub position_of : Bool → Degrees → Position
-position_of true d = Given d.latitude d.longitude
-position_of false d = Absent
+abbrev pub position_of : Bool → Degrees → Option Degrees
+position_of true d = Some d
+position_of false d = None
 
 -- Rust's `abs`
 abbrev pub absolute : Float → Float
@@ -30,25 +26,20 @@ unfoldable pub usable_degrees : Float → Float → Bool
 unfolding in_reach
 usable_degrees lat lon = in_reach n90 lat && in_reach n180 lon
 
-abbrev pub is_usable : Position → Bool
-is_usable (Given lat lon) = usable_degrees lat lon
-is_usable Absent = false
+abbrev pub is_usable : Option Degrees → Bool
+is_usable (Some d) = usable_degrees d.latitude d.longitude
+is_usable None = false
 
 -- Rust's `(x * 1_000_000.0) as i32`: cut toward zero and to the ends of the range, and 0 for NaN
 unfoldable pub micro : Float → ℤ
 micro x = to_signed 31 (x ⊗ n1_m)
 
-abbrev pub at_if : Bool → ℤ → ℤ → Micro
-at_if true lat lon = At lat lon
-at_if false lat lon = Nowhere
-
--- the value of each case: two whole numbers, or none
-abbrev pub micro_value : Micro → Option (ℤ × ℤ)
-micro_value (At lat lon) = some (lat, lon)
-micro_value Nowhere = none
+abbrev pub at_if : Bool → ℤ → ℤ → Option Micro
+at_if true lat lon = Some (record { lat = lat; lon = lon })
+at_if false lat lon = None
 
 -- the microdegrees of a usable position
-unfoldable pub micro_of : Position → Micro
+unfoldable pub micro_of : Option Degrees → Option Micro
 unfolding usable_degrees micro
-micro_of (Given lat lon) = at_if (usable_degrees lat lon) (micro lat) (micro lon)
-micro_of Absent = Nowhere
+micro_of (Some d) = at_if (usable_degrees d.latitude d.longitude) (micro d.latitude) (micro d.longitude)
+micro_of None = None

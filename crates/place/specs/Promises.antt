@@ -1,11 +1,10 @@
 -- What is proved of the place test, of place keys and of microdegrees, for every value of their types.
-use Rattle.std.specs.Prelude.{◌≡◌, ℕ, ◌^◌, ◌<◌, ◌≤◌, Bool, true, false, List, ℤ, ◌+ℤ◌, ◌-ℤ◌, ◌≢◌, nat_le, unsigned_abs}
-use Rattle.std.proofs.Math.Option.{some}
+use Rattle.std.specs.Prelude.{◌≡◌, ℕ, ◌^◌, ◌<◌, ◌≤◌, Bool, true, false, List, ℤ, ◌+ℤ◌, ◌-ℤ◌, ◌≢◌, nat_le, unsigned_abs, Option, Some}
 use Rattle.place.specs.Keys.{tag_n, no_place, place_key}
 use Rattle.place.specs.Near.{same_keys}
-use Rattle.place.specs.Positions.{micro_value, micro_of}
+use Rattle.place.specs.Positions.{micro_of}
 use Rattle.place.specs.declared.PlaceKey.{PlaceKey}
-use Rattle.place.specs.declared.Position.{Position}
+use Rattle.place.specs.declared.Degrees.{Degrees}
 
 -- the latitude is an i32 (or 2 to the 31st)
 abbrev pub LatFits : PlaceKey → Type 0
@@ -40,20 +39,20 @@ SameHash = (a b : PlaceKey) → a.tag ≡ b.tag → (a.tag ≢ tag_n) → a.hash
 
 -- microdegrees of a usable position are within ±90,000,000 and ±180,000,000
 abbrev pub InRange : Type 0
-InRange = (p : Position) (lat lon : ℤ) → micro_value (micro_of p) ≡ some (lat, lon) → (unsigned_abs lat ≤ 90000000) × (unsigned_abs lon ≤ 180000000)
+InRange = (p : Option Degrees) (lat lon : ℤ) → micro_of p ≡ Some (record { lat = lat; lon = lon }) → (unsigned_abs lat ≤ 90000000) × (unsigned_abs lon ≤ 180000000)
 
 -- so the Rust's own i32 sums can't overflow: the sum and the difference of the latitudes, and the difference of the longitudes
 abbrev pub SumsFit : Type 0
 SumsFit =
-    (p q : Position) (lat lon lat' lon' : ℤ) → micro_value (micro_of p) ≡ some (lat, lon) → micro_value (micro_of q) ≡ some (lat', lon')
+    (p q : Option Degrees) (lat lon lat' lon' : ℤ) → micro_of p ≡ Some (record { lat = lat; lon = lon }) → micro_of q ≡ Some (record { lat = lat'; lon = lon' })
     → (unsigned_abs (lat +ℤ lat') < 2 ^ 31) × (unsigned_abs (lat -ℤ lat') < 2 ^ 31) × (unsigned_abs (lon -ℤ lon') < 2 ^ 31)
 
 -- a place key is never the key of a stop that has none
 abbrev pub Placed : Type 0
-Placed = (has : Bool) (parent : List ℕ) (p : Position) (named : Bool) (name id : List ℕ) → (place_key has parent p named name id).tag ≢ no_place.tag
+Placed = (has : Bool) (parent : List ℕ) (p : Option Degrees) (named : Bool) (name id : List ℕ) → (place_key has parent p named name id).tag ≢ no_place.tag
 
 -- and its microdegrees are in that range, so the test is reflexive for it
 abbrev pub KeyInRange : Type 0
 KeyInRange =
-    (has : Bool) (parent : List ℕ) (p : Position) (named : Bool) (name id : List ℕ)
+    (has : Bool) (parent : List ℕ) (p : Option Degrees) (named : Bool) (name id : List ℕ)
     → (unsigned_abs (place_key has parent p named name id).lat ≤ 90000000) × (unsigned_abs (place_key has parent p named name id).lon ≤ 180000000)

@@ -51,7 +51,7 @@ pub extern "C" fn place_usable(located: bool, latitude: f64, longitude: f64) -> 
     place::usable(place::position_of(located, degrees))
 }
 
-fn micro_with(located: bool, latitude: f64, longitude: f64) -> Micro
+fn micro_with(located: bool, latitude: f64, longitude: f64) -> Option<Micro>
     ensures { result ≡ micro_of (position_with located latitude longitude) }
 {
     let degrees = Degrees {
@@ -66,10 +66,9 @@ fn micro_with(located: bool, latitude: f64, longitude: f64) -> Micro
 pub extern "C" fn place_latitude(located: bool, latitude: f64, longitude: f64) -> i32
     ensures { result ≡ lat_of (micro_of (position_with located latitude longitude)) }
 {
-    let micro = micro_with(located, latitude, longitude);
-    match micro {
-        Micro::At(lat, _) => lat,
-        Micro::Nowhere => 0,
+    match micro_with(located, latitude, longitude) {
+        Some(micro) => micro.lat,
+        None => 0,
     }
 }
 
@@ -78,9 +77,8 @@ pub extern "C" fn place_latitude(located: bool, latitude: f64, longitude: f64) -
 pub extern "C" fn place_longitude(located: bool, latitude: f64, longitude: f64) -> i32
     ensures { result ≡ lon_of (micro_of (position_with located latitude longitude)) }
 {
-    let micro = micro_with(located, latitude, longitude);
-    match micro {
-        Micro::At(_, lon) => lon,
-        Micro::Nowhere => 0,
+    match micro_with(located, latitude, longitude) {
+        Some(micro) => micro.lon,
+        None => 0,
     }
 }

@@ -1,4 +1,5 @@
 -- The first that matches, of a list in order, is the least that matches.
+use Rattle.std.specs.Prelude.{None, Option, Some}
 use Prim.Native.Nat.{ℕ}
 use mathlib.Core.Path.{◌≡◌, refl, sym, ap, ◌∙◌}
 use mathlib.Core.Logic.{◌⊎◌, inl, inr}
@@ -6,8 +7,6 @@ use mathlib.Core.Bool.{Bool, true, false, cond, true≢false}
 use mathlib.Core.List.Memᴰ
 use mathlib.Core.List.{List, [], ◌∷◌, Memᴰ}
 use Rattle.laws.specs.Sort.{Ordered, Strict}
-use Rattle.places.specs.declared.Found.{Found}
-use Rattle.places.specs.declared.Found.TheVariants.{At, Nothing}
 use Rattle.places.specs.Places.{first_match}
 
 module _ (p : ℕ → Bool) (lt : ℕ → ℕ → Bool) (o : Strict lt) where
@@ -17,9 +16,9 @@ module _ (p : ℕ → Bool) (lt : ℕ → ℕ → Bool) (o : Strict lt) where
     pub fits : p r ≡ true
     pub least : (q : ℕ) → Memᴰ q reps → p q ≡ true → lt q r ≡ false
 
-  abbrev pub Right : List ℕ → Found → Type 0
-  Right reps (At r) = Least reps r
-  Right reps Nothing = (q : ℕ) → Memᴰ q reps → p q ≡ false
+  abbrev pub Right : List ℕ → Option ℕ → Type 0
+  Right reps (Some r) = Least reps r
+  Right reps None = (q : ℕ) → Memᴰ q reps → p q ≡ false
 
   pub self : (r : ℕ) → lt r r ≡ false
   self r = go (lt r r) refl
@@ -28,13 +27,13 @@ module _ (p : ℕ → Bool) (lt : ℕ → ℕ → Bool) (o : Strict lt) where
       go true e = sym e ∙ o.asym r r e
       go false e = refl
 
-  skip : (x : ℕ) (reps : List ℕ) (f : Found) → p x ≡ false → Right reps f → Right (x ∷ reps) f
-  skip x reps (At r) e h = record { one = Memᴰ.tail h.one; fits = h.fits; least = λ q m t. go q t (Memᴰ.cases_cons m) }
+  skip : (x : ℕ) (reps : List ℕ) (f : Option ℕ) → p x ≡ false → Right reps f → Right (x ∷ reps) f
+  skip x reps (Some r) e h = record { one = Memᴰ.tail h.one; fits = h.fits; least = λ q m t. go q t (Memᴰ.cases_cons m) }
     where
       go : (q : ℕ) → p q ≡ true → (q ≡ x) ⊎ Memᴰ q reps → lt q r ≡ false
       go q t (inl s) = absurd (true≢false (sym t ∙ ap p s ∙ e))
       go q t (inr m) = h.least q m t
-  skip x reps Nothing e h = λ q m. go q (Memᴰ.cases_cons m)
+  skip x reps None e h = λ q m. go q (Memᴰ.cases_cons m)
     where
       go : (q : ℕ) → (q ≡ x) ⊎ Memᴰ q reps → p q ≡ false
       go q (inl s) = ap p s ∙ e
@@ -48,6 +47,6 @@ module _ (p : ℕ → Bool) (lt : ℕ → ℕ → Bool) (o : Strict lt) where
       head q (inl s) = ap (λ (y : ℕ). lt y x) s ∙ self x
       head q (inr m) = w.0 q m
 
-      go : (b : Bool) → p x ≡ b → Right reps (first_match p reps) → Right (x ∷ reps) (cond b (At x) (first_match p reps))
+      go : (b : Bool) → p x ≡ b → Right reps (first_match p reps) → Right (x ∷ reps) (cond b (Some x) (first_match p reps))
       go true e h = record { one = Memᴰ.head refl; fits = e; least = λ q m t. head q (Memᴰ.cases_cons m) }
       go false e h = skip x reps (first_match p reps) e h

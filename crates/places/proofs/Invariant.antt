@@ -1,4 +1,5 @@
 -- What holds of the representatives and the places once some stops are placed, for any test `same` and order `lt`.
+use Rattle.std.specs.Prelude.{None, Option, Some}
 use Prim.Native.Nat.{ℕ, zero, suc, ◌<◌}
 use mathlib.Core.Path.{◌≡◌, refl, sym, ap, ◌∙◌, subst}
 use mathlib.Core.Logic.{◌⊎◌, inl, inr, ◌≢◌}
@@ -10,8 +11,6 @@ use lib.ListN.{length, get_or, set, replicate, length-set}
 use lib.Seq.{get_or-set_same, get_or-set_other}
 use Rattle.laws.specs.Lists.{foldl}
 use Rattle.laws.specs.Sort.{Ordered, Strict}
-use Rattle.places.specs.declared.Found.{Found}
-use Rattle.places.specs.declared.Found.TheVariants.{At, Nothing}
 use Rattle.places.specs.Places.{Groups, first_match, placed, place, no_groups}
 use Rattle.places.proofs.Orders.{Apart, ordered-mid, ordered-snoc, apart-mid}
 use Rattle.places.proofs.First.{Least, Right, self, first-right}
@@ -87,7 +86,7 @@ module _ (same : ℕ → ℕ → Bool) (keyed : ℕ → Bool) (lt : ℕ → ℕ 
 
     module _ (t : keyed i ≡ true) where
       -- a stop that matches the representative r
-      good-join : (r : ℕ) → Least (same i) lt o g.reps r → Good (done ++ i ∷ []) (placed g i (At r))
+      good-join : (r : ℕ) → Least (same i) lt o g.reps r → Good (done ++ i ∷ []) (placed g i (Some r))
       good-join r f = record {
         long = length-set g.places i r ∙ h.long;
         order = h.order;
@@ -97,14 +96,14 @@ module _ (same : ℕ → ℕ → Bool) (keyed : ℕ → Bool) (lt : ℕ → ℕ 
         others = λ k n. kept r k (λ e. n (Memᴰ.append_right done (Memᴰ.head e)) (ap keyed e ∙ t)) ∙ h.others k (λ m q. n (Memᴰ.append_left (i ∷ []) m) q);
       }
         where
-          each : (k : ℕ) → keyed k ≡ true → Memᴰ k done ⊎ (k ≡ i) → (x : ℕ) × Has (placed g i (At r)) k x
+          each : (k : ℕ) → keyed k ≡ true → Memᴰ k done ⊎ (k ≡ i) → (x : ℕ) × Has (placed g i (Some r)) k x
           each k q (inl m) =
               let w = h.each k m q in
               (w.0, record { at = kept r k (old m) ∙ w.1.at; rep = w.1.rep; fits = w.1.fits; before = w.1.before; least = w.1.least })
-          each k q (inr e) = (r, subst (λ (j : ℕ). Has (placed g i (At r)) j r) (sym e) (record { at = here r; rep = f.one; fits = inr f.fits; before = late r (h.from r f.one).0; least = f.least }))
+          each k q (inr e) = (r, subst (λ (j : ℕ). Has (placed g i (Some r)) j r) (sym e) (record { at = here r; rep = f.one; fits = inr f.fits; before = late r (h.from r f.one).0; least = f.least }))
 
       -- a stop that matches none
-      good-own : ((q : ℕ) → Memᴰ q g.reps → same i q ≡ false) → Good (done ++ i ∷ []) (placed g i Nothing)
+      good-own : ((q : ℕ) → Memᴰ q g.reps → same i q ≡ false) → Good (done ++ i ∷ []) (placed g i None)
       good-own f = record {
         long = length-set g.places i i ∙ h.long;
         order = ordered-snoc lt g.reps i h.order (λ r m. late r (h.from r m).0);
@@ -131,7 +130,7 @@ module _ (same : ℕ → ℕ → Bool) (keyed : ℕ → Bool) (lt : ℕ → ℕ 
           mine q s (inl m) = absurd (true≢false (sym s ∙ f q m))
           mine q s (inr m) = ap (λ (j : ℕ). lt j i) (Memᴰ.eq_of_singleton m) ∙ self (same i) lt o i
 
-          each : (k : ℕ) → keyed k ≡ true → Memᴰ k done ⊎ (k ≡ i) → (x : ℕ) × Has (placed g i Nothing) k x
+          each : (k : ℕ) → keyed k ≡ true → Memᴰ k done ⊎ (k ≡ i) → (x : ℕ) × Has (placed g i None) k x
           each k q (inl m) =
               let w = h.each k m q in (
                 w.0,
@@ -145,13 +144,13 @@ module _ (same : ℕ → ℕ → Bool) (keyed : ℕ → Bool) (lt : ℕ → ℕ 
               )
           each k q (inr e) = (
             i,
-            subst (λ (j : ℕ). Has (placed g i Nothing) j i) (sym e)
+            subst (λ (j : ℕ). Has (placed g i None) j i) (sym e)
                 (record { at = here i; rep = Memᴰ.append_right g.reps (Memᴰ.head refl); fits = inl refl; before = self (same i) lt o i; least = λ y j s. mine y s (Memᴰ.append_cases g.reps j) }),
           )
 
-      by-found : (f : Found) → Right (same i) lt o g.reps f → Good (done ++ i ∷ []) (placed g i f)
-      by-found (At r) w = good-join r w
-      by-found Nothing w = good-own w
+      by-found : (f : Option ℕ) → Right (same i) lt o g.reps f → Good (done ++ i ∷ []) (placed g i f)
+      by-found (Some r) w = good-join r w
+      by-found None w = good-own w
 
     good_more : Good (done ++ i ∷ []) (place same keyed g i)
     good_more = go (keyed i) refl

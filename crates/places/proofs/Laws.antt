@@ -1,4 +1,5 @@
 -- What the proofs of this crate share: texts in arrays, the entry that the code makes, the grouping of entries.
+use Rattle.std.specs.Prelude.{None, Some}
 use Rattle.laws.proofs.Bounds.{get_d_any}
 use Prim.Native.Nat.{ℕ, ◌+◌, ◌≤◌, ◌<◌}
 use mathlib.Core.Path.{◌≡◌, refl, sym, ap, ◌∙◌}
@@ -24,7 +25,6 @@ use Rattle.stops.specs.Stops.{id_of}
 use Rattle.stops.specs.Sound.{stop_at}
 use Rattle.stops.specs.Taken.{blank_stop}
 use Rattle.places.specs.declared.Entry.{Entry}
-use Rattle.places.specs.declared.Found.TheVariants.{At, Nothing}
 use Rattle.places.specs.Keys.{stop_key}
 use Rattle.places.specs.Entries.{within, parent_id, entry_of, entry_at, first_entry}
 
@@ -75,10 +75,10 @@ sorted_front lt n l a h e =
 
 module _ (key : PlaceKey) (reps : List Entry) (m q : ℕ) where
   pub match-turn : q < m → q < length reps
-      → first_entry key (drop q (take m reps)) ≡ cond (same_keys key (get_or reps q past).key) (At (get_or reps q past).stop) (first_entry key (drop (q + 1) (take m reps)))
+      → first_entry key (drop q (take m reps)) ≡ cond (same_keys key (get_or reps q past).key) (Some (get_or reps q past).stop) (first_entry key (drop (q + 1) (take m reps)))
   match-turn h k = rw (drop-take-cons reps m q past h k)
 
-  pub match-end : length (take m reps) ≤ q → first_entry key (drop q (take m reps)) ≡ Nothing
+  pub match-end : length (take m reps) ≤ q → first_entry key (drop q (take m reps)) ≡ None
   match-end h = rw (drop-take-nil reps m q h)
 
 -- ---- the key of texts in arrays, as the code computes it

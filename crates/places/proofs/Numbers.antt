@@ -1,4 +1,5 @@
 -- Grouping the entries of stops is grouping their numbers.
+use Rattle.std.specs.Prelude.{None, Option, Some}
 use Rattle.laws.specs.Bounds.{least}
 use Rattle.laws.proofs.Bounds.{least_under, take-least}
 use Prim.Native.Nat.{ℕ, ◌%◌, ◌≤◌, ◌<◌}
@@ -26,8 +27,6 @@ use Rattle.stops.specs.declared.Stop.{Stop}
 use Rattle.stops.specs.Stops.{id_of}
 use Rattle.stops.specs.Sound.{stop_at}
 use Rattle.places.specs.declared.Entry.{Entry}
-use Rattle.places.specs.declared.Found.{Found}
-use Rattle.places.specs.declared.Found.TheVariants.{At, Nothing}
 use Rattle.places.specs.Keys.{stop_key, key_at}
 use Rattle.places.specs.Places.{has_key, same_place, id_less, Groups, first_match, place, no_groups, id_order, groups_of, places_of}
 use Rattle.places.specs.Places as P
@@ -55,7 +54,7 @@ module _ (ss : List Stop) where
   first-map : (i : ℕ) (l : List ℕ) → first_entry (key_at ss i) (map (entry_at ss) l) ≡ first_match (same_place ss i) l
   unfolding entry_at entry_of key_at same_place
   first-map i [] = refl
-  first-map i (r ∷ l) = ap (cond (same_keys (key_at ss i) (key_at ss r)) (At r)) (first-map i l)
+  first-map i (r ∷ l) = ap (cond (same_keys (key_at ss i) (key_at ss r)) (Some r)) (first-map i l)
 
   record Same (e : EntryGroups) (g : Groups) : Type 0 where
     pub reps : e.reps ≡ map (entry_at ss) g.reps
@@ -65,10 +64,10 @@ module _ (ss : List Stop) where
     at : i % 128 ≡ i
     at = mod-eq_of_lt small
 
-    by-case : (b : Bool) (f : Found) → Same (cond (not b) e (put e (entry_at ss i) f)) (cond b (P.placed g i f) g)
+    by-case : (b : Bool) (f : Option ℕ) → Same (cond (not b) e (put e (entry_at ss i) f)) (cond b (P.placed g i f) g)
     unfolding entry_at entry_of
-    by-case true (At r) = record { reps = h.reps; places = ap₂ (λ (l : List ℕ) (k : ℕ). set l k r) h.places at }
-    by-case true Nothing = record {
+    by-case true (Some r) = record { reps = h.reps; places = ap₂ (λ (l : List ℕ) (k : ℕ). set l k r) h.places at }
+    by-case true None = record {
       reps = ap (λ (l : List Entry). l ++ entry_at ss i ∷ []) h.reps ∙ sym (map-append (entry_at ss) g.reps (i ∷ []));
       places = ap₂ (λ (l : List ℕ) (k : ℕ). set l k i) h.places at;
     }

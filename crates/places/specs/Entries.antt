@@ -1,5 +1,5 @@
 -- What the code makes of the stops first: for each its id, number and key; and the grouping of these.
-use Rattle.std.specs.Prelude.{Bool, cond, List, [], ◌∷◌, ◌++◌, ℕ, ◌%◌, ltb, eqb, take, set, replicate}
+use Rattle.std.specs.Prelude.{Bool, cond, List, [], ◌∷◌, ◌++◌, ℕ, ◌%◌, ltb, eqb, take, set, replicate, None, Option, Some}
 use Rattle.laws.specs.Lists.{foldl}
 use Rattle.laws.specs.Order.{less_bytes}
 use Rattle.place.specs.declared.PlaceKey.{PlaceKey}
@@ -9,8 +9,6 @@ use Rattle.stops.specs.declared.Stop.{Stop}
 use Rattle.stops.specs.Stops.{id_of}
 use Rattle.stops.specs.Sound.{stop_at}
 use Rattle.places.specs.declared.Entry.{Entry}
-use Rattle.places.specs.declared.Found.{Found}
-use Rattle.places.specs.declared.Found.TheVariants.{At, Nothing}
 use Rattle.places.specs.Keys.{stop_key}
 
 -- a number below n as it is, any other as 0
@@ -38,17 +36,17 @@ unfoldable pub id_before : Entry → Entry → Bool
 id_before a b = less_bytes (take a.id_len a.id) (take b.id_len b.id)
 
 -- the first entry that is one place with a key
-abbrev pub first_entry : PlaceKey → List Entry → Found
-first_entry key [] = Nothing
-first_entry key (x ∷ xs) = cond (same_keys key x.key) (At x.stop) (first_entry key xs)
+abbrev pub first_entry : PlaceKey → List Entry → Option ℕ
+first_entry key [] = None
+first_entry key (x ∷ xs) = cond (same_keys key x.key) (Some x.stop) (first_entry key xs)
 
 pub record EntryGroups : Type 0 where
   pub reps : List Entry
   pub places : List ℕ
 
-abbrev pub put : EntryGroups → Entry → Found → EntryGroups
-put g x (At r) = record { reps = g.reps; places = set g.places (x.stop % 128) r }
-put g x Nothing = record { reps = g.reps ++ x ∷ []; places = set g.places (x.stop % 128) x.stop }
+abbrev pub put : EntryGroups → Entry → Option ℕ → EntryGroups
+put g x (Some r) = record { reps = g.reps; places = set g.places (x.stop % 128) r }
+put g x None = record { reps = g.reps ++ x ∷ []; places = set g.places (x.stop % 128) x.stop }
 
 abbrev pub place_entry : EntryGroups → Entry → EntryGroups
 place_entry g x = cond (eqb x.key.tag 0) g (put g x (first_entry x.key g.reps))

@@ -1,5 +1,5 @@
 -- "Keyed stops are placed in id byte order, each with the smallest-id representative that matches, else as its own."
-use Rattle.std.specs.Prelude.{Bool, cond, List, [], ◌∷◌, ◌++◌, ℕ, eqb, length, set, replicate}
+use Rattle.std.specs.Prelude.{Bool, cond, List, [], ◌∷◌, ◌++◌, ℕ, eqb, length, set, replicate, None, Option, Some}
 use Rattle.laws.specs.Lists.{foldl, span}
 use Rattle.laws.specs.Sort.{sort}
 use Rattle.laws.specs.Order.{less_bytes}
@@ -7,8 +7,6 @@ use Rattle.place.specs.Near.{same_keys}
 use Rattle.stops.specs.declared.Stop.{Stop}
 use Rattle.stops.specs.Stops.{id_of}
 use Rattle.stops.specs.Sound.{stop_at}
-use Rattle.places.specs.declared.Found.{Found}
-use Rattle.places.specs.declared.Found.TheVariants.{At, Nothing}
 use Rattle.places.specs.Keys.{key_at}
 
 -- ---- of stops
@@ -30,13 +28,13 @@ pub record Groups : Type 0 where
   pub places : List ℕ
 
 -- the first that matches
-abbrev pub first_match : (ℕ → Bool) → List ℕ → Found
-first_match p [] = Nothing
-first_match p (r ∷ rs) = cond (p r) (At r) (first_match p rs)
+abbrev pub first_match : (ℕ → Bool) → List ℕ → Option ℕ
+first_match p [] = None
+first_match p (r ∷ rs) = cond (p r) (Some r) (first_match p rs)
 
-abbrev pub placed : Groups → ℕ → Found → Groups
-placed g i (At r) = record { reps = g.reps; places = set g.places i r }
-placed g i Nothing = record { reps = g.reps ++ i ∷ []; places = set g.places i i }
+abbrev pub placed : Groups → ℕ → Option ℕ → Groups
+placed g i (Some r) = record { reps = g.reps; places = set g.places i r }
+placed g i None = record { reps = g.reps ++ i ∷ []; places = set g.places i i }
 
 abbrev pub place : (ℕ → ℕ → Bool) → (ℕ → Bool) → Groups → ℕ → Groups
 place same keyed g i = cond (keyed i) (placed g i (first_match (same i) g.reps)) g

@@ -7,7 +7,7 @@ ghost use Rattle.places.specs.Entries.{held, parent_id, entry_of, entry_at, blan
 ghost use Rattle.places.specs.Keys.{stop_key};
 
 use crate::Entry;
-use place::{PlaceKey, Position, no_place};
+use place::{Degrees, PlaceKey, no_place};
 use stops::Stop;
 
 pub fn at_most(a: usize, b: usize) -> usize
@@ -42,7 +42,7 @@ fn known64(a: [u8; 64])
 fn text_key(
     has_parent: bool,
     parent: &[u8],
-    position: Position,
+    position: Option<Degrees>,
     named: bool,
     name: [u8; 64],
     name_len: u8,
@@ -55,7 +55,12 @@ fn text_key(
     known64(name);
     let m = at_most(name_len as usize, 64);
     let n = at_most(id_len as usize, 32);
-    place::place_key(has_parent, parent, position, named, &name[..m], &id[..n])
+    place::place_key(
+        has_parent.then_some(parent),
+        position,
+        named.then_some(&name[..m]),
+        &id[..n],
+    )
 }
 
 // The place key of a stop, of whose parent `parent` is the id.

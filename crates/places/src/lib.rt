@@ -15,10 +15,3 @@ pub struct Entry {
     pub stop: u16,
     pub key: PlaceKey,
 }
-
-// A representative.
-#[derive(Clone, Copy)]
-pub enum Found {
-    At(u16),
-    Nothing,
-}

@@ -1,8 +1,8 @@
 -- Best over a complete list is the answer that the offers alone give; so two complete lists answer alike exactly if their offers cover each other.
+use Rattle.std.specs.Prelude.{None, Option, Some}
 use mathlib.Core.Path.{◌≡◌, refl, sym, ap, ◌∙◌}
 use mathlib.Core.Logic.{◌⊎◌, inl, inr, ◌↔◌}
 use mathlib.Core.Bool.{Bool, true, false, cond}
-use mathlib.Core.Option.{Option, none, some}
 use mathlib.Core.List.{List, Memᴰ}
 use Prim.Native.Nat.{ℕ, ◌≤◌, ◌<◌, min}
 use native.Mathlib.Omega.{arith}
@@ -20,8 +20,8 @@ use Rattle.profile.proofs.PickLaws.{Picked, pick-picked}
 module _ {A : Type 0} (fig : A → Figures) where
   -- r is the answer at t, read by g, of a search that was offered `os`: the most preferred of the offers that leave at t or later and are due by g
   abbrev pub Answers : List A → ℕ → ℕ → Option Figures → Type 0
-  Answers os g t none = (o : A) → Memᴰ o os → t ≤ (fig o).leave → (fig o).arrival ≤ g → ⊥
-  Answers os g t (some f) = (b : A) × Memᴰ b os × (fig b ≡ f) × (t ≤ f.leave) × (f.arrival ≤ g)
+  Answers os g t None = (o : A) → Memᴰ o os → t ≤ (fig o).leave → (fig o).arrival ≤ g → ⊥
+  Answers os g t (Some f) = (b : A) × Memᴰ b os × (fig b ≡ f) × (t ≤ f.leave) × (f.arrival ≤ g)
       × ((o : A) → Memᴰ o os → t ≤ (fig o).leave → (fig o).arrival ≤ g → prefer f (fig o) ≡ true)
 
   -- what is complete up to h is so up to an earlier w, without those due later
@@ -42,13 +42,13 @@ module _ {A : Type 0} (fig : A → Figures) where
         (k, mem-filterb (λ k. leb t (fig k).leave) n (le-leb t (fig k).leave (omega (arith, covers-leave (fig k) (fig o) x))), x)
 
     read-answers : (g t : ℕ) → g ≤ h → (r : Option A) → Picked fig (filterb (λ k. leb t (fig k).leave) ks) r → Answers os g t (read_by fig g r)
-    read-answers g t le none w = λ o m l d. let (k, n, x) = there g t le o m l d in w k n
-    read-answers g t le (some b) (n, w) = by (leb (fig b).arrival g) refl
+    read-answers g t le None w = λ o m l d. let (k, n, x) = there g t le o m l d in w k n
+    read-answers g t le (Some b) (n, w) = by (leb (fig b).arrival g) refl
       where
         over : (o : A) → Memᴰ o os → t ≤ (fig o).leave → (fig o).arrival ≤ g → prefer (fig b) (fig o) ≡ true
         over o m l d = let (k, n', x) = there g t le o m l d in prefer-trans (fig b) (fig k) (fig o) (w k n') (covers-prefer (fig k) (fig o) x)
 
-        by : (x : Bool) → leb (fig b).arrival g ≡ x → Answers os g t (cond x (some (fig b)) none)
+        by : (x : Bool) → leb (fig b).arrival g ≡ x → Answers os g t (cond x (Some (fig b)) None)
         by true e =
             let (i, l) = filterb-mem (λ k. leb t (fig k).leave) ks n in
             (b, c.kept b i, refl, leb-true t (fig b).leave l, leb-true (fig b).arrival g e, over)
@@ -57,14 +57,14 @@ module _ {A : Type 0} (fig : A → Figures) where
     pub best-answers : (g t : ℕ) → g ≤ h → Answers os g t (read_by fig g (best fig ks h t))
     best-answers g t le = by (ltb h t) refl
       where
-        by : (x : Bool) → ltb h t ≡ x → Answers os g t (read_by fig g (cond x none (pick fig (filterb (λ k. leb t (fig k).leave) ks))))
+        by : (x : Bool) → ltb h t ≡ x → Answers os g t (read_by fig g (cond x None (pick fig (filterb (λ k. leb t (fig k).leave) ks))))
         by true e = λ o m l d. let q = ltb-true h t e in omega (arith, c.ahead o m)
         by false e = read-answers g t le (pick fig (filterb (λ k. leb t (fig k).leave) ks)) (pick-picked fig (filterb (λ k. leb t (fig k).leave) ks))
 
   -- no offer leaves after g and is due by g, so after g the answer is none
-  past : (os : List A) → ((o : A) → Memᴰ o os → (fig o).leave ≤ (fig o).arrival) → (g t : ℕ) → g < t → (r : Option Figures) → Answers os g t r → r ≡ none
-  past os a g t lt none w = refl
-  past os a g t lt (some f) (b, m, e, l, d, u) = let q : f.leave ≤ f.arrival = rw e at (a b m) in absurd (omega arith)
+  past : (os : List A) → ((o : A) → Memᴰ o os → (fig o).leave ≤ (fig o).arrival) → (g t : ℕ) → g < t → (r : Option Figures) → Answers os g t r → r ≡ None
+  past os a g t lt None w = refl
+  past os a g t lt (Some f) (b, m, e, l, d, u) = let q : f.leave ≤ f.arrival = rw e at (a b m) in absurd (omega arith)
 
   -- what leaves at t or later and is due by g is covered by an offer of the other list, which does so too
   reach : (g t : ℕ) (os os' : List A) → Covers fig g os os' → (b : A) → Memᴰ b os → (f : Figures) → fig b ≡ f → t ≤ f.leave → f.arrival ≤ g
@@ -76,21 +76,21 @@ module _ {A : Type 0} (fig : A → Figures) where
 
   -- two answers for one second are the same, if the offers cover each other
   same_answer : (g t : ℕ) (os os' : List A) → Covers fig g os os' → Covers fig g os' os → (r r' : Option Figures) → Answers os g t r → Answers os' g t r' → r ≡ r'
-  same_answer g t os os' c c' none none w w' = refl
-  same_answer g t os os' c c' none (some f) w (b, m, e, l, d, u) = let (o, n, l', d', x) = reach g t os' os c' b m f e l d in absurd (w o n l' d')
-  same_answer g t os os' c c' (some f) none (b, m, e, l, d, u) w' = let (o, n, l', d', x) = reach g t os os' c b m f e l d in absurd (w' o n l' d')
-  same_answer g t os os' c c' (some f) (some f') (b, m, e, l, d, u) (b', m', e', l', d', u') =
+  same_answer g t os os' c c' None None w w' = refl
+  same_answer g t os os' c c' None (Some f) w (b, m, e, l, d, u) = let (o, n, l', d', x) = reach g t os' os c' b m f e l d in absurd (w o n l' d')
+  same_answer g t os os' c c' (Some f) None (b, m, e, l, d, u) w' = let (o, n, l', d', x) = reach g t os os' c b m f e l d in absurd (w' o n l' d')
+  same_answer g t os os' c c' (Some f) (Some f') (b, m, e, l, d, u) (b', m', e', l', d', u') =
       let (o, n, lo, do', x) = reach g t os os' c b m f e l d in
       let (o', n', lo', do'', x') = reach g t os' os c' b' m' f' e' l' d' in
-      ap {B = Option Figures} some (prefer-antisym f f'
+      ap {B = Option Figures} Some (prefer-antisym f f'
       (prefer-trans f (fig o') f' (u o' n' lo' do'') (covers-prefer (fig o') f' x'))
       (prefer-trans f' (fig o) f (u' o n lo do') (covers-prefer (fig o) f x)))
 
   -- an answer that is one of both lists covers
   covers-answer : (g : ℕ) (os os' : List A) (o : A) → Memᴰ o os → (fig o).arrival ≤ g → (r : Option Figures) → Answers os g (fig o).leave r → Answers os' g (fig o).leave r
       → (o' : A) × Memᴰ o' os' × (covers (fig o') (fig o) ≡ true)
-  covers-answer g os os' o m d none w w' = absurd (w o m (omega arith) d)
-  covers-answer g os os' o m d (some f) (b, n, e, l, a, u) (b', n', e', l', a', u') = (b', n', rw e' (prefer-covers f (fig o) (u o m (omega arith) d) l))
+  covers-answer g os os' o m d None w w' = absurd (w o m (omega arith) d)
+  covers-answer g os os' o m d (Some f) (b, n, e, l, a, u) (b', n', e', l', a', u') = (b', n', rw e' (prefer-covers f (fig o) (u o m (omega arith) d) l))
 
   -- two complete lists answer alike at every second, up to the earlier horizon, exactly if the offers due by it cover each other
   pub alike-complete : (os os' ks ks' : List A) (h h' : ℕ) → Complete fig os ks h → Complete fig os' ks' h'

@@ -1,3 +1,4 @@
+pub mod TupleLaws
 pub mod FiguresLaws
 pub mod FrontLaws
 pub mod KeptLaws

@@ -1,12 +1,7 @@
 -- The four figures of a journey, and the two orders on them: `covers` (equals or beats), by which journeys are kept, and `prefer`, by which best picks.
 use Rattle.std.specs.Prelude.{Bool, ◌&&◌, ℕ, leb}
 unfoldable pub use Rattle.laws.specs.Lex.{lexb}
-
-pub record Figures : Type 0 where
-  pub leave : ℕ
-  pub arrival : ℕ
-  pub rides : ℕ
-  pub walk : ℕ
+pub use Rattle.profile.specs.declared.figures.Figures.{Figures}
 
 -- (arrival, rides, walk) of a is no larger than that of b, compared in that order
 abbrev pub lexle : Figures → Figures → Bool

@@ -7,7 +7,7 @@ ghost use Rattle.profile.specs.Journeys.{no_ride, no_journey, no_row};
 pub mod figures;
 
 // A ride, as a kept journey holds it.
-#[derive(Clone, Copy)]
+#[derive(Clone, Copy, Debug, Default, PartialEq, Eq)]
 pub struct Ride {
     pub trip: u16,
     pub day: u8,
@@ -20,7 +20,7 @@ pub struct Ride {
 }
 
 // A kept journey. For one ride, `last` is the blank ride; for fewer than three, `middle` is.
-#[derive(Clone, Copy)]
+#[derive(Clone, Copy, Debug, Default, PartialEq, Eq)]
 pub struct Journey {
     pub leave: u16,
     pub arrival: u16,
@@ -36,7 +36,7 @@ pub struct Journey {
 // A journey while the search runs: its figures, its origin and target, and the numbers of the calls where it boards and
 // alights: of the first ride, the last and the middle one. For one ride, `board2` and `alight2` are 0, and for fewer than three those of
 // the middle ride.
-#[derive(Clone, Copy)]
+#[derive(Clone, Copy, Debug, Default, PartialEq, Eq)]
 pub struct Row {
     pub leave: u16,
     pub arrival: u16,
@@ -56,50 +56,17 @@ pub struct Row {
 pub fn no_ride() -> Ride
     ensures { result ≡ no_ride }
 {
-    Ride {
-        trip: 0,
-        day: 0,
-        from: 0,
-        to: 0,
-        departure: 0,
-        arrival: 0,
-        board_request: false,
-        alight_request: false,
-    }
+    Ride::default()
 }
 
 pub fn no_journey() -> Journey
     ensures { result ≡ no_journey }
 {
-    let none = no_ride();
-    Journey {
-        leave: 0,
-        arrival: 0,
-        rides: 0,
-        walk: 0,
-        origin: 0,
-        target: 0,
-        first: none,
-        middle: none,
-        last: none,
-    }
+    Journey::default()
 }
 
 pub fn no_row() -> Row
     ensures { result ≡ no_row }
 {
-    Row {
-        leave: 0,
-        arrival: 0,
-        rides: 0,
-        walk: 0,
-        origin: 0,
-        target: 0,
-        board: 0,
-        alight: 0,
-        board2: 0,
-        alight2: 0,
-        middle_board: 0,
-        middle_alight: 0,
-    }
+    Row::default()
 }

@@ -6,6 +6,7 @@ ghost use Rattle.profile.specs.Journeys.{row_of};
 ghost use Rattle.state.specs.View.{view};
 ghost use Rattle.candidate.specs.Offer.{offer_to, reads_to};
 
+use candidate::{Offer, candidate};
 use state::layout::State;
 
 // Offers a journey to the state (`candidate`), an array of `state::layout`. How many kept journeys are read.
@@ -28,19 +29,21 @@ pub extern "C" fn profile_candidate(
     ensures { (view st.new ≡ offer_to (view st.old) (row_of leave arrival rides walk origin target board alight board2 alight2 middle_board middle_alight))
         × (result ≡ reads_to (view st.old) (row_of leave arrival rides walk origin target board alight board2 alight2 middle_board middle_alight)) }
 {
-    candidate::candidate(
+    candidate(
         st,
-        leave,
-        arrival,
-        rides,
-        walk,
-        origin,
-        target,
-        board,
-        alight,
-        board2,
-        alight2,
-        middle_board,
-        middle_alight,
+        Offer {
+            leave,
+            arrival,
+            rides,
+            walk,
+            origin,
+            target,
+            board,
+            alight,
+            board2,
+            alight2,
+            middle_board,
+            middle_alight,
+        },
     )
 }

@@ -1,4 +1,6 @@
 -- What the reader's functions do, as equations: the next record, the turns of a reader that goes on, the whole file.
+use Rattle.refusal.specs.declared.Accepted.TheVariants.{Taken}
+use Rattle.std.specs.Prelude.{Ok}
 use mathlib.Core.Path.{◌≡◌, refl, sym, ap, ◌∙◌, subst}
 use mathlib.Core.Bool.{Bool, true, false, true≢false, false≢true}
 use mathlib.Core.List.{List, [], ◌∷◌}
@@ -7,9 +9,7 @@ use native.Mathlib.Omega.{arith}
 use borrow.Author.Tests.{le-leb, lt-leb}
 use borrow.Author.Rules.{part_to_end}
 use lib.ListN.{length, take, drop, length-drop}
-use Rattle.refusal.specs.declared.Answer.{Answer}
-use Rattle.refusal.specs.declared.Answer.TheVariants.{Taken}
-use Rattle.refusal.specs.First.{is_refused}
+use Rattle.refusal.specs.First.{is_refused, Answer}
 use Rattle.fields.specs.Numbers.{u16_at}
 use Rattle.load.specs.declared.Load.{Load}
 use Rattle.file.specs.declared.Reader.{Reader}
@@ -33,7 +33,7 @@ module _ (r : Reader) (xs : List ℕ) {n : ℕ} (n-is : n ≡ u16_at xs 0) where
       back : (n : ℕ) → 2 + n - 2 ≡ n
       back n = omega arith
 
-  pub next-none : length xs < 2 + n → record { answer = Taken; used = 0; reader = r } ≡ next_spec r xs
+  pub next-none : length xs < 2 + n → record { answer = Ok Taken; used = 0; reader = r } ≡ next_spec r xs
   unfolding next_spec starts_whole
   next-none h = sym (rw (sym n-is, lt-leb _ _ h) refl)
 
@@ -43,7 +43,7 @@ next_one : (r : Reader) (xs : List ℕ) → starts_whole xs ≡ true → next_sp
 unfolding next_spec
 next_one r xs e = rw e refl
 
-next-no : (r : Reader) (xs : List ℕ) → starts_whole xs ≡ false → next_spec r xs ≡ record { answer = Taken; used = 0; reader = r }
+next-no : (r : Reader) (xs : List ℕ) → starts_whole xs ≡ false → next_spec r xs ≡ record { answer = Ok Taken; used = 0; reader = r }
 unfolding next_spec
 next-no r xs e = rw e refl
 
@@ -57,10 +57,10 @@ module _ (r : Reader) (xs : List ℕ) where
           let q = next_one r xs w in
           fed-refuses r xs w (sym (ap (λ (f : Fed). is_refused f.answer) q) ∙ e) ∙ ap (λ (f : Fed). record { answer = f.answer; used = 0; reader = r }) (sym q)
 
-  next-stops : (next_spec r xs).used ≡ 0 → fed_spec r xs ≡ record { answer = Taken; used = 0; reader = r }
+  next-stops : (next_spec r xs).used ≡ 0 → fed_spec r xs ≡ record { answer = Ok Taken; used = 0; reader = r }
   next-stops e = go (starts_whole xs) refl
     where
-      go : (b : Bool) → starts_whole xs ≡ b → fed_spec r xs ≡ record { answer = Taken; used = 0; reader = r }
+      go : (b : Bool) → starts_whole xs ≡ b → fed_spec r xs ≡ record { answer = Ok Taken; used = 0; reader = r }
       go false w = fed-stops r xs w
       go true w = let q : size_of xs ≡ 0 = sym (ap (λ (f : Fed). f.used) (next_one r xs w)) ∙ e in absurd (omega (arith, q))
 
@@ -79,7 +79,7 @@ next-turned r xs f-is = rw f-is (record { refused = next-refused r xs; stops = �
 
 -- and so is a run of an opened reader that used bytes
 pub run-turned : (r : Reader) {xs : List ℕ} {l : Load} {n : ℕ} → (r.opened ≡ true) × (r.second ≡ false) → Left (open_reader r.load) xs (open_reader l) n → 0 < n
-    → Turned r xs (record { answer = Taken; used = n; reader = open_reader l })
+    → Turned r xs (record { answer = Ok Taken; used = n; reader = open_reader l })
 run-turned r {xs} {l} {n} (o, s) left some = record {
   refused = λ e. absurd (false≢true e);
   stops = λ e z. absurd (omega (arith, some, z));
@@ -95,8 +95,8 @@ module _ {r₀ r : Reader} {bytes : List ℕ} {at : ℕ} {f : Fed} {t : Bool} (l
   pub left-refused : t ≡ true → record { answer = f.answer; used = at; reader = r } ≡ fed_spec r₀ bytes
   left-refused e = left-ends f.answer l (turned.refused (sym t-is ∙ e))
 
-  pub left-stops : t ≡ false → f.used ≡ 0 → record { answer = Taken; used = at; reader = r } ≡ fed_spec r₀ bytes
-  left-stops e n = left-ends Taken l (turned.stops (sym t-is ∙ e) n)
+  pub left-stops : t ≡ false → f.used ≡ 0 → record { answer = Ok Taken; used = at; reader = r } ≡ fed_spec r₀ bytes
+  left-stops e n = left-ends (Ok Taken) l (turned.stops (sym t-is ∙ e) n)
 
   pub left-on : t ≡ false → Left r₀ bytes f.reader (at + f.used)
   left-on e = left-trans l (turned.goes_on (sym t-is ∙ e))

@@ -9,7 +9,7 @@ ghost use Rattle.runs.specs.Runs.{Turned};
 use fields::layout::{kind_of, length_of};
 use file::record::record;
 use file::{Fed, Reader, Took};
-use refusal::{Answer, Refusal, is_refused};
+use refusal::{Accepted, Answer, Refusal, is_refused};
 use runs::in_place::run;
 
 // Before the first record of a file, by whether that is of version 2.
@@ -30,12 +30,12 @@ pub fn version(bytes: &[u8]) -> Answer
 {
     let byte = kind_of(bytes);
     if byte == 1 {
-        return Answer::Taken;
+        return Ok(Accepted::Taken);
     }
     if byte == 2 {
-        return Answer::Taken;
+        return Ok(Accepted::Taken);
     }
-    Answer::Refused(Refusal::FileVersion)
+    Err(Refusal::FileVersion)
 }
 
 // Whether the file is of version 2.
@@ -61,7 +61,7 @@ pub fn next(reader: Reader, bytes: &[u8]) -> Fed
         };
     }
     Fed {
-        answer: Answer::Taken,
+        answer: Ok(Accepted::Taken),
         used: 0,
         reader,
     }
@@ -79,7 +79,7 @@ fn run_or_next(reader: Reader, bytes: &[u8]) -> Fed
     if 0 < used {
         let after = run.load;
         return Fed {
-            answer: Answer::Taken,
+            answer: Ok(Accepted::Taken),
             used,
             reader: Reader {
                 opened: true,
@@ -122,7 +122,7 @@ pub fn fed(reader: Reader, bytes: &[u8]) -> Fed
         let used = f.used;
         if used == 0 {
             return Fed {
-                answer: Answer::Taken,
+                answer: Ok(Accepted::Taken),
                 used: at,
                 reader: after,
             };
@@ -132,7 +132,7 @@ pub fn fed(reader: Reader, bytes: &[u8]) -> Fed
         at += used;
     }
     Fed {
-        answer: Answer::Taken,
+        answer: Ok(Accepted::Taken),
         used: at,
         reader: after,
     }
@@ -144,11 +144,11 @@ pub fn ended(opened: bool, left: usize) -> Answer
 {
     if left == 0 {
         if opened {
-            return Answer::Taken;
+            return Ok(Accepted::Taken);
         }
-        return Answer::Refused(Refusal::RecordKind);
+        return Err(Refusal::RecordKind);
     }
-    Answer::Refused(Refusal::RecordLength)
+    Err(Refusal::RecordLength)
 }
 
 // A file that is there whole.

@@ -1,4 +1,6 @@
 -- The value of an answer tells it from every other.
+use Rattle.refusal.specs.declared.Accepted.TheVariants.{Taken, Outside}
+use Rattle.std.specs.Prelude.{Err, Ok}
 use mathlib.Core.Path.{◌≡◌, refl, sym, ap, ◌∙◌}
 use mathlib.Core.Logic.{◌⊎◌, inl, inr}
 use mathlib.Core.Bool.{Bool, true, false}
@@ -7,10 +9,8 @@ use Prim.Native.Nat.{ℕ}
 use lib.ListN.{get_or}
 use Rattle.refusal.specs.declared.Refusal.{Refusal}
 use Rattle.refusal.specs.declared.Refusal.TheVariants.{SettingsRange, ClockRange, IdLength, StopsFull, IdTaken, LocationType, ParentUnknown, NameUnusable, FieldRange, TimesReversed, NoRoom, RuleType, PairTaken, Neighbours, AlreadySearched, TimeText, FileVersion, RecordLength, RecordKind, DateWrong, ServiceUnknown, ServicesFull, DisplayGroups, CallUnknown, LoadUnwritable, BufferShort}
-use Rattle.refusal.specs.declared.Answer.{Answer}
-use Rattle.refusal.specs.declared.Answer.TheVariants.{Taken, Outside, Refused}
 use Rattle.refusal.specs.Causes.{number_of}
-use Rattle.refusal.specs.First.{answer_value, ValueTells}
+use Rattle.refusal.specs.First.{answer_value, ValueTells, Answer}
 
 -- by their numbers, which begin at 1
 abbrev by_number_of : List Refusal
@@ -45,9 +45,9 @@ by_number_of =
     ∷ []
 
 abbrev answer_back_of : Bool ⊎ ℕ → Answer
-answer_back_of (inl true) = Taken
-answer_back_of (inl false) = Outside
-answer_back_of (inr n) = Refused (get_or by_number_of n SettingsRange)
+answer_back_of (inl true) = Ok Taken
+answer_back_of (inl false) = Ok Outside
+answer_back_of (inr n) = Err (get_or by_number_of n SettingsRange)
 
 cause-back : (r : Refusal) → get_or by_number_of (number_of r) SettingsRange ≡ r
 cause-back SettingsRange = refl
@@ -78,9 +78,9 @@ cause-back LoadUnwritable = refl
 cause-back BufferShort = refl
 
 answer_back : (a : Answer) → answer_back_of (answer_value a) ≡ a
-answer_back Taken = refl
-answer_back Outside = refl
-answer_back (Refused r) = ap Refused (cause-back r)
+answer_back (Ok Taken) = refl
+answer_back (Ok Outside) = refl
+answer_back (Err r) = ap Err (cause-back r)
 
 pub value_tells : ValueTells
 value_tells a b e = sym (answer_back a) ∙ ap answer_back_of e ∙ answer_back b

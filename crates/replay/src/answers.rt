@@ -1,96 +1,50 @@
-// One load file: read whole, and its records handed in one by one, each call's answer noted.
+// One load file: its records handed in one by one, each call's answer noted, and all else as of the file read whole, which goes by runs.
 use crate::load_lines;
-use reader::{fresh, is_second, next, read, version};
-use refusal::{Answer, is_refused};
-use std::io::Stdout;
-use stdio::out;
+use reader::{fresh, is_second, next, read};
+use refusal::{Accepted, Answer};
+use stdio::out::Out;
 
 // The letter of a call's answer.
-fn letter(a: Answer) -> u8 {
-    match a {
-        Answer::Taken => b't',
-        Answer::Outside => b'o',
-        Answer::Refused(_) => b'r',
+fn letter(answer: Answer) -> char {
+    match answer {
+        Ok(Accepted::Taken) => 't',
+        Ok(Accepted::Outside) => 'o',
+        Err(_) => 'r',
     }
 }
 
-fn cause(a: Answer) -> u8 {
-    match a {
-        Answer::Taken => 0,
-        Answer::Outside => 0,
-        Answer::Refused(r) => refusal::number(r),
-    }
-}
-
-// The line of a file that is refused, in place of its answers.
-fn refused(stdout: Stdout, out: &mut [u8; 65536], a: Answer) -> usize {
-    let to = out::text(out, 0, b"refused");
-    let end = out::spaced(out, to, cause(a) as u64);
-    out::line(stdout, out, end)
-}
-
-// Whether the bytes start with a call's record.
-fn is_call(bytes: &[u8]) -> bool {
-    if bytes.len() > 2 {
-        return bytes[2] == 3;
-    }
-    false
-}
-
-// A space after `answers`, before the first letter.
-fn parted(out: &mut [u8; 65536], at: usize) -> usize {
-    if at == 7 {
-        return out::put(out, at, b' ');
-    }
-    at
-}
-
-// Notes the answer to a record: a call's letter.
-fn noted(out: &mut [u8; 65536], at: usize, call: bool, a: Answer) -> usize {
-    if call {
-        let to = parted(out, at);
-        return out::put(out, to, letter(a));
-    }
-    at
-}
-
-// Notes the answers to the records after the version, up to one that is refused.
-fn records(out: &mut [u8; 65536], second: bool, bytes: &[u8]) -> usize {
-    let mut to = out::text(out, 0, b"answers");
+// Notes the answers to the calls among the records after the version, up to a record that is refused.
+fn answers(out: &mut Out, second: bool, records: &[u8]) {
+    write!(out, "answers");
+    let mut between = " ";
     let mut reader = fresh(second);
-    let mut at: usize = 0;
-    while at < bytes.len() {
-        let f = next(reader, &bytes[at..]);
-        let answer = f.answer;
-        if is_refused(answer) {
-            return to;
+    let mut rest = records;
+    while !rest.is_empty() {
+        let f = next(reader, rest);
+        let Some((record, after)) = rest.split_at_checked(f.used) else {
+            break;
+        };
+        if f.answer.is_err() || record.is_empty() {
+            break;
         }
-        let used = f.used;
-        if used == 0 {
-            return to;
+        if record.get(2) == Some(&3) {
+            write!(out, "{between}{}", letter(f.answer));
+            between = "";
         }
-        to = noted(out, to, is_call(&bytes[at..]), answer);
-        let after = f.reader;
-        reader = after;
-        at += used;
+        reader = f.reader;
+        rest = after;
     }
-    to
+    writeln!(out);
 }
 
-// The answers are those of the records handed in one by one; all else is of the file read whole, which goes by runs.
-pub fn file(stdout: Stdout, out: &mut [u8; 65536], bytes: &[u8]) -> usize {
-    let second = is_second(bytes);
-    let first = version(bytes);
-    if is_refused(first) {
-        return refused(stdout, out, first);
-    }
-    let noted = records(out, second, &bytes[1..]);
+// The answers and the load, or the refusal alone.
+pub fn file(out: &mut Out, bytes: &[u8]) {
     let t = read(bytes);
-    let answer = t.answer;
-    if is_refused(answer) {
-        return refused(stdout, out, answer);
+    match t.answer {
+        Ok(_) => {
+            answers(out, is_second(bytes), bytes.get(1..).unwrap_or(&[]));
+            load_lines::lines(out, t.reader.load);
+        }
+        Err(r) => writeln!(out, "refused {}", u8::from(r)),
     }
-    let to = out::line(stdout, out, noted);
-    let reader = t.reader;
-    load_lines::lines(stdout, out, to, reader.load)
 }

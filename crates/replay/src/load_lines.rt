@@ -2,50 +2,30 @@
 use crate::queries;
 use load::Load;
 use places::group::group_places;
-use std::io::Stdout;
 use stdio::load_lines::{horizon, journeys, table};
-use stdio::out;
-use stops::Stop;
+use stdio::out::Out;
 
-fn place(out: &mut [u8; 65536], at: usize, p: u16) -> usize {
-    if p == 65535 {
-        return out::text(out, at, b" -");
+// Each stop's place; `-` for a stop that has none.
+fn places(out: &mut Out, load: Load) {
+    let places = group_places(load.stops, load.stop_count);
+    write!(out, "places");
+    for place in &places[..load.stop_count.min(128)] {
+        match *place {
+            65535 => write!(out, " -"),
+            place => write!(out, " {place}"),
+        }
     }
-    out::spaced(out, at, p as u64)
+    writeln!(out);
 }
 
-// Each stop's place.
-fn places(
-    stdout: Stdout,
-    out: &mut [u8; 65536],
-    at: usize,
-    stops: [Stop; 128],
-    count: usize,
-) -> usize {
-    let given = group_places(stops, count);
-    let n = out::least(count, 128);
-    let mut to = out::text(out, at, b"places");
-    for i in 0usize..n {
-        to = place(out, to, given[i]);
-    }
-    out::line(stdout, out, to)
-}
-
-fn searched_places(stdout: Stdout, out: &mut [u8; 65536], at: usize, load: Load) -> usize {
+pub fn lines(out: &mut Out, load: Load) {
+    let kept = &load.journeys[..load.journey_count.min(64)];
+    table(out, load.calls, load.call_count);
     if load.searched {
-        let stops = load.stops;
-        return places(stdout, out, at, stops, load.stop_count);
+        places(out, load);
     }
-    at
-}
-
-pub fn lines(stdout: Stdout, out: &mut [u8; 65536], at: usize, load: Load) -> usize {
-    let calls = load.calls;
-    let kept = load.journeys;
-    let a = table(stdout, out, at, calls, load.call_count);
-    let b = searched_places(stdout, out, a, load);
-    let c = journeys(stdout, out, b, kept, load.journey_count);
-    let d = horizon(stdout, out, c, load.horizon, load.limits);
-    let e = queries::bests(stdout, out, d, load);
-    queries::nexts(stdout, out, e, load)
+    journeys(out, kept);
+    horizon(out, load.horizon, load.limits);
+    queries::bests(out, load, kept);
+    queries::nexts(out, load, kept);
 }

@@ -1,97 +1,51 @@
 // Best at -1, 0, each leave, each leave + 1, the horizon and the horizon + 1, in rising order and once each; then next
 // after each kept journey, at second 0.
-ghost use Rattle.std.specs.Prelude.{◌≤◌};
-
-use best::Found;
+use best::{best, next_after};
 use load::Load;
 use profile::Journey;
-use std::io::Stdout;
-use stdio::load_lines::figures;
-use stdio::out;
-use stdio::out::least;
+use std::fmt;
+use stdio::load_lines::Figures;
+use stdio::out::Out;
 
-// Past every second that is asked.
-const NONE: u32 = 65537;
+// What a query answers.
+#[derive(Clone, Copy)]
+struct Found(Option<Journey>);
 
-fn found(stdout: Stdout, out: &mut [u8; 65536], at: usize, f: Found) -> usize {
-    match f {
-        Found::Best(j) => {
-            let a = figures(out, at, j);
-            out::line(stdout, out, a)
-        }
-        Found::Nothing => {
-            let a = out::text(out, at, b" none");
-            out::line(stdout, out, a)
+impl fmt::Display for Found {
+    fn fmt<W: fmt::Write>(&self, f: &mut fmt::Formatter<W>) -> fmt::Result {
+        match &self.0 {
+            Some(j) => write!(f, "{}", Figures(j)),
+            None => f.write_str("none"),
         }
     }
 }
 
-// The smaller of `soonest` and `x`, if x is `from` or more.
-fn nearer(soonest: u32, from: u32, x: u32) -> u32
-    requires { from ≤ soonest }
-    ensures { from ≤ result }
-{
-    if x < from {
-        return soonest;
+// The seconds that are asked, in rising order; -1 stands in for the journeys that are not there too.
+fn asked(horizon: u16, kept: &[Journey]) -> [i64; 132] {
+    let mut seconds = [-1; 132];
+    seconds[1] = 0;
+    seconds[2] = i64::from(horizon);
+    seconds[3] = i64::from(horizon) + 1;
+    let (pairs, _) = seconds[4..].as_chunks_mut::<2>();
+    for (pair, j) in pairs.iter_mut().zip(kept) {
+        *pair = [i64::from(j.leave), i64::from(j.leave) + 1];
     }
-    if x < soonest { x } else { soonest }
+    seconds.sort_unstable();
+    seconds
 }
 
-// The same of `x` and the second after it.
-fn nearer_both(soonest: u32, from: u32, x: u16) -> u32
-    requires { from ≤ soonest }
-    ensures { from ≤ result }
-{
-    let a = nearer(soonest, from, x as u32);
-    nearer(a, from, x as u32 + 1)
-}
-
-// The first second from `from` on that is asked.
-fn asked(kept: [Journey; 64], count: usize, horizon: u16, from: u32) -> u32
-    requires { from ≤ 65537 }
-    ensures { from ≤ result }
-{
-    let n = least(count, 64);
-    let ends = nearer_both(NONE, from, horizon);
-    let mut soonest = nearer(ends, from, 0);
-    for i in 0usize..n {
-        let j = kept[i];
-        soonest = nearer_both(soonest, from, j.leave);
+pub fn bests(out: &mut Out, load: Load, kept: &[Journey]) {
+    let mut last = None;
+    for second in asked(load.horizon, kept) {
+        if last != Some(second) {
+            writeln!(out, "best {second} {}", Found(best(load, second)));
+            last = Some(second);
+        }
     }
-    soonest
 }
 
-fn best_at(stdout: Stdout, out: &mut [u8; 65536], at: usize, load: Load, second: u32) -> usize {
-    let a = out::text(out, at, b"best");
-    let b = out::spaced(out, a, second as u64);
-    found(stdout, out, b, best::best(load, second as i64))
-}
-
-pub fn bests(stdout: Stdout, out: &mut [u8; 65536], at: usize, load: Load) -> usize {
-    let kept = load.journeys;
-    let a = out::text(out, at, b"best -1");
-    let mut to = found(stdout, out, a, best::best(load, -1));
-    let mut second = asked(kept, load.journey_count, load.horizon, 0);
-    while second < NONE {
-        to = best_at(stdout, out, to, load, second);
-        second = asked(kept, load.journey_count, load.horizon, second + 1);
+pub fn nexts(out: &mut Out, load: Load, kept: &[Journey]) {
+    for j in kept {
+        writeln!(out, "next {} {}", j.leave, Found(next_after(load, 0, *j)));
     }
-    to
-}
-
-fn next_of(stdout: Stdout, out: &mut [u8; 65536], at: usize, load: Load, j: Journey) -> usize {
-    let a = out::text(out, at, b"next");
-    let b = out::spaced(out, a, j.leave as u64);
-    found(stdout, out, b, best::next_after(load, 0, j))
-}
-
-pub fn nexts(stdout: Stdout, out: &mut [u8; 65536], at: usize, load: Load) -> usize {
-    let kept = load.journeys;
-    let n = least(load.journey_count, 64);
-    let mut to = at;
-    for i in 0usize..n {
-        let j = kept[i];
-        to = next_of(stdout, out, to, load, j);
-    }
-    to
 }

@@ -1,58 +1,47 @@
 -- How the numbers that bound last rides are put in: over the targets of a call, over the calls from the right, over the times of departure.
 use mathlib.Core.Path.{◌≡◌, refl, sym, ap, ◌∙◌}
 use mathlib.Core.Logic.{◌≢◌, ◌⊎◌, inl, inr}
-use mathlib.Core.Bool.{Bool, true, false, false≢true}
+use mathlib.Core.Bool.{Bool, true, false, false≢true, ◌&&◌}
 use mathlib.Core.List.Memᴰ
-use mathlib.Core.List.{List, Memᴰ}
-use Prim.Native.Nat.{ℕ, zero, suc, ◌+◌, ◌-◌, ◌/◌, ◌≤◌, ◌<◌, min}
+use mathlib.Core.List.{List, [], ◌∷◌, Memᴰ}
+use Prim.Native.Nat.{ℕ, ◌+◌, ◌/◌, ◌≤◌, ◌<◌, min}
 use native.Mathlib.Omega.{arith}
 use native.Mathlib.Nat.{eq-or-lt_of_le}
-use lib.Dec.{eqb}
-use lib.ListN.{length, get_or, set, replicate, length-set}
+use lib.Dec.{eqb, ltb}
+use lib.ListN.{length, get_or, set}
 use lib.Seq.{get_or-set_same, get_or-set_other}
 use borrow.Author.Tests.{eqb-true, eqb-false}
-use Rattle.laws.specs.Lists.{span}
-use Rattle.laws.specs.Bits.{bits_of, low_of, cleared}
-use Rattle.laws.proofs.Agree.{take_while-agree}
-use Rattle.laws.proofs.Bits.{bits_none, lowest-first}
-use Rattle.laws.proofs.Bools.{and-true-left, and-true-right, test}
+use Rattle.laws.specs.Bits.{bits_of}
+use Rattle.laws.proofs.Bools.{test}
 use Rattle.feed.specs.declared.FeedCall.{FeedCall}
 use Rattle.feed.specs.Feed.{call_at, same_run, target_mask, target_walk_of, arrival_of}
 use Rattle.rides.specs.Loops.{later_from}
 use Rattle.rides.specs.Bounds.{AtTargets, AtCall, AtBoard, bucket_of, InBucket, Bounds, Filled, Lowered, Suffix}
-use Rattle.rides.proofs.LoopLaws.{later-cons, later-other, later-nil}
+use Rattle.rides.proofs.LoopLaws.{run-end, run-next, run-on}
 
 -- ---- the targets of a mask
 
 -- t is early enough for those before, so that what is early enough for those left is for all
 pub record InMask (feed : List ℕ) (a mask t left : ℕ) : Type 0 where
-  pub small : left < 16
   pub rest : (s : ℕ) → s ≤ t → AtTargets feed a left s → AtTargets feed a mask s
 
-pub mask_start : {feed : List ℕ} {a mask t : ℕ} → mask < 16 → InMask feed a mask t mask
-mask_start h = record { small = h; rest = λ s l w. w }
+pub mask-start : {feed : List ℕ} {a mask t : ℕ} → InMask feed a mask t mask
+mask-start = record { rest = λ s l w. w }
 
-module _ {feed : List ℕ} {a mask t left : ℕ} (f : left ≡ 0 → ⊥) (i : InMask feed a mask t left) where
-  pub mask_low : {x : ℕ} → x ≡ low_of left → x < 4
-  mask_low e = rw e (lowest-first left f i.small).low
-
-  pub mask-less : {left' : ℕ} → left' ≡ cleared left → left' < left
-  mask-less e = rw e (lowest-first left f i.small).less
-
-  pub mask-turn : {x left' d t' : ℕ} → x ≡ low_of left → left' ≡ cleared left → d ≤ arrival_of (target_walk_of feed x) a → t' ≡ min t d → InMask feed a mask t' left'
-  unfolding AtTargets
-  mask-turn {x} {left'} {d} {t'} ex el h et =
-      let less : left' < left = mask-less el in
-      record { small = omega (arith, i.small); rest = λ s l w. i.rest s (omega arith) (λ y m. go s l w y (Memᴰ.cases_cons (rw (lowest-first left f i.small).parts at m))) }
-    where
-      go : (s : ℕ) → s ≤ t' → ((y : ℕ) → Memᴰ y (bits_of left') → s ≤ arrival_of (target_walk_of feed y) a) → (y : ℕ)
-          → (y ≡ low_of left) ⊎ Memᴰ y (bits_of (cleared left)) → s ≤ arrival_of (target_walk_of feed y) a
-      go s l w y (inl e) = let q : y ≡ x = e ∙ sym ex in rw q (omega arith)
-      go s l w y (inr m) = w y (rw el m)
-
-pub mask_done : {feed : List ℕ} {a mask t left : ℕ} → left ≡ 0 → InMask feed a mask t left → AtTargets feed a mask t
+pub mask-turn : {feed : List ℕ} {a mask t left left' x d t' : ℕ} → bits_of left ≡ x ∷ bits_of left' → d ≤ arrival_of (target_walk_of feed x) a → t' ≡ min t d
+    → InMask feed a mask t left → InMask feed a mask t' left'
 unfolding AtTargets
-mask_done {t = t} e i = i.rest t (omega arith) (λ y m. absurd (Memᴰ.not-nil (rw (e, bits_none) at m)))
+mask-turn {feed} {a} {t = t} {left} {left'} {x} {d} {t'} e h et i =
+    record { rest = λ s l w. i.rest s (omega arith) (λ y m. go s l w y (Memᴰ.cases_cons (rw e at m))) }
+  where
+    go : (s : ℕ) → s ≤ t' → ((y : ℕ) → Memᴰ y (bits_of left') → s ≤ arrival_of (target_walk_of feed y) a) → (y : ℕ)
+        → (y ≡ x) ⊎ Memᴰ y (bits_of left') → s ≤ arrival_of (target_walk_of feed y) a
+    go s l w y (inl q) = rw q (omega arith)
+    go s l w y (inr m) = w y m
+
+pub mask-done : {feed : List ℕ} {a mask t left : ℕ} → bits_of left ≡ [] → InMask feed a mask t left → AtTargets feed a mask t
+unfolding AtTargets
+mask-done {t = t} e i = i.rest t (omega arith) (λ y m. absurd (Memᴰ.not-nil (rw e at m)))
 
 -- ---- a call that one can alight at, or not
 
@@ -66,33 +55,19 @@ alight-none feed m t ec e y = absurd (false≢true (sym e ∙ ap (λ (z : FeedCa
 
 -- ---- the calls of a run
 
-run-same : (a b c : FeedCall) → same_run a b ≡ true → same_run a c ≡ same_run b c
-unfolding same_run
-run-same a b c h = rw (eqb-true a.trip b.trip (and-true-left _ _ h), eqb-true a.day b.day (and-true-right (eqb a.trip b.trip) _ h))
-
 module _ (feed : List ℕ) (n j t : ℕ) where
-  pub board-end : n ≤ j + 1 → AtBoard feed n j t
+  pub board-last : {r : Bool} → r ≡ (ltb (j + 1) n && same_run (call_at feed j) (call_at feed (j + 1))) → r ≡ false → AtBoard feed n j t
   unfolding AtBoard
-  board-end h m w = absurd (Memᴰ.not-nil (rw (later-nil (call_at feed) n j (j + 1) h) at w))
+  board-last er e m w = absurd (Memᴰ.not-nil (rw (run-end (call_at feed) n j er e) at w))
 
-  module _ {b a : FeedCall} {r : Bool} (h : j + 1 < n) (eb : b ≡ call_at feed j) (ea : a ≡ call_at feed (j + 1)) (er : r ≡ same_run b a) where
-    pub board-other : r ≡ false → AtBoard feed n j t
-    unfolding AtBoard
-    board-other e m w = absurd (Memᴰ.not-nil (rw (later-other (call_at feed) n j (j + 1) h eb ea er e) at w))
-
-    pub later-next : r ≡ true → later_from (call_at feed) n j (j + 1 + 1) ≡ later_from (call_at feed) n (j + 1) (j + 1 + 1)
-    unfolding later_from
-    later-next e =
-        take_while-agree (λ k. same_run (call_at feed j) (call_at feed k)) (λ k. same_run (call_at feed (j + 1)) (call_at feed k)) (span (j + 1 + 1) (n - (j + 1 + 1)))
-        (λ k _. run-same (call_at feed j) (call_at feed (j + 1)) (call_at feed k) (rw (← eb, ← ea, ← er) e))
-
-    pub board-next : {l : List ℕ} {v : ℕ} (d : ℕ) → r ≡ true → Filled l feed n (j + 1) → v ≡ get_or l (j + 1) 0 → AtCall feed (j + 1) d → t ≡ min v d → AtBoard feed n j t
-    unfolding AtBoard AtCall AtTargets
-    board-next {l} {v} d e f ev w et m i y x z = go (Memᴰ.cases_cons (rw (later-cons (call_at feed) n j (j + 1) h eb ea er e, later-next e) at i))
-      where
-        go : (m ≡ j + 1) ⊎ Memᴰ m (later_from (call_at feed) n (j + 1) (j + 1 + 1)) → t ≤ arrival_of (target_walk_of feed x) (call_at feed m).arrival
-        go (inl q) = let g = w (rw q at y) x (rw q at z) in rw q (omega arith)
-        go (inr k) = let g = f.board (j + 1) (omega arith) h m k y x z in omega arith
+  pub board-next : {l : List ℕ} (d : ℕ) {r : Bool} → r ≡ (ltb (j + 1) n && same_run (call_at feed j) (call_at feed (j + 1))) → r ≡ true
+      → Filled l feed n (j + 1) → AtCall feed (j + 1) d → t ≡ min (get_or l (j + 1) 0) d → AtBoard feed n j t
+  unfolding AtBoard AtCall AtTargets
+  board-next {l} d er e f w et m i y x z = go (Memᴰ.cases_cons (rw (run-on (call_at feed) n j er e) at i))
+    where
+      go : (m ≡ j + 1) ⊎ Memᴰ m (later_from (call_at feed) n (j + 1) (j + 1 + 1)) → t ≤ arrival_of (target_walk_of feed x) (call_at feed m).arrival
+      go (inl q) = let g = w (rw q at y) x (rw q at z) in rw q (omega arith)
+      go (inr k) = let g = f.board (j + 1) (omega arith) (run-next (call_at feed) n j er e) m k y x z in omega arith
 
 -- ---- the calls from the right
 
@@ -127,9 +102,9 @@ filled-same e f = rw e at f
 -- ---- the number for a departure
 
 module _ {b feed : List ℕ} {j : ℕ} {c : FeedCall} (ec : c ≡ call_at feed j) where
-  pub lowered : {q t x y : ℕ} → length b ≡ 1024 → j < 512 → q ≡ bucket_of c.departure → q < 1024 → 512 ≤ q → x ≡ get_or b q 0 → y ≡ get_or b j 0 → t ≡ min x y → Lowered b (set b q t) feed j
+  pub lowered : {q t : ℕ} → length b ≡ 1024 → j < 512 → q ≡ bucket_of c.departure → q < 1024 → 512 ≤ q → t ≡ min (get_or b q 0) (get_or b j 0) → Lowered b (set b q t) feed j
   unfolding InBucket
-  lowered {q} {t} {x} {y} long h eq l g ex ey et =
+  lowered {q} {t} long h eq l g et =
       let k : j ≢ q = λ e. omega arith in
       record {
         low = λ i s. let k : i ≢ q = λ e. omega arith in get_or-set_other b q i t 0 k;
@@ -154,43 +129,6 @@ pub record From (b₀ b : List ℕ) (q : ℕ) : Type 0 where
   pub before : (i : ℕ) → i < q → get_or b i 0 ≡ get_or b₀ i 0
   pub least : (p r : ℕ) → q ≤ p → p ≤ r → r < 1024 → get_or b p 0 ≤ get_or b₀ r 0
 
-pub from_start : {b : List ℕ} → length b ≡ 1024 → From b b 1023
-from_start {b} h =
-    record {
-      long = h;
-      low = omega arith;
-      high = omega arith;
-      before = λ i s. refl;
-      least = λ p r l s k. let e : p ≡ r = omega arith in rw e (omega arith);
-    }
-
-pub from-turn : {b₀ b : List ℕ} {q t x y : ℕ} (k : ℕ) → 512 < q → k ≡ q - 1 → x ≡ get_or b k 0 → y ≡ get_or b (k + 1) 0 → t ≡ min x y → From b₀ b q → From b₀ (set b k t) k
-from-turn {b₀} {b} {q} {t} {x} {y} k h ek ex ey et f =
-    record {
-      long = length-set b k t ∙ f.long;
-      low = omega arith;
-      high = omega (arith, f.high);
-      before = λ i s. let n : i ≢ k = λ e. omega arith in get_or-set_other b k i t 0 n ∙ f.before i (omega arith);
-      least = λ p r l s g. go p r s g (eq-or-lt_of_le l);
-    }
-  where
-    at : (r : ℕ) → r < 1024 → (k ≡ r) ⊎ (k < r) → t ≤ get_or b₀ r 0
-    at r g (inl e) = rw (← e) (omega (arith, f.before k (omega arith)))
-    at r g (inr l) =
-        let e : k + 1 ≡ q = omega arith in
-        omega (arith, f.least (k + 1) r (omega arith) (omega arith) g)
-
-    go : (p r : ℕ) → p ≤ r → r < 1024 → (k ≡ p) ⊎ (k < p) → get_or (set b k t) p 0 ≤ get_or b₀ r 0
-    go p r s g (inl e) = rw (← e, get_or-set_same b k t 0 (omega (arith, f.long, f.high))) (at r g (eq-or-lt_of_le (omega arith)))
-    go p r s g (inr l) = let n : p ≢ k = λ e. omega arith in rw (get_or-set_other b k p t 0 n) (f.least p r (omega arith) s g)
-
-pub from-done : {b₀ b : List ℕ} {q : ℕ} → q ≤ 512 → From b₀ b q → Suffix b₀ b
-from-done h f =
-    record {
-      low = λ i s. f.before i (omega (arith, f.low));
-      least = λ p r l s g. f.least p r (omega arith) s g;
-    }
-
 -- ---- all of it
 
 pub bounds-made : {b c feed : List ℕ} {n : ℕ} → n ≤ 512 → Filled b feed n 0 → Suffix b c → Bounds c feed n
@@ -201,17 +139,4 @@ bounds-made {b} {c} {feed} {n} hn f s =
       after = λ t j h y l.
           let (p, q) = f.bucket j (omega arith) h y in
           omega (arith, s.least (512 + t / 128) (512 + (call_at feed j).departure / 128) (omega arith) (omega arith) p, s.low j (omega arith));
-    }
-
-zeros : (n i : ℕ) → ◌≡◌ {A = ℕ} (get_or (replicate n 0) i 0) 0
-zeros zero i = refl
-zeros (suc n) zero = refl
-zeros (suc n) (suc i) = zeros n i
-
-pub bounds-zero : {feed : List ℕ} {n : ℕ} → Bounds (replicate 1024 0) feed n
-unfolding AtBoard AtCall AtTargets
-bounds-zero =
-    record {
-      board = λ j h m i y x z. omega (arith, zeros 1024 j);
-      after = λ t j h y l. omega (arith, zeros 1024 (bucket_of t));
     }

@@ -1,5 +1,7 @@
 pub mod RowLaws
+pub mod RestLaws
 pub mod LoopLaws
+pub mod FirstLaws
 pub mod AgreeLaws
 pub mod BoundLaws
 pub mod SkipLaws

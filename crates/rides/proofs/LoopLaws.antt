@@ -1,14 +1,22 @@
 -- What every loop of the search cites. A loop goes through a list of numbers, and its invariant is that what is left of the list, offered to the
 -- present state, gives what the whole list gives from the first state.
 use mathlib.Core.Path.{◌≡◌, refl, sym, ◌∙◌, ap}
-use mathlib.Core.Bool.{Bool, true, false, not}
-use mathlib.Core.List.{List, [], ◌∷◌, ◌++◌}
-use Prim.Native.Nat.{ℕ, ◌+◌, ◌≤◌, ◌<◌}
+use mathlib.Core.Logic.{◌⊎◌, inl, inr}
+use mathlib.Core.Bool.{Bool, true, false, not, ◌&&◌}
+use lib.Dec.{eqb, ltb}
+use borrow.Author.Tests.{eqb-true, ltb-true, ltb-false}
+use Rattle.laws.proofs.Agree.{take_while-agree}
+use Rattle.laws.proofs.Bools.{and-true-left, and-true-right, test}
+use mathlib.Core.List.{List, [], ◌∷◌, ◌++◌, Memᴰ}
+use Prim.Native.Nat.{ℕ, ◌+◌, ◌-◌, ◌<◌}
 use native.Mathlib.Omega.{arith}
-use Rattle.laws.specs.Lists.{concat_map}
+use Rattle.laws.specs.Lists.{concat_map, span}
 use Rattle.laws.specs.Bits.{bits_of, low_of, cleared}
-use Rattle.laws.proofs.Folds.{foldl-append}
-use Rattle.laws.proofs.Bits.{bits_none, lowest-first}
+use Rattle.laws.proofs.Folds.{foldl-append, span-mem}
+use Rattle.laws.proofs.Tails.{take_while-mem}
+use lib.Count.{count_trailing_zeros}
+use Rattle.std.specs.Int.Bits.{bit_and}
+use Rattle.laws.proofs.Bits.{bits_none, bits-set, lowest-first}
 use Rattle.laws.proofs.Places.{span-cons, span-nil}
 use Rattle.profile.specs.declared.Row.{Row}
 use Rattle.profile.specs.Kept.{St, refused}
@@ -18,15 +26,9 @@ use Rattle.candidate.proofs.OfferLaws.{offers-late}
 use Rattle.state.proofs.ViewLaws.{view-is-refused}
 use Rattle.feed.specs.declared.FeedCall.{FeedCall}
 use Rattle.feed.specs.Feed.{same_run}
-use Rattle.rides.specs.Loops.{over_bits, over_calls, over_run, later_from}
+use Rattle.rides.specs.Loops.{later_from}
 use Rattle.rides.specs.Offered.{offer_all, Offered}
-
--- what is left to offer, from the present state, gives what all of it gives from the first
-pub record Left (l₀ l : List ℕ) (all os : List Row) : Type 0 where
-  pub is : offer_all (view l) os ≡ offer_all (view l₀) all
-
-pub starts : {l : List ℕ} {os : List Row} → Left l l os os
-starts = record { is = refl }
+use Rattle.rides.proofs.RestLaws as generic
 
 -- nothing is offered; one row is; one list after another
 pub nothing : {l : List ℕ} → Offered l l []
@@ -48,93 +50,84 @@ pub both : {l l' l'' : List ℕ} {xs ys : List Row} → Offered l l' xs → Offe
 unfolding offer_all
 both {l} {xs = xs} {ys = ys} a b = record { is = b.is ∙ ap (λ (s : St Row). offer_all s ys) a.is ∙ sym (foldl-append offer_to (view l) xs ys) }
 
--- a turn: what is left is the offers of x and the rest, and those of x are made
-turn : {l₀ l l' : List ℕ} {all os : List Row} (g : ℕ → List Row) {x : ℕ} {xs ys : List ℕ} → xs ≡ x ∷ ys → os ≡ concat_map g xs
-    → Offered l l' (g x) → Left l₀ l all os → Left l₀ l' all (concat_map g ys)
-unfolding offer_all
-turn {l = l} g {x = x} {ys = ys} e eo o i =
-    record {
-      is =
-          ap (λ (s : St Row). offer_all s (concat_map g ys)) o.is ∙ sym (foldl-append offer_to (view l) (g x) (concat_map g ys))
-          ∙ ap (λ (zs : List ℕ). offer_all (view l) (concat_map g zs)) (sym e) ∙ ap (offer_all (view l)) (sym eo) ∙ i.is;
-    }
-
--- the end: nothing is left
-ends : {l₀ l : List ℕ} {all os : List Row} → os ≡ [] → Left l₀ l all os → Offered l₀ l all
-unfolding offer_all
-ends {l = l} e i = record { is = sym (ap (offer_all (view l)) e) ∙ i.is }
-
 -- a refused search stays as it is, whatever is offered, so a loop may end there
 refused_all : (s : St Row) (os : List Row) → s ≡ refused → offer_all s os ≡ s
 unfolding offer_all
 refused_all s os e = ap (λ (r : St Row). offer_all r os) e ∙ offers-late refused os (λ o m. refl) ∙ sym e
 
-pub stops : {l₀ l : List ℕ} {all os : List Row} {r : Bool} → r ≡ not (open_of l) → r ≡ true → Left l₀ l all os → Offered l₀ l all
-stops {l = l} {os = os} e t i = record { is = sym (refused_all (view l) os (shut (open_of l) refl (sym e ∙ t))) ∙ i.is }
-  where
-    shut : (b : Bool) → open_of l ≡ b → not b ≡ true → view l ≡ refused
-    shut true p q = (view-is-refused l).1 (p ∙ ap not q)
-    shut false p q = (view-is-refused l).1 p
+run-same : (a b c : FeedCall) → same_run a b ≡ true → same_run a c ≡ same_run b c
+unfolding same_run
+run-same a b c h = rw (eqb-true a.trip b.trip (and-true-left _ _ h), eqb-true a.day b.day (and-true-right (eqb a.trip b.trip) _ h))
 
--- ---- a loop over the set digits of a mask of four
-pub record InBits (l₀ l : List ℕ) (all : List Row) (g : ℕ → List Row) (m : ℕ) : Type 0 where
-  pub small : m < 16
-  pub left : Left l₀ l all (over_bits g m)
+-- ---- a loop over a list: of set digits, of calls, of first rides
 
-pub bits-start : {l : List ℕ} {g : ℕ → List Row} {m : ℕ} → m < 16 → InBits l l (over_bits g m) g m
-bits-start h = record { small = h; left = starts }
+abbrev pub Rest : {A : Type 0} → List ℕ → List ℕ → (A → List Row) → List A → List A → Type 0
+Rest l₀ l g all rest = generic.Rest view offer_to l₀ l g all rest
 
-module _ {l₀ l : List ℕ} {all : List Row} {g : ℕ → List Row} {m : ℕ} (f : m ≡ 0 → ⊥) (i : InBits l₀ l all g m) where
-  pub bits-low : {x : ℕ} → x ≡ low_of m → x < 4
-  bits-low e = rw e (lowest-first m f i.small).low
+module _ {A : Type 0} {g : A → List Row} where
+  pub rest-turn : {l₀ l l' : List ℕ} {all rest rest' : List A} {x : A} → rest ≡ x ∷ rest' → Rest l₀ l g all rest → Offered l l' (g x) → Rest l₀ l' g all rest'
+  unfolding offer_all
+  rest-turn e w o = generic.rest-steps e w o.is
 
-  pub bits-less : {m' : ℕ} → m' ≡ cleared m → m' < m
-  bits-less e = rw e (lowest-first m f i.small).less
+  pub rest-none : {l₀ l : List ℕ} {all rest : List A} → rest ≡ [] → Rest l₀ l g all rest → Offered l₀ l (concat_map g all)
+  unfolding offer_all
+  rest-none e w = record { is = generic.rest-ends e w }
 
-  pub bits-turn : {l' : List ℕ} {m' x : ℕ} → x ≡ low_of m → m' ≡ cleared m → Offered l l' (g x) → InBits l₀ l' all g m'
-  unfolding over_bits
-  bits-turn {m' = m'} ex em o =
-      let h : m' < m = bits-less em in
-      record { small = omega (arith, i.small); left = rw em (turn g (lowest-first m f i.small).parts refl (rw ex at o) i.left) }
+  -- a refused search stays as it is, whatever is offered
+  pub rest-stops : {l₀ l : List ℕ} {all rest : List A} {r : Bool} → r ≡ not (open_of l) → r ≡ true → Rest l₀ l g all rest → Offered l₀ l (concat_map g all)
+  unfolding offer_all
+  rest-stops {l = l} {rest = rest} e t w =
+      record { is = sym (refused_all (view l) (concat_map g rest) (shut (open_of l) refl (sym e ∙ t))) ∙ w.left }
+    where
+      shut : (b : Bool) → open_of l ≡ b → not b ≡ true → view l ≡ refused
+      shut true p q = (view-is-refused l).1 (p ∙ ap not q)
+      shut false p q = (view-is-refused l).1 p
 
-pub bits-done : {l₀ l : List ℕ} {all : List Row} {g : ℕ → List Row} {m : ℕ} → m ≡ 0 → InBits l₀ l all g m → Offered l₀ l all
-unfolding over_bits
-bits-done {g = g} e i = ends (ap (λ (k : ℕ). concat_map g (bits_of k)) e ∙ ap (concat_map g) bits_none) i.left
+-- ---- what comes next: of the set digits of a mask
 
--- ---- a loop over the calls
-module _ {l₀ l : List ℕ} {all : List Row} (g : ℕ → List Row) (n i : ℕ) where
-  pub calls-turn : {l' : List ℕ} → i < n → Offered l l' (g i) → Left l₀ l all (over_calls g n i) → Left l₀ l' all (over_calls g n (i + 1))
-  unfolding over_calls
-  calls-turn h o = turn g (span-cons i n h) refl o
+pub digits-none : {m : ℕ} → m ≡ 0 → bits_of m ≡ []
+digits-none e = ap bits_of e ∙ bits_none
 
-  pub calls-done : n ≤ i → Left l₀ l all (over_calls g n i) → Offered l₀ l all
-  unfolding over_calls
-  calls-done h = ends (ap (concat_map g) (span-nil i n h))
+pub digits-first : {m : ℕ} → (m ≡ 0 → ⊥) → m < 16 → bits_of m ≡ count_trailing_zeros 8 m ∷ bits_of (bit_and m (m - 1))
+unfolding low_of cleared
+digits-first {m} f h = (lowest-first m f h).parts
 
--- ---- a loop over the calls of a run
-module _ (at : ℕ → FeedCall) (n i j : ℕ) {b a : FeedCall} {t : Bool} (h : j < n) (eb : b ≡ at i) (ea : a ≡ at j) (et : t ≡ same_run b a) where
-  pub later-cons : t ≡ true → later_from at n i j ≡ j ∷ later_from at n i (j + 1)
+pub digits-small : (m : ℕ) {x : ℕ} {xs : List ℕ} → bits_of m ≡ x ∷ xs → x < 4
+unfolding bits_of
+digits-small m e = (bits-set 4 m (rw e (Memᴰ.head refl))).0
+
+-- ---- of the later calls of a run, by the test of the next one
+
+module _ (at : ℕ → FeedCall) (n j : ℕ) {t : Bool} (et : t ≡ (ltb (j + 1) n && same_run (at j) (at (j + 1)))) where
+  pub run-end : t ≡ false → later_from at n j (j + 1) ≡ []
   unfolding later_from
-  later-cons e = let same : same_run (at i) (at j) ≡ true = rw (← ea, ← eb, ← et, e) in rw (span-cons j n h, same)
+  run-end f = go (test (ltb (j + 1) n))
+    where
+      go : (ltb (j + 1) n ≡ true) ⊎ (ltb (j + 1) n ≡ false) → later_from at n j (j + 1) ≡ []
+      go (inl h) = let k : same_run (at j) (at (j + 1)) ≡ false = rw h at (sym et ∙ f) in rw (span-cons (j + 1) n (ltb-true _ _ h), k)
+      go (inr h) = rw (span-nil (j + 1) n (ltb-false _ _ h))
 
-  pub later-other : t ≡ false → later_from at n i j ≡ []
-  unfolding later_from
-  later-other e = rw (span-cons j n h, ← ea, ← eb, ← et, e)
+  module _ (e : t ≡ true) where
+    pub run-next : j + 1 < n
+    run-next = ltb-true _ _ (and-true-left _ _ (sym et ∙ e))
 
-pub later-nil : (at : ℕ → FeedCall) (n i j : ℕ) → n ≤ j → later_from at n i j ≡ []
+    pub run-on : later_from at n j (j + 1) ≡ (j + 1) ∷ later_from at n (j + 1) (j + 1 + 1)
+    unfolding later_from
+    run-on =
+        let same : same_run (at j) (at (j + 1)) ≡ true = and-true-right (ltb (j + 1) n) _ (sym et ∙ e) in
+        rw (span-cons (j + 1) n run-next, same)
+        (ap (λ (xs : List ℕ). (j + 1) ∷ xs)
+        (take_while-agree (λ k. same_run (at j) (at k)) (λ k. same_run (at (j + 1)) (at k)) (span (j + 1 + 1) (n - (j + 1 + 1)))
+        (λ k _. run-same (at j) (at (j + 1)) (at k) same)))
+
+-- such a call is one of those that are read, and of the run
+pub record Within (at : ℕ → FeedCall) (n i k : ℕ) : Type 0 where
+  pub within : k < n
+  pub same : same_run (at i) (at k) ≡ true
+
+pub later-within : (at : ℕ → FeedCall) (n i j : ℕ) {k : ℕ} → Memᴰ k (later_from at n i j) → Within at n i k
 unfolding later_from
-later-nil at n i j h = rw (span-nil j n h)
-
-module _ {l₀ l : List ℕ} {all : List Row} (g : ℕ → List Row) (at : ℕ → FeedCall) (n i j : ℕ) where
-  pub run-turn : {l' : List ℕ} {b a : FeedCall} {t : Bool} → j < n → b ≡ at i → a ≡ at j → t ≡ same_run b a → t ≡ true
-      → Offered l l' (g j) → Left l₀ l all (over_run g at n i j) → Left l₀ l' all (over_run g at n i (j + 1))
-  unfolding over_run
-  run-turn h eb ea et e o = turn g (later-cons at n i j h eb ea et e) refl o
-
-  pub run-other : {b a : FeedCall} {t : Bool} → j < n → b ≡ at i → a ≡ at j → t ≡ same_run b a → t ≡ false → Left l₀ l all (over_run g at n i j) → Offered l₀ l all
-  unfolding over_run
-  run-other h eb ea et e = ends (ap (concat_map g) (later-other at n i j h eb ea et e))
-
-  pub run-done : n ≤ j → Left l₀ l all (over_run g at n i j) → Offered l₀ l all
-  unfolding over_run
-  run-done h = ends (ap (concat_map g) (later-nil at n i j h))
+later-within at n i j {k} w =
+    let (m, t) = take_while-mem (λ k. same_run (at i) (at k)) (span j (n - j)) w in
+    let (low, high) = span-mem j (n - j) m in
+    record { within = omega arith; same = t }

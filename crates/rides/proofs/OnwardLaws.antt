@@ -2,16 +2,20 @@
 -- ride. The bounds of one change and of two stand side by side.
 use mathlib.Core.Path.{◌≡◌, refl, sym, ap, subst, ◌∙◌}
 use mathlib.Core.Logic.{◌⊎◌, inl, inr}
-use mathlib.Core.Bool.{Bool, true, false}
+use mathlib.Core.Bool.{Bool, true, false, ◌&&◌}
 use mathlib.Core.List.Memᴰ
 use mathlib.Core.List.{List, [], ◌∷◌, Memᴰ}
-use Prim.Native.Nat.{ℕ, zero, suc, ◌+◌, ◌-◌, ◌*◌, ◌≤◌, ◌<◌, min}
+use Prim.Native.Nat.{ℕ, zero, suc, ◌+◌, ◌-◌, ◌*◌, ◌≤◌, ◌<◌}
 use native.Mathlib.Omega.{arith}
 use native.Mathlib.Nat.{eq-or-lt_of_le}
 use lib.ListN.{get_or, set, drop, replicate, length-set, length-replicate}
 use lib.Seq.{get_or-drop, get_or-set_same, get_or-set_other}
 use Rattle.laws.specs.Lists.{span}
-use Rattle.ways.specs.Rides.{Leg, leg}
+use Rattle.ways.specs.Rides.{Leg, leg, first_ride, first_rides}
+use Rattle.ways.proofs.RideLaws.{firsts-mem}
+use Rattle.rides.specs.declared.calls.Ride.{Ride}
+use Rattle.rides.specs.Places.{IsRide}
+use Rattle.rides.proofs.ReachLaws.{net, below, alighted, of-run}
 use Rattle.ways.specs.Routes.{Way, onward}
 use Rattle.profile.specs.declared.Row.{Row}
 use Rattle.profile.specs.Journeys.{row_of}
@@ -20,26 +24,29 @@ use Rattle.candidate.specs.Offer.{passed_over}
 use Rattle.candidate.proofs.PassedLaws.{cov-no-later}
 use Rattle.feed.specs.declared.FeedCall.{FeedCall}
 use Rattle.feed.specs.declared.FirstRide.{FirstRide}
-use Rattle.feed.specs.Feed.{call_at, same_run, change_at, joined, arrival_of}
+use Rattle.feed.specs.Feed.{call_at, same_run, arrival_of}
 use Rattle.rides.specs.Rows.{Sheet, Joins, first_of, three_row, network_of}
 use Rattle.rides.specs.Loops.{over_calls, over_run, onward_rows, alight_on, board_on}
 use Rattle.rides.specs.Sheets.{sheet_of, joins_of}
 use Rattle.rides.specs.Offered.{Offered}
-use Rattle.rides.specs.Bounds.{Bounds}
-use Rattle.rides.specs.Reach.{end_of, due_at, NotBefore, Onward, Told, Beside}
+use Rattle.rides.specs.Reach.{end_of, due_at, NotBefore, Onward, Beside}
 use Rattle.rides.specs.Routes.{on_row}
 use Rattle.rides.proofs.LoopLaws.{nothing}
-use Rattle.rides.proofs.SkipLaws.{passes}
+use Rattle.laws.proofs.Bools.{and-true-left, and-true-right}
+use Rattle.rides.proofs.SkipLaws.{passes, cond-and}
 use Rattle.rides.proofs.RouteLaws.{rows-of-ways}
 
 -- ---- by the tests that the code makes
 
-module _ (feed : List ℕ) (i k : ℕ) where
-  pub same-run-is : {b a : FeedCall} {t : Bool} → b ≡ call_at feed i → a ≡ call_at feed k → t ≡ same_run b a → t ≡ true → same_run (call_at feed i) (call_at feed k) ≡ true
-  same-run-is eb ea et e = rw (← eb, ← ea, ← et) e
-
 pub alight-is : (feed : List ℕ) (k : ℕ) {a : FeedCall} → a ≡ call_at feed k → a.alight ≡ true → (call_at feed k).alight ≡ true
 alight-is feed k e y = ap (λ (a : FeedCall). a.alight) (sym e) ∙ y
+
+-- a first ride is one
+pub first-is-ride : (feed changes : List ℕ) (n : ℕ) {o : ℕ} (r : Ride) → Memᴰ (first_ride o r.board r.alight) (first_rides (net feed changes n) (span 0 n)) → IsRide feed n r
+first-is-ride feed changes n r m =
+    let w = (firsts-mem (net feed changes n) (span 0 n) _ m).0 in
+    let l = leg r.board r.alight in
+    record { run = record { within = (below feed changes n l w).1; same = of-run feed changes n l w }; alights = alighted feed changes n l w }
 
 -- ---- the rows that lead on
 
@@ -77,24 +84,18 @@ module _ (s : Sheet) (joins : Joins) (n : ℕ) (f : FirstRide) where
   fewer zero z b a j m p e = absurd (z refl)
   fewer (suc k) z b a j m p e = let q : suc k - 1 ≡ k = omega arith in rw (e, q)
 
--- a board by the tests that the code makes
-module _ (left : ℕ) (feed changes : List ℕ) (n : ℕ) (f p : FirstRide) (j m c : ℕ) {b : FeedCall} (eb : b ≡ call_at feed c) (y : b.board ≡ true) {k : ℕ} {x : Bool}
-    (ek : k ≡ change_at changes p.stop b.stop) (ex : x ≡ joined p b k) where
-  joins-is : joins_of feed changes p c ≡ x
-  unfolding joins_of
-  joins-is = ap (λ (a : FeedCall). joined p a (change_at changes p.stop a.stop)) (sym eb) ∙ ap (joined p b) (sym ek) ∙ sym ex
-
-  boards-is : (call_at feed c).board ≡ true
-  boards-is = ap (λ (a : FeedCall). a.board) (sym eb) ∙ y
-
-  pub board-joined : {l l' : List ℕ} → x ≡ true → Offered l l' (over_run (alight_on left (sheet_of feed) (joins_of feed changes) n f j m c) (call_at feed) n c (c + 1))
+-- the rides that board at c, by the test of the code
+module _ (left : ℕ) (feed changes : List ℕ) (n : ℕ) (f p : FirstRide) (j m c : ℕ) {x : Bool} (e : x ≡ ((call_at feed c).board && joins_of feed changes p c)) where
+  pub on-board : {l l' : List ℕ} → x ≡ true → Offered l l' (over_run (alight_on left (sheet_of feed) (joins_of feed changes) n f j m c) (call_at feed) n c (c + 1))
       → Offered l l' (board_on left (sheet_of feed) (joins_of feed changes) n f p j m c)
   unfolding board_on sheet_of
-  board-joined t o = rw (boards-is, joins-is, t) o
+  on-board t o =
+      let both = sym e ∙ t in
+      rw (and-true-left (call_at feed c).board (joins_of feed changes p c) both, and-true-right (call_at feed c).board (joins_of feed changes p c) both) o
 
-  pub board-apart : {l : List ℕ} → x ≡ false → Offered l l (board_on left (sheet_of feed) (joins_of feed changes) n f p j m c)
+  pub off-board : {l : List ℕ} → x ≡ false → Offered l l (board_on left (sheet_of feed) (joins_of feed changes) n f p j m c)
   unfolding board_on sheet_of
-  board-apart t = rw (boards-is, joins-is, t) nothing
+  off-board t = rw (cond-and (call_at feed c).board (joins_of feed changes p c) _ (sym e ∙ t)) nothing
 
 -- ---- the bounds side by side
 
@@ -135,11 +136,3 @@ onward-made {one} {two} {r} {feed} {changes} {n} h w₁ w₂ b = record { on = �
     go : (left : ℕ) → (left ≡ 2) ⊎ (left < 2) → 1 ≤ left → NotBefore feed changes n left (drop ((left - 1) * 512) r)
     go left (inl e) lo = rw e (same-bounds feed changes n 2 two (drop ((2 - 1) * 512) r) (λ m l. get_or-drop 512 r m 0 ∙ b.high m (omega arith)) w₂)
     go left (inr l) lo = let e : left ≡ 1 = omega arith in rw e (same-bounds feed changes n 1 one (drop ((1 - 1) * 512) r) (λ m l. b.low m (omega arith)) w₁)
-
-pub told-threes : {pass : ℕ} {b feed changes : List ℕ} {n : ℕ} → pass ≡ 2 → n ≤ 512 → Onward b feed changes (min n 512) → Told pass b feed changes n
-told-threes {b = b} {feed} {changes} {n} e h w =
-    let q : min n 512 ≡ n = omega arith in
-    record { last = λ z. absurd (z e); threes = λ d. subst (Onward b feed changes) q w }
-
-pub told-last : {pass : ℕ} {b feed changes : List ℕ} {n : ℕ} → (pass ≡ 2 → ⊥) → Bounds b feed n → Told pass b feed changes n
-told-last z w = record { last = λ q. w; threes = λ q. absurd (z q) }

@@ -1,14 +1,14 @@
 -- The numbers of places: how they are put in, and that no way on is at its target before them.
 use mathlib.Core.Path.{◌≡◌, refl, sym, ap, subst, ◌∙◌}
 use mathlib.Core.Logic.{◌≢◌, ◌⊎◌, inl, inr}
-use mathlib.Core.Bool.{Bool, true, false, false≢true}
+use mathlib.Core.Bool.{Bool, true, false, false≢true, ◌&&◌}
 use mathlib.Core.List.Memᴰ
 use mathlib.Core.List.{List, map, Memᴰ}
 use Prim.Native.Nat.{ℕ, zero, suc, ◌+◌, ◌-◌, ◌≤◌, ◌<◌, min}
 use native.Mathlib.Omega.{arith}
 use native.Mathlib.Nat.{eq-or-lt_of_le}
 use native.Mathlib.Numerals.{add-one}
-use lib.Dec.{eqb}
+use lib.Dec.{eqb, ltb}
 use lib.ListN.{length, get_or, set, replicate, length-set}
 use lib.Seq.{get_or-set_same, get_or-set_other}
 use borrow.Author.Tests.{eqb-true}
@@ -23,14 +23,13 @@ use Rattle.ways.specs.Routes.{Way, here, ride_then, onward}
 use Rattle.ways.proofs.RideLaws.{Listed, joined-mem, listed_in}
 use Rattle.feed.specs.declared.FeedCall.{FeedCall}
 use Rattle.feed.specs.declared.FirstRide.{FirstRide}
-use Rattle.feed.specs.Feed.{call_at, same_run, target_mask, change_at, joined}
+use Rattle.feed.specs.Feed.{call_at, same_run, target_mask, joined}
 use Rattle.rides.specs.Rows.{first_of, network_of}
 use Rattle.rides.specs.Loops.{later_from}
 use Rattle.rides.specs.Sheets.{sheet_of, joins_of}
 use Rattle.rides.specs.Bounds.{AtTargets, AtCall}
+use Rattle.rides.proofs.LoopLaws.{run-end, run-next, run-on}
 use Rattle.rides.specs.Reach.{due_at, NotBefore, alighted_at, BoardAt, JoinAt, Least, JoinsAt, Each}
-use Rattle.rides.proofs.LoopLaws.{later-cons, later-other, later-nil}
-use Rattle.rides.proofs.BoundLaws.{later-next}
 
 -- ---- arrays filled from the left and from the right
 
@@ -66,49 +65,42 @@ each_to P {i} {l = l} e w = subst (λ (k : ℕ). Each P i k l) e w
 -- ---- the rides that board at a place
 
 module _ (feed : List ℕ) (n : ℕ) (at : List ℕ) (j t : ℕ) where
-  pub run-last : n ≤ j + 1 → BoardAt feed n at j t
+  pub board-last : {r : Bool} → r ≡ (ltb (j + 1) n && same_run (call_at feed j) (call_at feed (j + 1))) → r ≡ false → BoardAt feed n at j t
   unfolding BoardAt
-  run-last h d m y = absurd (Memᴰ.not-nil (rw (later-nil (call_at feed) n j (j + 1) h) at m))
+  board-last er e d m y = absurd (Memᴰ.not-nil (rw (run-end (call_at feed) n j er e) at m))
 
-  module _ {b a : FeedCall} {r : Bool} (h : j + 1 < n) (eb : b ≡ call_at feed j) (ea : a ≡ call_at feed (j + 1)) (er : r ≡ same_run b a) where
-    pub run-apart : r ≡ false → BoardAt feed n at j t
-    unfolding BoardAt
-    run-apart e d m y = absurd (Memᴰ.not-nil (rw (later-other (call_at feed) n j (j + 1) h eb ea er e) at m))
-
-    pub run-next : {boards : List ℕ} {v w : ℕ} → r ≡ true → Each (BoardAt feed n at) (j + 1) n boards → v ≡ get_or boards (j + 1) 0 → w ≡ get_or at (j + 1) 0 → t ≡ min v w → BoardAt feed n at j t
-    unfolding BoardAt
-    run-next e f ev ew et d m y = go (Memᴰ.cases_cons (rw (later-cons (call_at feed) n j (j + 1) h eb ea er e, later-next feed n j t h eb ea er e) at m))
-      where
-        go : (d ≡ j + 1) ⊎ Memᴰ d (later_from (call_at feed) n (j + 1) (j + 1 + 1)) → t ≤ get_or at d 0
-        go (inl q) = rw q (omega arith)
-        go (inr k) = let g = f.each (j + 1) (omega arith) h d k y in omega arith
+  pub board-next : {boards : List ℕ} {r : Bool} → r ≡ (ltb (j + 1) n && same_run (call_at feed j) (call_at feed (j + 1))) → r ≡ true → Each (BoardAt feed n at) (j + 1) n boards → t ≡ min (get_or boards (j + 1) 0) (get_or at (j + 1) 0) → BoardAt feed n at j t
+  unfolding BoardAt
+  board-next er e f et d m y = go (Memᴰ.cases_cons (rw (run-on (call_at feed) n j er e) at m))
+    where
+      go : (d ≡ j + 1) ⊎ Memᴰ d (later_from (call_at feed) n (j + 1) (j + 1 + 1)) → t ≤ get_or at d 0
+      go (inl q) = rw q (omega arith)
+      go (inr k) = let g = f.each (j + 1) (omega arith) (run-next (call_at feed) n j er e) d k y in omega arith
 
 -- ---- the rides that a ride joins
-
-module _ (feed changes boards : List ℕ) (p : FirstRide) (c t : ℕ) where
-  pub join-taken : t ≡ get_or boards c 0 → JoinAt feed changes boards p c t
-  unfolding JoinAt
-  join-taken e y z = omega arith
-
-  pub join_apart : {b : FeedCall} {k : ℕ} {x : Bool} → b ≡ call_at feed c → k ≡ change_at changes p.stop b.stop → x ≡ joined p b k → x ≡ false → JoinAt feed changes boards p c t
-  unfolding JoinAt joins_of
-  join_apart eb ek ex e y z = absurd (false≢true (rw (← eb, ← ek, ← ex, e) at z))
-
-  pub join-unboardable : {b : FeedCall} → b ≡ call_at feed c → b.board ≡ false → JoinAt feed changes boards p c t
-  unfolding JoinAt
-  join-unboardable eb e y z = absurd (false≢true (sym e ∙ ap (λ (a : FeedCall). a.board) eb ∙ y))
 
 pub least_start : {feed changes boards : List ℕ} {p : FirstRide} {t : ℕ} → Least feed changes boards p 0 t
 least_start = record { least = λ k h. absurd (omega arith) }
 
-pub least-turn : {feed changes boards : List ℕ} {p : FirstRide} {c c' t t' : ℕ} (d : ℕ) → c' ≡ c + 1 → t' ≡ min t d → JoinAt feed changes boards p c d → Least feed changes boards p c t
-    → Least feed changes boards p c' t'
+-- a number that is no later than those before, and than that at c if one can board there and the ride joins
+least-on : {feed changes boards : List ℕ} {p : FirstRide} {c t t' : ℕ} → t' ≤ t → JoinAt feed changes boards p c t' → Least feed changes boards p c t
+    → Least feed changes boards p (c + 1) t'
 unfolding JoinAt
-least-turn {feed} {changes} {boards} {p} {c} {c'} {t} {t'} d ec et w l = record { least = λ k h. go k (eq-or-lt_of_le (omega arith)) }
+least-on {feed} {changes} {boards} {p} {c} {t} {t'} h w l = record { least = λ k i. go k (eq-or-lt_of_le (omega arith)) }
   where
     go : (k : ℕ) → (k ≡ c) ⊎ (k < c) → (call_at feed k).board ≡ true → joins_of feed changes p k ≡ true → t' ≤ get_or boards k 0
     go k (inl e) y z = let g = w (rw e at y) (rw e at z) in rw e (omega arith)
-    go k (inr h) y z = let g = l.least k h y z in omega arith
+    go k (inr i) y z = let g = l.least k i y z in omega arith
+
+pub least-joined : {feed changes boards : List ℕ} {p : FirstRide} {c t t' : ℕ} → t' ≡ min t (get_or boards c 0) → Least feed changes boards p c t
+    → Least feed changes boards p (c + 1) t'
+unfolding JoinAt
+least-joined e l = least-on (omega arith) (λ y z. omega arith) l
+
+pub least-apart : {feed changes boards : List ℕ} {p : FirstRide} {c t : ℕ} {x : Bool} → x ≡ ((call_at feed c).board && joins_of feed changes p c) → x ≡ false
+    → Least feed changes boards p c t → Least feed changes boards p (c + 1) t
+unfolding JoinAt
+least-apart e f l = least-on (omega arith) (λ y z. absurd (false≢true (sym f ∙ rw (y, z) at e))) l
 
 pub least-same : {feed changes boards : List ℕ} {p : FirstRide} {c c' t : ℕ} → c ≡ c' → Least feed changes boards p c t → Least feed changes boards p c' t
 least-same e w = rw e at w
@@ -132,17 +124,17 @@ tail-span n i (suc k) x xs e (inl (p, q)) =
 tail-span n i (suc k) x xs e (inr t) = tail-span n (suc i) k x xs (omega arith) t
 
 module _ (feed changes : List ℕ) (n : ℕ) where
-  abbrev net : Network ℕ
+  abbrev pub net : Network ℕ
   net = network_of (sheet_of feed) (joins_of feed changes)
 
-  below : (r : Leg ℕ) → Listed net (span 0 n) r → (r.b < n) × (r.a < n)
+  pub below : (r : Leg ℕ) → Listed net (span 0 n) r → (r.b < n) × (r.a < n)
   below r w = let (x, y) = listed_in net (span 0 n) r w in (omega (arith, (span-mem 0 n x).1), omega (arith, (span-mem 0 n y).1))
 
   boarded : (r : Leg ℕ) → Listed net (span 0 n) r → (call_at feed r.b).board ≡ true
   unfolding network_of sheet_of
   boarded r w = w.board
 
-  alighted : (r : Leg ℕ) → Listed net (span 0 n) r → (call_at feed r.a).alight ≡ true
+  pub alighted : (r : Leg ℕ) → Listed net (span 0 n) r → (call_at feed r.a).alight ≡ true
   unfolding network_of sheet_of
   alighted r w = w.alight
 
@@ -151,7 +143,7 @@ module _ (feed changes : List ℕ) (n : ℕ) where
   later r w = rw (← tail-span n 0 n r.b w.later (omega arith) w.tail) w.run
 
   -- the calls of a ride are of one run
-  of-run : (r : Leg ℕ) → Listed net (span 0 n) r → same_run (call_at feed r.b) (call_at feed r.a) ≡ true
+  pub of-run : (r : Leg ℕ) → Listed net (span 0 n) r → same_run (call_at feed r.b) (call_at feed r.a) ≡ true
   unfolding network_of sheet_of
   of-run r w = (take_while-mem (λ k. same_run (call_at feed r.b) (call_at feed k)) w.later w.run).1
 

@@ -1,6 +1,5 @@
 -- The rows of three rides and by depth: the recursion offers those of the ways on, the loops those of the pass, and three rides come last.
 use mathlib.Core.Path.{◌≡◌, refl, sym, ap, subst, ◌∙◌}
-use mathlib.Core.Bool.{cond}
 use mathlib.Core.List.Memᴰ
 use mathlib.Core.List.{List, [], ◌∷◌, ◌++◌, map, map-append, map-map, append-nil, Memᴰ}
 use Prim.Native.Nat.{ℕ, zero, suc}
@@ -17,10 +16,10 @@ use Rattle.ways.proofs.RideLaws.{over-joined}
 use Rattle.ways.proofs.RouteLaws.{up-to-one}
 use Rattle.profile.specs.declared.Row.{Row}
 use Rattle.feed.specs.declared.FirstRide.{FirstRide}
-use Rattle.rides.specs.Rows.{Sheet, Joins, first_of, three_row, direct_by, change_by, network_of, rows}
-use Rattle.rides.specs.Loops.{over_bits, over_calls, later_from, over_run, end_at, onward_rows, first_rows_of, alight_rows, board_rows}
+use Rattle.rides.specs.Rows.{Sheet, Joins, first_of, first_at, three_row, direct_by, change_by, network_of, rows}
+use Rattle.rides.specs.Loops.{over_bits, later_from, over_run, end_at, onward_rows, first_rows_of, pass_rows}
 use Rattle.rides.specs.Routes.{on_row, row_to, row_by, three_rows, route_rows, RowsUpToOne, RowsThreeLast}
-use Rattle.rides.proofs.RowLaws.{calls_by, firsts-by-loops}
+use Rattle.rides.proofs.RowLaws.{calls_by}
 
 -- ---- three rides
 
@@ -60,22 +59,21 @@ module _ (s : Sheet) (joins : Joins) (n : ℕ) where
   threes : First ℕ → List Row
   threes f = map (row_by s) (concat_map (λ k. map (route_of f) (onward (network_of s joins) k (span 0 n) f.ride)) (2 ∷ []))
 
-  three-rows : (i o k : ℕ) → cond (s.at k).alight (threes (first_ride o i k)) [] ≡ alight_rows s joins 2 n i o k
-  unfolding alight_rows first_rows_of threes
+  three-rows : (i o k : ℕ) → threes (first_ride o i k) ≡ first_rows_of s joins 2 n (first_of s i o k) i k
+  unfolding first_rows_of threes
   three-rows i o k =
       let N = network_of s joins in
       let W = onward N 2 (span 0 n) (leg i k) in
       let F = first_of s i o k in
-      ap (λ (r : List Row). cond (s.at k).alight r [])
-      (ap (map (row_by s)) (append-nil (map (route_of (first_ride o i k)) W)) ∙ map-map (row_by s) (route_of (first_ride o i k)) W
+      ap (map (row_by s)) (append-nil (map (route_of (first_ride o i k)) W)) ∙ map-map (row_by s) (route_of (first_ride o i k)) W
       ∙ map-agree (λ w. row_to s F w.target w.rides) (way_row s joins n F (leg 0 0) (leg i k)) W (two-rows s joins n F (leg 0 0) (leg i k))
-      ∙ sym (rows-of-ways s joins n F 2 (leg 0 0) (leg i k)))
+      ∙ sym (rows-of-ways s joins n F 2 (leg 0 0) (leg i k))
 
-  pub threes-by-loops : three_rows s joins n ≡ over_calls (board_rows s joins 2 n) n 0
-  unfolding three_rows pass threes
+  pub threes-by-loops : three_rows s joins n ≡ pass_rows s joins 2 n
+  unfolding three_rows pass pass_rows threes
   threes-by-loops =
       map-concat_map (row_by s) (λ f. concat_map (λ k. map (route_of f) (onward (network_of s joins) k (span 0 n) f.ride)) (2 ∷ [])) (first_rides (network_of s joins) (span 0 n))
-      ∙ firsts-by-loops s joins 2 n threes three-rows
+      ∙ concat_map-cong threes (λ f. first_rows_of s joins 2 n (first_at s f) f.ride.b f.ride.a) (λ f. three-rows f.ride.b f.o f.ride.a) (first_rides (network_of s joins) (span 0 n))
 
 -- ---- by depth
 

@@ -1,20 +1,20 @@
 -- The loops offer the rows: loop by loop, from the innermost; by one ride or two.
 use mathlib.Core.Path.{◌≡◌, refl, sym, ap, ◌∙◌}
 use mathlib.Core.Bool.{false, cond}
-use mathlib.Core.List.{List, [], ◌++◌, map}
-use Prim.Native.Nat.{ℕ, ◌+◌, ◌-◌, ◌*◌, min}
+use mathlib.Core.List.{List, [], map}
+use Prim.Native.Nat.{ℕ, ◌+◌, ◌-◌, min}
 use native.Mathlib.Omega.{arith}
-use lib.Dec.{eqb, leb}
+use lib.Dec.{eqb}
 use Rattle.laws.specs.Lists.{concat_map, take_while, span}
 use Rattle.laws.specs.Bits.{bits_of}
-use Rattle.laws.proofs.Flat.{concat_map-filterb, flat-single}
+use Rattle.laws.proofs.Flat.{flat-single}
 use Rattle.laws.proofs.Places.{concat_map-cong, tails-span}
-use Rattle.ways.specs.Rides.{leg, First, first_ride, first_rides, directs, changes, journeys}
+use Rattle.ways.specs.Rides.{leg, first_ride, first_rides, directs, changes, journeys}
 use Rattle.ways.proofs.RideLaws.{over-firsts, over-joined}
 use Rattle.profile.specs.declared.Row.{Row}
 use Rattle.feed.specs.Feed.{same_run, joined}
-use Rattle.rides.specs.Rows.{Sheet, Joins, first_of, direct_row, change_row, direct_by, change_by, network_of, rows}
-use Rattle.rides.specs.Loops.{over_bits, over_calls, later_from, over_run, last_at, last_alight_rows, last_board_rows, change_rows, direct_at, direct_rows, first_rows_of, alight_rows, origin_rows, board_rows}
+use Rattle.rides.specs.Rows.{Sheet, Joins, first_of, first_at, direct_row, change_row, direct_by, change_by, network_of, rows}
+use Rattle.rides.specs.Loops.{over_bits, over_calls, later_from, over_run, last_at, last_alight_rows, last_board_rows, change_rows, direct_at, direct_rows, first_rows_of, pass_rows}
 use Rattle.rides.specs.Sheets.{joins_of, sheet_of}
 use Rattle.ways.proofs.RideLaws as listed
 
@@ -23,28 +23,6 @@ unfolding over_calls
 calls_by n f g e =
     let q : n ≡ n - 0 = omega arith in
     concat_map-cong f g e (span 0 n) ∙ ap (λ (m : ℕ). concat_map g (span 0 m)) q
-
--- ---- whatever is offered of a first ride
-
-module _ (s : Sheet) (joins : Joins) (depth n : ℕ) (after : First ℕ → List Row)
-    (alight-rows : (i o k : ℕ) → cond (s.at k).alight (after (first_ride o i k)) [] ≡ alight_rows s joins depth n i o k) where
-  origin-rows : (i o : ℕ) → cond (leb (s.origin_walk o * 60) (s.at i).departure) (listed.over_run (network_of s joins) (λ k. after (first_ride o i k)) i (span (i + 1) (n - (i + 1)))) []
-      ≡ origin_rows s joins depth n i o
-  unfolding origin_rows network_of over_run later_from
-  origin-rows i o =
-      ap (λ (r : List Row). cond (leb (s.origin_walk o * 60) (s.at i).departure) r [])
-      (concat_map-cong _ (alight_rows s joins depth n i o) (alight-rows i o) (take_while (λ m. same_run (s.at i) (s.at m)) (span (i + 1) (n - (i + 1)))))
-
-  first_rows : (i : ℕ) → cond ((network_of s joins).board i) (concat_map (λ o. listed.over_run (network_of s joins) (λ k. after (first_ride o i k)) i (span (i + 1) (n - (i + 1)))) ((network_of s joins).origins i)) []
-      ≡ board_rows s joins depth n i
-  unfolding board_rows network_of over_bits
-  first_rows i =
-      ap (λ (r : List Row). cond (s.at i).board r [])
-      (concat_map-filterb (λ o. leb (s.origin_walk o * 60) (s.at i).departure) _ (bits_of (s.origins (s.at i).stop))
-      ∙ concat_map-cong _ (origin_rows s joins depth n i) (origin-rows i) (bits_of (s.origins (s.at i).stop)))
-
-  pub firsts-by-loops : concat_map after (first_rides (network_of s joins) (span 0 n)) ≡ over_calls (board_rows s joins depth n) n 0
-  firsts-by-loops = over-firsts (network_of s joins) after (span 0 n) ∙ tails-span _ n n 0 (omega arith) ∙ calls_by n _ (board_rows s joins depth n) first_rows
 
 -- ---- up to two rides
 
@@ -74,19 +52,14 @@ module _ (s : Sheet) (joins : Joins) (free : (i o k j : ℕ) → joins (first_of
         (over-joined (network_of s joins) (λ l. map (change_by s (first_ride o i k) l) ((network_of s joins).targets l.a)) (span 0 n) (leg i k)
         ∙ tails-span _ n n 0 (omega arith) ∙ calls_by n _ (last_board_rows s joins n (first_of s i o k)) board-rows)
 
-  after : First ℕ → List Row
-  after f = directs (network_of s joins) (direct_by s) (change_by s) f ++ cond (eqb depth 1) (changes (network_of s joins) (direct_by s) (change_by s) (span 0 n) f) []
-
-  alight-rows : eqb depth 2 ≡ false → (i o k : ℕ) → cond (s.at k).alight (after (first_ride o i k)) [] ≡ alight_rows s joins depth n i o k
-  unfolding alight_rows first_rows_of after
-  alight-rows z i o k = rw (z, direct-rows i o k, change-rows i o k) refl
-
   -- a join reads no origin: the loops offer every row, in order
-  pub rows-by-loops : eqb depth 2 ≡ false → rows s joins depth n ≡ over_calls (board_rows s joins depth n) n 0
-  unfolding rows journeys after
-  rows-by-loops z = firsts-by-loops s joins depth n after (alight-rows z)
+  pub rows-by-loops : eqb depth 2 ≡ false → rows s joins depth n ≡ pass_rows s joins depth n
+  unfolding rows journeys pass_rows first_rows_of
+  rows-by-loops z =
+      concat_map-cong _ (λ f. first_rows_of s joins depth n (first_at s f) f.ride.b f.ride.a)
+      (λ f. rw (z, direct-rows f.ride.b f.o f.ride.a, change-rows f.ride.b f.o f.ride.a) refl) (first_rides (network_of s joins) (span 0 n))
 
 pub rows-of-loops : (f g : List ℕ) (n depth : ℕ) → eqb depth 2 ≡ false
-    → rows (sheet_of f) (joins_of f g) depth (min n 512) ≡ over_calls (board_rows (sheet_of f) (joins_of f g) depth (min n 512)) (min n 512) 0
+    → rows (sheet_of f) (joins_of f g) depth (min n 512) ≡ pass_rows (sheet_of f) (joins_of f g) depth (min n 512)
 unfolding joins_of joined first_of
 rows-of-loops f g n depth z = rows-by-loops (sheet_of f) (joins_of f g) (λ i o k j. refl) depth (min n 512) z

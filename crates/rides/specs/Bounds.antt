@@ -1,6 +1,7 @@
 -- How early a last ride can bring one to a target: an array of 1024 numbers. The first 512 are one for each boarding call; the others one for each 128
 -- seconds of the day, for whatever departs then or later.
 use Rattle.std.specs.Prelude.{◌≡◌, true, ℕ, ◌+◌, ◌/◌, ◌≤◌, ◌<◌, get_or}
+use Rattle.std.specs.Coded.{le_prop}
 use mathlib.Core.List.{List, Memᴰ}
 use Rattle.laws.specs.Bits.{bits_of}
 use Rattle.feed.specs.Feed.{call_at, target_mask, target_walk_of, arrival_of}
@@ -27,6 +28,14 @@ bucket_of t = 512 + t / 128
 pub record Bounds (b feed : List ℕ) (n : ℕ) : Type 0 where
   pub board : (j : ℕ) → j < n → AtBoard feed n j (get_or b j 0)
   pub after : (t j : ℕ) → j < n → (call_at feed j).board ≡ true → t ≤ (call_at feed j).departure → get_or b (bucket_of t) 0 ≤ get_or b j 0
+
+-- so that a struct can keep them
+AtBoard-prop : (feed : List ℕ) (n j t : ℕ) → IsProp (AtBoard feed n j t)
+unfolding AtBoard AtCall AtTargets
+AtBoard-prop feed n j t = Prim.hlevel le_prop
+
+pub Bounds-prop : (b feed : List ℕ) (n : ℕ) → IsProp (Bounds b feed n)
+Bounds-prop b feed n = Prim.hlevel (le_prop, AtBoard-prop)
 
 -- ---- on the way there
 

@@ -1,5 +1,7 @@
 pub mod Rows
 pub mod Loops
+pub mod Places
+pub mod Firsts
 pub mod Sheets
 pub mod Offered
 pub mod Agree

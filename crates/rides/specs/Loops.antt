@@ -1,13 +1,14 @@
 -- What the loops of a search offer, each from where it stands: the contracts of their functions. That together they offer `rows` is
 -- `rows-by-loops`. The join is tested once for each boarding call of a last ride.
-use Rattle.std.specs.Prelude.{cond, List, [], ◌∷◌, ◌++◌, ℕ, zero, suc, ◌+◌, ◌-◌, ◌*◌, eqb, leb}
+use Rattle.std.specs.Prelude.{cond, List, [], ◌∷◌, ◌++◌, ℕ, zero, suc, ◌+◌, ◌-◌, eqb}
 use Rattle.laws.specs.Lists.{concat_map, take_while, span}
 use Rattle.laws.specs.Bits.{bits_of}
 use Rattle.profile.specs.declared.Row.{Row}
 use Rattle.feed.specs.declared.FeedCall.{FeedCall}
 use Rattle.feed.specs.declared.FirstRide.{FirstRide}
 use Rattle.feed.specs.Feed.{same_run}
-use Rattle.rides.specs.Rows.{Sheet, Joins, first_of, direct_row, change_row, three_row}
+use Rattle.ways.specs.Rides.{first_rides}
+use Rattle.rides.specs.Rows.{Sheet, Joins, first_of, first_at, direct_row, change_row, three_row, network_of}
 
 -- ---- the three ways that a loop goes, each from where it stands
 
@@ -70,11 +71,6 @@ board_on left s joins n f p j m c = cond (s.at c).board (cond (joins p c) (over_
 unfoldable pub first_rows_of : Sheet → Joins → ℕ → ℕ → FirstRide → ℕ → ℕ → List Row
 first_rows_of s joins depth n f i k = cond (eqb depth 2) (onward_rows 2 s joins n f 0 0 i k) (direct_rows s f ++ change_rows s joins depth n f)
 
-unfoldable pub alight_rows : Sheet → Joins → ℕ → ℕ → ℕ → ℕ → ℕ → List Row
-alight_rows s joins depth n i o k = cond (s.at k).alight (first_rows_of s joins depth n (first_of s i o k) i k) []
-
-unfoldable pub origin_rows : Sheet → Joins → ℕ → ℕ → ℕ → ℕ → List Row
-origin_rows s joins depth n i o = cond (leb (s.origin_walk o * 60) (s.at i).departure) (over_run (alight_rows s joins depth n i o) s.at n i (i + 1)) []
-
-unfoldable pub board_rows : Sheet → Joins → ℕ → ℕ → ℕ → List Row
-board_rows s joins depth n i = cond (s.at i).board (over_bits (origin_rows s joins depth n i) (s.origins (s.at i).stop)) []
+-- what a pass offers, by first ride
+unfoldable pub pass_rows : Sheet → Joins → ℕ → ℕ → List Row
+pass_rows s joins depth n = concat_map (λ f. first_rows_of s joins depth n (first_at s f) f.ride.b f.ride.a) (first_rides (network_of s joins) (span 0 n))

@@ -2,6 +2,7 @@
 -- array for each number of changes left. Made from the last ride back, so that each number is that of the rides that join. For request
 -- 10, whose loops pass over what leads on from a place where a journey due at its number would be passed over.
 use Rattle.std.specs.Prelude.{◌≡◌, true, ℕ, suc, ◌+◌, ◌-◌, ◌*◌, ◌≤◌, ◌<◌, length, get_or, drop}
+use Rattle.std.specs.Coded.{le_prop}
 use mathlib.Core.List.{List, [], ◌∷◌, Memᴰ}
 use Rattle.laws.specs.Lists.{span}
 use Rattle.ways.specs.Rides.{Leg}
@@ -10,7 +11,6 @@ use Rattle.feed.specs.declared.FirstRide.{FirstRide}
 use Rattle.feed.specs.Feed.{call_at, same_run, target_walk_of, arrival_of}
 use Rattle.rides.specs.Rows.{first_of, network_of}
 use Rattle.rides.specs.Loops.{later_from}
-use Rattle.rides.specs.Bounds.{Bounds}
 use Rattle.rides.specs.Sheets.{sheet_of, joins_of}
 
 -- the place where the last of these rides alights
@@ -41,10 +41,13 @@ TimesBefore feed changes n at new = (left : ℕ) → NotBefore feed changes n le
 pub record Onward (b feed changes : List ℕ) (n : ℕ) : Type 0 where
   pub on : (left : ℕ) → 1 ≤ left → left ≤ 2 → NotBefore feed changes n left (drop ((left - 1) * 512) b)
 
--- what the loops of a pass ask of their array: in the pass of three rides these numbers, in the others those of last rides
-pub record Told (pass : ℕ) (b feed changes : List ℕ) (n : ℕ) : Type 0 where
-  pub last : (pass ≡ 2 → ⊥) → Bounds b feed n
-  pub threes : pass ≡ 2 → Onward b feed changes n
+-- so that a struct can keep them
+NotBefore-prop : (feed changes : List ℕ) (n left : ℕ) (at : List ℕ) → IsProp (NotBefore feed changes n left at)
+unfolding NotBefore due_at
+NotBefore-prop feed changes n left at = Prim.hlevel le_prop
+
+pub Onward-prop : (b feed changes : List ℕ) (n : ℕ) → IsProp (Onward b feed changes n)
+Onward-prop b feed changes n = Prim.hlevel NotBefore-prop
 
 -- ---- on the way there
 

@@ -1,80 +1,52 @@
-// How early a last ride can bring one to a target: 1024 numbers, made once. The first 512 are one for each boarding call, the others one for each 128
-// seconds of the day, for whatever departs then or later. A time past 65535 is cut to it.
-ghost use Rattle.std.specs.Prelude.{◌≡◌, ◌+◌, ◌≤◌, ◌<◌, min, length, get_or};
+// How early a last ride can bring one to a target: 1024 numbers, made once. The first 512 are one for each boarding call, the others one
+// for each 128 seconds of the day, for whatever departs then or later. A time past 65535 is cut to it.
+ghost use Rattle.std.specs.Prelude.{◌≡◌, ◌+◌, ◌≤◌, ◌<◌};
+ghost use Rattle.laws.specs.Bits.{bits_of};
 ghost use Rattle.feed.specs.Feed.{target_walk_of, arrival_of};
 ghost use Rattle.rides.specs.Bounds.{AtTargets, AtCall, AtBoard, bucket_of, Lowered, Filled, Suffix, Bounds};
 
-use crate::bits::{clear_lowest, lowest};
-use crate::reads::{call_at, target_walk};
-use feed::{arrival_of, same_run, targets_of};
-
-// An array has its length. A lent one shows it by a copy that nothing reads.
-fn known(a: [u16; 1024])
-    ensures { length a ≡ 1024 }
-{}
-
-pub fn bound_at(bounds: &[u16; 1024], p: usize) -> u16
-    requires { p < 1024 }
-    ensures { result ≡ get_or bounds.now p 0 }
-{
-    bounds[p]
-}
-
-pub fn earlier(a: u16, b: u16) -> u16
-    ensures { result ≡ min a b }
-{
-    if a < b { a } else { b }
-}
+use crate::bits::Digits;
+use crate::calls::Calls;
+use feed::arrival_of;
 
 // When whoever alights at a is at target x, cut to 65535.
-fn due_at(feed: &[u16; 3208], a: u16, x: u8) -> u16
+fn due_at(calls: &Calls, a: u16, x: u8) -> u16
     requires { x < 4 }
-    ensures { result ≤ arrival_of (target_walk_of feed.now x) a }
+    ensures { result ≤ arrival_of (target_walk_of calls.now.feed.now x) a }
 {
-    let t = arrival_of(target_walk(feed, x), a);
-    if t < 65535 { t as u16 } else { 65535 }
+    arrival_of(calls.target_walk(x), a).min(65535) as u16
 }
 
-// The earliest of the targets of a mask.
-fn target_bound(feed: &[u16; 3208], a: u16, mask: u8) -> u16
-    requires { mask < 16 }
-    ensures { AtTargets feed.now a mask result }
+// The earliest of these targets.
+fn target_bound(calls: &Calls, a: u16, targets: Digits) -> u16
+    ensures { AtTargets calls.now.feed.now a targets.left result }
 {
     let mut t = 65535u16;
-    let mut left = mask;
-    while left != 0 {
-        let x = lowest(left);
-        let due = due_at(feed, a, x);
-        t = earlier(t, due);
-        left = clear_lowest(left);
+    for x in targets {
+        t = t.min(due_at(calls, a, x));
     }
     t
 }
 
 // The same of the targets of the stop at place m, if one can alight there.
-pub fn alight_bound(feed: &[u16; 3208], m: usize) -> u16
+pub fn alight_bound(calls: &Calls, m: usize) -> u16
     requires { m < 512 }
-    ensures { AtCall feed.now m result }
+    ensures { AtCall calls.now.feed.now m result }
 {
-    let c = call_at(feed, m);
+    let c = calls.at(m);
     if c.alight {
-        return target_bound(feed, c.arrival, targets_of(feed, c.stop));
+        return target_bound(calls, c.arrival, calls.targets(c.stop));
     }
     65535
 }
 
 // The earliest for whoever boards at j: that of the next call of its run, or whoever boards there.
-fn board_bound(bounds: &[u16; 1024], feed: &[u16; 3208], n: usize, j: usize) -> u16
-    requires { (n ≤ 512) × (j < n) × Filled bounds.now feed.now n (j + 1) }
-    ensures { AtBoard feed.now n j result }
+fn board_bound(bounds: &[u16; 1024], calls: &Calls, j: usize) -> u16
+    requires { (j < calls.now.n) × Filled bounds.now calls.now.feed.now calls.now.n (j + 1) }
+    ensures { AtBoard calls.now.feed.now calls.now.n j result }
 {
-    let m = j + 1;
-    if m < n {
-        let b = call_at(feed, j);
-        let a = call_at(feed, m);
-        if same_run(b, a) {
-            return earlier(bound_at(bounds, m), alight_bound(feed, m));
-        }
+    if calls.goes_on(j) {
+        return bounds[j + 1].min(alight_bound(calls, j + 1));
     }
     65535
 }
@@ -87,37 +59,32 @@ pub fn bucket_of(t: u16) -> usize
 }
 
 // The number for the time when j departs is no later than that for j, if one can board there.
-fn put_bucket(bounds: &mut [u16; 1024], feed: &[u16; 3208], j: usize)
+fn put_bucket(bounds: &mut [u16; 1024], calls: &Calls, j: usize)
     requires { j < 512 }
-    ensures { Lowered bounds.old bounds.new feed.now j }
+    ensures { Lowered bounds.old bounds.new calls.now.feed.now j }
 {
-    known(*bounds);
-    let c = call_at(feed, j);
+    let c = calls.at(j);
     if c.board {
         let q = bucket_of(c.departure);
-        bounds[q] = earlier(bound_at(bounds, q), bound_at(bounds, j));
+        bounds[q] = bounds[q].min(bounds[j]);
     }
 }
 
 // One more call, from the right.
-fn put_call(bounds: &mut [u16; 1024], feed: &[u16; 3208], n: usize, j: usize)
-    requires { (n ≤ 512) × (j < n) × Filled bounds.old feed.now n (j + 1) }
-    ensures { Filled bounds.new feed.now n j }
+fn put_call(bounds: &mut [u16; 1024], calls: &Calls, j: usize)
+    requires { (j < calls.now.n) × Filled bounds.old calls.now.feed.now calls.now.n (j + 1) }
+    ensures { Filled bounds.new calls.now.feed.now calls.now.n j }
 {
-    known(*bounds);
-    let t = board_bound(bounds, feed, n, j);
+    let t = board_bound(bounds, calls, j);
     bounds[j] = t;
-    put_bucket(bounds, feed, j);
+    put_bucket(bounds, calls, j);
 }
 
-fn put_calls(bounds: &mut [u16; 1024], feed: &[u16; 3208], n: usize)
-    requires { n ≤ 512 }
-    ensures { Filled bounds.new feed.now n 0 }
+fn put_calls(bounds: &mut [u16; 1024], calls: &Calls)
+    ensures { Filled bounds.new calls.now.feed.now calls.now.n 0 }
 {
-    let mut j = n;
-    while j > 0 {
-        j -= 1;
-        put_call(bounds, feed, n, j);
+    for j in (0..calls.n).rev() {
+        put_call(bounds, calls, j);
     }
 }
 
@@ -125,24 +92,17 @@ fn put_calls(bounds: &mut [u16; 1024], feed: &[u16; 3208], n: usize)
 fn put_later(bounds: &mut [u16; 1024])
     ensures { Suffix bounds.old bounds.new }
 {
-    known(*bounds);
-    let mut q: usize = 1023;
-    while q > 512 {
-        q -= 1;
-        bounds[q] = earlier(bound_at(bounds, q), bound_at(bounds, q + 1));
+    for q in (512..1023).rev() {
+        bounds[q] = bounds[q].min(bounds[q + 1]);
     }
 }
 
-// The numbers of a search; where there are no last rides all are 0, which bounds every arrival.
-pub fn bounds_of(feed: &[u16; 3208], n: usize, depth: u16) -> [u16; 1024]
-    requires { n ≤ 512 }
-    ensures { Bounds result feed.now n }
+// The numbers of a search.
+pub fn bounds_of(calls: &Calls) -> [u16; 1024]
+    ensures { Bounds result calls.now.feed.now calls.now.n }
 {
-    if depth == 1 {
-        let mut bounds = [65535u16; 1024];
-        put_calls(&mut bounds, feed, n);
-        put_later(&mut bounds);
-        return bounds;
-    }
-    [0u16; 1024]
+    let mut bounds = [65535u16; 1024];
+    put_calls(&mut bounds, calls);
+    put_later(&mut bounds);
+    bounds
 }

@@ -3,8 +3,11 @@
 
 pub mod bits;
 pub mod bounds;
+pub mod calls;
+pub mod firsts;
 pub mod last;
+pub mod later;
+pub mod lent;
 mod onward;
 pub mod paths;
 pub mod reach;
-pub mod reads;

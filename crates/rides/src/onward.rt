@@ -1,228 +1,150 @@
 // Journeys of three rides: what leads on from a ride. With no change left that is the targets where it ends, else every ride that it
 // joins, with the number of changes left falling by one at each.
-ghost use Rattle.std.specs.Prelude.{◌≡◌, true, ◌+◌, ◌-◌, ◌*◌, ◌≤◌, ◌<◌, get_or, drop};
-ghost use Rattle.feed.specs.Feed.{call_at, same_run};
+ghost use Rattle.std.specs.Prelude.{◌≡◌, ◌+◌, ◌-◌, ◌*◌, ◌≤◌, ◌<◌, get_or, drop};
+ghost use Rattle.feed.specs.Feed.{call_at};
 ghost use Rattle.rides.specs.Loops.{over_bits, over_calls, over_run, end_at, onward_rows, alight_on, board_on};
 ghost use Rattle.rides.specs.Offered.{Offered};
-ghost use Rattle.rides.specs.Reach.{Onward};
-ghost use Rattle.rides.specs.Sheets.{joins_of, sheet_of};
+ghost use Rattle.rides.specs.Reach.{Onward, Onward-prop};
+ghost use Rattle.rides.specs.Rows.{first_of};
+ghost use Rattle.rides.specs.Sheets.{sheet_of};
 
-use crate::bits::{clear_lowest, lowest};
-use crate::reads::{call_at, first_of, target_walk};
-use candidate::{candidate, passes_over};
-use feed::{FirstRide, arrival_of, change_at, join, same_run, targets_of};
+use crate::bits::Digits;
+use crate::calls::{Calls, Ride};
+use crate::later::Later;
+use crate::lent::Lent;
+use candidate::{Offer, candidate, passes_over};
+use feed::{FirstRide, arrival_of};
 use state::is_refused;
 use state::layout::State;
 
-// Offers the first ride, then the ride from b to a and that from j to m, to target x.
-fn end_at(
-    st: &mut State,
-    feed: &[u16; 3208],
-    f: FirstRide,
-    b: usize,
-    a: usize,
-    j: usize,
-    m: usize,
-    x: u8,
-)
-    requires { (b < 512) × (a < 512) × (j < 512) × (m < 512) × (x < 4) }
-    ensures { Offered st.old st.new (end_at (sheet_of feed.now) f b a j m x) }
+// Offers the first ride, then the rides p and r, to target x.
+fn end_at(st: &mut State, calls: &Calls, f: FirstRide, p: Ride, r: Ride, x: u8)
+    requires { x < 4 }
+    ensures { Offered st.old st.new (end_at (sheet_of calls.now.feed.now) f p.board p.alight r.board r.alight x) }
 {
-    let call = call_at(feed, m);
-    let walk = target_walk(feed, x);
+    let a = calls.at(r.alight);
+    let walk = calls.target_walk(x);
     candidate(
         st,
-        f.leave,
-        arrival_of(walk, call.arrival),
-        3,
-        f.walk,
-        f.origin,
-        x as u16,
-        f.board,
-        f.alight,
-        j as u16,
-        m as u16,
-        b as u16,
-        a as u16,
+        Offer {
+            leave: f.leave,
+            arrival: arrival_of(walk, a.arrival),
+            rides: 3,
+            walk: f.walk,
+            origin: f.origin,
+            target: x as u16,
+            board: f.board,
+            alight: f.alight,
+            board2: r.board as u16,
+            alight2: r.alight as u16,
+            middle_board: p.board as u16,
+            middle_alight: p.alight as u16,
+        },
     );
 }
 
-// The targets of a mask.
-fn ends(
-    st: &mut State,
-    feed: &[u16; 3208],
-    f: FirstRide,
-    b: usize,
-    a: usize,
-    j: usize,
-    m: usize,
-    mask: u8,
-)
-    requires { (b < 512) × (a < 512) × (j < 512) × (m < 512) × (mask < 16) }
-    ensures { Offered st.old st.new (over_bits (end_at (sheet_of feed.now) f b a j m) mask) }
+// These targets.
+fn ends(st: &mut State, calls: &Calls, f: FirstRide, p: Ride, r: Ride, targets: Digits)
+    ensures { Offered st.old st.new (over_bits (end_at (sheet_of calls.now.feed.now) f p.board p.alight r.board r.alight) targets.left) }
 {
-    let mut left = mask;
-    while left != 0 {
-        let x = lowest(left);
-        end_at(st, feed, f, b, a, j, m, x);
-        left = clear_lowest(left);
+    for x in targets {
+        end_at(st, calls, f, p, r, x);
     }
 }
 
-// A time before which nothing that leads on from m by so many changes is due.
-fn time_on(times: &[u16; 1024], left: u16, m: usize) -> u16
-    requires { (1 ≤ left) × (left ≤ 2) × (m < 512) }
-    ensures { result ≡ get_or (drop ((left - 1) * 512) times.now) m 0 }
-{
-    times[(left as usize - 1) * 512 + m]
+// The journeys of three rides, and how early one can be at a target from where a ride alights.
+#[derive(Clone, Copy)]
+pub struct ThreeRides<'a> {
+    pub lent: Lent<'a>,
+    pub times: &'a [u16; 1024],
+    ghost on_time: { Onward times.now lent.calls.feed.now lent.changes.now lent.calls.n } by { Onward-prop times.now lent.calls.feed.now lent.changes.now lent.calls.n },
 }
 
-// What leads on from the ride from c to d, after that from j to m, if one can alight there.
-#[cycle(alight_on_alights_on_board_on_onward_rides_on)]
-fn alight_on(
-    st: &mut State,
-    feed: &[u16; 3208],
-    changes: &[u32; 16384],
-    times: &[u16; 1024],
-    n: usize,
-    f: FirstRide,
-    left: u16,
-    j: usize,
-    m: usize,
-    c: usize,
-    d: usize,
-)
-    requires { (n ≤ 512) × (left < 3) × (j < 512) × (m < 512) × (c < 512) × (d < n) × (same_run (call_at feed.now c) (call_at feed.now d) ≡ true) × Onward times.now feed.now changes.now n }
-    ensures { Offered st.old st.new (alight_on left (sheet_of feed.now) (joins_of feed.now changes.now) n f j m c d) }
-{
-    let a = call_at(feed, d);
-    if a.alight {
-        onward(st, feed, changes, times, n, f, left, j, m, c, d);
+impl<'a> ThreeRides<'a> {
+    ghost use Rattle.rides.specs.Places.{sheet_in, joins_in, IsRun, IsRide};
+
+    // A time before which nothing that leads on from m by so many changes is due.
+    fn time_on(&self, left: u16, m: usize) -> u16
+        requires { (1 ≤ left) × (left ≤ 2) × (m < 512) }
+        ensures { result ≡ get_or (drop ((left - 1) * 512) self.now.times.now) m 0 }
+    {
+        self.times[(left as usize - 1) * 512 + m]
     }
-}
 
-// The later calls of the trip and day of the call at c.
-#[cycle(alight_on_alights_on_board_on_onward_rides_on)]
-fn alights_on(
-    st: &mut State,
-    feed: &[u16; 3208],
-    changes: &[u32; 16384],
-    times: &[u16; 1024],
-    n: usize,
-    f: FirstRide,
-    left: u16,
-    j: usize,
-    m: usize,
-    c: usize,
-)
-    requires { (n ≤ 512) × (left < 3) × (j < 512) × (m < 512) × (c < n) × Onward times.now feed.now changes.now n }
-    ensures { Offered st.old st.new (over_run (alight_on left (sheet_of feed.now) (joins_of feed.now changes.now) n f j m c) (call_at feed.now) n c (c + 1)) }
-{
-    let b = call_at(feed, c);
-    let mut d = c + 1;
-    while d < n {
-        let a = call_at(feed, d);
-        if same_run(b, a) {
-            alight_on(st, feed, changes, times, n, f, left, j, m, c, d);
-            d += 1;
-        } else {
+    // What leads on from the ride q, after r, if one can alight there.
+    #[cycle(onward)]
+    fn alight_on(&self, st: &mut State, f: FirstRide, left: u16, r: Ride, q: Ride)
+        requires { (left < 3) × IsRun self.now.lent.calls.feed.now self.now.lent.calls.n q }
+        ensures { Offered st.old st.new
+            (alight_on left (sheet_in self.now.lent) (joins_in self.now.lent) self.now.lent.calls.n f r.board r.alight q.board q.alight) }
+    {
+        if self.lent.calls.at(q.alight).alight {
+            self.onward(st, f, left, r, q);
+        }
+    }
+
+    // The later calls of the trip and day of the call at c.
+    #[cycle(onward)]
+    fn alights_on(&self, st: &mut State, f: FirstRide, left: u16, r: Ride, c: usize)
+        requires { (left < 3) × (c < self.now.lent.calls.n) }
+        ensures { Offered st.old st.new
+            (over_run (alight_on left (sheet_in self.now.lent) (joins_in self.now.lent) self.now.lent.calls.n f r.board r.alight c)
+            (call_at self.now.lent.calls.feed.now) self.now.lent.calls.n c (c + 1)) }
+    {
+        for d in Later::than(&self.lent.calls, c) {
+            let q = Ride {
+                board: c,
+                alight: d,
+            };
+            self.alight_on(st, f, left, r, q);
+        }
+    }
+
+    // The rides that board at c, if the ride r, as p, joins them.
+    #[cycle(onward)]
+    fn board_on(&self, st: &mut State, f: FirstRide, left: u16, p: FirstRide, r: Ride, c: usize)
+        requires { (left < 3) × (c < self.now.lent.calls.n) }
+        ensures { Offered st.old st.new
+            (board_on left (sheet_in self.now.lent) (joins_in self.now.lent) self.now.lent.calls.n f p r.board r.alight c) }
+    {
+        if self.lent.can_board(p, c) {
+            self.alights_on(st, f, left, r, c);
+        }
+    }
+
+    // Every ride that it joins. A refused search stays as it is, so the loop may end there.
+    #[cycle(onward)]
+    fn rides_on(&self, st: &mut State, f: FirstRide, left: u16, p: FirstRide, r: Ride)
+        requires { left < 3 }
+        ensures { Offered st.old st.new
+            (over_calls (board_on left (sheet_in self.now.lent) (joins_in self.now.lent) self.now.lent.calls.n f p r.board r.alight)
+            self.now.lent.calls.n 0) }
+    {
+        for c in 0..self.lent.calls.n {
+            if is_refused(st) {
+                return;
+            }
+            self.board_on(st, f, left, p, r, c);
+        }
+    }
+
+    // What leads on from the ride r, before which came p, with so many changes left; nothing if one as early as any of it would be
+    // passed over.
+    #[cycle(onward)]
+    pub fn onward(&self, st: &mut State, f: FirstRide, left: u16, p: Ride, r: Ride)
+        requires { (left < 3) × IsRide self.now.lent.calls.feed.now self.now.lent.calls.n r }
+        ensures { Offered st.old st.new
+            (onward_rows left (sheet_in self.now.lent) (joins_in self.now.lent) self.now.lent.calls.n f p.board p.alight r.board r.alight) }
+    {
+        let calls = &self.lent.calls;
+        if left == 0 {
+            ends(st, calls, f, p, r, calls.targets(calls.at(r.alight).stop));
             return;
         }
-    }
-}
-
-// The rides that board at c, if the ride p, that from j to m, joins them.
-#[cycle(alight_on_alights_on_board_on_onward_rides_on)]
-fn board_on(
-    st: &mut State,
-    feed: &[u16; 3208],
-    changes: &[u32; 16384],
-    times: &[u16; 1024],
-    n: usize,
-    f: FirstRide,
-    left: u16,
-    p: FirstRide,
-    j: usize,
-    m: usize,
-    c: usize,
-)
-    requires { (n ≤ 512) × (left < 3) × (j < 512) × (m < 512) × (c < n) × Onward times.now feed.now changes.now n }
-    ensures { Offered st.old st.new (board_on left (sheet_of feed.now) (joins_of feed.now changes.now) n f p j m c) }
-{
-    let b = call_at(feed, c);
-    if b.board {
-        if join(p, b, change_at(changes, p.stop, b.stop)) {
-            alights_on(st, feed, changes, times, n, f, left, j, m, c);
-        }
-    }
-}
-
-// Every ride that it joins. A refused search stays as it is, so the loop may end there.
-#[cycle(alight_on_alights_on_board_on_onward_rides_on)]
-fn rides_on(
-    st: &mut State,
-    feed: &[u16; 3208],
-    changes: &[u32; 16384],
-    times: &[u16; 1024],
-    n: usize,
-    f: FirstRide,
-    left: u16,
-    p: FirstRide,
-    j: usize,
-    m: usize,
-)
-    requires { (n ≤ 512) × (left < 3) × (j < 512) × (m < 512) × Onward times.now feed.now changes.now n }
-    ensures { Offered st.old st.new (over_calls (board_on left (sheet_of feed.now) (joins_of feed.now changes.now) n f p j m) n 0) }
-{
-    let mut c = 0;
-    while c < n {
-        if is_refused(st) {
+        let t = self.time_on(left, r.alight);
+        if passes_over(st, f.figures(t, 3)) {
             return;
         }
-        board_on(st, feed, changes, times, n, f, left, p, j, m, c);
-        c += 1;
+        self.rides_on(st, f, left - 1, calls.first_ride(r, 0), r);
     }
-}
-
-// What leads on from the ride from j to m, before which came that from b to a, with so many changes left; nothing if one as early as any
-// of it would be passed over.
-#[cycle(alight_on_alights_on_board_on_onward_rides_on)]
-pub fn onward(
-    st: &mut State,
-    feed: &[u16; 3208],
-    changes: &[u32; 16384],
-    times: &[u16; 1024],
-    n: usize,
-    f: FirstRide,
-    left: u16,
-    b: usize,
-    a: usize,
-    j: usize,
-    m: usize,
-)
-    requires { (n ≤ 512) × (left < 3) × (b < 512) × (a < 512) × (j < 512) × (m < n) × ((call_at feed.now m).alight ≡ true)
-        × (same_run (call_at feed.now j) (call_at feed.now m) ≡ true) × Onward times.now feed.now changes.now n }
-    ensures { Offered st.old st.new (onward_rows left (sheet_of feed.now) (joins_of feed.now changes.now) n f b a j m) }
-{
-    if left == 0 {
-        let call = call_at(feed, m);
-        ends(st, feed, f, b, a, j, m, targets_of(feed, call.stop));
-        return;
-    }
-    let t = time_on(times, left, m);
-    if passes_over(st, f.leave, t, 3, f.walk) {
-        return;
-    }
-    rides_on(
-        st,
-        feed,
-        changes,
-        times,
-        n,
-        f,
-        left - 1,
-        first_of(feed, j, 0, m),
-        j,
-        m,
-    );
 }

@@ -1,259 +1,140 @@
-// First rides, and the whole search.
-ghost use Rattle.std.specs.Prelude.{◌≡◌, true, ◌+◌, ◌≤◌, ◌<◌, min};
+// The whole search: a pass over the first rides for the journeys of one ride and two, and one for those of three.
+ghost use Rattle.std.specs.Prelude.{◌≡◌, ◌≤◌, ◌<◌};
 ghost use Rattle.state.specs.View.{view};
-ghost use Rattle.rides.specs.Loops.{over_bits, over_calls, over_run, direct_at, direct_rows, first_rows_of, alight_rows, origin_rows, board_rows};
-ghost use Rattle.feed.specs.Feed.{call_at, same_run};
-ghost use Rattle.rides.specs.Sheets.{joins_of, sheet_of};
-ghost use Rattle.rides.specs.Reach.{Told};
+ghost use Rattle.rides.specs.Loops.{direct_at, direct_rows, pass_rows};
+ghost use Rattle.rides.specs.Places.{sheet_in, joins_in};
+ghost use Rattle.rides.specs.Sheets.{sheet_of};
 ghost use Rattle.rides.specs.Routes.{rows_of};
 ghost use Rattle.rides.specs.Offered.{offer_all, Offered};
 
-use crate::bits::{clear_lowest, lowest};
 use crate::bounds::bounds_of;
-use crate::last::change_rides;
-use crate::onward::onward;
+use crate::calls::{Calls, Ride};
+use crate::firsts::FirstRides;
+use crate::last::LastRides;
+use crate::lent::Lent;
+use crate::onward::ThreeRides;
 use crate::reach::onward_times;
-use crate::reads::{call_at, first_of, origin_walk, target_walk};
-use candidate::candidate;
-use feed::{FirstRide, arrival_of, at_most_512, can_walk, origins_of, same_run, targets_of};
+use candidate::{Offer, candidate};
+use feed::layout::{Changes, Feed};
+use feed::{FirstRide, arrival_of};
 use state::is_refused;
 use state::layout::State;
 
 // Offers the ride alone, to target x.
-fn direct_at(st: &mut State, feed: &[u16; 3208], f: FirstRide, x: u8)
+fn direct_at(st: &mut State, calls: &Calls, f: FirstRide, x: u8)
     requires { x < 4 }
-    ensures { Offered st.old st.new (direct_at (sheet_of feed.now) f x) }
+    ensures { Offered st.old st.new (direct_at (sheet_of calls.now.feed.now) f x) }
 {
-    let walk = target_walk(feed, x);
+    let walk = calls.target_walk(x);
     candidate(
         st,
-        f.leave,
-        arrival_of(walk, f.arrival),
-        1,
-        f.walk,
-        f.origin,
-        x as u16,
-        f.board,
-        f.alight,
-        0,
-        0,
-        0,
-        0,
+        Offer {
+            leave: f.leave,
+            arrival: arrival_of(walk, f.arrival),
+            rides: 1,
+            walk: f.walk,
+            origin: f.origin,
+            target: x as u16,
+            board: f.board,
+            alight: f.alight,
+            board2: 0,
+            alight2: 0,
+            middle_board: 0,
+            middle_alight: 0,
+        },
     );
 }
 
 // The targets of the stop where the ride ends.
-pub fn directs(st: &mut State, feed: &[u16; 3208], f: FirstRide)
-    ensures { Offered st.old st.new (direct_rows (sheet_of feed.now) f) }
+pub fn directs(st: &mut State, calls: &Calls, f: FirstRide)
+    ensures { Offered st.old st.new (direct_rows (sheet_of calls.now.feed.now) f) }
 {
-    let mut left = targets_of(feed, f.stop);
-    while left != 0 {
-        let x = lowest(left);
-        direct_at(st, feed, f, x);
-        left = clear_lowest(left);
+    for x in calls.targets(f.stop) {
+        direct_at(st, calls, f, x);
     }
 }
 
-// What a pass offers of the first ride f, that from i to k: three rides, or the direct journeys and then those with a change.
-fn first_ride(
-    st: &mut State,
-    feed: &[u16; 3208],
-    changes: &[u32; 16384],
-    n: usize,
-    depth: u16,
-    bounds: &[u16; 1024],
-    f: FirstRide,
-    i: usize,
-    k: usize,
-)
-    requires { (n ≤ 512) × (i < 512) × (k < n) × ((call_at feed.now k).alight ≡ true) × (same_run (call_at feed.now i) (call_at feed.now k) ≡ true)
-        × Told depth bounds.now feed.now changes.now n }
-    ensures { Offered st.old st.new (first_rows_of (sheet_of feed.now) (joins_of feed.now changes.now) depth n f i k) }
+// The direct journeys. A refused search stays as it is, so the loop of a pass may end there.
+fn direct_pass(st: &mut State, lent: &Lent)
+    ensures { Offered st.old st.new (pass_rows (sheet_in lent.now) (joins_in lent.now) 0 lent.now.calls.n) }
 {
-    if depth == 2 {
-        onward(st, feed, changes, bounds, n, f, 2, 0, 0, i, k);
-        return;
-    }
-    directs(st, feed, f);
-    change_rides(st, feed, changes, n, depth, f, bounds);
-}
-
-fn alight_at(
-    st: &mut State,
-    feed: &[u16; 3208],
-    changes: &[u32; 16384],
-    n: usize,
-    depth: u16,
-    bounds: &[u16; 1024],
-    i: usize,
-    o: u8,
-    k: usize,
-)
-    requires { (n ≤ 512) × (i < 512) × (o < 4) × (k < n) × (same_run (call_at feed.now i) (call_at feed.now k) ≡ true)
-        × Told depth bounds.now feed.now changes.now n }
-    ensures { Offered st.old st.new (alight_rows (sheet_of feed.now) (joins_of feed.now changes.now) depth n i o k) }
-{
-    let a = call_at(feed, k);
-    if a.alight {
-        first_ride(
-            st,
-            feed,
-            changes,
-            n,
-            depth,
-            bounds,
-            first_of(feed, i, o, k),
-            i,
-            k,
-        );
-    }
-}
-
-// The rides that board at i, from origin o: the later calls of the trip and day of the call at i.
-fn first_rides(
-    st: &mut State,
-    feed: &[u16; 3208],
-    changes: &[u32; 16384],
-    n: usize,
-    depth: u16,
-    bounds: &[u16; 1024],
-    i: usize,
-    o: u8,
-)
-    requires { (n ≤ 512) × (i < n) × (o < 4) × Told depth bounds.now feed.now changes.now n }
-    ensures { Offered st.old st.new (over_run (alight_rows (sheet_of feed.now) (joins_of feed.now changes.now) depth n i o) (call_at feed.now) n i (i + 1)) }
-{
-    let b = call_at(feed, i);
-    let mut k = i + 1;
-    while k < n {
-        let a = call_at(feed, k);
-        if same_run(b, a) {
-            alight_at(st, feed, changes, n, depth, bounds, i, o, k);
-            k += 1;
-        } else {
-            return;
-        }
-    }
-}
-
-// Boarding at i from origin o needs departure at or above walk × 60.
-fn origin_at(
-    st: &mut State,
-    feed: &[u16; 3208],
-    changes: &[u32; 16384],
-    n: usize,
-    depth: u16,
-    bounds: &[u16; 1024],
-    i: usize,
-    o: u8,
-)
-    requires { (n ≤ 512) × (i < n) × (o < 4) × Told depth bounds.now feed.now changes.now n }
-    ensures { Offered st.old st.new (origin_rows (sheet_of feed.now) (joins_of feed.now changes.now) depth n i o) }
-{
-    let b = call_at(feed, i);
-    let walk = origin_walk(feed, o);
-    if can_walk(walk, b.departure) {
-        first_rides(st, feed, changes, n, depth, bounds, i, o);
-    }
-}
-
-// The origins of a mask, lowest first.
-fn origins(
-    st: &mut State,
-    feed: &[u16; 3208],
-    changes: &[u32; 16384],
-    n: usize,
-    depth: u16,
-    bounds: &[u16; 1024],
-    i: usize,
-    mask: u8,
-)
-    requires { (n ≤ 512) × (i < n) × (mask < 16) × Told depth bounds.now feed.now changes.now n }
-    ensures { Offered st.old st.new (over_bits (origin_rows (sheet_of feed.now) (joins_of feed.now changes.now) depth n i) mask) }
-{
-    let mut left = mask;
-    while left != 0 {
-        let o = lowest(left);
-        origin_at(st, feed, changes, n, depth, bounds, i, o);
-        left = clear_lowest(left);
-    }
-}
-
-fn board_at(
-    st: &mut State,
-    feed: &[u16; 3208],
-    changes: &[u32; 16384],
-    n: usize,
-    depth: u16,
-    bounds: &[u16; 1024],
-    i: usize,
-)
-    requires { (n ≤ 512) × (i < n) × Told depth bounds.now feed.now changes.now n }
-    ensures { Offered st.old st.new (board_rows (sheet_of feed.now) (joins_of feed.now changes.now) depth n i) }
-{
-    let b = call_at(feed, i);
-    if b.board {
-        origins(
-            st,
-            feed,
-            changes,
-            n,
-            depth,
-            bounds,
-            i,
-            origins_of(feed, b.stop),
-        );
-    }
-}
-
-// What the loops of a pass are told of the ways on.
-fn told(feed: &[u16; 3208], changes: &[u32; 16384], n: usize, depth: u16) -> [u16; 1024]
-    requires { n ≤ 512 }
-    ensures { Told depth result feed.now changes.now n }
-{
-    if depth == 2 {
-        return onward_times(feed, changes, n);
-    }
-    bounds_of(feed, n, depth)
-}
-
-// One pass over the first n calls: with depth 0 the direct journeys, with 1 those with a change too, with 2 those of three rides alone. A
-// refused search stays as it is, so the loop may end there.
-fn passed(st: &mut State, feed: &[u16; 3208], changes: &[u32; 16384], n: usize, depth: u16)
-    requires { n ≤ 512 }
-    ensures { Offered st.old st.new (over_calls (board_rows (sheet_of feed.now) (joins_of feed.now changes.now) depth n) n 0) }
-{
-    let bounds = told(feed, changes, n, depth);
-    let mut i = 0;
-    while i < n {
+    for l in FirstRides::of(&lent.calls) {
         if is_refused(st) {
             return;
         }
-        board_at(st, feed, changes, n, depth, &bounds, i);
-        i += 1;
+        directs(st, &lent.calls, lent.calls.first_ride(l.ride, l.origin));
     }
 }
 
-fn at_most_one(depth: u16) -> u16
-    ensures { result ≡ min depth 1 }
+// Those and then those with a change, by first ride.
+fn change_pass(st: &mut State, last: &LastRides)
+    ensures { Offered st.old st.new (pass_rows (sheet_in last.now.lent) (joins_in last.now.lent) 1 last.now.lent.calls.n) }
 {
-    if depth < 1 { depth } else { 1 }
+    let calls = &last.lent.calls;
+    for l in FirstRides::of(calls) {
+        if is_refused(st) {
+            return;
+        }
+        let f = calls.first_ride(l.ride, l.origin);
+        directs(st, calls, f);
+        last.change_rides(st, f);
+    }
+}
+
+// Those of three rides alone.
+fn three_pass(st: &mut State, three: &ThreeRides)
+    ensures { Offered st.old st.new (pass_rows (sheet_in three.now.lent) (joins_in three.now.lent) 2 three.now.lent.calls.n) }
+{
+    let calls = &three.lent.calls;
+    // Where a ride stands before the first one, nothing is read of it.
+    let none = Ride {
+        board: 0,
+        alight: 0,
+    };
+    for l in FirstRides::of(calls) {
+        if is_refused(st) {
+            return;
+        }
+        three.onward(st, calls.first_ride(l.ride, l.origin), 2, none, l.ride);
+    }
+}
+
+// With at most one change.
+fn up_to_one(st: &mut State, lent: &Lent, depth: u16)
+    requires { depth ≤ 1 }
+    ensures { Offered st.old st.new (pass_rows (sheet_in lent.now) (joins_in lent.now) depth lent.now.calls.n) }
+{
+    if depth == 0 {
+        direct_pass(st, lent);
+    } else {
+        let bounds = bounds_of(&lent.calls);
+        let last = LastRides {
+            lent: *lent,
+            bounds: &bounds,
+        };
+        change_pass(st, &last);
+    }
+}
+
+fn with_two(st: &mut State, lent: &Lent)
+    ensures { Offered st.old st.new (pass_rows (sheet_in lent.now) (joins_in lent.now) 2 lent.now.calls.n) }
+{
+    let times = onward_times(lent);
+    let three = ThreeRides {
+        lent: *lent,
+        times: &times,
+    };
+    three_pass(st, &three);
 }
 
 // The state after every offer of a search over the first n calls, in order: journeys with at most so many changes, those of three rides
 // after all others.
-pub fn endpoint_paths(
-    st: &mut State,
-    feed: &[u16; 3208],
-    changes: &[u32; 16384],
-    n: usize,
-    depth: u16,
-)
+pub fn endpoint_paths(st: &mut State, feed: &Feed, changes: &Changes, n: usize, depth: u16)
     ensures { view st.new ≡ offer_all (view st.old) (rows_of feed.now changes.now n depth) }
 {
-    let count = at_most_512(n);
-    passed(st, feed, changes, count, at_most_one(depth));
+    let lent = Lent::first(feed, changes, n);
+    up_to_one(st, &lent, depth.min(1));
     if 2 <= depth {
-        passed(st, feed, changes, count, 2);
+        with_two(st, &lent);
     }
 }

@@ -1,163 +1,99 @@
 // How early one can be at a target from where a ride alights, by so many further rides: 512 numbers for each number of changes left.
 // A time past 65535 is cut to it.
-ghost use Rattle.std.specs.Prelude.{◌≡◌, ◌+◌, ◌≤◌, ◌<◌, min, get_or};
+ghost use Rattle.std.specs.Prelude.{◌≡◌, ◌+◌, ◌≤◌, ◌<◌};
 ghost use Rattle.rides.specs.Bounds.{AtCall};
-ghost use Rattle.rides.specs.Reach.{TargetTimes, TimesBefore, Onward, BoardAt, JoinAt, Least, JoinsAt, Each, Beside};
+ghost use Rattle.rides.specs.Reach.{TargetTimes, TimesBefore, Onward, BoardAt, Least, JoinsAt, Each, Beside};
 
-use crate::bounds::{alight_bound, earlier};
-use crate::reads::{call_at, first_of};
-use feed::{FirstRide, at_most_512, change_at, join, same_run};
+use crate::bounds::alight_bound;
+use crate::calls::{Calls, Ride};
+use crate::lent::Lent;
+use feed::FirstRide;
 
-fn time_at(at: &[u16; 512], m: usize) -> u16
-    requires { m < 512 }
-    ensures { result ≡ get_or at.now m 0 }
+// With no change left, whatever the changes are: the targets of the stop at each place.
+pub fn target_times(calls: &Calls) -> [u16; 512]
+    ensures { TargetTimes calls.now.feed.now calls.now.n result }
 {
-    at[m]
+    put_targets(calls)
 }
 
-// With no change left: the targets of the stop at each place.
-fn put_targets(feed: &[u16; 3208], n: usize) -> [u16; 512]
-    requires { n ≤ 512 }
-    ensures { Each (AtCall feed.now) 0 n result }
+fn put_targets(calls: &Calls) -> [u16; 512]
+    ensures { Each (AtCall calls.now.feed.now) 0 calls.now.n result }
 {
     let mut at = [65535u16; 512];
-    let mut m = 0;
-    while m < n {
-        let t = alight_bound(feed, m);
-        at[m] = t;
-        m += 1;
+    for m in 0..calls.n {
+        at[m] = alight_bound(calls, m);
     }
     at
 }
 
 // The earliest for whoever boards at j: the number of the next call of its run, or of whoever boards there.
-fn board_time(boards: &[u16; 512], feed: &[u16; 3208], n: usize, at: &[u16; 512], j: usize) -> u16
-    requires { (n ≤ 512) × (j < n) × Each (BoardAt feed.now n at.now) (j + 1) n boards.now }
-    ensures { BoardAt feed.now n at.now j result }
+fn board_time(boards: &[u16; 512], calls: &Calls, at: &[u16; 512], j: usize) -> u16
+    requires { (j < calls.now.n) × Each (BoardAt calls.now.feed.now calls.now.n at.now) (j + 1) calls.now.n boards.now }
+    ensures { BoardAt calls.now.feed.now calls.now.n at.now j result }
 {
-    let m = j + 1;
-    if m < n {
-        let b = call_at(feed, j);
-        let a = call_at(feed, m);
-        if same_run(b, a) {
-            return earlier(time_at(boards, m), time_at(at, m));
-        }
+    if calls.goes_on(j) {
+        return boards[j + 1].min(at[j + 1]);
     }
     65535
 }
 
 // The same of every place, from the right.
-fn put_boards(feed: &[u16; 3208], n: usize, at: &[u16; 512]) -> [u16; 512]
-    requires { n ≤ 512 }
-    ensures { Each (BoardAt feed.now n at.now) 0 n result }
+fn put_boards(calls: &Calls, at: &[u16; 512]) -> [u16; 512]
+    ensures { Each (BoardAt calls.now.feed.now calls.now.n at.now) 0 calls.now.n result }
 {
     let mut boards = [65535u16; 512];
-    let mut j = n;
-    while j > 0 {
-        j -= 1;
-        let t = board_time(&boards, feed, n, at, j);
+    for j in (0..calls.n).rev() {
+        let t = board_time(&boards, calls, at, j);
         boards[j] = t;
     }
     boards
 }
 
-// The number at c, if one can board there and the ride joins.
-fn join_time(
-    feed: &[u16; 3208],
-    changes: &[u32; 16384],
-    boards: &[u16; 512],
-    p: FirstRide,
-    c: usize,
-) -> u16
-    requires { c < 512 }
-    ensures { JoinAt feed.now changes.now boards.now p c result }
-{
-    let b = call_at(feed, c);
-    if b.board {
-        if join(p, b, change_at(changes, p.stop, b.stop)) {
-            return time_at(boards, c);
-        }
-    }
-    65535
-}
-
 // The earliest of the rides that the ride joins.
-fn least_joined(
-    feed: &[u16; 3208],
-    changes: &[u32; 16384],
-    n: usize,
-    boards: &[u16; 512],
-    p: FirstRide,
-) -> u16
-    requires { n ≤ 512 }
-    ensures { Least feed.now changes.now boards.now p n result }
+fn least_joined(lent: &Lent, boards: &[u16; 512], p: FirstRide) -> u16
+    ensures { Least lent.now.calls.feed.now lent.now.changes.now boards.now p lent.now.calls.n result }
 {
+    // By value, so that the loop doesn't read where the arrays stand.
+    let lent = *lent;
     let mut t = 65535u16;
-    let mut c = 0;
-    while c < n {
-        let due = join_time(feed, changes, boards, p, c);
-        t = earlier(t, due);
-        c += 1;
+    for c in 0..lent.calls.n {
+        if lent.can_board(p, c) {
+            t = t.min(boards[c]);
+        }
     }
     t
 }
 
 // The same of a ride that alights at m, if one can alight there.
-fn joined_time(
-    feed: &[u16; 3208],
-    changes: &[u32; 16384],
-    n: usize,
-    boards: &[u16; 512],
-    m: usize,
-) -> u16
-    requires { (n ≤ 512) × (m < 512) }
-    ensures { JoinsAt feed.now changes.now n boards.now m result }
+fn joined_time(lent: &Lent, boards: &[u16; 512], m: usize) -> u16
+    requires { m < 512 }
+    ensures { JoinsAt lent.now.calls.feed.now lent.now.changes.now lent.now.calls.n boards.now m result }
 {
-    let a = call_at(feed, m);
-    if a.alight {
-        return least_joined(feed, changes, n, boards, first_of(feed, m, 0, m));
+    if lent.calls.at(m).alight {
+        let r = Ride {
+            board: m,
+            alight: m,
+        };
+        return least_joined(lent, boards, lent.calls.first_ride(r, 0));
     }
     65535
 }
 
-fn put_joined(
-    feed: &[u16; 3208],
-    changes: &[u32; 16384],
-    n: usize,
-    boards: &[u16; 512],
-) -> [u16; 512]
-    requires { n ≤ 512 }
-    ensures { Each (JoinsAt feed.now changes.now n boards.now) 0 n result }
+fn put_joined(lent: &Lent, boards: &[u16; 512]) -> [u16; 512]
+    ensures { Each (JoinsAt lent.now.calls.feed.now lent.now.changes.now lent.now.calls.n boards.now) 0 lent.now.calls.n result }
 {
     let mut at = [65535u16; 512];
-    let mut m = 0;
-    while m < n {
-        let t = joined_time(feed, changes, n, boards, m);
-        at[m] = t;
-        m += 1;
+    for m in 0..lent.calls.n {
+        at[m] = joined_time(lent, boards, m);
     }
     at
 }
 
-// The numbers with no change left, whatever the changes are.
-pub fn target_times(feed: &[u16; 3208], n: usize) -> [u16; 512]
-    ensures { TargetTimes feed.now (min n 512) result }
-{
-    put_targets(feed, at_most_512(n))
-}
-
 // Those with one change more than `at` has.
-pub fn times_before(
-    feed: &[u16; 3208],
-    changes: &[u32; 16384],
-    n: usize,
-    at: &[u16; 512],
-) -> [u16; 512]
-    ensures { TimesBefore feed.now changes.now (min n 512) at.now result }
+pub fn times_before(lent: &Lent, at: &[u16; 512]) -> [u16; 512]
+    ensures { TimesBefore lent.now.calls.feed.now lent.now.changes.now lent.now.calls.n at.now result }
 {
-    let count = at_most_512(n);
-    let boards = put_boards(feed, count, at);
-    put_joined(feed, changes, count, &boards)
+    put_joined(lent, &put_boards(&lent.calls, at))
 }
 
 // Two such arrays in one.
@@ -165,21 +101,18 @@ fn beside(one: &[u16; 512], two: &[u16; 512]) -> [u16; 1024]
     ensures { Beside one.now two.now result 512 }
 {
     let mut both = [0u16; 1024];
-    let mut i: usize = 0;
-    while i < 512 {
+    for i in 0..512 {
         both[i] = one[i];
         both[512 + i] = two[i];
-        i += 1;
     }
     both
 }
 
 // Those with one change left, then those with two.
-pub fn onward_times(feed: &[u16; 3208], changes: &[u32; 16384], n: usize) -> [u16; 1024]
-    ensures { Onward result feed.now changes.now (min n 512) }
+pub fn onward_times(lent: &Lent) -> [u16; 1024]
+    ensures { Onward result lent.now.calls.feed.now lent.now.changes.now lent.now.calls.n }
 {
-    let none = target_times(feed, n);
-    let one = times_before(feed, changes, n, &none);
-    let two = times_before(feed, changes, n, &one);
+    let one = times_before(lent, &target_times(&lent.calls));
+    let two = times_before(lent, &one);
     beside(&one, &two)
 }

@@ -1,2 +1,2 @@
-pub mod RuleLaws
+pub mod Held
 pub mod SoundLaws

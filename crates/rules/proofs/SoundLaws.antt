@@ -1,4 +1,6 @@
 -- No rules are sound, and a rule that is taken keeps rules sound: its stops are known, and no rule before it is for its pair.
+use Rattle.refusal.specs.declared.Accepted.TheVariants.{Taken}
+use Rattle.std.specs.Prelude.{None, Option, Some, Ok}
 use Prim.Native.Nat.{ℕ, ◌≤◌, ◌<◌}
 use mathlib.Core.Path.{◌≡◌, refl, sym, subst, ◌∙◌}
 use mathlib.Core.List.{List}
@@ -11,13 +13,10 @@ use lib.Seq.{get_or-set_same, get_or-set_other}
 use Rattle.laws.specs.Lists.{anyb}
 use Rattle.laws.proofs.Bools.{and-true-left, and-true-right}
 use Rattle.laws.proofs.Slots.{blank-set, below-cases, anyb-below}
-use Rattle.refusal.specs.declared.Answer.TheVariants.{Taken}
 use Rattle.refusal.specs.First.{first_answer}
 use Rattle.refusal.proofs.FirstLaws.{taken-all-fail}
 use Rattle.rules.specs.declared.Rule.{Rule}
 use Rattle.rules.specs.declared.RuleInput.{RuleInput}
-use Rattle.rules.specs.declared.MinTime.{MinTime}
-use Rattle.rules.specs.declared.MinTime.TheVariants.{Given, Absent}
 use Rattle.rules.specs.Rules.{blank_rule, same_pair, type_right_of, rule_tests, rule_of}
 use Rattle.rules.specs.Sound.{rule_at, NoRulesSound, RuleKeepsSound, MoreStopsSound}
 
@@ -56,11 +55,11 @@ not-false : (b : Bool) → not b ≡ false → b ≡ true
 not-false true e = refl
 not-false false e = sym e
 
-type-small : (k : ℕ) (m : MinTime) → type_right_of k m ≡ true → k ≤ 3
-type-small k (Given n) e = leb-true k 3 e
-type-small k Absent e = leb-true k 3 (and-true-right (not (eqb k 2)) (leb k 3) e)
+type-small : (k : ℕ) (m : Option ℕ) → type_right_of k m ≡ true → k ≤ 3
+type-small k (Some n) e = leb-true k 3 e
+type-small k None e = leb-true k 3 (and-true-right (not (eqb k 2)) (leb k 3) e)
 
-pub passed : (b : Bool) (stops : ℕ) (rules : List Rule) (count : ℕ) (i : RuleInput) → first_answer (rule_tests b stops rules count i) ≡ Taken → Passed b stops rules count i
+pub passed : (b : Bool) (stops : ℕ) (rules : List Rule) (count : ℕ) (i : RuleInput) → first_answer (rule_tests b stops rules count i) ≡ Ok Taken → Passed b stops rules count i
 unfolding rule_tests
 passed b stops rules count i e =
     let f = taken-all-fail (rule_tests b stops rules count i) ((λ q. let z : ◌≡◌ {A = ℕ} 0 1 = cc in omega arith), ((λ q. let z : ◌≡◌ {A = ℕ} 0 1 = cc in omega arith), ((λ q. let z : ◌≡◌ {A = ℕ} 0 1 = cc in omega arith), ((λ q. let z : ◌≡◌ {A = ℕ} 0 1 = cc in omega arith), ((λ q. let z : ◌≡◌ {A = ℕ} 0 1 = cc in omega arith), tt))))) e in

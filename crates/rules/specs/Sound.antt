@@ -1,6 +1,6 @@
 -- The rules of a load that the steps make: the count is in range, the tail blank, every stop known, the type 0 to 3, and no pair stands twice.
-use Rattle.std.specs.Prelude.{ℕ, ◌+◌, ◌-◌, ◌≤◌, ◌<◌, ◌≡◌, Bool, false, List, length, get_or, drop, set, replicate}
-use Rattle.refusal.specs.declared.Answer.TheVariants.{Taken}
+use Rattle.refusal.specs.declared.Accepted.TheVariants.{Taken}
+use Rattle.std.specs.Prelude.{ℕ, ◌+◌, ◌-◌, ◌≤◌, ◌<◌, ◌≡◌, Bool, false, List, length, get_or, drop, set, replicate, Ok}
 use Rattle.refusal.specs.First.{first_answer}
 use Rattle.rules.specs.declared.Rule.{Rule}
 use Rattle.rules.specs.declared.RuleInput.{RuleInput}
@@ -26,7 +26,7 @@ NoRulesSound = (stops : ℕ) → RulesSound stops (replicate 128 blank_rule) 0
 -- a rule that is taken keeps the rules sound
 abbrev pub RuleKeepsSound : Type 0
 RuleKeepsSound = (searched : Bool) (stops : ℕ) (rules : List Rule) (count : ℕ) (i : RuleInput) → RulesSound stops rules count
-    → first_answer (rule_tests searched stops rules count i) ≡ Taken → RulesSound stops (set rules count (rule_of i)) (count + 1)
+    → first_answer (rule_tests searched stops rules count i) ≡ Ok Taken → RulesSound stops (set rules count (rule_of i)) (count + 1)
 
 -- and so do more stops
 abbrev pub MoreStopsSound : Type 0

@@ -1,4 +1,5 @@
 -- Whether a record fits, and how many bytes it takes: laws that the leaves' proofs cite, and what a size tells.
+use Rattle.std.specs.Prelude.{None, Option}
 use mathlib.Core.Path.{◌≡◌, refl, sym, ap, ◌∙◌}
 use mathlib.Core.Bool.{Bool, true, false, cond, ◌&&◌}
 use mathlib.Core.List.{List}
@@ -8,12 +9,9 @@ use borrow.Author.Tests.{le-leb, lt-leb, eqb-true}
 use lib.Dec.{eqb}
 use lib.ListN.{length, take, drop}
 use Rattle.laws.proofs.Bools.{and-by, and-not, and-true-left}
-use Rattle.refusal.specs.declared.Answer.{Answer}
-use Rattle.refusal.specs.First.{first_answer, is_taken}
+use Rattle.refusal.specs.First.{first_answer, is_taken, Answer}
 use Rattle.stops.specs.declared.Stop.{Stop}
 use Rattle.stops.specs.declared.StopInput.{StopInput}
-use Rattle.stops.specs.declared.Found.{Found}
-use Rattle.stops.specs.declared.Found.TheVariants.{Nothing}
 use Rattle.stops.specs.Answer.{station_of, stop_tests}
 use Rattle.stops.specs.Taken.{blank_stop, stop_of}
 use Rattle.settings.specs.declared.Settings.{Settings}
@@ -129,11 +127,11 @@ told_is settings searched stops count h xs b-is i-is u-is = u-is ∙ ap (uncut_o
 -- ---- stop
 
 module _ (stops : List Stop) (count : ℕ) (b : List ℕ) {at : ℕ} {has : Bool} (at-is : at ≡ parent_at b) (has-is : has ≡ has_at b at) where
-  pub station-is : {text : List ℕ} {s : Found} → has ≡ true → text ≡ option_text_at b (parent_at b) → s ≡ station_of stops count true text → s ≡ station_at stops count b
+  pub station-is : {text : List ℕ} {s : Option ℕ} → has ≡ true → text ≡ option_text_at b (parent_at b) → s ≡ station_of stops count true text → s ≡ station_at stops count b
   unfolding station_at
   station-is e text-is s-is = s-is ∙ (λ k. station_of stops count (sym (sym (has-is ∙ ap (has_at b) at-is) ∙ e) k) (text-is k))
 
-  pub station-none : has ≡ false → Nothing ≡ station_at stops count b
+  pub station-none : has ≡ false → None ≡ station_at stops count b
   unfolding station_at station_of
   station-none e = rw (sym (has-is ∙ ap (has_at b) at-is) ∙ e) refl
 
@@ -152,7 +150,7 @@ module _ (searched : Bool) (stops : List Stop) (count : ℕ) (xs : List ℕ) {w 
     unfolding stop_fits
     stop-unfilled g = no_stop (where-unfit 2 (stop_fits searched stops count) xs stop_here _ w-is e b-is (sym (and-not _ (sym f-is ∙ g))) refl)
 
-    module _ {s : Found} {id name : List ℕ} {i : StopInput} {a : Answer} {t : Bool} (g : f ≡ true) (s-is : s ≡ station_at stops count b) (i-is : i ≡ stop_in b)
+    module _ {s : Option ℕ} {id name : List ℕ} {i : StopInput} {a : Answer} {t : Bool} (g : f ≡ true) (s-is : s ≡ station_at stops count b) (i-is : i ≡ stop_in b)
         (id_is : id ≡ text_at b 1) (name_is : name ≡ option_text_at b (name_at b)) (a-is : a ≡ first_answer (stop_tests searched stops count s id name i)) (t-is : t ≡ is_taken a) where
       stop-fits-by : t ≡ stop_fits searched stops count b
       unfolding stop_fits

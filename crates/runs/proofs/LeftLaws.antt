@@ -1,4 +1,6 @@
 -- What is left of bytes from a place on: the first place, a record more, one run after another, the end.
+use Rattle.refusal.specs.declared.Accepted.TheVariants.{Taken}
+use Rattle.std.specs.Prelude.{Ok}
 use mathlib.Core.Path.{◌≡◌, sym, ap, ◌∙◌}
 use mathlib.Core.Bool.{true, false}
 use mathlib.Core.List.{List, []}
@@ -6,9 +8,7 @@ use Prim.Native.Nat.{ℕ, ◌+◌, ◌≤◌}
 use native.Mathlib.Omega.{arith}
 use lib.ListN.{length, drop, length-drop, drop_of_length-le}
 use lib.Seq.{drop-drop}
-use Rattle.refusal.specs.declared.Answer.{Answer}
-use Rattle.refusal.specs.declared.Answer.TheVariants.{Taken}
-use Rattle.refusal.specs.First.{is_refused}
+use Rattle.refusal.specs.First.{is_refused, Answer}
 use Rattle.file.specs.declared.Reader.{Reader}
 use Rattle.file.specs.declared.Took.{Took}
 use Rattle.file.specs.Record.{record_spec}
@@ -40,5 +40,5 @@ left-ends {r₀} {r} {bytes} {at} a l e = (λ t. record { answer = a; used = mor
     more : (n : ℕ) → n ≡ n + 0
     more n = omega arith
 
-pub left-none : {r₀ r : Reader} {bytes : List ℕ} {at : ℕ} → Left r₀ bytes r at → length bytes ≤ at → record { answer = Taken; used = at; reader = r } ≡ fed_spec r₀ bytes
-left-none {r₀} {r} {bytes} {at} l h = left-ends Taken l (rw (drop_of_length-le bytes h) (fed-stops r [] none-whole))
+pub left-none : {r₀ r : Reader} {bytes : List ℕ} {at : ℕ} → Left r₀ bytes r at → length bytes ≤ at → record { answer = Ok Taken; used = at; reader = r } ≡ fed_spec r₀ bytes
+left-none {r₀} {r} {bytes} {at} l h = left-ends (Ok Taken) l (rw (drop_of_length-le bytes h) (fed-stops r [] none-whole))

@@ -1,3 +1,4 @@
 pub mod LeftLaws
 pub mod FitLaws
 pub mod RunLaws
+pub mod Held

@@ -1,4 +1,6 @@
 -- A record that fits is taken by the load as it is stored in place; so a run moves on.
+use Rattle.refusal.specs.declared.Accepted.TheVariants.{Taken}
+use Rattle.std.specs.Prelude.{Ok}
 use mathlib.Core.Path.{◌≡◌, refl, sym, ap, ◌∙◌}
 use mathlib.Core.Bool.{Bool, true, false, true≢false}
 use mathlib.Core.List.{List, [], ◌∷◌}
@@ -9,9 +11,7 @@ use borrow.Author.Rules.{part_to_end}
 use lib.Dec.{eqb}
 use lib.ListN.{length, take, drop, set}
 use Rattle.laws.proofs.Bools.{and-true-left, and-true-right}
-use Rattle.refusal.specs.declared.Answer.{Answer}
-use Rattle.refusal.specs.declared.Answer.TheVariants.{Taken}
-use Rattle.refusal.specs.First.{first_answer, is_refused}
+use Rattle.refusal.specs.First.{first_answer, is_refused, Answer}
 use Rattle.refusal.proofs.FirstLaws.{taken_is}
 use Rattle.stops.specs.declared.Stop.{Stop}
 use Rattle.calls.specs.declared.Call.{Call}
@@ -71,16 +71,16 @@ rule_fits_in l b = rule_fits_of l.searched l.stop_count l.rules l.rule_count b
 abbrev with_rule : Load → Rule → Load
 with_rule l x = with_rules l (set l.rules l.rule_count x) (l.rule_count + 1)
 
-fit-rule-taken : (l : Load) (b : List ℕ) → rule_fits_in l b ≡ true → rule_answer l (rule_in b) ≡ Taken
+fit-rule-taken : (l : Load) (b : List ℕ) → rule_fits_in l b ≡ true → rule_answer l (rule_in b) ≡ Ok Taken
 unfolding rule_fits_of
 fit-rule-taken l b f = taken_is _ (and-true-right (rule_filled_of b) _ f)
 
 rule-recorded : (l : Load) (b : List ℕ) {x : Rule} → byte_at b 0 ≡ 4 → rule_fits_in l b ≡ true → x ≡ rule_of (rule_in b)
-    → record_spec (open_reader l) b ≡ record { answer = Taken; reader = open_reader (with_rule l x) }
+    → record_spec (open_reader l) b ≡ record { answer = Ok Taken; reader = open_reader (with_rule l x) }
 unfolding kind_right rule_fits_of
 rule-recorded l b {x} k f x-is =
     recorded b 4 k (omega arith) refl (and-true-left (rule_filled_of b) _ f) l
-    (stepped-rule (open_reader l) b refl k refl (rule-taken l (rule_in b) Taken (sym (fit-rule-taken l b f)) x refl x-is)) refl
+    (stepped-rule (open_reader l) b refl k refl (rule-taken l (rule_in b) (Ok Taken) (sym (fit-rule-taken l b f)) x refl x-is)) refl
 
 module _ {l₀ l : Load} {bytes : List ℕ} {at n : ℕ} {u : RuleTold} (left : Left (open_reader l₀) bytes (open_reader l) at)
     (u-is : u ≡ rule_told l.searched l.stop_count l.rules l.rule_count (take (length bytes - at) (drop at bytes)))
@@ -89,7 +89,7 @@ module _ {l₀ l : Load} {bytes : List ℕ} {at n : ℕ} {u : RuleTold} (left : 
   rule-fit = where-tells 4 (rule_fits_in l) (drop at bytes) (u-is ∙ ap (rule_told l.searched l.stop_count l.rules l.rule_count) (part_to_end bytes at)) (rule-not-other u e)
 
   pub rule-space : l.rule_count < 128
-  rule-space = rule-room l (rule_in (body_of (drop at bytes))) Taken (sym (fit-rule-taken l _ rule-fit.taken)) refl
+  rule-space = rule-room l (rule_in (body_of (drop at bytes))) (Ok Taken) (sym (fit-rule-taken l _ rule-fit.taken)) refl
 
   pub rule-on : Left (open_reader l₀) bytes (open_reader (with_rule l u.rule)) (at + n)
   rule-on = run_on left n-is rule-fit.whole (rule-recorded l (body_of (drop at bytes)) rule-fit.kind rule-fit.taken (ap (λ (t : RuleTold). t.rule) rule-fit.is)) refl
@@ -106,7 +106,7 @@ stop_fits_in l b = stop_fits l.searched l.stops l.stop_count b
 abbrev with_stop : Load → Stop → Load
 with_stop l x = with_stops l (set l.stops l.stop_count x) (l.stop_count + 1)
 
-fit-stop-taken : (l : Load) (b : List ℕ) → stop_fits_in l b ≡ true → stop_answer l (text_at b 1) (option_text_at b (name_at b)) (option_text_at b (parent_at b)) (stop_in b) ≡ Taken
+fit-stop-taken : (l : Load) (b : List ℕ) → stop_fits_in l b ≡ true → stop_answer l (text_at b 1) (option_text_at b (name_at b)) (option_text_at b (parent_at b)) (stop_in b) ≡ Ok Taken
 unfolding stop_fits station_at stop_in
 fit-stop-taken l b f = taken_is _ (and-true-right (stop_filled_of b) _ f)
 
@@ -115,11 +115,11 @@ unfolding stop_fits
 fit-stop-filled l b f = and-true-left (stop_filled_of b) _ f
 
 stop-recorded : (l : Load) (b : List ℕ) {x : Stop} → byte_at b 0 ≡ 2 → stop_fits_in l b ≡ true → x ≡ stop_at l.stops l.stop_count b
-    → record_spec (open_reader l) b ≡ record { answer = Taken; reader = open_reader (with_stop l x) }
+    → record_spec (open_reader l) b ≡ record { answer = Ok Taken; reader = open_reader (with_stop l x) }
 unfolding kind_right stop_at station_at stop_in
 stop-recorded l b {x} k f x-is =
     recorded b 2 k (omega arith) refl (fit-stop-filled l b f) l
-    (stepped-stop (open_reader l) b refl k (stop-taken l (text_at b 1) (option_text_at b (name_at b)) (option_text_at b (parent_at b)) (stop_in b) Taken (sym (fit-stop-taken l b f)) x refl x-is)) refl
+    (stepped-stop (open_reader l) b refl k (stop-taken l (text_at b 1) (option_text_at b (name_at b)) (option_text_at b (parent_at b)) (stop_in b) (Ok Taken) (sym (fit-stop-taken l b f)) x refl x-is)) refl
 
 module _ {l₀ l : Load} {bytes : List ℕ} {at n : ℕ} {u : StopTold} (left : Left (open_reader l₀) bytes (open_reader l) at)
     (u-is : u ≡ stop_told l.searched l.stops l.stop_count (take (length bytes - at) (drop at bytes)))
@@ -128,7 +128,7 @@ module _ {l₀ l : Load} {bytes : List ℕ} {at n : ℕ} {u : StopTold} (left : 
   stop-fit = where-tells 2 (stop_fits_in l) (drop at bytes) (u-is ∙ ap (stop_told l.searched l.stops l.stop_count) (part_to_end bytes at)) (stop-not-other u e)
 
   pub stop-space : l.stop_count < 128
-  stop-space = stop-room l _ _ _ _ Taken (sym (fit-stop-taken l (body_of (drop at bytes)) stop-fit.taken)) refl
+  stop-space = stop-room l _ _ _ _ (Ok Taken) (sym (fit-stop-taken l (body_of (drop at bytes)) stop-fit.taken)) refl
 
   pub stop-on : Left (open_reader l₀) bytes (open_reader (with_stop l u.stop)) (at + n)
   stop-on = run_on left n-is stop-fit.whole (stop-recorded l (body_of (drop at bytes)) stop-fit.kind stop-fit.taken (ap (λ (t : StopTold). t.stop) stop-fit.is)) refl

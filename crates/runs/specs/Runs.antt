@@ -1,9 +1,8 @@
 -- Runs of records of one kind, stored in place: which records fit, and what a run or a turn of the reader is.
-use Rattle.std.specs.Prelude.{ℕ, ◌≤◌, ◌≡◌, Bool, true, false, cond, ◌&&◌, List, eqb, length, drop}
-use Rattle.refusal.specs.declared.Answer.TheVariants.{Taken}
+use Rattle.refusal.specs.declared.Accepted.TheVariants.{Taken}
+use Rattle.std.specs.Prelude.{ℕ, ◌≤◌, ◌≡◌, Bool, true, false, cond, ◌&&◌, List, eqb, length, drop, Option, Ok}
 use Rattle.refusal.specs.First.{first_answer, is_refused, is_taken}
 use Rattle.stops.specs.declared.Stop.{Stop}
-use Rattle.stops.specs.declared.Found.{Found}
 use Rattle.stops.specs.Answer.{station_of, stop_tests}
 use Rattle.stops.specs.Taken.{blank_stop, stop_of}
 use Rattle.settings.specs.declared.Settings.{Settings}
@@ -35,7 +34,7 @@ unfoldable pub rule_fits_of : Bool → ℕ → List Rule → ℕ → List ℕ �
 rule_fits_of searched stops rules count b = rule_filled_of b && is_taken (first_answer (rule_tests searched stops rules count (rule_in b)))
 
 -- the station that a stop's record names as its parent
-unfoldable pub station_at : List Stop → ℕ → List ℕ → Found
+unfoldable pub station_at : List Stop → ℕ → List ℕ → Option ℕ
 station_at stops count b = station_of stops count (has_at b (parent_at b)) (option_text_at b (parent_at b))
 
 unfoldable pub stop_fits : Bool → List Stop → ℕ → List ℕ → Bool
@@ -68,5 +67,5 @@ pub record Left (r₀ : Reader) (bytes : List ℕ) (r : Reader) (at : ℕ) : Typ
 -- a turn: a record refused, nothing more that is whole, or records taken up to a place
 pub record Turned (r : Reader) (xs : List ℕ) (f : Fed) : Type 0 where
   pub refused : is_refused f.answer ≡ true → fed_spec r xs ≡ record { answer = f.answer; used = 0; reader = r }
-  pub stops : is_refused f.answer ≡ false → f.used ≡ 0 → fed_spec r xs ≡ record { answer = Taken; used = 0; reader = r }
+  pub stops : is_refused f.answer ≡ false → f.used ≡ 0 → fed_spec r xs ≡ record { answer = Ok Taken; used = 0; reader = r }
   pub goes_on : is_refused f.answer ≡ false → Left r xs f.reader f.used

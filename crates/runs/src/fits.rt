@@ -10,12 +10,13 @@ use fields::layout::{
 };
 use fields::records::{call_in, rule_in, stop_in};
 use file::texts::{id_text, name_text, parent_text};
+use prefix::first;
 use refusal::is_taken;
 use rules::{Rule, blank_rule, rule_answer, rule_of};
 use settings::Settings;
 use stop_answer::{parent_of, stop_answer};
+use stops::Stop;
 use stops::taken::{blank_stop, stop_of};
-use stops::{Found, Stop};
 use table::step::uncut;
 
 // How many bytes the record at the start of the bytes takes, with its length.
@@ -61,7 +62,8 @@ pub fn rule_told(
         let b = body_of(bytes);
         if rule_filled(b) {
             let input = rule_in(b);
-            if is_taken(rule_answer(searched, stops, rules, count, input)) {
+            let held = first(&rules, count);
+            if is_taken(rule_answer(searched, stops, held, input)) {
                 let rule = rule_of(input);
                 return RuleTold { fits: true, rule };
             }
@@ -75,13 +77,14 @@ pub fn rule_told(
 
 // ---- stop
 
-fn station_at(stops: [Stop; 128], count: usize, b: &[u8]) -> Found
+fn station_at(stops: [Stop; 128], count: usize, b: &[u8]) -> Option<u16>
     ensures { result ≡ station_at stops count b.now }
 {
     if has_at(b, parent_at(b)) {
-        return parent_of(stops, count, true, parent_text(b));
+        let held = first(&stops, count);
+        return parent_of(held, true, parent_text(b));
     }
-    Found::Nothing
+    None
 }
 
 pub fn stop_told(searched: bool, stops: [Stop; 128], count: usize, bytes: &[u8]) -> StopTold
@@ -93,15 +96,8 @@ pub fn stop_told(searched: bool, stops: [Stop; 128], count: usize, bytes: &[u8])
         if stop_filled(b) {
             let station = station_at(stops, count, b);
             let input = stop_in(b);
-            let answer = stop_answer(
-                searched,
-                stops,
-                count,
-                station,
-                id_text(b),
-                name_text(b),
-                input,
-            );
+            let held = first(&stops, count);
+            let answer = stop_answer(searched, held, station, id_text(b), name_text(b), input);
             if is_taken(answer) {
                 let stop = stop_of(id_text(b), name_text(b), station, input);
                 return StopTold { fits: true, stop };

@@ -2,72 +2,46 @@
 // A file that is refused, and a load that is not written, are told on standard error; then nothing is written.
 #![tactic(auto)]
 
-use file::Took;
 use load::Load;
 use reader::read;
-use refusal::{Answer, is_refused};
+use refusal::{Answer, Refusal};
 use std::io::{Stderr, Stdout};
 use stdio::input;
 use writer::write;
 
-// As long as the longest file that is read.
+// As long as the longest file that is read. A function of its own: the proof of `main` can't hold an array of that length.
 fn buffer() -> [u8; 1048576] {
-    [0u8; 1048576]
+    [0; 1048576]
 }
 
 // As long as the longest file of a load that steps make.
-fn room() -> [u8; 33588] {
-    [0u8; 33588]
-}
+const ROOM: usize = 33588;
 
 // As long as the longest list.
-fn said() -> [u8; 4096] {
-    [0u8; 4096]
-}
+const SAID: usize = 4096;
 
 fn tell(stderr: Stderr, answer: Answer, load: Load) {
-    let mut out = said();
+    let mut out = [0; SAID];
     let n = lines::lines(&mut out, answer, load);
     let _ = stderr.write_all(&out[..n]);
 }
 
-fn put(stdout: Stdout, file: &[u8], n: usize) {
-    if n <= file.len() {
-        let _ = stdout.write_all(&file[..n]);
-    }
-}
-
-fn save(stdout: Stdout, stderr: Stderr, load: Load) {
-    let mut out = room();
-    let w = write(load, &mut out);
-    let answer = w.answer;
-    if is_refused(answer) {
-        tell(stderr, answer, load);
-        return;
-    }
-    put(stdout, &out, w.length);
-}
-
-fn file(bytes: &[u8], size: usize) -> Took {
-    if size <= bytes.len() {
-        return read(&bytes[..size]);
-    }
-    read(bytes)
+fn save(stdout: Stdout, load: Load) -> Result<(), Refusal> {
+    let mut out = [0; ROOM];
+    let wrote = write(load, &mut out);
+    wrote.answer?;
+    let _ = stdout.write_all(&out[..wrote.length.min(ROOM)]);
+    Ok(())
 }
 
 fn main(rt: HostRuntime) {
-    let stdin = rt.stdin();
-    let stdout = rt.stdout();
-    let stderr = rt.stderr();
-    let mut buf = buffer();
-    let held = input::rest(stdin, &mut buf, 0);
-    let t = file(&buf, held);
-    let answer = t.answer;
-    let reader = t.reader;
-    let load = reader.load;
-    if is_refused(answer) {
-        tell(stderr, answer, load);
-        return;
+    let mut bytes = buffer();
+    let buf: &mut [u8] = &mut bytes;
+    let held = input::rest(rt.stdin(), buf, 0);
+    let t = read(&buf[..held]);
+    let load = t.reader.load;
+    let saved = t.answer.and_then(|_| save(rt.stdout(), load));
+    if let Err(r) = saved {
+        tell(rt.stderr(), Err(r), load);
     }
-    save(stdout, stderr, load);
 }

@@ -1,4 +1,6 @@
 -- Each call of a written load is taken again, in its place and with its marks.
+use Rattle.refusal.specs.declared.Accepted.TheVariants.{Taken}
+use Rattle.std.specs.Prelude.{Option, Some, Ok}
 use mathlib.Core.Path.{◌≡◌, refl, ap, ◌∙◌}
 use mathlib.Core.Bool.{Bool, true, false, false≢true}
 use mathlib.Core.List.{List, [], ◌∷◌}
@@ -9,17 +11,14 @@ use lib.Dec.{ltb, leb}
 use lib.IntN.{ℤ, pos, ◌-ℤ◌, +ℤ_comm, +ℤ-neg_ℤ_cancel}
 use lib.ListN.{length, get_or, take}
 use borrow.Author.Tests.{lt-ltb, le-leb, le-ltb}
-use Rattle.refusal.specs.declared.Answer.TheVariants.{Taken}
 use Rattle.refusal.specs.First.{first_answer}
 use Rattle.settings.specs.declared.Settings.{Settings}
 use Rattle.settings.specs.Settings.{near}
 use Rattle.stops.specs.declared.Stop.{Stop}
 use Rattle.calls.specs.declared.Call.{Call}
 use Rattle.calls.specs.declared.CallInput.{CallInput}
-use Rattle.calls.specs.declared.Offset.{Offset}
 use Rattle.calls.specs.declared.Table.{Table}
 use Rattle.calls.specs.declared.Uncut.{Uncut}
-use Rattle.calls.specs.declared.View.{View}
 use Rattle.calls.specs.Windows.{time_of, time_after, allowed, asked, seen, seen_call}
 use Rattle.calls.specs.Calls.{known, call_tests, call_seen, call_on}
 use Rattle.calls.specs.Tables.{blank_call, put}
@@ -53,7 +52,7 @@ all-at P (x ∷ xs) d (suc n) (suc k) h g a = all-at P xs d n k (omega arith) (o
 
 -- ---- times: every epoch is the start
 
-from_start : (z : ℤ) (n : ℕ) → near z ≡ true → time_after z z n ≡ Offset.At n
+from_start : (z : ℤ) (n : ℕ) → near z ≡ true → time_after z z n ≡ Some n
 unfolding time_after
 from_start z n h = rw h (ap time_of (ap (λ (x : ℤ). x -ℤ z) (+ℤ_comm z (pos n)) ∙ +ℤ-neg_ℤ_cancel (pos n) z))
 
@@ -64,7 +63,7 @@ epoch-is s (suc zero) h = refl
 epoch-is s (suc (suc zero)) h = refl
 epoch-is s (suc (suc (suc n))) h = absurd (omega arith)
 
-starts : (s : Settings) (day m : ℕ) → day ≤ 2 → near s.now ≡ true → time_after (get_or (at_start s).epochs day (pos 0)) (at_start s).now m ≡ Offset.At m
+starts : (s : Settings) (day m : ℕ) → day ≤ 2 → near s.now ≡ true → time_after (get_or (at_start s).epochs day (pos 0)) (at_start s).now m ≡ Some m
 unfolding at_start
 starts s day m h clock = ap (λ (e : ℤ). time_after e s.now m) (epoch-is s day h) ∙ from_start s.now m clock
 
@@ -72,7 +71,7 @@ starts s day m h clock = ap (λ (e : ℤ). time_after e s.now m) (epoch-is s day
 
 module _ (h : ℕ) (c : Call) (sound : CallSound h c) where
   -- the call as its own record shows it
-  seen_self : seen_call h (Offset.At c.arrival) (Offset.At c.departure) (call_input_of c) ≡ c
+  seen_self : seen_call h (Some c.arrival) (Some c.departure) (call_input_of c) ≡ c
   unfolding seen_call call_input_of type_of
   seen_self =
       let a : leb c.arrival h ≡ true = le-leb c.arrival h (omega (arith, sound.ordered, sound.due)) in
@@ -101,11 +100,11 @@ module _ (h : ℕ) (c : Call) (sound : CallSound h c) where
       ask false true m = absurd (false≢true (m refl))
       ask false false m = refl
 
-  seen-in : seen h (Offset.At c.arrival) (Offset.At c.departure) (call_input_of c) ≡ View.In c
+  seen-in : seen h (Some c.arrival) (Some c.departure) (call_input_of c) ≡ Some c
   unfolding seen
   seen-in =
       let a : ltb h c.arrival ≡ false = le-ltb h c.arrival (omega (arith, sound.ordered, sound.due)) in
-      rw a (ap View.In seen_self)
+      rw a (ap Some seen_self)
 
 types-known : (x y : Bool) → leb (type_of x y) 3 ≡ true
 unfolding type_of
@@ -116,7 +115,7 @@ types-known false y = refl
 -- ---- the call of number k
 
 module _ (s : Settings) (n : ℕ) (c : Call) (sound : CallSound 21600 c) (told : CallKept c) (at_stop : c.stop < n) (clock : near s.now ≡ true) where
-  no_test : first_answer (call_tests false n (call_input_of c)) ≡ Taken
+  no_test : first_answer (call_tests false n (call_input_of c)) ≡ Ok Taken
   unfolding call_tests first_answer call_input_of known
   no_test =
       let b : ltb c.stop n ≡ true = lt-ltb _ _ at_stop in
@@ -125,7 +124,7 @@ module _ (s : Settings) (n : ℕ) (c : Call) (sound : CallSound 21600 c) (told :
       let r : ltb c.departure c.arrival ≡ false = le-ltb c.departure c.arrival sound.ordered in
       rw (b, t, d, types-known c.board c.board_request, types-known c.alight c.alight_request, r) refl
 
-  shown-in : call_seen (at_start s) 21600 (call_input_of c) ≡ View.In c
+  shown-in : call_seen (at_start s) 21600 (call_input_of c) ≡ Some c
   unfolding call_input_of
   shown-in =
       (λ t. seen 21600 (starts s c.day c.arrival told.day_known clock t) (starts s c.day c.departure told.day_known clock t) (call_input_of c)) ∙ seen-in 21600 c sound
@@ -134,13 +133,13 @@ module _ (s : Settings) (n : ℕ) (c : Call) (sound : CallSound 21600 c) (told :
   unfolding uncut_on
   goes_in k h = rw (no_test, shown-in, lt-ltb k 512 h) refl
 
-  on-table : (t : Table) → t.count < 512 → t.horizon ≡ 21600 → call_on (at_start s) false n t (call_input_of c) ≡ record { answer = Taken; table = put t c }
+  on-table : (t : Table) → t.count < 512 → t.horizon ≡ 21600 → call_on (at_start s) false n t (call_input_of c) ≡ record { answer = Ok Taken; table = put t c }
   on-table t h e =
       (uncut-tells (at_start s) false n t (call_input_of c)).goes_in c (ap (λ (x : ℕ). uncut_on (at_start s) false n t.count x (call_input_of c)) e ∙ goes_in t.count h)
 
 call-taken : (l : Load) (i : CallInput) (c : Call) → l.week.dated ≡ false
-    → call_on l.settings l.searched l.stop_count (table_of l) i ≡ record { answer = Taken; table = put (table_of l) c }
-    → call_spec l [] i ≡ record { answer = Taken; load = with_table l (put (table_of l) c) }
+    → call_on l.settings l.searched l.stop_count (table_of l) i ≡ record { answer = Ok Taken; table = put (table_of l) c }
+    → call_spec l [] i ≡ record { answer = Ok Taken; load = with_table l (put (table_of l) c) }
 unfolding call_spec plain_call
 call-taken l i c d e = rw (d, e) refl
 
@@ -161,12 +160,12 @@ module _ (s : Settings) (n : ℕ) (calls : List Call) (k : ℕ) (long : length c
   unfolding undated_week
   no-dates = refl
 
-  stepped-is : add_spec_of (at k) [] (call_input_of (get_or calls k blank_call)) ≡ record { answer = Taken; load = at (suc k) }
+  stepped-is : add_spec_of (at k) [] (call_input_of (get_or calls k blank_call)) ≡ record { answer = Ok Taken; load = at (suc k) }
   unfolding add_spec_of
   stepped-is =
       let e = up_more blank_call 512 calls long k blank_call room in
       call-taken (at k) (call_input_of (get_or calls k blank_call)) (get_or calls k blank_call) no-dates (on-table s n (get_or calls k blank_call) sound told at_stop clock (table_of (at k)) room refl)
-      ∙ (λ t. record { answer = Taken; load = load_of (at_start s) stops n rules ruleCount (e t) (add-one k t) })
+      ∙ (λ t. record { answer = Ok Taken; load = load_of (at_start s) stops n rules ruleCount (e t) (add-one k t) })
 
   pub call-takes : Takes (at k) (call_record (get_or calls k blank_call)) (at (suc k))
   unfolding call_record call_body kind_right

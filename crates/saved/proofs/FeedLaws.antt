@@ -1,4 +1,6 @@
 -- Records with their lengths before them are fed one by one.
+use Rattle.refusal.specs.declared.Accepted.TheVariants.{Taken}
+use Rattle.std.specs.Prelude.{Ok}
 use mathlib.Core.Path.{◌≡◌, refl, sym, ap, ◌∙◌, subst}
 use mathlib.Core.Bool.{true, false}
 use mathlib.Core.List.{List, [], ◌∷◌, ◌++◌, map, append_assoc}
@@ -9,7 +11,6 @@ use lib.ListN.{length, get_or, take, drop, length-append}
 use lib.Seq.{take_at, drop_at, take-suc}
 use borrow.Author.Tests.{le-leb}
 use Rattle.laws.specs.Lists.{concat_map}
-use Rattle.refusal.specs.declared.Answer.TheVariants.{Taken}
 use Rattle.refusal.specs.First.{first_answer, is_refused}
 use Rattle.fields.specs.Numbers.{u16_at}
 use Rattle.load.specs.declared.Load.{Load}
@@ -69,11 +70,11 @@ fed-one r m b rest t =
     ∙ (λ i. later (2 + size_is b rest i) (fed_spec (body i).reader (rest_is b rest i)))
 
 -- all bytes are used
-pub fed-all : {l m : Load} {bs : List (List ℕ)} → Feeds l bs m → fed_spec (open_reader l) (concat_map framed bs) ≡ record { answer = Taken; used = length (concat_map framed bs); reader = open_reader m }
+pub fed-all : {l m : Load} {bs : List (List ℕ)} → Feeds l bs m → fed_spec (open_reader l) (concat_map framed bs) ≡ record { answer = Ok Taken; used = length (concat_map framed bs); reader = open_reader m }
 fed-all {l} none = fed-stops (open_reader l) [] none-whole
 fed-all {l} (more {m = m} {n = n} {b = b} {bs = bs} t p) =
     let e : 2 + length b + length (concat_map framed bs) ≡ length (framed b ++ concat_map framed bs) = omega (arith, long b (concat_map framed bs)) in
-    fed-one (open_reader l) m b (concat_map framed bs) t.taken ∙ ap (later (2 + length b)) (fed-all p) ∙ (λ i. record { answer = Taken; used = e i; reader = open_reader n })
+    fed-one (open_reader l) m b (concat_map framed bs) t.taken ∙ ap (later (2 + length b)) (fed-all p) ∙ (λ i. record { answer = Ok Taken; used = e i; reader = open_reader n })
 
 -- ---- the records of an array's first n elements
 
@@ -93,11 +94,11 @@ module _ {A : Type 0} (f : A → List ℕ) (xs : List A) (d : A) (at : ℕ → L
 pub some_byte : (x : ℕ) (xs : List ℕ) → eqb (length (x ∷ xs)) 0 ≡ false
 some_byte x xs = eqb-suc-zero (length xs)
 
-recorded : (l m : Load) (kind : ℕ) (w : List ℕ) → kind_right true kind ≡ true → filled false (kind ∷ w) ≡ true → stepped l (step_in (kind ∷ w)) ≡ record { answer = Taken; load = m }
+recorded : (l m : Load) (kind : ℕ) (w : List ℕ) → kind_right true kind ≡ true → filled false (kind ∷ w) ≡ true → stepped l (step_in (kind ∷ w)) ≡ record { answer = Ok Taken; load = m }
     → record_spec (open_reader l) (kind ∷ w) ≡ read_as m
 unfolding record_spec record_tests first_answer stepped_by settled
 recorded l m kind w right fill step = rw (some_byte kind w, right, fill, step) refl
 
-pub takes : (l m : Load) (kind : ℕ) (w : List ℕ) → kind_right true kind ≡ true → filled false (kind ∷ w) ≡ true → stepped l (step_in (kind ∷ w)) ≡ record { answer = Taken; load = m }
+pub takes : (l m : Load) (kind : ℕ) (w : List ℕ) → kind_right true kind ≡ true → filled false (kind ∷ w) ≡ true → stepped l (step_in (kind ∷ w)) ≡ record { answer = Ok Taken; load = m }
     → m.table_horizon ≡ l.table_horizon → Takes l (kind ∷ w) m
 takes l m kind w right fill step uncut = record { taken = recorded l m kind w right fill step; uncut = uncut }

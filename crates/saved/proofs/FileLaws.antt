@@ -1,4 +1,6 @@
 -- A written load is read as it was, with its epochs at the start.
+use Rattle.refusal.specs.declared.Accepted.TheVariants.{Taken}
+use Rattle.std.specs.Prelude.{Err, Ok}
 use mathlib.Core.Path.{◌≡◌, refl, sym, ap, ◌∙◌, subst}
 use mathlib.Core.Bool.{Bool, true, false, not, cond, true≢false}
 use mathlib.Core.List.{List, [], ◌∷◌, ◌++◌, map}
@@ -15,7 +17,6 @@ use Rattle.laws.specs.Lists.{concat_map}
 use Rattle.laws.proofs.Bools.{and-true-left, or-false-left, or-false-right}
 use Rattle.laws.proofs.Ints.{small}
 use Rattle.refusal.specs.declared.Refusal.TheVariants.{SettingsRange, ClockRange}
-use Rattle.refusal.specs.declared.Answer.TheVariants.{Taken, Refused}
 use Rattle.refusal.specs.First.{first_answer, is_refused}
 use Rattle.settings.specs.declared.Settings.{Settings}
 use Rattle.settings.specs.Settings.{over_counts, near, all_near, settings_tests, walks_of, canonical_of}
@@ -55,12 +56,12 @@ near_first : (now : ℤ) (epochs : List ℤ) → all_near now epochs ≡ true �
 unfolding all_near
 near_first now epochs h = and-true-left (near now) _ h
 
-opening : (s : Settings) → first_answer (settings_tests s) ≡ Taken → Opening s
+opening : (s : Settings) → first_answer (settings_tests s) ≡ Ok Taken → Opening s
 unfolding first_answer settings_tests
 opening s e = go (over_counts s.origins s.targets s.max_transfers s.transfer_seconds) refl (all_near s.now s.epochs) refl e
   where
     go : (x : Bool) → over_counts s.origins s.targets s.max_transfers s.transfer_seconds ≡ x → (y : Bool) → all_near s.now s.epochs ≡ y
-        → cond x (Refused SettingsRange) (cond (not y) (Refused ClockRange) Taken) ≡ Taken → Opening s
+        → cond x (Err SettingsRange) (cond (not y) (Err ClockRange) (Ok Taken)) ≡ Ok Taken → Opening s
     go true p y q k = absurd (true≢false (ap is_refused k))
     go false p true q k = record { counts = p; clock = near_first s.now s.epochs q }
     go false p false q k = absurd (true≢false (ap is_refused k))
@@ -88,7 +89,7 @@ pub kept : (x : Settings) → settings_tests x ≡ settings_tests (canonical_of 
 unfolding settings_tests canonical_of
 kept x = refl
 
-at-start : (s : Settings) → over_counts s.origins s.targets s.max_transfers s.transfer_seconds ≡ false → near s.now ≡ true → first_answer (settings_tests (at_start s)) ≡ Taken
+at-start : (s : Settings) → over_counts s.origins s.targets s.max_transfers s.transfer_seconds ≡ false → near s.now ≡ true → first_answer (settings_tests (at_start s)) ≡ Ok Taken
 unfolding first_answer settings_tests at_start all_near
 at-start s c n = rw (c, n) refl
 
@@ -101,7 +102,7 @@ unfolding settings_body
 kind s = refl
 
 -- a first record that no test sends back
-by_tests : (b : List ℕ) (s : Settings) → eqb (length b) 0 ≡ false → byte_at b 0 ≡ 1 → second_settings_filled_of b ≡ true → open_answer (undated (second_settings_in b)) ≡ Taken
+by_tests : (b : List ℕ) (s : Settings) → eqb (length b) 0 ≡ false → byte_at b 0 ≡ 1 → second_settings_filled_of b ≡ true → open_answer (undated (second_settings_in b)) ≡ Ok Taken
     → canonical_of (second_settings_in b) ≡ s → record_spec (fresh_reader true) b ≡ read_as (empty_load s)
 unfolding fresh_reader record_spec record_tests kind_right filled stepped_by settled first_answer open_spec_of
 by_tests b s x y z t e = rw (x, y, z, t, e) refl
@@ -151,7 +152,7 @@ module _ (s : Settings) (told : SettingsKept s) where
   unfolding canonical_of at_start
   canonical-at = ap at_start told.canonical
 
-  no_test : open_answer (undated (second_settings_in (settings_body (at_start s)))) ≡ Taken
+  no_test : open_answer (undated (second_settings_in (settings_body (at_start s)))) ≡ Ok Taken
   no_test = open_is (second_settings_in (settings_body (at_start s))) ∙ ap first_answer (kept (second_settings_in (settings_body (at_start s))) ∙ ap settings_tests ((back.settings (at_start s) held).1 ∙ canonical-at)) ∙ at-start s o.counts o.clock
 
   -- the first record opens the load
@@ -161,7 +162,7 @@ module _ (s : Settings) (told : SettingsKept s) where
 -- ---- the file
 
 -- all of it was fed
-ended : (xs : List ℕ) (l : Load) → ended_by xs (record { answer = Taken; used = length xs; reader = open_reader l }) ≡ read_as l
+ended : (xs : List ℕ) (l : Load) → ended_by xs (record { answer = Ok Taken; used = length xs; reader = open_reader l }) ≡ read_as l
 unfolding end_answer first_answer
 ended xs l = rw (drop-length xs) refl
 
@@ -171,8 +172,8 @@ unfolding read_spec_of version_answer
 read_all b bs l m e f =
     let rest = concat_map framed bs in
     let n : 2 + length b + length rest ≡ length (framed b ++ rest) = omega (arith, long b rest) in
-    let fed : fed_spec (fresh_reader true) (framed b ++ rest) ≡ record { answer = Taken; used = length (framed b ++ rest); reader = open_reader m } =
-    fed-one (fresh_reader true) l b rest e ∙ ap (later (2 + length b)) (fed-all f) ∙ (λ i. record { answer = Taken; used = n i; reader = open_reader m }) in
+    let fed : fed_spec (fresh_reader true) (framed b ++ rest) ≡ record { answer = Ok Taken; used = length (framed b ++ rest); reader = open_reader m } =
+    fed-one (fresh_reader true) l b rest e ∙ ap (later (2 + length b)) (fed-all f) ∙ (λ i. record { answer = Ok Taken; used = n i; reader = open_reader m }) in
     ap (ended_by (framed b ++ rest)) fed ∙ ended (framed b ++ rest) m
 
 -- ---- the records of a load

@@ -1,4 +1,6 @@
 -- Each rule of a written load is taken again, in its place.
+use Rattle.refusal.specs.declared.Accepted.TheVariants.{Taken}
+use Rattle.std.specs.Prelude.{Ok}
 use mathlib.Core.Path.{◌≡◌, refl, ap, ◌∙◌}
 use mathlib.Core.Bool.{Bool, true, false}
 use mathlib.Core.List.{List}
@@ -9,7 +11,6 @@ use lib.Dec.{ltb, leb}
 use lib.ListN.{take, set}
 use borrow.Author.Tests.{lt-ltb, lt-leb}
 use Rattle.laws.specs.Lists.{anyb}
-use Rattle.refusal.specs.declared.Answer.TheVariants.{Taken}
 use Rattle.refusal.specs.First.{first_answer}
 use Rattle.settings.specs.declared.Settings.{Settings}
 use Rattle.stops.specs.declared.Stop.{Stop}
@@ -36,12 +37,12 @@ use Rattle.saved.proofs.SlotLaws.{up_to, up_more, up-taken, none_below, load_of}
 
 no_test : (searched : Bool) (n : ℕ) (rs : List Rule) (k : ℕ) (i : RuleInput) → searched ≡ false → ltb i.from n ≡ true → ltb i.to n ≡ true
     → type_right_of i.transfer_type i.seconds ≡ true → anyb (same_pair i.from i.to) (take k rs) ≡ false → leb 128 k ≡ false
-    → first_answer (rule_tests searched n rs k i) ≡ Taken
+    → first_answer (rule_tests searched n rs k i) ≡ Ok Taken
 unfolding rule_tests first_answer
 no_test searched n rs k i a b c d e f = rw (a, b, c, d, e, f) refl
 
-rule-taken : (l : Load) (i : RuleInput) → first_answer (rule_tests l.searched l.stop_count l.rules l.rule_count i) ≡ Taken
-    → rule_spec l i ≡ record { answer = Taken; load = with_rules l (set l.rules l.rule_count (rule_of i)) (l.rule_count + 1) }
+rule-taken : (l : Load) (i : RuleInput) → first_answer (rule_tests l.searched l.stop_count l.rules l.rule_count i) ≡ Ok Taken
+    → rule_spec l i ≡ record { answer = Ok Taken; load = with_rules l (set l.rules l.rule_count (rule_of i)) (l.rule_count + 1) }
 unfolding rule_spec
 rule-taken l i t = rw t refl
 
@@ -72,15 +73,15 @@ module _ (n : ℕ) (rules : List Rule) (count k : ℕ) (sound : RulesSound n rul
     abbrev at : ℕ → Load
     at m = load_of s stops n (up_to blank_rule 128 rules m) m calls callCount
 
-    stepped-is : rule_spec (at k) (rule_input_of (rule_at rules k)) ≡ record { answer = Taken; load = at (suc k) }
+    stepped-is : rule_spec (at k) (rule_input_of (rule_at rules k)) ≡ record { answer = Ok Taken; load = at (suc k) }
     unfolding rule_input_of rule_at
     stepped-is =
         let r : Rule = rule_at rules k in
         let e = up_more blank_rule 128 rules sound.long k blank_rule room in
         rule-taken (at k) (rule_input_of r)
         (no_test false n (up_to blank_rule 128 rules k) k (rule_input_of r) refl (lt-ltb _ n (sound.from_known k below)) (lt-ltb _ n (sound.to_known k below)) told.type_right new-pair (lt-leb 128 k room))
-        ∙ (λ t. record { answer = Taken; load = load_of s stops n (set (up_to blank_rule 128 rules k) k (told.whole t)) (add-one k t) calls callCount })
-        ∙ (λ t. record { answer = Taken; load = load_of s stops n (e t) (suc k) calls callCount })
+        ∙ (λ t. record { answer = Ok Taken; load = load_of s stops n (set (up_to blank_rule 128 rules k) k (told.whole t)) (add-one k t) calls callCount })
+        ∙ (λ t. record { answer = Ok Taken; load = load_of s stops n (e t) (suc k) calls callCount })
 
     pub rule-takes : Takes (at k) (rule_record (rule_at rules k)) (at (suc k))
     unfolding rule_record rule_body kind_right

@@ -1,4 +1,6 @@
 -- A searched load is read as it was: the search gives it again. One file for each load.
+use Rattle.refusal.specs.declared.Accepted.TheVariants.{Taken}
+use Rattle.std.specs.Prelude.{Ok}
 use Prim.Native.Nat.{ℕ}
 use mathlib.Core.Path.{◌≡◌, refl, sym, ap, subst, ◌∙◌}
 use mathlib.Core.Bool.{Bool, true, false, cond}
@@ -6,7 +8,6 @@ use mathlib.Core.List.{List, [], ◌∷◌, ◌++◌, map, append_assoc, append-
 use lib.ListN.{take}
 use Rattle.laws.specs.Lists.{concat_map}
 use Rattle.laws.proofs.Folds.{concat_map-append}
-use Rattle.refusal.specs.declared.Answer.TheVariants.{Taken}
 use Rattle.settings.specs.declared.Settings.{Settings}
 use Rattle.offers.specs.Search.{Outcome, clashing, falling, found, answer_of}
 use Rattle.load.specs.declared.Load.{Load}
@@ -48,15 +49,15 @@ unsearched-at : (l : Load) → l.searched ≡ false → (load_at_start l).search
 unfolding load_at_start
 unsearched-at l u = u
 
-search-at : (l m : Load) → l.searched ≡ false → search_spec l ≡ record { answer = Taken; load = m } → search_spec (load_at_start l) ≡ record { answer = Taken; load = load_at_start m }
+search-at : (l m : Load) → l.searched ≡ false → search_spec l ≡ record { answer = Ok Taken; load = m } → search_spec (load_at_start l) ≡ record { answer = Ok Taken; load = load_at_start m }
 search-at l m u e =
-    let f : ◌≡◌ {A = Stepped} (record { answer = answer_of (outcome_of l); load = settled l (outcome_of l) }) (record { answer = Taken; load = m }) = sym (search-runs l u) ∙ e in
+    let f : ◌≡◌ {A = Stepped} (record { answer = answer_of (outcome_of l); load = settled l (outcome_of l) }) (record { answer = Ok Taken; load = m }) = sym (search-runs l u) ∙ e in
     search-runs (load_at_start l) (unsearched-at l u)
     ∙ ap (λ (o : Outcome). record { answer = answer_of o; load = settled (load_at_start l) o }) (outcome-at l)
     ∙ (λ t. record { answer = (f t).answer; load = (settled_at l (outcome_of l) ∙ ap (λ (x : Stepped). load_at_start x.load) f) t })
 
 -- the search record
-search-takes : (l m : Load) → search_spec l ≡ record { answer = Taken; load = m } → m.table_horizon ≡ l.table_horizon → Takes l search_body m
+search-takes : (l m : Load) → search_spec l ≡ record { answer = Ok Taken; load = m } → m.table_horizon ≡ l.table_horizon → Takes l search_body m
 unfolding search_body kind_right step_in filled
 search-takes l m e h = takes l m 5 [] refl back.search e h
 

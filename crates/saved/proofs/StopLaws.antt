@@ -1,4 +1,6 @@
 -- Each stop of a written load is taken again, with its number.
+use Rattle.refusal.specs.declared.Accepted.TheVariants.{Taken}
+use Rattle.std.specs.Prelude.{None, Option, Some, Ok, is_some}
 use mathlib.Core.Path.{◌≡◌, refl, ap, ◌∙◌}
 use mathlib.Core.Bool.{Bool, true, false, not, cond, ◌&&◌}
 use mathlib.Core.List.{List, [], ◌∷◌}
@@ -10,15 +12,12 @@ use lib.ListN.{length, get_or, take, set, length-take}
 use lib.Seq.{get_or-take}
 use borrow.Author.Tests.{eq-eqb, lt-leb}
 use Rattle.laws.proofs.Bools.{and-true}
-use Rattle.refusal.specs.declared.Answer.TheVariants.{Taken}
 use Rattle.refusal.specs.First.{first_answer}
 use Rattle.settings.specs.declared.Settings.{Settings}
 use Rattle.stops.specs.declared.Stop.{Stop}
 use Rattle.stops.specs.declared.StopInput.{StopInput}
-use Rattle.stops.specs.declared.Found.{Found}
-use Rattle.stops.specs.declared.Found.TheVariants.{At, Nothing}
 use Rattle.stops.specs.Texts.{same_bytes_of, shown}
-use Rattle.stops.specs.Stops.{id_of, is_it, find_stop, is_at}
+use Rattle.stops.specs.Stops.{id_of, is_it, find_stop}
 use Rattle.stops.specs.Answer.{station_of, id_wrong, is_known, type_wrong, name_needed, name_wrong, stop_tests}
 use Rattle.stops.specs.Taken.{stop_of, blank_stop}
 use Rattle.stops.specs.Sound.{stop_at, StopsSound}
@@ -45,31 +44,31 @@ same_self : (xs : List ℕ) → same_bytes_of xs xs ≡ true
 same_self [] = refl
 same_self (x ∷ xs) = and-true _ _ (eq-eqb x x refl) (same_self xs)
 
-find_at : (p : Stop → Bool) (xs : List Stop) (m j : ℕ) → j < length xs → p (get_or xs j blank_stop) ≡ true → ((i : ℕ) → i < j → p (get_or xs i blank_stop) ≡ false) → find_stop p xs m ≡ At (m + j)
+find_at : (p : Stop → Bool) (xs : List Stop) (m j : ℕ) → j < length xs → p (get_or xs j blank_stop) ≡ true → ((i : ℕ) → i < j → p (get_or xs i blank_stop) ≡ false) → find_stop p xs m ≡ Some (m + j)
 find_at p [] m j h t n = absurd (omega arith)
 find_at p (x ∷ xs) m zero h t n =
     let e : m ≡ m + 0 = omega arith in
-    rw t (ap At e)
+    rw t (ap Some e)
 find_at p (x ∷ xs) m (suc j) h t n =
     let e : m + 1 + j ≡ m + suc j = omega arith in
-    rw (n 0 (omega arith)) (find_at p xs (m + 1) j (omega arith) t (λ i g. n (suc i) (omega arith)) ∙ ap At e)
+    rw (n 0 (omega arith)) (find_at p xs (m + 1) j (omega arith) t (λ i g. n (suc i) (omega arith)) ∙ ap Some e)
 
-find_none : (p : Stop → Bool) (xs : List Stop) (m : ℕ) → ((i : ℕ) → i < length xs → p (get_or xs i blank_stop) ≡ false) → find_stop p xs m ≡ Nothing
+find_none : (p : Stop → Bool) (xs : List Stop) (m : ℕ) → ((i : ℕ) → i < length xs → p (get_or xs i blank_stop) ≡ false) → find_stop p xs m ≡ None
 find_none p [] m n = refl
 find_none p (x ∷ xs) m n = rw (n 0 (omega arith)) (find_none p xs (m + 1) (λ i g. n (suc i) (omega arith)))
 
 -- ---- a stop that no test sends back
 
-module _ (searched : Bool) (ss : List Stop) (k : ℕ) (f : Found) (id name : List ℕ) (i : StopInput) where
+module _ (searched : Bool) (ss : List Stop) (k : ℕ) (f : Option ℕ) (id name : List ℕ) (i : StopInput) where
   no_test : searched ≡ false → id_wrong id ≡ false → is_known ss k id ≡ false → type_wrong i.location_type i.has_parent ≡ false
-      → (i.has_parent && not (is_at f)) ≡ false → name_wrong i.named (name_needed i) id name ≡ false → leb 128 k ≡ false
-      → first_answer (stop_tests searched ss k f id name i) ≡ Taken
+      → (i.has_parent && not (is_some f)) ≡ false → name_wrong i.named (name_needed i) id name ≡ false → leb 128 k ≡ false
+      → first_answer (stop_tests searched ss k f id name i) ≡ Ok Taken
   unfolding stop_tests first_answer
   no_test a b c d e g h = rw (a, b, c, d, e, g, h) refl
 
-stop-taken : (l : Load) (id name parent : List ℕ) (i : StopInput) (f : Found) → station_in l parent i ≡ f
-    → first_answer (stop_tests l.searched l.stops l.stop_count f id name i) ≡ Taken
-    → stop_spec l id name parent i ≡ record { answer = Taken; load = with_stops l (set l.stops l.stop_count (stop_of id name f i)) (l.stop_count + 1) }
+stop-taken : (l : Load) (id name parent : List ℕ) (i : StopInput) (f : Option ℕ) → station_in l parent i ≡ f
+    → first_answer (stop_tests l.searched l.stops l.stop_count f id name i) ≡ Ok Taken
+    → stop_spec l id name parent i ≡ record { answer = Ok Taken; load = with_stops l (set l.stops l.stop_count (stop_of id name f i)) (l.stop_count + 1) }
 unfolding stop_spec
 stop-taken l id name parent i f e t = rw (e, t) refl
 
@@ -91,10 +90,10 @@ module _ (stops : List Stop) (count k : ℕ) (sound : StopsSound stops count) (b
   unfolding is_known
   new-id =
       rw (up-taken blank_stop 128 stops sound.long k (omega (arith, room)))
-      (ap is_at (find_none (is_it false (id_of (stop_at stops k))) (take k stops) 0 (λ j h. let g : j < k = omega (arith, first-long) in ap (is_it false (id_of (stop_at stops k))) (first-at j g) ∙ sound.alone j k g below)))
+      (ap is_some (find_none (is_it false (id_of (stop_at stops k))) (take k stops) 0 (λ j h. let g : j < k = omega (arith, first-long) in ap (is_it false (id_of (stop_at stops k))) (first-at j g) ∙ sound.alone j k g below)))
 
   -- a station before it is found by its id
-  station-at : (p : ℕ) → p < k → (stop_at stops p).location_type ≡ 1 → station_of (up_to blank_stop 128 stops k) k true (id_of (stop_at stops p)) ≡ At p
+  station-at : (p : ℕ) → p < k → (stop_at stops p).location_type ≡ 1 → station_of (up_to blank_stop 128 stops k) k true (id_of (stop_at stops p)) ≡ Some p
   unfolding station_of
   station-at p h e =
       let test = is_it true (id_of (stop_at stops p)) in
@@ -102,7 +101,7 @@ module _ (stops : List Stop) (count k : ℕ) (sound : StopsSound stops count) (b
       rw (up-taken blank_stop 128 stops sound.long k (omega (arith, room)))
       (find_at test (take k stops) 0 p (omega (arith, first-long)) (ap test (first-at p h) ∙ and-true _ _ (eq-eqb _ 1 e) (same_self (id_of (stop_at stops p))))
       (λ j g. ap test (first-at j (omega arith)) ∙ and-off (eqb (stop_at stops j).location_type 1) _ (sound.alone j p g (omega arith)))
-      ∙ ap At z)
+      ∙ ap Some z)
     where
       and-off : (x y : Bool) → y ≡ false → (x && y) ≡ false
       and-off true y e = e
@@ -114,14 +113,14 @@ module _ (stops : List Stop) (count k : ℕ) (sound : StopsSound stops count) (b
     station-is = go (has_parent (stop_at stops k)) told.parent_first
       where
         go : (h : Bool) → (h ≡ true → ((stop_at stops k).parent < k) × ((stop_at stops (stop_at stops k).parent).location_type ≡ 1))
-            → station_of (up_to blank_stop 128 stops k) k h (shown h (parent_id_of stops (stop_at stops k))) ≡ cond h (At (stop_at stops k).parent) Nothing
+            → station_of (up_to blank_stop 128 stops k) k h (shown h (parent_id_of stops (stop_at stops k))) ≡ cond h (Some (stop_at stops k).parent) None
         go true w = station-at (stop_at stops k).parent (w refl).0 (w refl).1
         go false w = refl
 
-    found : (has_parent (stop_at stops k) && not (is_at (station_of_stop (stop_at stops k)))) ≡ false
+    found : (has_parent (stop_at stops k) && not (is_some (station_of_stop (stop_at stops k)))) ≡ false
     found = go (has_parent (stop_at stops k))
       where
-        go : (h : Bool) → (h && not (is_at (cond h (At (stop_at stops k).parent) Nothing))) ≡ false
+        go : (h : Bool) → (h && not (is_some (cond h (Some (stop_at stops k).parent) None))) ≡ false
         go true = refl
         go false = refl
 
@@ -140,15 +139,15 @@ module _ (stops : List Stop) (count k : ℕ) (sound : StopsSound stops count) (b
       abbrev at : ℕ → Load
       at n = load_of s (up_to blank_stop 128 stops n) n rules ruleCount calls callCount
 
-      stepped-is : stop_spec (at k) (id_of (stop_at stops k)) (shown (stop_at stops k).named (name_of (stop_at stops k))) (shown (has_parent (stop_at stops k)) (parent_id_of stops (stop_at stops k))) (stop_input_of (stop_at stops k)) ≡ record { answer = Taken; load = at (suc k) }
+      stepped-is : stop_spec (at k) (id_of (stop_at stops k)) (shown (stop_at stops k).named (name_of (stop_at stops k))) (shown (has_parent (stop_at stops k)) (parent_id_of stops (stop_at stops k))) (stop_input_of (stop_at stops k)) ≡ record { answer = Ok Taken; load = at (suc k) }
       unfolding stop_input_of stop_at
       stepped-is =
           let t : Stop = stop_at stops k in
           let e = up_more blank_stop 128 stops sound.long k blank_stop room in
           stop-taken (at k) (id_of t) (shown t.named (name_of t)) _ (stop_input_of t) (station_of_stop t) station-is
           (no_test false (up_to blank_stop 128 stops k) k (station_of_stop t) (id_of t) (shown t.named (name_of t)) (stop_input_of t) refl told.id_right new-id told.type_right found (shown-wrong t.named _ _ (name_of t) ∙ told.name_right) (lt-leb 128 k room))
-          ∙ (λ r. record { answer = Taken; load = load_of s (set (up_to blank_stop 128 stops k) k ((shown_of (id_of t) (name_of t) (station_of_stop t) (stop_input_of t) ∙ told.whole) r)) (add-one k r) rules ruleCount calls callCount })
-          ∙ (λ r. record { answer = Taken; load = load_of s (e r) (suc k) rules ruleCount calls callCount })
+          ∙ (λ r. record { answer = Ok Taken; load = load_of s (set (up_to blank_stop 128 stops k) k ((shown_of (id_of t) (name_of t) (station_of_stop t) (stop_input_of t) ∙ told.whole) r)) (add-one k r) rules ruleCount calls callCount })
+          ∙ (λ r. record { answer = Ok Taken; load = load_of s (e r) (suc k) rules ruleCount calls callCount })
 
       pub stop-takes : Takes (at k) (stop_record stops (stop_at stops k)) (at (suc k))
       unfolding stop_record stop_body kind_right

@@ -1,7 +1,7 @@
 -- "Reading it gives the load with epochs equal to the start": a written load is read as it was, and each load has one file.
-use Rattle.std.specs.Prelude.{◌≡◌, false, cond, List, [], ◌∷◌, ◌++◌, map, ℕ, take}
+use Rattle.refusal.specs.declared.Accepted.TheVariants.{Taken}
+use Rattle.std.specs.Prelude.{◌≡◌, false, cond, List, [], ◌∷◌, ◌++◌, map, ℕ, take, Ok}
 use Rattle.laws.specs.Lists.{concat_map}
-use Rattle.refusal.specs.declared.Answer.TheVariants.{Taken}
 use Rattle.stops.specs.declared.Stop.{Stop}
 use Rattle.stops.specs.Stops.{id_of}
 use Rattle.rules.specs.declared.Rule.{Rule}
@@ -48,7 +48,7 @@ load_at_start l = record {
 }
 
 abbrev pub read_as : Load → Took
-read_as l = record { answer = Taken; reader = open_reader l }
+read_as l = record { answer = Ok Taken; reader = open_reader l }
 
 -- ---- what may be written: a load that steps made, without dates, whose search was not stopped, of a table that was never cut
 

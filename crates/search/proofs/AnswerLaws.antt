@@ -1,9 +1,9 @@
 -- The search's answer is that of the first of its causes that holds, a taken one has none, and a refused load comes back unchanged.
+use Rattle.std.specs.Prelude.{Err}
 use mathlib.Core.Path.{◌≡◌, refl}
 use mathlib.Core.Bool.{Bool, true, false, cond, false≢true}
 use mathlib.Core.List.{[], ◌∷◌}
 use Rattle.refusal.specs.declared.Refusal.TheVariants.{AlreadySearched, Neighbours, NoRoom}
-use Rattle.refusal.specs.declared.Answer.TheVariants.{Refused}
 use Rattle.refusal.specs.First.{First, none, hit, miss, is_refused}
 use Rattle.refusal.proofs.FirstLaws.{first_taken}
 use Rattle.profile.specs.Figures.{covᶠ, dueᶠ}
@@ -20,14 +20,14 @@ use Rattle.search.specs.Search.{outcome_of, settled, search_spec, is_never, woul
 
 module _ (l : Load) where
   -- 14, then 11
-  outcome-first : First (answer_of (outcome_of l)) ((clashes (sorted (timetable_of l)), Refused Neighbours) ∷ (would_fall l, Refused NoRoom) ∷ [])
+  outcome-first : First (answer_of (outcome_of l)) ((clashes (sorted (timetable_of l)), Err Neighbours) ∷ (would_fall l, Err NoRoom) ∷ [])
   unfolding outcome_of would_fall
   outcome-first =
       rw (search-by-offers (timetable_of l) l.table_horizon l.table_limits)
       (go (clashes (sorted (timetable_of l))) refl (fall (covᶠ journey_figures) (dueᶠ journey_figures) 64 3600 l.table_horizon l.table_limits [] (offers (timetable_of l))))
     where
       go : (b : Bool) → clashes (sorted (timetable_of l)) ≡ b → (f : Ends)
-          → First (answer_of (cond b clashing (ends_by_of (offers (timetable_of l)) f))) ((clashes (sorted (timetable_of l)), Refused Neighbours) ∷ (is_never f, Refused NoRoom) ∷ [])
+          → First (answer_of (cond b clashing (ends_by_of (offers (timetable_of l)) f))) ((clashes (sorted (timetable_of l)), Err Neighbours) ∷ (is_never f, Err NoRoom) ∷ [])
       go true e f = hit e
       go false e never = miss e (hit refl)
       go false e (up_to h m) = miss e (miss refl none)
@@ -39,7 +39,7 @@ module _ (l : Load) where
 
   -- what the search returns, by whether the load was searched
   abbrev returned : Bool → Stepped
-  returned b = cond {A = Stepped} b (record { answer = Refused AlreadySearched; load = l }) (record { answer = answer_of (outcome_of l); load = settled l (outcome_of l) })
+  returned b = cond {A = Stepped} b (record { answer = Err AlreadySearched; load = l }) (record { answer = answer_of (outcome_of l); load = settled l (outcome_of l) })
 
   returned-first : (b : Bool) → l.searched ≡ b → First (returned b).answer (search_causes l)
   returned-first true e = hit e

@@ -1,4 +1,6 @@
 -- The search within a limit by its tests: what is returned is what the definition says, from the state after the offers before the stop.
+use Rattle.refusal.specs.declared.Accepted.TheVariants.{Taken}
+use Rattle.std.specs.Prelude.{Err, Ok}
 use Prim.Native.Nat.{ℕ, ◌≤◌, ◌<◌, min}
 use mathlib.Core.Path.{◌≡◌, refl, sym, ap, subst, ◌∙◌}
 use mathlib.Core.Bool.{Bool, true, false, not, cond, true≢false}
@@ -10,7 +12,6 @@ use lib.ListN.{length, take, get_or}
 use Rattle.laws.specs.Lists.{padded, span}
 use Rattle.laws.proofs.Bools.{of-not, cond-by, cond-not}
 use Rattle.refusal.specs.declared.Refusal.TheVariants.{SettingsRange, AlreadySearched, Neighbours, NoRoom}
-use Rattle.refusal.specs.declared.Answer.TheVariants.{Taken, Refused}
 use Rattle.calls.specs.declared.Call.{Call}
 use Rattle.profile.specs.declared.Row.{Row}
 use Rattle.profile.specs.declared.Journey.{Journey}
@@ -65,11 +66,11 @@ within-small s joins depth n limit one walks r m =
 
 module _ (l : Load) (n : ℕ) where
   -- 15, 1
-  pub within-again : l.searched ≡ true → sent_back_of l (Refused AlreadySearched) ≡ within_spec l n
+  pub within-again : l.searched ≡ true → sent_back_of l (Err AlreadySearched) ≡ within_spec l n
   unfolding within_spec
   within-again e = sym (cond-by _ _ e)
 
-  pub within-settings : l.searched ≡ false → 1 < l.settings.max_transfers → sent_back_of l (Refused SettingsRange) ≡ within_spec l n
+  pub within-settings : l.searched ≡ false → 1 < l.settings.max_transfers → sent_back_of l (Err SettingsRange) ≡ within_spec l n
   unfolding within_spec
   within-settings u h = sym (cond-not _ _ u ∙ cond-by _ _ (lt-ltb 1 l.settings.max_transfers h))
 
@@ -84,7 +85,7 @@ module _ (l : Load) (n : ℕ) (u : l.searched ≡ false) (one : l.settings.max_t
   clash-outcome e = cond-by _ _ (ap clashes (sym (in-front l cs order long)) ∙ e)
 
   -- 14
-  pub within-clash : (b : Bool) → b ≡ clashes (take l.call_count cs) → b ≡ true → sent_back_of l (Refused Neighbours) ≡ within_spec l n
+  pub within-clash : (b : Bool) → b ≡ clashes (take l.call_count cs) → b ≡ true → sent_back_of l (Err Neighbours) ≡ within_spec l n
   within-clash b e q = ran clashing (clash-outcome (sym e ∙ q))
 
   module _ (b : Bool) (e : b ≡ clashes (take l.call_count cs)) (q : b ≡ false) where
@@ -109,7 +110,7 @@ module _ (l : Load) (n : ℕ) (u : l.searched ≡ false) (one : l.settings.max_t
       outcome-of s v = outcome-by ∙ ap (λ (x : St Row). found_by (map_st (journey_at (placed cs)) x)) (sym ended ∙ v)
 
       -- 11
-      pub within-falling : (x : Bool) → x ≡ not (open_of st') → x ≡ true → sent_back_of l (Refused NoRoom) ≡ within_spec l n
+      pub within-falling : (x : Bool) → x ≡ not (open_of st') → x ≡ true → sent_back_of l (Err NoRoom) ≡ within_spec l n
       within-falling x ex tx = ran falling (outcome-of refused ((view-is-refused st').1 (of-not (open_of st') (sym ex ∙ tx))))
 
       small : ((o : ℕ) → get_or l.settings.origin_walks o 0 < 256) → (ks : List Row) (h m : ℕ) → view st' ≡ going ks h m → AllSmall ks
@@ -133,7 +134,7 @@ module _ (l : Load) (n : ℕ) (u : l.searched ≡ false) (one : l.settings.max_t
           (ej : js ≡ padded no_journey 64 (map (journey_of cs) (ordered row_figures (kept_of st')))) (en : k ≡ count_of st') (eh : h' ≡ horizon_of st') (em : m' ≡ limits_of st')
           (s : Bool) (x : ℕ) (es' : s ≡ not r.finished) (ex : x ≡ cond r.finished 0 n) where
         abbrev next : Limited
-        next = record { answer = Taken; load = holding l cs js k h' m' s x; joins = r.joins; finished = r.finished }
+        next = record { answer = Ok Taken; load = holding l cs js k h' m' s x; joins = r.joins; finished = r.finished }
 
         either : (ks : List Journey) (h m : ℕ) (b : Bool) → with_found l ks h m (not b) (cond b 0 n) ≡ cond b (with_found l ks h m false 0) (with_found l ks h m true n)
         either ks h m true = refl
@@ -146,7 +147,7 @@ module _ (l : Load) (n : ℕ) (u : l.searched ≡ false) (one : l.settings.max_t
             let loads : holding l cs js k h' m' s x ≡ within_found l n js' h m =
             holds-found l cs order st' js k h' m' ej en eh em ks h m g (small walks ks h m g) s x
             ∙ (λ i. with_found l js' h m ((es' ∙ ap not fin) i) ((ex ∙ ap (λ (b : Bool). cond b 0 n) fin) i)) ∙ either js' h m (finishes_in l n) in
-            (λ i. record { answer = Taken; load = loads i; joins = joins ks h m g i; finished = fin i })
+            (λ i. record { answer = Ok Taken; load = loads i; joins = joins ks h m g i; finished = fin i })
             ∙ ran (found js' h m) (outcome-of (going ks h m) g)
 
         pub within-found : (y : Bool) → y ≡ not (open_of st') → y ≡ false → next ≡ within_spec l n

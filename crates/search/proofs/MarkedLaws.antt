@@ -1,10 +1,10 @@
 -- The starred instance on joins: with no rule, a change at one stop takes the settings' change time.
+use Rattle.std.specs.Prelude.{Some}
 use mathlib.Core.Path.{◌≡◌, refl, ap, ◌∙◌}
 use mathlib.Core.List.{List, []}
 use Prim.Native.Nat.{ℕ}
 use lib.Dec.{leb}
 use borrow.Author.Tests.{eq-eqb, lt-ltb}
-use Rattle.transfer.specs.declared.Change.TheVariants.{Takes}
 use Rattle.transfer.specs.Changes.{transfer_of}
 use Rattle.calls.specs.declared.Call.{Call}
 use Rattle.profile.specs.declared.Ride.{Ride}
@@ -13,7 +13,7 @@ use Rattle.search.specs.Timetable.{joins_in}
 use Rattle.search.specs.Marked.{SameStop, MarkedJoins}
 
 -- with no rule, a change at one stop takes the change time
-at-one-stop : (parents places : List ℕ) (stop change : ℕ) → transfer_of [] parents places stop stop change ≡ Takes change
+at-one-stop : (parents places : List ℕ) (stop change : ℕ) → transfer_of [] parents places stop stop change ≡ Some change
 unfolding transfer_of
 at-one-stop parents places stop change = rw (eq-eqb stop stop refl)
 

@@ -1,4 +1,5 @@
 -- The arrays that are lent to the loops hold the load's timetable, so what the loops offer is what the timetable offers.
+use Rattle.std.specs.Prelude.{None, Option, Some}
 use Prim.Native.Nat.{ℕ, ◌+◌, ◌*◌, ◌/◌, ◌%◌, ◌^◌, ◌≤◌, ◌<◌, min}
 use mathlib.Core.Path.{◌≡◌, refl, sym, ap, ◌∙◌}
 use mathlib.Core.Bool.{Bool, true, false, not, cond, ◌&&◌}
@@ -22,8 +23,6 @@ use Rattle.state.specs.View.{view}
 use Rattle.candidate.specs.Offer.{offer_to}
 use Rattle.candidate.proofs.OfferLaws.{offers-search}
 use Rattle.places.specs.Places.{places_of}
-use Rattle.transfer.specs.declared.Change.{Change}
-use Rattle.transfer.specs.declared.Change.TheVariants.{Takes, Never}
 use Rattle.transfer.specs.Changes.{transfer_of, joins_by, join_of, change_number}
 use Rattle.transfer.specs.Copied.{rules_of, parents_of}
 use Rattle.transfer.specs.Rows.{entry_of}
@@ -82,9 +81,9 @@ module _ (f : List ℕ) (ss : List Stop) (long : length ss ≡ 128) (part : ℕ 
 -- ---- joins
 
 -- an entry decides whether a ride joins
-number-joins : (c : Change) (a d : ℕ) → d < 65536 → leb (a + change_number c) d ≡ joins_by c a d
-number-joins (Takes s) a d h = refl
-number-joins Never a d h = lt-leb (a + 65536) d (omega arith)
+number-joins : (c : Option ℕ) (a d : ℕ) → d < 65536 → leb (a + change_number c) d ≡ joins_by c a d
+number-joins (Some s) a d h = refl
+number-joins None a d h = lt-leb (a + 65536) d (omega arith)
 
 run-first : (run b : Bool) → (not run && b) ≡ cond run false b
 run-first true b = refl

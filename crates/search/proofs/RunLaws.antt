@@ -1,4 +1,6 @@
 -- A search of a searched load, one that is accepted, and one that is not.
+use Rattle.refusal.specs.declared.Accepted.TheVariants.{Taken}
+use Rattle.std.specs.Prelude.{Err, Ok}
 use Prim.Native.Nat.{ℕ}
 use mathlib.Core.Path.{◌≡◌, refl, sym, ap, ◌∙◌}
 use mathlib.Core.Bool.{Bool, true, false, true≢false, false≢true}
@@ -6,7 +8,6 @@ use mathlib.Core.List.{List}
 use lib.ListN.{take}
 use Rattle.laws.proofs.Bools.{cond-by, cond-not}
 use Rattle.refusal.specs.declared.Refusal.TheVariants.{AlreadySearched}
-use Rattle.refusal.specs.declared.Answer.TheVariants.{Taken, Refused}
 use Rattle.refusal.specs.First.{is_taken}
 use Rattle.profile.specs.declared.Journey.{Journey}
 use Rattle.calls.specs.Sound.{CallSound}
@@ -20,7 +21,7 @@ use Rattle.search.specs.Timetable.{timetable_of}
 use Rattle.search.specs.Search.{outcome_of, with_journeys, settled, search_spec}
 
 abbrev again : Load → Stepped
-again l = record { answer = Refused AlreadySearched; load = l }
+again l = record { answer = Err AlreadySearched; load = l }
 
 abbrev ran : Load → Stepped
 ran l = record { answer = answer_of (outcome_of l); load = settled l (outcome_of l) }
@@ -40,7 +41,7 @@ pub record Found (l : Load) : Type 0 where
   pub to : ℕ
   pub mark : ℕ
   pub outcome : outcome_of l ≡ found kept to mark
-  pub is : search_spec l ≡ record { answer = Taken; load = with_journeys l kept to mark }
+  pub is : search_spec l ≡ record { answer = Ok Taken; load = with_journeys l kept to mark }
 
 pub taken-found : (l : Load) → is_taken (search_spec l).answer ≡ true → Found l
 taken-found l t = by l.searched refl

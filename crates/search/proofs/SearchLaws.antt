@@ -1,4 +1,6 @@
 -- The search by its tests: what is returned is what the definition says, from the state after every offer.
+use Rattle.refusal.specs.declared.Accepted.TheVariants.{Taken}
+use Rattle.std.specs.Prelude.{Err, Ok}
 use Prim.Native.Nat.{ℕ, ◌-◌, ◌<◌, min}
 use mathlib.Core.Path.{◌≡◌, refl, sym, ap, ◌∙◌}
 use mathlib.Core.Bool.{Bool, true, false, not, true≢false}
@@ -7,7 +9,6 @@ use lib.ListN.{length, take, get_or}
 use Rattle.laws.specs.Lists.{padded}
 use Rattle.laws.proofs.Bools.{of-not, cond-by, cond-not}
 use Rattle.refusal.specs.declared.Refusal.TheVariants.{AlreadySearched, Neighbours, NoRoom}
-use Rattle.refusal.specs.declared.Answer.TheVariants.{Taken, Refused}
 use Rattle.calls.specs.declared.Call.{Call}
 use Rattle.profile.specs.declared.Row.{Row}
 use Rattle.profile.specs.declared.Journey.{Journey}
@@ -33,7 +34,7 @@ use Rattle.search.proofs.FoundLaws.{in-front, in-places, kept_small, holding, ho
 -- ---- what is returned, by the outcome
 
 abbrev again : Load → Stepped
-again l = record { answer = Refused AlreadySearched; load = l }
+again l = record { answer = Err AlreadySearched; load = l }
 
 abbrev ran : Load → Outcome → Stepped
 ran l o = record { answer = answer_of o; load = settled l o }
@@ -52,7 +53,7 @@ module _ (l : Load) (cs : List Call) (order : cs ≡ sort_first l.call_count l.c
   clash-outcome e = cond-by _ _ (ap clashes (sym (in-front l cs order long)) ∙ e)
 
   -- 14
-  pub returned-clash : (b : Bool) → b ≡ clashes (take l.call_count cs) → b ≡ true → ◌≡◌ {A = Stepped} (record { answer = Refused Neighbours; load = l }) (search_spec l)
+  pub returned-clash : (b : Bool) → b ≡ clashes (take l.call_count cs) → b ≡ true → ◌≡◌ {A = Stepped} (record { answer = Err Neighbours; load = l }) (search_spec l)
   returned-clash b e q = returned l clashing u (clash-outcome (sym e ∙ q))
 
   -- no neighbours clash: the outcome is read off the state
@@ -64,7 +65,7 @@ module _ (l : Load) (cs : List Call) (order : cs ≡ sort_first l.call_count l.c
         ∙ ap found_by (search-by-rows (timetable_of l) (placed cs) (min l.call_count 512) l.table_horizon l.table_limits (in-places l cs order long))
 
     -- 11
-    pub returned-falling : (st : List ℕ) (r : Bool) → view st ≡ offered_of l cs → r ≡ not (open_of st) → r ≡ true → ◌≡◌ {A = Stepped} (record { answer = Refused NoRoom; load = l }) (search_spec l)
+    pub returned-falling : (st : List ℕ) (r : Bool) → view st ≡ offered_of l cs → r ≡ not (open_of st) → r ≡ true → ◌≡◌ {A = Stepped} (record { answer = Err NoRoom; load = l }) (search_spec l)
     returned-falling st r v er tr =
         returned l falling u (outcome-by ∙ ap (λ (s : St Row). found_by (map_st (journey_at (placed cs)) s)) (sym v ∙ (view-is-refused st).1 (of-not (open_of st) (sym er ∙ tr))))
 
@@ -79,14 +80,14 @@ module _ (l : Load) (cs : List Call) (order : cs ≡ sort_first l.call_count l.c
           kept_small (row_offers (timetable_of l) (placed cs) (min l.call_count 512)) ks l.table_horizon l.table_limits h m
           (rows-small (sheet_from (timetable_of l) (placed cs)) (joins_from (timetable_of l) (placed cs)) l.settings.max_transfers (min l.call_count 512) (λ o lo. walks o)) (sym v ∙ g)
 
-      going-returned : (ks : List Row) (h m : ℕ) → view st ≡ going ks h m → ◌≡◌ {A = Stepped} (record { answer = Taken; load = next }) (search_spec l)
+      going-returned : (ks : List Row) (h m : ℕ) → view st ≡ going ks h m → ◌≡◌ {A = Stepped} (record { answer = Ok Taken; load = next }) (search_spec l)
       going-returned ks h m g =
-          ap {B = Stepped} (λ (x : Load). record { answer = Taken; load = x }) (holds-found l cs order st js n h' m' ej en eh em ks h m g (small ks h m g) false 0)
+          ap {B = Stepped} (λ (x : Load). record { answer = Ok Taken; load = x }) (holds-found l cs order st js n h' m' ej en eh em ks h m g (small ks h m g) false 0)
           ∙ returned l (found (ordered journey_figures (map (journey_at (placed cs)) ks)) h m) u (outcome-by ∙ ap (λ (s : St Row). found_by (map_st (journey_at (placed cs)) s)) (sym v ∙ g))
 
-      pub returned-found : (r : Bool) → r ≡ not (open_of st) → r ≡ false → ◌≡◌ {A = Stepped} (record { answer = Taken; load = next }) (search_spec l)
+      pub returned-found : (r : Bool) → r ≡ not (open_of st) → r ≡ false → ◌≡◌ {A = Stepped} (record { answer = Ok Taken; load = next }) (search_spec l)
       returned-found r er fr = go (view st) refl
         where
-          go : (s : St Row) → view st ≡ s → ◌≡◌ {A = Stepped} (record { answer = Taken; load = next }) (search_spec l)
+          go : (s : St Row) → view st ≡ s → ◌≡◌ {A = Stepped} (record { answer = Ok Taken; load = next }) (search_spec l)
           go refused e = absurd (true≢false (sym (ap not ((view-is-refused st).0 e)) ∙ sym er ∙ fr))
           go (going ks h m) e = going-returned ks h m e

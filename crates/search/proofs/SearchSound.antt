@@ -1,4 +1,5 @@
 -- A search keeps a load sound: its calls are the same calls in order, and at most 64 journeys are kept, in order.
+use Rattle.std.specs.Prelude.{Err}
 use Prim.Native.Nat.{ℕ, ◌+◌, ◌-◌, ◌≤◌}
 use mathlib.Core.Path.{◌≡◌, refl, sym, ap, subst, ◌∙◌}
 use mathlib.Core.Bool.{Bool, true, false, cond, true≢false, false≢true}
@@ -21,7 +22,6 @@ use Rattle.offers.specs.Search.{Outcome, clashing, falling, found, answer_of}
 use Rattle.offers.proofs.OrderLaws.{sorted_front}
 use Rattle.offers.proofs.SearchLaws.{search-found}
 use Rattle.refusal.specs.declared.Refusal.TheVariants.{AlreadySearched}
-use Rattle.refusal.specs.declared.Answer.TheVariants.{Refused}
 use Rattle.load.specs.declared.Load.{Load}
 use Rattle.load.specs.declared.Stepped.{Stepped}
 use Rattle.load.specs.Sound.{Sound}
@@ -105,6 +105,6 @@ search-sound l s = by l.searched
     go falling e = s
     go (found ks h m) e = searched-sound l ks h m e s
 
-    by : (b : Bool) → Sound (cond {A = Stepped} b (record { answer = Refused AlreadySearched; load = l }) (record { answer = answer_of (outcome_of l); load = settled l (outcome_of l) })).load
+    by : (b : Bool) → Sound (cond {A = Stepped} b (record { answer = Err AlreadySearched; load = l }) (record { answer = answer_of (outcome_of l); load = settled l (outcome_of l) })).load
     by true = s
     by false = go (outcome_of l) refl

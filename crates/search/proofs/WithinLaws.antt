@@ -1,5 +1,7 @@
 -- A search within a limit: its answer is that of the first of its causes that holds, a finished one is the full search, what it leaves is sound,
 -- and what is found within the limit.
+use Rattle.refusal.specs.declared.Accepted.TheVariants.{Taken}
+use Rattle.std.specs.Prelude.{Err, Ok}
 use Prim.Native.Nat.{ℕ, ◌≤◌}
 use mathlib.Core.Path.{◌≡◌, refl, sym, ap, subst, ◌∙◌}
 use mathlib.Core.Bool.{Bool, true, false, cond, true≢false, false≢true}
@@ -11,9 +13,7 @@ use lib.ListN.{length}
 use Rattle.laws.proofs.Bools.{cond-by, cond-not}
 use Rattle.laws.proofs.Sort.{length-sort}
 use Rattle.refusal.specs.declared.Refusal.TheVariants.{SettingsRange, AlreadySearched, Neighbours, NoRoom}
-use Rattle.refusal.specs.declared.Answer.{Answer}
-use Rattle.refusal.specs.declared.Answer.TheVariants.{Taken, Refused}
-use Rattle.refusal.specs.First.{First, none, hit, miss, is_refused, is_taken}
+use Rattle.refusal.specs.First.{First, none, hit, miss, is_refused, is_taken, Answer}
 use Rattle.refusal.proofs.FirstLaws.{first_taken}
 use Rattle.profile.specs.declared.Journey.{Journey}
 use Rattle.profile.specs.Figures.{covᶠ, dueᶠ}
@@ -37,15 +37,15 @@ use Rattle.search.proofs.SearchSound.{found-sound}
 
 -- of any property of what is returned: sent back with 15 or 1, or by the outcome
 pub within-cases : (l : Load) (n : ℕ) (P : Limited → Type 0)
-    → (l.searched ≡ true → P (sent_back_of l (Refused AlreadySearched)))
-    → (l.searched ≡ false → ltb 1 l.settings.max_transfers ≡ true → P (sent_back_of l (Refused SettingsRange)))
+    → (l.searched ≡ true → P (sent_back_of l (Err AlreadySearched)))
+    → (l.searched ≡ false → ltb 1 l.settings.max_transfers ≡ true → P (sent_back_of l (Err SettingsRange)))
     → (l.searched ≡ false → ltb 1 l.settings.max_transfers ≡ false → (o : Outcome) → outcome_within l n ≡ o → P (ran_within l n o))
     → P (within_spec l n)
 unfolding within_spec
 within-cases l n P again wide ran = go l.searched refl (ltb 1 l.settings.max_transfers) refl
   where
     go : (b : Bool) → l.searched ≡ b → (c : Bool) → ltb 1 l.settings.max_transfers ≡ c
-        → P (cond b (sent_back_of l (Refused AlreadySearched)) (cond c (sent_back_of l (Refused SettingsRange)) (ran_within l n (outcome_within l n))))
+        → P (cond b (sent_back_of l (Err AlreadySearched)) (cond c (sent_back_of l (Err SettingsRange)) (ran_within l n (outcome_within l n))))
     go true e c f = again e
     go false e true f = wide e f
     go false e false f = ran e f (outcome_within l n) refl
@@ -61,7 +61,7 @@ module _ (l : Load) (n : ℕ) where
       (go (clashes (sorted (timetable_of l))) refl (fall (covᶠ journey_figures) (dueᶠ journey_figures) 64 3600 l.table_horizon l.table_limits [] (offers_within n (timetable_of l))))
     where
       go : (b : Bool) → clashes (sorted (timetable_of l)) ≡ b → (f : Ends)
-          → First (answer_of (cond b clashing (ends_by_of (offers_within n (timetable_of l)) f))) ((clashes (sorted (timetable_of l)), Refused Neighbours) ∷ (is_never f, Refused NoRoom) ∷ [])
+          → First (answer_of (cond b clashing (ends_by_of (offers_within n (timetable_of l)) f))) ((clashes (sorted (timetable_of l)), Err Neighbours) ∷ (is_never f, Err NoRoom) ∷ [])
       go true e f = hit e
       go false e never = miss e (hit refl)
       go false e (up_to h m) = miss e (miss refl none)
@@ -110,7 +110,7 @@ pub within-runs : (l : Load) (n : ℕ) → l.searched ≡ false → l.settings.m
 unfolding within_spec
 within-runs l n e one = cond-not _ _ e ∙ cond-not _ _ (le-ltb 1 l.settings.max_transfers one)
 
-pub within-again : (l : Load) (n : ℕ) → l.searched ≡ true → within_spec l n ≡ sent_back_of l (Refused AlreadySearched)
+pub within-again : (l : Load) (n : ℕ) → l.searched ≡ true → within_spec l n ≡ sent_back_of l (Err AlreadySearched)
 unfolding within_spec
 within-again l n e = cond-by _ _ e
 
@@ -150,7 +150,7 @@ within-keeps f l n same = go (is_taken (within_spec l n).answer) refl
 -- by whether it finished
 abbrev left_by_of : Load → ℕ → List Journey → ℕ → ℕ → Bool → Limited
 left_by_of l n ks h m b =
-    record { answer = Taken; load = cond b (with_journeys l ks h m) (with_found l ks h m true n); joins = joins_within n (timetable_of l); finished = b }
+    record { answer = Ok Taken; load = cond b (with_journeys l ks h m) (with_found l ks h m true n); joins = joins_within n (timetable_of l); finished = b }
 
 record Left (l : Load) (n : ℕ) (b : Bool) (w : Limited) : Type 0 where
   searched : w.load.searched ≡ true

@@ -1,10 +1,9 @@
 -- **Search**: 15, 14, 11; or the calls in order, the journeys kept in list order, horizon and limits by the scope's rule, searched.
-use Rattle.std.specs.Prelude.{◌≡◌, Bool, true, false, cond, List, [], ◌∷◌, ℕ, length}
+use Rattle.refusal.specs.declared.Accepted.TheVariants.{Taken}
+use Rattle.std.specs.Prelude.{◌≡◌, Bool, true, false, cond, List, [], ◌∷◌, ℕ, length, Err, Ok}
 use Rattle.laws.specs.Lists.{padded}
 use Rattle.refusal.specs.declared.Refusal.TheVariants.{AlreadySearched, Neighbours, NoRoom}
-use Rattle.refusal.specs.declared.Answer.{Answer}
-use Rattle.refusal.specs.declared.Answer.TheVariants.{Taken, Refused}
-use Rattle.refusal.specs.First.{First, AllFail, is_refused}
+use Rattle.refusal.specs.First.{First, AllFail, is_refused, Answer}
 use Rattle.calls.specs.declared.Table.{Table}
 use Rattle.profile.specs.declared.Journey.{Journey}
 use Rattle.profile.specs.Figures.{covᶠ, dueᶠ}
@@ -44,7 +43,7 @@ settled l (found ks h m) = with_journeys l ks h m
 
 unfoldable pub search_spec : Load → Stepped
 search_spec l =
-    cond l.searched (record { answer = Refused AlreadySearched; load = l }) (record { answer = answer_of (outcome_of l); load = settled l (outcome_of l) })
+    cond l.searched (record { answer = Err AlreadySearched; load = l }) (record { answer = answer_of (outcome_of l); load = settled l (outcome_of l) })
 
 -- a fall with no end that a search may have
 abbrev pub is_never : Ends → Bool
@@ -58,12 +57,12 @@ would_fall l = is_never (fall (covᶠ journey_figures) (dueᶠ journey_figures) 
 -- the tests in the scope's order, each with its answer: 15, 14, 11; no test reads the answer
 abbrev pub search_causes : Load → List (Bool × Answer)
 search_causes l =
-    (l.searched, Refused AlreadySearched)
-    ∷ (clashes (sorted (timetable_of l)), Refused Neighbours)
-    ∷ (would_fall l, Refused NoRoom)
+    (l.searched, Err AlreadySearched)
+    ∷ (clashes (sorted (timetable_of l)), Err Neighbours)
+    ∷ (would_fall l, Err NoRoom)
     ∷ []
 
 pub record SearchAnswered (l : Load) : Type 0 where
   pub first : First (search_spec l).answer (search_causes l)
-  pub taken : (search_spec l).answer ≡ Taken → AllFail (search_causes l)
+  pub taken : (search_spec l).answer ≡ Ok Taken → AllFail (search_causes l)
   pub unchanged : is_refused (search_spec l).answer ≡ true → (search_spec l).load ≡ l

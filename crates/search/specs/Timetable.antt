@@ -1,17 +1,16 @@
 -- What a search reads of a load: the calls taken, each stop's members, the walks, and which rides join.
-use Rattle.std.specs.Prelude.{Bool, false, cond, ◌&&◌, ℕ, eqb, ltb, take, get_or}
+use Rattle.std.specs.Prelude.{Bool, false, cond, ◌&&◌, ℕ, eqb, ltb, take, get_or, Option}
 use Rattle.stops.specs.Sound.{stop_at}
 use Rattle.calls.specs.declared.Call.{Call}
 use Rattle.profile.specs.declared.Ride.{Ride}
 use Rattle.places.specs.Places.{places_of}
-use Rattle.transfer.specs.declared.Change.{Change}
 use Rattle.transfer.specs.Copied.{parents_of}
 use Rattle.transfer.specs.Changes.{transfer_of, join_of}
 use Rattle.offers.specs.Offers.{Timetable}
 use Rattle.load.specs.declared.Load.{Load}
 
 -- the change from one stop to another, by the rules taken, the parents and the places
-abbrev pub change_in : Load → ℕ → ℕ → Change
+abbrev pub change_in : Load → ℕ → ℕ → Option ℕ
 change_in l from to =
     transfer_of (take l.rule_count l.rules) (parents_of l.stops) (places_of (take l.stop_count l.stops)) from to
     l.settings.transfer_seconds

@@ -1,11 +1,10 @@
 -- **Search** within a limit n on joins: 15, 1 with max_transfers above 1, 14, 11; or the calls in order and what the offers before the first join
 -- past the limit leave. "It says finished when no untested join is left, and stopped otherwise". One that finished leaves the load of a full
 -- search; one that was stopped leaves a load that holds its limit.
-use Rattle.std.specs.Prelude.{◌≡◌, ◌↔◌, Bool, true, false, cond, List, [], ◌∷◌, ℕ, ◌≤◌, ltb}
+use Rattle.refusal.specs.declared.Accepted.TheVariants.{Taken}
+use Rattle.std.specs.Prelude.{◌≡◌, ◌↔◌, Bool, true, false, cond, List, [], ◌∷◌, ℕ, ◌≤◌, ltb, Err, Ok}
 use Rattle.refusal.specs.declared.Refusal.TheVariants.{SettingsRange, AlreadySearched, Neighbours, NoRoom}
-use Rattle.refusal.specs.declared.Answer.{Answer}
-use Rattle.refusal.specs.declared.Answer.TheVariants.{Taken, Refused}
-use Rattle.refusal.specs.First.{First, AllFail, is_refused}
+use Rattle.refusal.specs.First.{First, AllFail, is_refused, Answer}
 use Rattle.profile.specs.declared.Journey.{Journey}
 use Rattle.profile.specs.Figures.{covᶠ, dueᶠ}
 use Rattle.profile.specs.Fall.{fall}
@@ -44,15 +43,15 @@ abbrev pub sent_back_of : Load → Answer → Limited
 sent_back_of l a = record { answer = a; load = l; joins = 0; finished = false }
 
 abbrev pub ran_within : Load → ℕ → Outcome → Limited
-ran_within l n clashing = sent_back_of l (Refused Neighbours)
-ran_within l n falling = sent_back_of l (Refused NoRoom)
+ran_within l n clashing = sent_back_of l (Err Neighbours)
+ran_within l n falling = sent_back_of l (Err NoRoom)
 ran_within l n (found ks h m) =
-    record { answer = Taken; load = within_found l n ks h m; joins = joins_within n (timetable_of l); finished = finishes_in l n }
+    record { answer = Ok Taken; load = within_found l n ks h m; joins = joins_within n (timetable_of l); finished = finishes_in l n }
 
 unfoldable pub within_spec : Load → ℕ → Limited
 within_spec l n =
-    cond l.searched (sent_back_of l (Refused AlreadySearched))
-    (cond (ltb 1 l.settings.max_transfers) (sent_back_of l (Refused SettingsRange)) (ran_within l n (outcome_within l n)))
+    cond l.searched (sent_back_of l (Err AlreadySearched))
+    (cond (ltb 1 l.settings.max_transfers) (sent_back_of l (Err SettingsRange)) (ran_within l n (outcome_within l n)))
 
 -- its answer and its load
 abbrev pub step_of : Limited → Stepped
@@ -65,17 +64,17 @@ would_fall_within l n =
 
 -- the tests in order, each with its answer: 15, 1, 14, 11; no test reads the answer
 abbrev pub within_tests : Load → ℕ → List (Bool × Answer)
-within_tests l n = (clashes (sorted (timetable_of l)), Refused Neighbours) ∷ (would_fall_within l n, Refused NoRoom) ∷ []
+within_tests l n = (clashes (sorted (timetable_of l)), Err Neighbours) ∷ (would_fall_within l n, Err NoRoom) ∷ []
 
 abbrev pub within_causes : Load → ℕ → List (Bool × Answer)
 within_causes l n =
-    (l.searched, Refused AlreadySearched) ∷ (ltb 1 l.settings.max_transfers, Refused SettingsRange) ∷ within_tests l n
+    (l.searched, Err AlreadySearched) ∷ (ltb 1 l.settings.max_transfers, Err SettingsRange) ∷ within_tests l n
 
 -- ---- what is claimed
 
 pub record WithinAnswered (l : Load) (n : ℕ) : Type 0 where
   pub first : First (within_spec l n).answer (within_causes l n)
-  pub taken : (within_spec l n).answer ≡ Taken → AllFail (within_causes l n)
+  pub taken : (within_spec l n).answer ≡ Ok Taken → AllFail (within_causes l n)
   pub unchanged : is_refused (within_spec l n).answer ≡ true → (within_spec l n).load ≡ l
 
 -- one that finished is the full search: its answer and its load
@@ -91,7 +90,7 @@ pub record WithinLeaves (l : Load) (n : ℕ) : Type 0 where
   pub holds : (within_spec l n).load.limit ≡ cond (finishes_in l n) 0 n
 
 abbrev pub WithinTaken : Type 0
-WithinTaken = (l : Load) (n : ℕ) → (within_spec l n).answer ≡ Taken → WithinLeaves l n
+WithinTaken = (l : Load) (n : ℕ) → (within_spec l n).answer ≡ Ok Taken → WithinLeaves l n
 
 abbrev pub WithinSound : Type 0
 WithinSound = (l : Load) (n : ℕ) → Sound l → Sound (within_spec l n).load

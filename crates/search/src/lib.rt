@@ -16,7 +16,7 @@ use load::{Load, Stepped};
 use order::{neighbours_clash, sorted};
 use places::group::group_places;
 use read_back::journeys_of;
-use refusal::{Answer, Refusal};
+use refusal::{Accepted, Answer, Refusal};
 use rides::paths::endpoint_paths;
 use state::layout::State;
 use state::{count, fresh, horizon, is_refused, limits};
@@ -98,7 +98,7 @@ pub fn search(load: Load) -> Stepped
 {
     if load.searched {
         return Stepped {
-            answer: Answer::Refused(Refusal::AlreadySearched),
+            answer: Err(Refusal::AlreadySearched),
             load,
         };
     }
@@ -106,7 +106,7 @@ pub fn search(load: Load) -> Stepped
     let calls = sorted(given, load.call_count);
     if neighbours_clash(calls, load.call_count) {
         return Stepped {
-            answer: Answer::Refused(Refusal::Neighbours),
+            answer: Err(Refusal::Neighbours),
             load,
         };
     }
@@ -116,11 +116,11 @@ pub fn search(load: Load) -> Stepped
     let st = offered(load, calls);
     if is_refused(&st) {
         return Stepped {
-            answer: Answer::Refused(Refusal::NoRoom),
+            answer: Err(Refusal::NoRoom),
             load,
         };
     }
-    let journeys = journeys_of(&st, calls);
+    let journeys = journeys_of(&st, &calls);
     let mut next = load;
     next.calls = calls;
     next.journeys = journeys;
@@ -131,7 +131,7 @@ pub fn search(load: Load) -> Stepped
     next.stopped = false;
     next.limit = 0;
     Stepped {
-        answer: Answer::Taken,
+        answer: Ok(Accepted::Taken),
         load: next,
     }
 }

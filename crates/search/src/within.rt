@@ -14,7 +14,7 @@ use limited_rides::within::paths_within;
 use load::Load;
 use order::{neighbours_clash, sorted};
 use read_back::journeys_of;
-use refusal::{Answer, Refusal};
+use refusal::{Accepted, Refusal};
 use state::layout::State;
 use state::{count, fresh, horizon, is_refused, limits};
 
@@ -50,7 +50,7 @@ pub fn search_within(load: Load, limit: u64) -> Limited
 {
     if load.searched {
         return Limited {
-            answer: Answer::Refused(Refusal::AlreadySearched),
+            answer: Err(Refusal::AlreadySearched),
             load,
             joins: 0,
             finished: false,
@@ -59,7 +59,7 @@ pub fn search_within(load: Load, limit: u64) -> Limited
     let settings = load.settings;
     if 1 < settings.max_transfers {
         return Limited {
-            answer: Answer::Refused(Refusal::SettingsRange),
+            answer: Err(Refusal::SettingsRange),
             load,
             joins: 0,
             finished: false,
@@ -69,7 +69,7 @@ pub fn search_within(load: Load, limit: u64) -> Limited
     let calls = sorted(given, load.call_count);
     if neighbours_clash(calls, load.call_count) {
         return Limited {
-            answer: Answer::Refused(Refusal::Neighbours),
+            answer: Err(Refusal::Neighbours),
             load,
             joins: 0,
             finished: false,
@@ -81,13 +81,13 @@ pub fn search_within(load: Load, limit: u64) -> Limited
     let tested = offered_within(load, calls, limit, &mut st);
     if is_refused(&st) {
         return Limited {
-            answer: Answer::Refused(Refusal::NoRoom),
+            answer: Err(Refusal::NoRoom),
             load,
             joins: 0,
             finished: false,
         };
     }
-    let journeys = journeys_of(&st, calls);
+    let journeys = journeys_of(&st, &calls);
     let mut next = load;
     next.calls = calls;
     next.journeys = journeys;
@@ -98,7 +98,7 @@ pub fn search_within(load: Load, limit: u64) -> Limited
     next.stopped = other(tested.finished);
     next.limit = held(tested.finished, limit);
     Limited {
-        answer: Answer::Taken,
+        answer: Ok(Accepted::Taken),
         load: next,
         joins: tested.joins,
         finished: tested.finished,

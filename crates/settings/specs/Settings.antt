@@ -1,8 +1,7 @@
 -- **Settings** of a load: which are sent back, with 1 or 2, and how a load holds the others.
-use Rattle.std.specs.Prelude.{ℕ, Bool, not, cond, ◌&&◌, ◌||◌, List, [], ◌∷◌, ltb, ℤ, pos, negsuc, get_or}
+use Rattle.refusal.specs.First.{Answer}
+use Rattle.std.specs.Prelude.{ℕ, Bool, not, cond, ◌&&◌, ◌||◌, List, [], ◌∷◌, ltb, ℤ, pos, negsuc, get_or, Err}
 use Rattle.std.specs.Int.Signed.{lt_z, le_z}
-use Rattle.refusal.specs.declared.Answer.{Answer}
-use Rattle.refusal.specs.declared.Answer.TheVariants.{Refused}
 use Rattle.refusal.specs.declared.Refusal.TheVariants.{SettingsRange, ClockRange}
 use Rattle.settings.specs.declared.Settings.{Settings}
 
@@ -22,8 +21,8 @@ all_near now epochs = near now && (near (get_or epochs 0 (pos 0)) && (near (get_
 -- why settings are sent back, in the scope's order: 1, 2
 unfoldable pub settings_tests : Settings → List (Bool × Answer)
 settings_tests s =
-    (over_counts s.origins s.targets s.max_transfers s.transfer_seconds, Refused SettingsRange)
-    ∷ (not (all_near s.now s.epochs), Refused ClockRange)
+    (over_counts s.origins s.targets s.max_transfers s.transfer_seconds, Err SettingsRange)
+    ∷ (not (all_near s.now s.epochs), Err ClockRange)
     ∷ []
 
 -- a walk past the count is 0

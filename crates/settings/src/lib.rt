@@ -5,10 +5,10 @@ ghost use Rattle.std.specs.Prelude.{◌≡◌, ◌||◌};
 ghost use Rattle.refusal.specs.First.{first_answer};
 ghost use Rattle.settings.specs.Settings.{near, all_near, over_counts, settings_tests, walks_of, canonical_of, kept_walk};
 
-use refusal::{Answer, Refusal};
+use refusal::{Accepted, Answer, Refusal};
 
-// Walks past a count are ignored, and 0 in the settings of a load.
-#[derive(Clone, Copy)]
+// Walks past a count are ignored, and 0 in the settings of a load. Arrays beside their counts, since the core has no heap.
+#[derive(Clone, Copy, Debug, PartialEq, Eq)]
 pub struct Settings {
     pub origins: u8,
     pub targets: u8,
@@ -21,56 +21,45 @@ pub struct Settings {
 }
 
 // Whether a clock time is within 2^40 of zero.
+#[tactic(auto, unfolding(crate::specs::Settings::near))]
 pub fn is_near(x: i64) -> bool
     ensures { result ≡ near x }
 {
-    if x < -1099511627776 {
-        return false;
-    }
-    x <= 1099511627776
+    -1099511627776 <= x && x <= 1099511627776
 }
 
-// Whether the start and the epochs are all near.
-fn all_near(now: i64, epochs: [i64; 3]) -> bool
-    ensures { result ≡ all_near now epochs }
-{
-    if is_near(now) {
-        if is_near(epochs[0]) {
-            if is_near(epochs[1]) {
-                return is_near(epochs[2]);
-            }
-        }
+impl Settings {
+    // Whether the start and the epochs are all near.
+    #[tactic(auto, unfolding(crate::specs::Settings::all_near))]
+    fn all_near(self) -> bool
+        ensures { result ≡ all_near self.now self.epochs }
+    {
+        is_near(self.now) && self.epochs.iter().all(|&epoch| is_near(epoch))
     }
-    false
-}
 
-fn over_counts(origins: u8, targets: u8, transfers: u8, seconds: u16) -> bool
-    ensures { result ≡ over_counts origins targets transfers seconds }
-{
-    if 4 < origins {
-        return true;
+    #[tactic(auto, unfolding(crate::specs::Settings::over_counts))]
+    fn over_counts(self) -> bool
+        ensures { result ≡ over_counts self.origins self.targets self.max_transfers self.transfer_seconds }
+    {
+        4 < self.origins
+            || 4 < self.targets
+            || 2 < self.max_transfers
+            || 15300 < self.transfer_seconds
     }
-    if 4 < targets {
-        return true;
-    }
-    if 2 < transfers {
-        return true;
-    }
-    15300 < seconds
 }
 
 // Why settings are sent back: 1, 2.
+#[tactic(auto, unfolding(crate::specs::Settings::settings_tests, refusal::specs::First::first_answer))]
 pub fn settings_answer(s: Settings) -> Answer
     ensures { result ≡ first_answer (settings_tests s) }
 {
-    if over_counts(s.origins, s.targets, s.max_transfers, s.transfer_seconds) {
-        return Answer::Refused(Refusal::SettingsRange);
+    if s.over_counts() {
+        return Err(Refusal::SettingsRange);
     }
-    let epochs = s.epochs;
-    if all_near(s.now, epochs) {
-        return Answer::Taken;
+    if !s.all_near() {
+        return Err(Refusal::ClockRange);
     }
-    Answer::Refused(Refusal::ClockRange)
+    Ok(Accepted::Taken)
 }
 
 fn kept_walk(count: u8, i: u8, walk: u8) -> u8
@@ -80,33 +69,27 @@ fn kept_walk(count: u8, i: u8, walk: u8) -> u8
 }
 
 // The first `count` walks, and 0 after them.
+#[tactic(auto, unfolding(crate::specs::Settings::walks_of))]
 fn walks_of(count: u8, walks: [u8; 4]) -> [u8; 4]
     ensures { result ≡ walks_of count walks }
 {
-    let a = kept_walk(count, 0, walks[0]);
-    let b = kept_walk(count, 1, walks[1]);
-    let c = kept_walk(count, 2, walks[2]);
-    let d = kept_walk(count, 3, walks[3]);
-    [a, b, c, d]
+    let [a, b, c, d] = walks;
+    [
+        kept_walk(count, 0, a),
+        kept_walk(count, 1, b),
+        kept_walk(count, 2, c),
+        kept_walk(count, 3, d),
+    ]
 }
 
 // The settings as a load holds them.
+#[tactic(auto, unfolding(crate::specs::Settings::canonical_of))]
 pub fn canonical(s: Settings) -> Settings
     ensures { result ≡ canonical_of s }
 {
-    let given_origins = s.origin_walks;
-    let given_targets = s.target_walks;
-    let origin_walks = walks_of(s.origins, given_origins);
-    let target_walks = walks_of(s.targets, given_targets);
-    let epochs = s.epochs;
     Settings {
-        origins: s.origins,
-        targets: s.targets,
-        origin_walks,
-        target_walks,
-        transfer_seconds: s.transfer_seconds,
-        max_transfers: s.max_transfers,
-        now: s.now,
-        epochs,
+        origin_walks: walks_of(s.origins, s.origin_walks),
+        target_walks: walks_of(s.targets, s.target_walks),
+        ..s
     }
 }

@@ -4,16 +4,10 @@
 ghost use Rattle.std.specs.Prelude.{◌≡◌, [], ◌∷◌, ◌+◌, ◌-◌, min};
 ghost use Rattle.shares.specs.Shares.{at_first_of, needs, shares_of};
 
-fn smaller(a: usize, b: usize) -> usize
-    ensures { result ≡ min a b }
-{
-    if a < b { a } else { b }
-}
-
 fn at_first(n: usize) -> usize
     ensures { result ≡ at_first_of n }
 {
-    smaller(16, n)
+    n.min(16)
 }
 
 // What a list needs beyond that.
@@ -27,14 +21,14 @@ fn needed(n: usize) -> usize
 fn after(left: usize, n: usize) -> usize
     ensures { result ≡ left - needs n }
 {
-    left - smaller(left, needed(n))
+    left.saturating_sub(needed(n))
 }
 
 // What a list gets, of what is left when its turn comes.
 fn share(left: usize, n: usize) -> usize
     ensures { result ≡ at_first_of n + min left (needs n) }
 {
-    at_first(n) + smaller(left, needed(n))
+    at_first(n) + left.min(needed(n))
 }
 
 // The shares of groups 0 to 3, whose lists are so long; the list of a group that isn't there has length 0.

@@ -2,30 +2,17 @@
 // that fails is told on standard error; after a failed read nothing is printed.
 #![tactic(auto)]
 
-use load::Load;
 use parts::{print, read_input, tell_unread};
-use refusal::Answer;
-use std::io::{Stderr, Stdout};
 
 // As long as the longest list.
-fn buffer() -> [u8; 4096] {
-    [0u8; 4096]
-}
-
-fn print_lines(stdout: Stdout, stderr: Stderr, answer: Answer, load: Load) {
-    let mut out = buffer();
-    let n = lines::lines(&mut out, answer, load);
-    print(stdout, stderr, &out[..n]);
-}
+const MOST: usize = 4096;
 
 fn main(rt: HostRuntime) {
-    let end = read_input(rt.stdin());
-    if end.failed {
+    let Ok(t) = read_input(rt.stdin()) else {
         tell_unread(rt.stderr());
         return;
-    }
-    let reader = end.reader;
-    let load = reader.load;
-    let answer = end.answer;
-    print_lines(rt.stdout(), rt.stderr(), answer, load);
+    };
+    let mut out = [0; MOST];
+    let n = lines::lines(&mut out, t.answer, t.reader.load);
+    print(rt.stdout(), rt.stderr(), &out[..n]);
 }

@@ -3,143 +3,67 @@
 // longer than the buffer, or is not there whole, ends the reading.
 #![tactic(auto)]
 
+ghost use Rattle.std.specs.Prelude.{◌≤◌, IfSome, length};
+
 mod text;
 
-use file::Took;
 use groups::{Group, group_of, no_group};
-use load::Load;
 use reader::read;
-use refusal::Answer;
-use std::io::{Stdin, Stdout};
+use refusal::Refusal;
+use std::io::Stdin;
 use stdio::input;
+use stdio::out::Out;
 
-// The groups read so far; `refused` once a file was, `more` while files may follow.
-#[derive(Clone, Copy)]
-struct Reading {
-    more: bool,
-    refused: bool,
-    count: usize,
-    groups: [Group; 4],
-}
-
-// As long as the longest file.
+// As long as the longest file. A function of its own: the proof of `main` can't hold an array of that length.
 fn buffer() -> [u8; 1048576] {
-    [0u8; 1048576]
+    [0; 1048576]
 }
 
-fn first() -> Reading {
-    let none = no_group();
-    let groups = [none; 4];
-    Reading {
-        more: true,
-        refused: false,
-        count: 0,
-        groups,
-    }
+// The groups of the files: the first `count`.
+#[derive(Clone, Copy)]
+struct Given {
+    groups: [Group; 4],
+    count: usize,
 }
 
-fn ended(r: Reading, refused: bool) -> Reading {
-    let groups = r.groups;
-    Reading {
-        more: false,
-        refused,
-        count: r.count,
-        groups,
-    }
+// The group whose file is refused.
+#[derive(Clone, Copy)]
+struct Refused {
+    number: u8,
+    cause: Refusal,
 }
 
-// The load as one group more.
-fn with_load(r: Reading, load: Load) -> Reading {
-    let mut next = r;
-    let at = r.count;
-    if at < 4 {
-        next.groups[at] = group_of(number_of(at), load);
-        next.count = at + 1;
-    }
-    next
-}
-
-fn number_of(at: usize) -> u8 {
-    if at < 4 { at as u8 } else { 4 }
-}
-
-fn file(bytes: &[u8], size: usize) -> Took {
-    if size <= bytes.len() {
-        return read(&bytes[..size]);
-    }
-    read(bytes)
-}
-
-// A file as the next group; its refusal is printed.
-fn taken(stdout: Stdout, out: &mut [u8; 65536], r: Reading, t: Took) -> Reading {
-    let answer = t.answer;
-    match answer {
-        Answer::Refused(cause) => {
-            text::file_refused(stdout, out, r.count, cause);
-            ended(r, true)
-        }
-        Answer::Taken => {
-            let reader = t.reader;
-            let load = reader.load;
-            with_load(r, load)
-        }
-        Answer::Outside => {
-            let reader = t.reader;
-            let load = reader.load;
-            with_load(r, load)
-        }
-    }
-}
-
-// The next file of the batch, if there may be one.
-fn turn(
-    stdin: Stdin,
-    stdout: Stdout,
-    out: &mut [u8; 65536],
-    buf: &mut [u8],
-    r: Reading,
-) -> Reading {
-    if r.more {
-        return read_next(stdin, stdout, out, buf, r);
-    }
-    r
-}
-
-fn read_next(
-    stdin: Stdin,
-    stdout: Stdout,
-    out: &mut [u8; 65536],
-    buf: &mut [u8],
-    r: Reading,
-) -> Reading {
+// The next file, put at the start of the buffer; its size, if it is there.
+fn file(stdin: Stdin, buf: &mut [u8]) -> Option<usize>
+    ensures { IfSome result (λ n. n ≤ length buf.new) }
+{
     if input::head(stdin, buf) < 4 {
-        return ended(r, false);
+        return None;
     }
-    let size = input::body(stdin, buf);
-    if size > buf.len() {
-        return ended(r, false);
-    }
-    let t = file(buf, size);
-    taken(stdout, out, r, t)
+    input::body(stdin, buf)
 }
 
-fn print(stdout: Stdout, out: &mut [u8; 65536], r: Reading) {
-    if r.refused {
-        return;
+fn read_groups(stdin: Stdin, buf: &mut [u8]) -> Result<Given, Refused> {
+    let mut groups = [no_group(); 4];
+    for number in 0u8..4 {
+        let at = usize::from(number);
+        let Some(size) = file(stdin, buf) else {
+            return Ok(Given { groups, count: at });
+        };
+        let took = read(&buf[..size]);
+        if let Err(cause) = took.answer {
+            return Err(Refused { number, cause });
+        }
+        groups[at] = group_of(number, took.reader.load);
     }
-    let groups = r.groups;
-    text::display(stdout, out, groups, r.count);
+    Ok(Given { groups, count: 4 })
 }
 
 fn main(rt: HostRuntime) {
-    let stdin = rt.stdin();
-    let stdout = rt.stdout();
-    let mut out = [0u8; 65536];
+    let mut out = Out::new(rt.stdout());
     let mut bytes = buffer();
-    let buf: &mut [u8] = &mut bytes;
-    let a = turn(stdin, stdout, &mut out, buf, first());
-    let b = turn(stdin, stdout, &mut out, buf, a);
-    let c = turn(stdin, stdout, &mut out, buf, b);
-    let d = turn(stdin, stdout, &mut out, buf, c);
-    print(stdout, &mut out, d);
+    match read_groups(rt.stdin(), &mut bytes) {
+        Ok(given) => text::display(&mut out, &given.groups[..given.count.min(4)]),
+        Err(refused) => text::file_refused(&mut out, refused.number, refused.cause),
+    }
 }

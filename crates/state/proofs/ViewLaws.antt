@@ -1,6 +1,6 @@
 -- The array as a state: what is read of it, and a state with nothing kept.
 use mathlib.Core.Path.{◌≡◌, refl, sym, ap, ◌∙◌}
-use mathlib.Core.Bool.{Bool, true, false, cond, true≢false}
+use mathlib.Core.Bool.{Bool, true, false, not, cond, true≢false}
 use mathlib.Core.Logic.{◌≢◌}
 use mathlib.Core.List.{List, []}
 use Prim.Native.Nat.{ℕ, ◌≤◌, ◌<◌}
@@ -18,14 +18,6 @@ use Rattle.state.proofs.RowLaws.{rows-length}
 
 -- ---- the numbers behind the slots
 
-pub count_small : (l : List ℕ) → get_or l count_place 0 < 64 → get_or l count_place 0 ≡ count_of l
-unfolding count_of
-count_small l h = omega arith
-
-pub count-large : (l : List ℕ) → 64 ≤ get_or l count_place 0 → 64 ≡ count_of l
-unfolding count_of
-count-large l h = omega arith
-
 pub count-is : (l : List ℕ) (n : ℕ) → get_or l count_place 0 ≡ n → n ≤ 64 → count_of l ≡ n
 unfolding count_of
 count-is l n e h = omega arith
@@ -36,14 +28,6 @@ count-few l = omega arith
 
 pub few : (l : List ℕ) (c : ℕ) → c ≡ count_of l → c ≤ 64
 few l c e = omega (arith, count-few l)
-
-pub limits-small : (l : List ℕ) → get_or l limits_place 0 < 255 → get_or l limits_place 0 ≡ limits_of l
-unfolding limits_of
-limits-small l h = omega arith
-
-pub limits-large : (l : List ℕ) → 255 ≤ get_or l limits_place 0 → 255 ≡ limits_of l
-unfolding limits_of
-limits-large l h = omega arith
 
 pub limits-is : (l : List ℕ) (n : ℕ) → get_or l limits_place 0 ≡ n → n < 256 → limits_of l ≡ n
 unfolding limits_of
@@ -78,12 +62,22 @@ pub view-is : (l : List ℕ) (n h g : ℕ) → get_or l count_place 0 ≡ n → 
 unfolding kept_of horizon_of
 view-is l n h g en le eh eg small em = view-open l em ∙ rw (count-is l n en le, eh, limits-is l g eg small) refl
 
-pub late-refused : (l : List ℕ) (a : ℕ) → (get_or l refused_place 0 ≡ 0 → ⊥) → true ≡ too_late (view l) a
-late-refused l a n = rw (view-refused l n) refl
+module _ (l : List ℕ) (a : ℕ) {r : Bool} (e : r ≡ not (open_of l)) where
+  pub late-refused : r ≡ true → r ≡ too_late (view l) a
+  unfolding view
+  late-refused t = go (open_of l) e
+    where
+      go : (b : Bool) → r ≡ not b → r ≡ too_late (cond b (going (kept_of l) (horizon_of l) (limits_of l)) refused) a
+      go true q = absurd (true≢false (sym t ∙ q))
+      go false q = t
 
-pub late-open : (l : List ℕ) (a : ℕ) (b : Bool) → get_or l refused_place 0 ≡ 0 → b ≡ ltb (get_or l horizon_place 0) a → b ≡ too_late (view l) a
-unfolding horizon_of
-late-open l a b e eb = rw (view-open l e) eb
+  pub late-open : {h : ℕ} → r ≡ false → h ≡ horizon_of l → ltb h a ≡ too_late (view l) a
+  unfolding view
+  late-open {h} f eh = go (open_of l) e
+    where
+      go : (b : Bool) → r ≡ not b → ltb h a ≡ too_late (cond b (going (kept_of l) (horizon_of l) (limits_of l)) refused) a
+      go true q = ap (λ (x : ℕ). ltb x a) eh
+      go false q = absurd (true≢false (sym q ∙ f))
 
 -- a state that is not too late for an offer is not refused, and its horizon is no earlier
 pub in_time : (l : List ℕ) (a : ℕ) (b : Bool) → b ≡ too_late (view l) a → b ≡ false → (get_or l refused_place 0 ≡ 0) × (a ≤ horizon_of l)

@@ -2,10 +2,10 @@
 // horizon, limits and refused. `view` says which state it is. It is made and read here.
 #![tactic(auto)]
 
-ghost use Rattle.std.specs.Prelude.{◌≡◌, not, [], ◌*◌, ◌+◌, ◌<◌, ltb, length, get_or};
+ghost use Rattle.std.specs.Prelude.{◌≡◌, not, [], ◌<◌, get_or};
 ghost use Rattle.profile.specs.Kept.{going, too_late};
 ghost use Rattle.profile.specs.Journeys.{no_row};
-ghost use Rattle.state.specs.Layout.{slots, size};
+ghost use Rattle.state.specs.Layout.{slots};
 ghost use Rattle.state.specs.View.{slot, rows, count_of, horizon_of, limits_of, kept_of, open_of, view};
 
 pub mod layout;
@@ -13,14 +13,9 @@ pub mod layout;
 use crate::layout::{COUNT, HORIZON, LIMITS, REFUSED, SIZE, SLOTS, State, WIDTH};
 use profile::{Row, no_row};
 
-// An array has its length. A lent one shows it by a copy that nothing reads.
-pub fn known(a: State)
-    ensures { length a ≡ size }
-{}
-
 // The row in slot i.
 fn slot_at(st: &State, i: usize) -> Row
-    requires { (length st.now ≡ size) × (i < slots) }
+    requires { i < slots }
     ensures { result ≡ slot st.now i }
 {
     let at = i * WIDTH;
@@ -44,7 +39,6 @@ fn slot_at(st: &State, i: usize) -> Row
 pub fn row_at(st: &State, i: usize) -> Row
     ensures { result ≡ get_or (rows st.now) i no_row }
 {
-    known(*st);
     if i < SLOTS {
         return slot_at(st, i);
     }
@@ -62,33 +56,31 @@ pub fn fresh(horizon: u16, limits: u8) -> State
 }
 
 // How many journeys are kept.
+#[tactic(auto, unfolding(crate::specs::View::count_of))]
 pub fn count(st: &State) -> usize
     ensures { result ≡ count_of st.now }
 {
-    known(*st);
-    let c = st[COUNT];
-    if c < 64 { c as usize } else { 64 }
+    st[COUNT].min(64) as usize
 }
 
+#[tactic(auto, unfolding(crate::specs::View::horizon_of))]
 pub fn horizon(st: &State) -> u16
     ensures { result ≡ horizon_of st.now }
 {
-    known(*st);
     st[HORIZON]
 }
 
+#[tactic(auto, unfolding(crate::specs::View::limits_of))]
 pub fn limits(st: &State) -> u8
     ensures { result ≡ limits_of st.now }
 {
-    known(*st);
-    let l = st[LIMITS];
-    if l < 255 { l as u8 } else { 255 }
+    st[LIMITS].min(255) as u8
 }
 
+#[tactic(auto, unfolding(crate::specs::View::open_of))]
 pub fn is_refused(st: &State) -> bool
     ensures { result ≡ not (open_of st.now) }
 {
-    known(*st);
     st[REFUSED] != 0
 }
 
@@ -96,26 +88,15 @@ pub fn is_refused(st: &State) -> bool
 pub fn kept(st: &State, i: usize) -> Row
     ensures { result ≡ get_or (kept_of st.now) i no_row }
 {
-    known(*st);
     if i < count(st) {
         return row_at(st, i);
     }
     no_row()
 }
 
-fn is_late(horizon: u16, arrival: u32) -> bool
-    ensures { result ≡ ltb horizon arrival }
-{
-    (horizon as u32) < arrival
-}
-
 // Whether an offer due at `arrival` would be passed over at once: it is due after the horizon, or the search is refused.
 pub fn too_late(st: &State, arrival: u32) -> bool
     ensures { result ≡ too_late (view st.now) arrival }
 {
-    known(*st);
-    if st[REFUSED] != 0 {
-        return true;
-    }
-    is_late(st[HORIZON], arrival)
+    is_refused(st) || (horizon(st) as u32) < arrival
 }

@@ -1,99 +1,73 @@
-// Text is gathered in a buffer, and written out by lines. What doesn't fit is left out; each line starts with room for 40,000 bytes.
-ghost use Rattle.std.specs.Prelude.{◌≤◌};
+// Text for standard output, gathered in a buffer and written out in large pieces. What doesn't fit is left out; each line starts with
+// room for 40,000 bytes.
+ghost use Rattle.std.specs.Prelude.{◌≡◌, ◌≤◌};
 
-use itoa::Buffer;
+use std::fmt;
 use std::io::Stdout;
 
-pub fn put(out: &mut [u8; 65536], at: usize, byte: u8) -> usize
-    ensures { result ≤ 65536 }
-{
-    if at < 65536 {
-        out[at] = byte;
-        return at + 1;
+// The first `len` bytes are gathered. An array and not std's BufWriter, since that allocates, and so can fail.
+#[derive(Drop)]
+pub struct Out {
+    stdout: Stdout,
+    bytes: [u8; 65536],
+    len: usize,
+    ghost in_bounds: { len ≤ 65536 },
+}
+
+impl Out {
+    pub fn new(stdout: Stdout) -> Self
+        ensures { result.len ≡ 0 }
+    {
+        Out {
+            stdout,
+            bytes: [0; 65536],
+            len: 0,
+        }
     }
-    65536
-}
 
-// A count, and at most `most`.
-pub fn least(count: usize, most: usize) -> usize
-    ensures upper_bound { result ≤ most }
-    ensures upper_bound_2 { result ≤ count }
-{
-    if count < most { count } else { most }
-}
-
-pub fn text(out: &mut [u8; 65536], at: usize, word: &[u8]) -> usize
-    ensures { result ≤ 65536 }
-{
-    let mut to = least(at, 65536);
-    for i in 0usize..word.len() {
-        to = put(out, to, word[i]);
+    pub fn put(&mut self, byte: u8) {
+        if self.len < 65536 {
+            self.bytes[self.len] = byte;
+            self.len += 1;
+        }
     }
-    to
-}
 
-fn number(out: &mut [u8; 65536], at: usize, n: u64) -> usize
-    ensures { result ≤ 65536 }
-{
-    let mut digits = Buffer::new();
-    text(out, at, digits.format(n).as_bytes())
-}
-
-// A space and a number.
-pub fn spaced(out: &mut [u8; 65536], at: usize, n: u64) -> usize
-    ensures { result ≤ 65536 }
-{
-    let a = put(out, at, b' ');
-    number(out, a, n)
-}
-
-// A space, and 1 or 0.
-pub fn flag(out: &mut [u8; 65536], at: usize, b: bool) -> usize
-    ensures { result ≤ 65536 }
-{
-    if b {
-        return text(out, at, b" 1");
+    pub fn text(&mut self, text: &[u8]) {
+        let end = self.len + text.len().min(65536 - self.len);
+        self.bytes[self.len..end].copy_from_slice(&text[..end - self.len]);
+        self.len = end;
     }
-    text(out, at, b" 0")
-}
 
-// Writes the first n bytes. A write that fails goes unsaid.
-fn write(stdout: Stdout, bytes: &[u8], n: usize) {
-    if n <= bytes.len() {
-        let _ = stdout.write_all(&bytes[..n]);
+    // Writes what was gathered; nothing is left. A write that fails goes unsaid.
+    pub fn flush(&mut self)
+        ensures { self.new.len ≡ 0 }
+    {
+        let _ = self.stdout.write_all(&self.bytes[..self.len]);
+        self.len = 0;
+    }
+
+    // What `write!` and `writeln!` call; writes out what was gathered if it is much.
+    pub fn write_fmt<D: fmt::Display + Drop>(&mut self, text: D)
+        ensures { self.new.len ≤ 24576 }
+    {
+        let _ = fmt::Write::write(self, text);
+        if self.len > 24576 {
+            self.flush();
+        }
+    }
+
+    // A line `.`, which ends what is said of a file of a batch, and all that was gathered written.
+    pub fn end_file(&mut self)
+        ensures { self.new.len ≡ 0 }
+    {
+        writeln!(self, ".");
+        self.flush();
     }
 }
 
-// Writes what was gathered.
-fn flush(stdout: Stdout, out: &mut [u8; 65536], n: usize) {
-    write(stdout, out, n);
-}
-
-// Ends a line; writes what was gathered if it is much.
-pub fn line(stdout: Stdout, out: &mut [u8; 65536], at: usize) -> usize
-    ensures { result ≤ 24576 }
-{
-    let a = put(out, at, b'\n');
-    if a > 24576 {
-        flush(stdout, out, a);
-        return 0;
+impl fmt::Write for Out {
+    fn write_str(&mut self, s: &str) -> fmt::Result {
+        self.text(s.as_bytes());
+        Ok(())
     }
-    a
-}
-
-// Writes what was gathered; nothing is left.
-pub fn end(stdout: Stdout, out: &mut [u8; 65536], at: usize) -> usize
-    ensures { result ≤ 0 }
-{
-    flush(stdout, out, at);
-    0
-}
-
-// A line `.`, which ends what is said of a file of a batch, and all that was gathered written.
-pub fn end_file(stdout: Stdout, out: &mut [u8; 65536], at: usize) -> usize
-    ensures { result ≤ 0 }
-{
-    let a = text(out, at, b".");
-    let b = line(stdout, out, a);
-    end(stdout, out, b)
 }

@@ -1,17 +1,16 @@
 -- Each step, and each opening, is answered for the first of its causes.
+use Rattle.refusal.specs.declared.Accepted.TheVariants.{Taken, Outside}
+use Rattle.std.specs.Prelude.{None, Option, Some, Err, Ok}
 use Prim.Native.Nat.{ℕ}
 use mathlib.Core.Path.{◌≡◌, refl, sym, ap, subst, ◌∙◌}
 use mathlib.Core.Logic.{◌⊎◌, inl, inr}
 use mathlib.Core.Bool.{Bool, true, false, not, cond, true≢false}
-use mathlib.Core.Option.{Option, none, some}
 use mathlib.Core.List.{List, [], ◌∷◌, ◌++◌, map}
 use lib.Dec.{eqb}
 use borrow.Author.Tests.{eq-eqb}
 use Rattle.laws.proofs.Bools.{or-true-left, or_true_right}
 use Rattle.refusal.specs.declared.Refusal.TheVariants.{FieldRange}
-use Rattle.refusal.specs.declared.Answer.{Answer}
-use Rattle.refusal.specs.declared.Answer.TheVariants.{Taken, Outside, Refused}
-use Rattle.refusal.specs.First.{First, none as no_test, hit, miss, AllFail, answer_number, is_refused}
+use Rattle.refusal.specs.First.{First, none as no_test, hit, miss, AllFail, answer_number, is_refused, Answer}
 use Rattle.refusal.proofs.FirstLaws.{answer-is-first, first_taken}
 use Rattle.settings.specs.Settings.{settings_tests}
 use Rattle.calls.specs.declared.CallInput.{CallInput}
@@ -69,7 +68,7 @@ call-order : (l : Load) (name : List ℕ) (i : CallInput) → map number (add_ca
 call-order l name i = go l.searched
   where
     go : (b : Bool)
-        → map number ((not (known l.stop_count i), Refused FieldRange) ∷ running_tests (running l.week name i.day) ++ time_tests i ++ later_tests b l name i)
+        → map number ((not (known l.stop_count i), Err FieldRange) ∷ running_tests (running l.week name i.day) ++ time_tests i ++ later_tests b l name i)
         ≡ numbers b (filling (call name i))
     go true = refl
     go false = refl
@@ -98,16 +97,16 @@ unfolding settings_tests
 open-numbered o = go o.dates
   where
     go : (d : Option (List ℕ)) → numbered (settings_tests o.settings ++ date_tests d) ≡ open_numbers d
-    go none = refl
-    go (some dates) = refl
+    go None = refl
+    go (Some dates) = refl
 
 open_order : (o : Opening) → map number (open_tests o) ≡ open_numbers o.dates
 unfolding settings_tests
 open_order o = go o.dates
   where
     go : (d : Option (List ℕ)) → map number (settings_tests o.settings ++ date_tests d) ≡ open_numbers d
-    go none = refl
-    go (some dates) = refl
+    go None = refl
+    go (Some dates) = refl
 
 pub opening-answered : (o : Opening) → OpeningAnswered o
 unfolding open_spec_of open_answer
@@ -122,7 +121,7 @@ opening-answered o = record {
 -- so much of each step is enough
 record Meets (l : Load) (x : Step) : Type 0 where
   first : First (stepped l x).answer (causes l x)
-  taken : (stepped l x).answer ≡ Taken → AllFail (causes l x)
+  taken : (stepped l x).answer ≡ Ok Taken → AllFail (causes l x)
   unchanged : is_refused (stepped l x).answer ≡ true → (stepped l x).load ≡ l
 
 step-met : (l : Load) (x : Step) → Meets l x
@@ -158,7 +157,7 @@ pub undated-listed : (l : Load) (name : List ℕ) (i : CallInput) → l.week.dat
 undated-listed l name i d = go l.searched (without-second (add-answered l name i).first (ap is_unknown (sym (runs-undated l.week name i.day d))))
   where
     go : (b : Bool)
-        → First (add_spec_of l name i).answer ((not (known l.stop_count i), Refused FieldRange) ∷ (is_resting (running l.week name i.day), Outside) ∷ time_tests i ++ later_tests b l name i)
+        → First (add_spec_of l name i).answer ((not (known l.stop_count i), Err FieldRange) ∷ (is_resting (running l.week name i.day), Ok Outside) ∷ time_tests i ++ later_tests b l name i)
         → one_of (answer_number (add_spec_of l name i).answer) (0 ∷ 9 ∷ 0 ∷ 0 ∷ 10 ∷ 0 ∷ 11 ∷ cond b (14 ∷ 11 ∷ 0 ∷ []) []) ≡ true
     go true f = listed_by _ _ f
     go false f = listed_by _ _ f

@@ -1,11 +1,11 @@
 -- A dated load and the load without dates that is handed only the calls of running services differ in their weeks alone.
+use Rattle.refusal.specs.First.{Answer}
+use Rattle.std.specs.Prelude.{Err}
 use mathlib.Core.Path.{◌≡◌, refl, sym, ap, ap₂, ◌∙◌}
 use mathlib.Core.Bool.{Bool, true, false, cond}
 use mathlib.Core.List.{List, [], ◌∷◌, ◌++◌}
 use Prim.Native.Nat.{ℕ}
 use native.Mathlib.Omega.{arith}
-use Rattle.refusal.specs.declared.Answer.{Answer}
-use Rattle.refusal.specs.declared.Answer.TheVariants.{Refused}
 use Rattle.refusal.specs.declared.Refusal.TheVariants.{AlreadySearched}
 use Rattle.settings.specs.declared.Settings.{Settings}
 use Rattle.calls.specs.declared.CallInput.{CallInput}
@@ -122,8 +122,8 @@ list-closed [] l c = c
 list-closed (x ∷ xs) l c = list-closed xs (next l x) (step-closed l x c)
 
 closed-answers : (l : Load) → l.week.closed ≡ true
-    → ((name : List ℕ) (weekdays start end : ℕ) → (stepped l (filling (service name weekdays start end))).answer ≡ Refused AlreadySearched)
-    × ((name : List ℕ) (date kind : ℕ) → (stepped l (filling (exception name date kind))).answer ≡ Refused AlreadySearched)
+    → ((name : List ℕ) (weekdays start end : ℕ) → (stepped l (filling (service name weekdays start end))).answer ≡ Err AlreadySearched)
+    × ((name : List ℕ) (date kind : ℕ) → (stepped l (filling (exception name date kind))).answer ≡ Err AlreadySearched)
 unfolding service_spec exception_spec
 closed-answers l c = (
   λ name weekdays start end. ap (λ (r : WeekStepped). r.answer) ((closed-stays l.week c).service l.searched name weekdays start end),

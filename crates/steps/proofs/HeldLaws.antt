@@ -1,8 +1,9 @@
 -- The load as a machine: its steps meet what demands 2 and 3 ask of a machine.
+use Rattle.std.specs.Prelude.{None, Option, Some, unwrap_or}
 use Prim.Native.Nat.{ℕ}
 use mathlib.Core.Path.{◌≡◌, refl, sym, ap, subst, ◌∙◌}
 use mathlib.Core.Bool.{Bool, true, false, not, cond, ◌&&◌, true≢false, false≢true}
-use mathlib.Core.Option.{Option, none, some, get_or, some-injective, none-ne-some, some-ne-none}
+use Rattle.laws.proofs.Options.{some-injective, none-ne-some, some-ne-none}
 use mathlib.Core.List.{List}
 use Rattle.laws.proofs.Bools.{cond-not}
 use Rattle.refusal.specs.First.{is_refused, is_taken}
@@ -57,13 +58,13 @@ found-reads m ks h k b n = ap (with_calls (timetable_of m)) (sorted_front m.call
 -- what is asked of a step that makes n of l, its accepted search, if any, having started from o
 pub record Right (l n : Load) (o : Option Load) : Type 0 where
   pub sound : Sound n
-  pub searches : (m : Load) → o ≡ some m → Ran machine Sound m n
-  pub stays : o ≡ none → n.searched ≡ true → Stays machine l n
+  pub searches : (m : Load) → o ≡ Some m → Ran machine Sound m n
+  pub stays : o ≡ None → n.searched ≡ true → Stays machine l n
   pub own : Own l → Own n
-  pub from : (p : Load) → From p l → From (get_or o p) n
+  pub from : (p : Load) → From p l → From (unwrap_or o p) n
 
 -- no search, and the load as it was where it is searched
-kept : (l n : Load) → Sound n → (n.searched ≡ true → n ≡ l) → Right l n none
+kept : (l n : Load) → Sound n → (n.searched ≡ true → n ≡ l) → Right l n None
 kept l n s e = record {
   sound = s;
   searches = λ m q. absurd (none-ne-some m q);
@@ -79,7 +80,7 @@ kept l n s e = record {
 }
 
 -- no search, and a searched load whose services an outside call closed
-week-right : (l : Load) (w : Week) → Sound l → WeekSound w → l.searched ≡ true → Right l (with_week l w) none
+week-right : (l : Load) (w : Week) → Sound l → WeekSound w → l.searched ≡ true → Right l (with_week l w) None
 unfolding timetable_of
 week-right l w s v d = record {
   sound = with-week-sound l w s v;
@@ -116,7 +117,7 @@ ran-found m ks h k b n s new f = record {
     not-true true e = absurd (false≢true e)
     not-true false e = refl
 
-ended : (l m : Load) (r : Stepped) → Sound m → Leaves m r → Right l r.load (some m)
+ended : (l m : Load) (r : Stepped) → Sound m → Leaves m r → Right l r.load (Some m)
 ended l m r s w =
     let q : Ran machine Sound m r.load = subst (Ran machine Sound m) (sym w.is) (ran-found m w.kept w.to w.mark w.stop w.at s w.new w.finds) in
     record {
@@ -175,7 +176,7 @@ again-right l r s t = go (is_refused r.answer) (is_taken (researched l.stopped l
   where
     go : (b c : Bool) → is_taken (researched l.stopped l.limit r.load).answer ≡ c
         → Right l (cond {A = Stepped} b (record { answer = r.answer; load = l }) (cond {A = Stepped} c (record { answer = r.answer; load = (researched l.stopped l.limit r.load).load }) (record { answer = (researched l.stopped l.limit r.load).answer; load = l }))).load
-        (cond b none (cond c (some r.load) none))
+        (cond b None (cond c (Some r.load) None))
     go true c e = kept l l s (λ d. refl)
     go false true e = ended l r.load (researched l.stopped l.limit r.load) t (again-leaves l.stopped l.limit r.load t e)
     go false false e = kept l l s (λ d. refl)
@@ -184,45 +185,45 @@ added-right : (l : Load) (r : Stepped) → Sound l → l.searched ≡ true → S
 unfolding added_to
 added-right l r s d t = go (leaves_table_of l r)
   where
-    go : (b : Bool) → Right l (cond {A = Stepped} b (record { answer = r.answer; load = with_week l r.load.week }) (again l r)).load (cond b none (ran_again l r))
+    go : (b : Bool) → Right l (cond {A = Stepped} b (record { answer = r.answer; load = with_week l r.load.week }) (again l r)).load (cond b None (ran_again l r))
     go true = week-right l r.load.week s t.week d
     go false = again-right l r s t
 
 -- a step that leaves an unsearched load unsearched
-unsearched-right : (l n : Load) → Sound n → l.searched ≡ false → n.searched ≡ l.searched → Right l n none
+unsearched-right : (l n : Load) → Sound n → l.searched ≡ false → n.searched ≡ l.searched → Right l n None
 unsearched-right l n s u e = kept l n s (λ d. absurd (true≢false (sym d ∙ e ∙ u)))
 
-call-right : (l : Load) (name : List ℕ) (i : CallInput) → Sound l → Right l (add_spec_of l name i).load (cond l.searched (ran_added l (call_spec (unsearched_of l) name i)) none)
+call-right : (l : Load) (name : List ℕ) (i : CallInput) → Sound l → Right l (add_spec_of l name i).load (cond l.searched (ran_added l (call_spec (unsearched_of l) name i)) None)
 unfolding add_spec_of
 call-right l name i s = go l.searched refl
   where
-    go : (b : Bool) → l.searched ≡ b → Right l (cond b (added_to l (call_spec (unsearched_of l) name i)) (call_spec l name i)).load (cond b (ran_added l (call_spec (unsearched_of l) name i)) none)
+    go : (b : Bool) → l.searched ≡ b → Right l (cond b (added_to l (call_spec (unsearched_of l) name i)) (call_spec l name i)).load (cond b (ran_added l (call_spec (unsearched_of l) name i)) None)
     go true e = added-right l (call_spec (unsearched_of l) name i) s e (fill-keeps-sound (unsearched_of l) (call name i) (unsearched-sound l s))
     go false e = unsearched-right l (call_spec l name i).load (fill-keeps-sound l (call name i) s) e (filled-searched l (call name i))
 
-withdraw-right : (l : Load) (k : CallKey) → Sound l → Right l (withdraw_spec l k).load (cond l.searched (ran_again l (taken_out (unsearched_of l) k)) none)
+withdraw-right : (l : Load) (k : CallKey) → Sound l → Right l (withdraw_spec l k).load (cond l.searched (ran_again l (taken_out (unsearched_of l) k)) None)
 unfolding withdraw_spec
 withdraw-right l k s = go l.searched refl
   where
-    go : (b : Bool) → l.searched ≡ b → Right l (cond b (again l (taken_out (unsearched_of l) k)) (taken_out l k)).load (cond b (ran_again l (taken_out (unsearched_of l) k)) none)
+    go : (b : Bool) → l.searched ≡ b → Right l (cond b (again l (taken_out (unsearched_of l) k)) (taken_out l k)).load (cond b (ran_again l (taken_out (unsearched_of l) k)) None)
     go true e = again-right l (taken_out (unsearched_of l) k) s (taken-out-sound (unsearched_of l) k (unsearched-sound l s))
     go false e = unsearched-right l (taken_out l k).load (taken-out-sound l k s) e (taken-out-searched l k)
 
-search-right : (l : Load) → Sound l → Right l (search_spec l).load (cond (is_taken (search_spec l).answer) (some l) none)
+search-right : (l : Load) → Sound l → Right l (search_spec l).load (cond (is_taken (search_spec l).answer) (Some l) None)
 search-right l s = go (is_taken (search_spec l).answer) refl
   where
-    go : (b : Bool) → is_taken (search_spec l).answer ≡ b → Right l (search_spec l).load (cond b (some l) none)
+    go : (b : Bool) → is_taken (search_spec l).answer ≡ b → Right l (search_spec l).load (cond b (Some l) None)
     go true e = ended l l (search_spec l) s (full-leaves l s e)
     go false e = kept l (search_spec l).load (search-sound l s) (λ d. untaken-stays l e)
 
-limited-right : (l : Load) (n : ℕ) → Sound l → Right l (within_spec l n).load (cond (is_taken (within_spec l n).answer) (some l) none)
+limited-right : (l : Load) (n : ℕ) → Sound l → Right l (within_spec l n).load (cond (is_taken (within_spec l n).answer) (Some l) None)
 limited-right l n s = go (is_taken (within_spec l n).answer) refl
   where
-    go : (b : Bool) → is_taken (within_spec l n).answer ≡ b → Right l (within_spec l n).load (cond b (some l) none)
+    go : (b : Bool) → is_taken (within_spec l n).answer ≡ b → Right l (within_spec l n).load (cond b (Some l) None)
     go true e = ended l l (step_of (within_spec l n)) s (limited-leaves l n s e)
     go false e = kept l (within_spec l n).load (within-sound l n s) (λ d. untaken-within l n e)
 
-filled-right : (l : Load) (x : Filling) → Sound l → Right l (filled l x).load none
+filled-right : (l : Load) (x : Filling) → Sound l → Right l (filled l x).load None
 filled-right l x s = kept l (filled l x).load (fill-keeps-sound l x s) (λ d. filled-stays l x (sym (filled-searched l x) ∙ d))
 
 pub right : (l : Load) (x : Step) → Sound l → Right l (next l x) (ran l x)

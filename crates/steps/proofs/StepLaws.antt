@@ -1,9 +1,9 @@
 -- What the machine's steps do to a load: what fills a load leaves a searched one, and does not search; best reads what is kept.
+use Rattle.std.specs.Prelude.{None, Some, Option}
 use Prim.Native.Nat.{ℕ, ◌+◌, ◌-◌, ◌≤◌}
 use mathlib.Core.Path.{◌≡◌, refl, sym, ap, subst, ◌∙◌}
 use mathlib.Core.Logic.{◌⊎◌, inl, inr}
 use mathlib.Core.Bool.{Bool, true, false, cond, ◌&&◌, true≢false, false≢true}
-use mathlib.Core.Option.{Option, none, some}
 use mathlib.Core.List.{List, [], ◌∷◌}
 use native.Mathlib.Omega.{arith}
 use borrow.Author.Tests.{eqb-true, leb-true}
@@ -13,8 +13,7 @@ use lib.ListN.{length, take, set, replicate}
 use lib.Seq.{take-append_seam}
 use Rattle.laws.specs.Lists.{padded}
 use Rattle.laws.proofs.Bools.{cond-not, or-true-cases, or-true-left}
-use Rattle.refusal.specs.declared.Answer.{Answer}
-use Rattle.refusal.specs.First.{First, hit, miss, is_refused, is_taken}
+use Rattle.refusal.specs.First.{First, hit, miss, is_refused, is_taken, Answer}
 use Rattle.profile.specs.declared.Journey.{Journey}
 use Rattle.profile.specs.Journeys.{no_journey, journey_figures}
 use Rattle.profile.specs.Best.{bestℤ}
@@ -22,8 +21,6 @@ use Rattle.calls.specs.declared.CallInput.{CallInput}
 use Rattle.calls.specs.Sound.{All, one_of, horizons}
 use Rattle.rules.specs.Rules.{rule_tests}
 use Rattle.stops.specs.Answer.{stop_tests}
-use Rattle.transfer.specs.declared.Change.{Change}
-use Rattle.transfer.specs.declared.Change.TheVariants.{Takes, Never}
 use Rattle.transfer.specs.Changes.{joins_by, join_of}
 use Rattle.offers.specs.Admitted.{InTime}
 use Rattle.offers.specs.Search.{found, answer_of, search_of}
@@ -74,9 +71,9 @@ search-stays l e = ap (λ (r : Stepped). r.load) (search-again l e)
 
 -- ---- the demands on a sound load
 
-joins-late : (c : Change) (a d : ℕ) → joins_by c a d ≡ true → a ≤ d
-joins-late (Takes s) a d e = omega (arith, leb-true (a + s) d e)
-joins-late Never a d e = absurd (false≢true e)
+joins-late : (c : Option ℕ) (a d : ℕ) → joins_by c a d ≡ true → a ≤ d
+joins-late (Some s) a d e = omega (arith, leb-true (a + s) d e)
+joins-late None a d e = absurd (false≢true e)
 
 cond-true : (b c : Bool) → cond b c false ≡ true → c ≡ true
 cond-true true c e = e
@@ -108,16 +105,15 @@ sound-near-new l s e = omega (arith, s.same_horizon e, sound-near l s)
 
 -- ---- best
 
-answer-found : (o : Option Journey) → best.answer_of (best.found_of o) ≡ o
-unfolding best.found_of
-answer-found none = refl
-answer-found (some j) = refl
+answer-found : (o : Option Journey) → best.answer_of o ≡ o
+answer-found None = refl
+answer-found (Some j) = refl
 
 -- the first of the list that leaves in time is best of all of it
 pub best-asks : (l : Load) → Sound l → l.searched ≡ true → (z : ℤ) → best.answer_of (best.best_spec l z) ≡ bestℤ journey_figures (best.kept_of l) l.horizon z
 best-asks l s e z = ap best.answer_of (best-of-all l e s.in_order z) ∙ answer-found (bestℤ journey_figures (best.kept_of l) l.horizon z)
 
-pub best_none : (l : Load) → l.searched ≡ false → (z : ℤ) → best.answer_of (best.best_spec l z) ≡ none
+pub best_none : (l : Load) → l.searched ≡ false → (z : ℤ) → best.answer_of (best.best_spec l z) ≡ None
 unfolding best.best_spec
 best_none l e z = ap best.answer_of (cond-not _ _ e)
 

@@ -1,4 +1,6 @@
 -- The table is the calls answered taken and not withdrawn, as the window shows them; in order, once searched.
+use Rattle.refusal.specs.declared.Accepted.TheVariants.{Taken}
+use Rattle.std.specs.Prelude.{Ok}
 use Prim.Native.Nat.{ℕ}
 use mathlib.Core.Path.{◌≡◌, refl, sym, ap, subst, ◌∙◌}
 use mathlib.Core.Logic.{◌↔◌}
@@ -9,9 +11,7 @@ use lib.Dec.{eqb}
 use Rattle.laws.specs.Lists.{anyb}
 use Rattle.laws.proofs.Bools.{and-true-left, cond-not}
 use Rattle.laws.proofs.Sort.{sort-perm}
-use Rattle.refusal.specs.declared.Answer.{Answer}
-use Rattle.refusal.specs.declared.Answer.TheVariants.{Taken}
-use Rattle.refusal.specs.First.{is_refused, is_taken}
+use Rattle.refusal.specs.First.{is_refused, is_taken, Answer}
 use Rattle.calls.specs.declared.Call.{Call}
 use Rattle.calls.specs.declared.CallInput.{CallInput}
 use Rattle.calls.specs.Shown.{windowed, table_calls}
@@ -227,7 +227,7 @@ module _ (l : Load) (k : CallKey) (is : List CallInput) (w : Kept l) (h : Holds 
     again-holds = out_cases v k (λ q. LeftBy (again l q)) (λ q. h) (λ q f. h) (λ g. go g (is_taken (researched l.stopped l.limit (with_table v (withdrawn (table_of v) k))).answer) refl)
       where
         go : Goes v k → (b : Bool) → is_taken (researched l.stopped l.limit (with_table v (withdrawn (table_of v) k))).answer ≡ b
-            → LeftBy (cond {A = Stepped} b (record { answer = Taken; load = (researched l.stopped l.limit (with_table v (withdrawn (table_of v) k))).load }) (record { answer = (researched l.stopped l.limit (with_table v (withdrawn (table_of v) k))).answer; load = l }))
+            → LeftBy (cond {A = Stepped} b (record { answer = Ok Taken; load = (researched l.stopped l.limit (with_table v (withdrawn (table_of v) k))).load }) (record { answer = (researched l.stopped l.limit (with_table v (withdrawn (table_of v) k))).answer; load = l }))
         go g true z = searched-left g z
         go g false z = subst (Holds l) (sym (cond-not _ _ z)) h
 

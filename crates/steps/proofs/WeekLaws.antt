@@ -1,9 +1,9 @@
 -- What each step does to the week of its load: a call that is answered closes the services, and only services and exceptions alter it else.
+use Rattle.std.specs.Prelude.{Err}
 use Prim.Native.Nat.{ℕ}
 use mathlib.Core.Path.{◌≡◌, refl, sym, ap, subst, ◌∙◌}
 use mathlib.Core.Bool.{Bool, true, false, cond, true≢false}
 use mathlib.Core.List.{List}
-use Rattle.refusal.specs.declared.Answer.TheVariants.{Refused}
 use Rattle.refusal.specs.declared.Refusal.TheVariants.{AlreadySearched}
 use Rattle.refusal.specs.First.{is_taken, is_refused}
 use Rattle.stops.specs.declared.StopInput.{StopInput}
@@ -41,7 +41,7 @@ pub search-week : (l : Load) → (search_spec l).load.week ≡ l.week
 unfolding search_spec
 search-week l = go l.searched
   where
-    go : (b : Bool) → (cond {A = Stepped} b (record { answer = Refused AlreadySearched; load = l }) (record { answer = answer_of (outcome_of l); load = settled l (outcome_of l) })).load.week ≡ l.week
+    go : (b : Bool) → (cond {A = Stepped} b (record { answer = Err AlreadySearched; load = l }) (record { answer = answer_of (outcome_of l); load = settled l (outcome_of l) })).load.week ≡ l.week
     go true = refl
     go false = week-kept l (outcome_of l)
 
@@ -110,8 +110,8 @@ search-told : (m : Load) → is_taken (search_spec m).answer ≡ false → is_re
 unfolding search_spec
 search-told m e = go m.searched (outcome_of m) e
   where
-    go : (b : Bool) (o : Outcome) → is_taken (cond {A = Stepped} b (record { answer = Refused AlreadySearched; load = m }) (record { answer = answer_of o; load = settled m o })).answer ≡ false
-        → is_refused (cond {A = Stepped} b (record { answer = Refused AlreadySearched; load = m }) (record { answer = answer_of o; load = settled m o })).answer ≡ true
+    go : (b : Bool) (o : Outcome) → is_taken (cond {A = Stepped} b (record { answer = Err AlreadySearched; load = m }) (record { answer = answer_of o; load = settled m o })).answer ≡ false
+        → is_refused (cond {A = Stepped} b (record { answer = Err AlreadySearched; load = m }) (record { answer = answer_of o; load = settled m o })).answer ≡ true
     go true o e = refl
     go false clashing e = refl
     go false falling e = refl

@@ -1,7 +1,7 @@
 -- What holds after any steps: the load is sound and, if it is searched, the search of its own table.
+use Rattle.std.specs.Prelude.{unwrap_or}
 use mathlib.Core.Path.{◌≡◌, sym, ◌∙◌}
 use mathlib.Core.Bool.{true, true≢false}
-use mathlib.Core.Option.{get_or}
 use mathlib.Core.List.{List, [], ◌∷◌}
 use Rattle.offers.specs.Order.{in_order_of}
 use Rattle.offers.specs.Offers.{with_calls}
@@ -46,7 +46,7 @@ end-clear o xs k d = never-clashes (end_of o xs) k (end_kept o xs) d
 -- the searched load reads what its last accepted search read, in order
 handed-from : (xs : List Step) (p l : Load) → Sound l → From p l → From (start p l xs) (handed l xs)
 handed-from [] p l s w = w
-handed-from (x ∷ xs) p l s w = handed-from xs (get_or (ran l x) p) (next l x) (right l x s).sound ((right l x s).from p w)
+handed-from (x ∷ xs) p l s w = handed-from xs (unwrap_or (ran l x) p) (next l x) (right l x s).sound ((right l x s).from p w)
 
 pub end-from : (o : Opening) (xs : List Step) → (end_of o xs).searched ≡ true
     → timetable_of (end_of o xs) ≡ with_calls (timetable_of (start_of o xs)) (in_order_of (timetable_of (start_of o xs)).calls)

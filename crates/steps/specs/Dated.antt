@@ -1,9 +1,7 @@
 -- A dated load keeps the list, horizon and mark of the load without dates that is handed only the calls of running services.
-use Rattle.std.specs.Prelude.{◌≡◌, true, false, List, [], ◌∷◌, ◌++◌, ℕ}
-use Rattle.refusal.specs.declared.Answer.{Answer}
-use Rattle.refusal.specs.declared.Answer.TheVariants.{Refused}
+use Rattle.std.specs.Prelude.{◌≡◌, true, false, List, [], ◌∷◌, ◌++◌, ℕ, Err}
 use Rattle.refusal.specs.declared.Refusal.TheVariants.{AlreadySearched}
-use Rattle.refusal.specs.First.{is_refused}
+use Rattle.refusal.specs.First.{is_refused, Answer}
 use Rattle.settings.specs.declared.Settings.{Settings}
 use Rattle.calls.specs.declared.CallInput.{CallInput}
 use Rattle.week.specs.declared.Running.{Running}
@@ -68,8 +66,8 @@ DatedSame = (s : Settings) (dates : List ℕ) (xs : List Step) → SameDated s d
 -- meets 15, whatever was handed in between
 abbrev pub LateServices : Type 0
 LateServices = (l : Load) (called : List ℕ) (i : CallInput) (xs : List Step) → l.week.dated ≡ true → is_refused (stepped l (filling (call called i))).answer ≡ false
-    → ((name : List ℕ) (weekdays start end : ℕ) → (stepped (handed (next l (filling (call called i))) xs) (filling (service name weekdays start end))).answer ≡ Refused AlreadySearched)
-    × ((name : List ℕ) (date kind : ℕ) → (stepped (handed (next l (filling (call called i))) xs) (filling (exception name date kind))).answer ≡ Refused AlreadySearched)
+    → ((name : List ℕ) (weekdays start end : ℕ) → (stepped (handed (next l (filling (call called i))) xs) (filling (service name weekdays start end))).answer ≡ Err AlreadySearched)
+    × ((name : List ℕ) (date kind : ℕ) → (stepped (handed (next l (filling (call called i))) xs) (filling (exception name date kind))).answer ≡ Err AlreadySearched)
 
 -- on a load without dates the service's name is unread, and no service or exception is taken
 abbrev pub NameUnread : Type 0

@@ -1,10 +1,10 @@
 -- Demands 2 and 3 through the load: what a searched load holds, and when best agrees of two; of searches that were not stopped. The lemmas behind the demands of crate `comparison`,
 -- which speak of what was handed in.
-use Rattle.std.specs.Prelude.{◌≡◌, ◌↔◌, true, false, ℕ, min, ℤ}
-use Rattle.std.proofs.Math.Option.{Option}
+use Rattle.std.specs.Prelude.{◌≡◌, ◌↔◌, true, false, ℕ, min, ℤ, Option}
 use mathlib.Core.List.{List, [], Memᴰ}
 use Rattle.profile.specs.declared.Journey.{Journey}
-use Rattle.profile.specs.Figures.{Figures, covᶠ, dueᶠ}
+use Rattle.profile.specs.declared.figures.Figures.{Figures}
+use Rattle.profile.specs.Figures.{covᶠ, dueᶠ}
 use Rattle.profile.specs.Front.{front}
 use Rattle.profile.specs.Fall.{up_to, fall}
 use Rattle.profile.specs.Best.{read_by, ordered}

@@ -1,6 +1,5 @@
 -- A whole list of steps, handed to a fresh load: each entry gets the load that the one before it returned, those sent back included.
-use Rattle.std.specs.Prelude.{◌≡◌, true, cond, List}
-use Rattle.std.proofs.Math.Option.{Option, none, some}
+use Rattle.std.specs.Prelude.{◌≡◌, true, cond, List, None, Option, Some}
 use Rattle.refusal.specs.First.{is_refused, is_taken}
 use Rattle.profile.specs.declared.Journey.{Journey}
 use Rattle.offers.specs.Offers.{offers}
@@ -25,21 +24,21 @@ next l x = (stepped l x).load
 -- r is what a step made of l's unsearched load
 abbrev pub ran_again : Load → Stepped → Option Load
 ran_again l r =
-    cond (is_refused r.answer) none (cond (is_taken (researched l.stopped l.limit r.load).answer) (some r.load) none)
+    cond (is_refused r.answer) None (cond (is_taken (researched l.stopped l.limit r.load).answer) (Some r.load) None)
 
 -- a call that leaves the table has nothing searched again
 abbrev pub ran_added : Load → Stepped → Option Load
-ran_added l r = cond (leaves_table_of l r) none (ran_again l r)
+ran_added l r = cond (leaves_table_of l r) None (ran_again l r)
 
 abbrev pub ran : Load → Step → Option Load
-ran l (filling (stop id name parent i)) = none
-ran l (filling (call name i)) = cond l.searched (ran_added l (call_spec (unsearched_of l) name i)) none
-ran l (filling (rule i)) = none
-ran l (filling (service name weekdays start end)) = none
-ran l (filling (exception name date kind)) = none
-ran l (withdraw k) = cond l.searched (ran_again l (taken_out (unsearched_of l) k)) none
-ran l search = cond (is_taken (search_spec l).answer) (some l) none
-ran l (limited n) = cond (is_taken (within_spec l n).answer) (some l) none
+ran l (filling (stop id name parent i)) = None
+ran l (filling (call name i)) = cond l.searched (ran_added l (call_spec (unsearched_of l) name i)) None
+ran l (filling (rule i)) = None
+ran l (filling (service name weekdays start end)) = None
+ran l (filling (exception name date kind)) = None
+ran l (withdraw k) = cond l.searched (ran_again l (taken_out (unsearched_of l) k)) None
+ran l search = cond (is_taken (search_spec l).answer) (Some l) None
+ran l (limited n) = cond (is_taken (within_spec l n).answer) (Some l) None
 
 -- ---- a list
 

@@ -1,7 +1,7 @@
 -- What is claimed of the load after any steps: it is the fresh search of its own table, in full or within the limit at which it was stopped, and a call withdrawn straight after it was taken
 -- leaves it as it was.
-use Rattle.std.specs.Prelude.{ℕ, ◌≡◌, true, false, List}
-use Rattle.refusal.specs.declared.Answer.TheVariants.{Taken}
+use Rattle.refusal.specs.declared.Accepted.TheVariants.{Taken}
+use Rattle.std.specs.Prelude.{ℕ, ◌≡◌, true, false, List, Ok}
 use Rattle.calls.specs.declared.CallInput.{CallInput}
 use Rattle.offers.specs.Order.{clashes}
 use Rattle.offers.specs.Offers.{sorted}
@@ -34,8 +34,8 @@ abbrev pub EndTakenBack : Type 0
 EndTakenBack = (o : Opening) (xs : List Step) (name : List ℕ) (i : CallInput)
     → let l = end_of o xs in
     let m = next l (filling (call name i)) in
-    (stepped l (filling (call name i))).answer ≡ Taken → m.table_horizon ≡ l.table_horizon
-    → stepped m (withdraw (key_of i)) ≡ record { answer = Taken; load = closed_load l }
+    (stepped l (filling (call name i))).answer ≡ Ok Taken → m.table_horizon ≡ l.table_horizon
+    → stepped m (withdraw (key_of i)) ≡ record { answer = Ok Taken; load = closed_load l }
 
 -- the search after a withdrawal never meets 14
 abbrev pub EndClear : Type 0

@@ -1,13 +1,11 @@
 -- Steps of one kind handed to a load one after another.
-use Rattle.std.specs.Prelude.{ℕ, zero, suc, false, [], ◌∷◌, pos, replicate}
+use Rattle.std.specs.Prelude.{ℕ, zero, suc, false, [], ◌∷◌, pos, replicate, None, Some}
 use Rattle.std.specs.Float.{binary64}
 use Rattle.std.specs.Float.Ieee.{of_bits}
 use Rattle.settings.specs.declared.Settings.{Settings}
 use Rattle.stops.specs.declared.StopInput.{StopInput}
 use Rattle.rules.specs.declared.RuleInput.{RuleInput}
-use Rattle.rules.specs.declared.MinTime.TheVariants.{Absent}
 use Rattle.calls.specs.declared.CallInput.{CallInput}
-use Rattle.calls.specs.declared.Seconds.TheVariants.{Given}
 use Rattle.load.specs.declared.Load.{Load}
 use Rattle.load.specs.Steps.{undated, open_spec_of, stop_spec, rule_spec, call_spec}
 
@@ -35,11 +33,11 @@ plain_stop = record {
 
 -- a rule from stop k to the first
 abbrev pub plain_rule : ℕ → RuleInput
-plain_rule k = record { from = k; to = 0; transfer_type = 0; seconds = Absent }
+plain_rule k = record { from = k; to = 0; transfer_type = 0; seconds = None }
 
 -- a call at the first stop, in second k
 abbrev pub plain_call : ℕ → CallInput
-plain_call k = record { trip = 1; day = 0; sequence = k; stop = 0; arrival = Given k; departure = Given k; pickup = 0; drop_off = 0 }
+plain_call k = record { trip = 1; day = 0; sequence = k; stop = 0; arrival = Some k; departure = Some k; pickup = 0; drop_off = 0 }
 
 -- ---- a step
 

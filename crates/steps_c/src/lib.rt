@@ -4,10 +4,10 @@
 ghost use Rattle.std.specs.Prelude.{◌≡◌};
 ghost use Rattle.steps_c.specs.Steps.{plain_settings, plain_stop, plain_rule, plain_call, with_stop, with_rule, with_call, turns, calls_held};
 
-use calls::{CallInput, Seconds};
+use calls::CallInput;
 use load::Load;
 use place::Degrees;
-use rules::{MinTime, RuleInput};
+use rules::RuleInput;
 use settings::Settings;
 use stops::StopInput;
 
@@ -58,7 +58,7 @@ fn with_rule(load: Load, k: u8) -> Load
         from: k as u16,
         to: 0,
         transfer_type: 0,
-        seconds: MinTime::Absent,
+        seconds: None,
     });
     s.load
 }
@@ -71,8 +71,8 @@ fn with_call(load: Load, k: u16) -> Load
         day: 0,
         sequence: k as u32,
         stop: 0,
-        arrival: Seconds::Given(k as u32),
-        departure: Seconds::Given(k as u32),
+        arrival: Some(k as u32),
+        departure: Some(k as u32),
         pickup: 0,
         drop_off: 0,
     });

@@ -1,145 +1,113 @@
 // Why a stop is sent back: 15, 3, 5, 6, 7, 8, 4.
 #![tactic(auto)]
 
-ghost use Rattle.std.specs.Prelude.{◌≡◌, not, ◌&&◌};
+ghost use Rattle.std.specs.Prelude.{◌≡◌, length, not, ◌&&◌, is_some};
 ghost use Rattle.refusal.specs.First.{first_answer};
-ghost use Rattle.stops.specs.Stops.{is_at};
 ghost use Rattle.stops.specs.Answer.{station_of, is_known, id_wrong, type_wrong, name_needed, unusable, name_wrong, stop_tests};
 
-use key::NameKey;
-use refusal::{Answer, Refusal};
-use stops::find::{find, is_at};
-use stops::{Found, Stop, StopInput};
+use prefix::first;
+use refusal::{Accepted, Answer, Refusal};
+use stops::find::find;
+use stops::{Stop, StopInput};
 
-pub fn parent_of(stops: [Stop; 128], count: usize, has: bool, parent: &[u8]) -> Found
-    ensures { result ≡ station_of stops count has parent.now }
+// The number of the station that is named as the parent, among the stops of a load.
+#[tactic(auto, unfolding(stops::specs::Answer::station_of))]
+pub fn parent_of(stops: &[Stop], has: bool, parent: &[u8]) -> Option<u16>
+    ensures { result ≡ station_of stops.now 128 has parent.now }
 {
-    if has {
-        return find(stops, count, parent, true);
+    if !has {
+        return None;
     }
-    Found::Nothing
+    match find(first(stops, 128), parent, true) {
+        Some(place) => Some(place as u16),
+        None => None,
+    }
 }
 
+#[tactic(auto, unfolding(stops::specs::Answer::id_wrong))]
 pub fn id_wrong(id: &[u8]) -> bool
     ensures { result ≡ id_wrong id.now }
 {
-    if id.len() == 0 {
-        return true;
-    }
-    32 < id.len()
+    id.len() == 0 || 32 < id.len()
 }
 
+#[tactic(auto, unfolding(stops::specs::Answer::type_wrong))]
 fn type_wrong(kind: u8, has: bool) -> bool
     ensures { result ≡ type_wrong kind has }
 {
-    if 1 < kind {
-        return true;
-    }
-    if kind == 1 {
-        return has;
-    }
-    false
+    1 < kind || kind == 1 && has
 }
 
-fn parent_wrong(has: bool, station: Found) -> bool
-    ensures { result ≡ (has && not (is_at station)) }
+fn parent_wrong(has: bool, station: Option<u16>) -> bool
+    ensures { result ≡ (has && not (is_some station)) }
 {
-    if has {
-        if is_at(station) {
-            return false;
-        }
-        return true;
-    }
-    false
+    has && station.is_none()
 }
 
+#[tactic(auto, unfolding(stops::specs::Answer::name_needed))]
 fn name_needed(input: StopInput) -> bool
     ensures { result ≡ name_needed input }
 {
-    if input.location_type != 0 {
-        return false;
-    }
-    if input.has_parent {
-        return false;
-    }
-    let d = input.degrees;
-    place::usable(place::position_of(input.located, d))
+    input.location_type == 0
+        && !input.has_parent
+        && place::usable(place::position_of(input.located, input.degrees))
 }
 
 fn is_unusable(text: &[u8]) -> bool
     ensures { result ≡ unusable text.now }
 {
-    let k = key::name_key(text);
-    match k {
-        NameKey::Hash(_) => false,
-        NameKey::NoWord => true,
-        NameKey::Control => true,
-        NameKey::NotLatin => true,
-    }
+    key::name_key(text).is_err()
 }
 
+#[tactic(auto, unfolding(stops::specs::Answer::name_wrong))]
 fn name_wrong(named: bool, needed: bool, id: &[u8], name: &[u8]) -> bool
     ensures { result ≡ name_wrong named needed id.now name.now }
 {
     if named {
-        if 64 < name.len() {
-            return true;
-        }
-        if needed {
-            return is_unusable(name);
-        }
-        return false;
+        return 64 < name.len() || needed && is_unusable(name);
     }
-    if needed {
-        return is_unusable(id);
-    }
-    false
+    needed && is_unusable(id)
 }
 
-fn known(stops: [Stop; 128], count: usize, id: &[u8]) -> bool
-    ensures { result ≡ is_known stops count id.now }
+#[tactic(auto, unfolding(stops::specs::Answer::is_known))]
+fn known(stops: &[Stop], id: &[u8]) -> bool
+    ensures { result ≡ is_known stops.now (length stops.now) id.now }
 {
-    is_at(find(stops, count, id, false))
+    find(stops, id, false).is_some()
 }
 
-fn name_refused(input: StopInput, id: &[u8], name: &[u8]) -> bool
-    ensures { result ≡ name_wrong input.named (name_needed input) id.now name.now }
-{
-    name_wrong(input.named, name_needed(input), id, name)
-}
-
-// What a stop is answered, by the parts of the load that it turns on.
+// What a stop is answered, by the stops of the load, the parent found, and the search.
+#[tactic(auto, unfolding(stops::specs::Answer::stop_tests, refusal::specs::First::first_answer))]
 pub fn stop_answer(
     searched: bool,
-    stops: [Stop; 128],
-    count: usize,
-    station: Found,
+    stops: &[Stop],
+    station: Option<u16>,
     id: &[u8],
     name: &[u8],
     input: StopInput,
 ) -> Answer
-    ensures { result ≡ first_answer (stop_tests searched stops count station id.now name.now input) }
+    ensures { result ≡ first_answer (stop_tests searched stops.now (length stops.now) station id.now name.now input) }
 {
     if searched {
-        return Answer::Refused(Refusal::AlreadySearched);
+        return Err(Refusal::AlreadySearched);
     }
     if id_wrong(id) {
-        return Answer::Refused(Refusal::IdLength);
+        return Err(Refusal::IdLength);
     }
-    if known(stops, count, id) {
-        return Answer::Refused(Refusal::IdTaken);
+    if known(stops, id) {
+        return Err(Refusal::IdTaken);
     }
     if type_wrong(input.location_type, input.has_parent) {
-        return Answer::Refused(Refusal::LocationType);
+        return Err(Refusal::LocationType);
     }
     if parent_wrong(input.has_parent, station) {
-        return Answer::Refused(Refusal::ParentUnknown);
+        return Err(Refusal::ParentUnknown);
     }
-    if name_refused(input, id, name) {
-        return Answer::Refused(Refusal::NameUnusable);
+    if name_wrong(input.named, name_needed(input), id, name) {
+        return Err(Refusal::NameUnusable);
     }
-    if 128 <= count {
-        return Answer::Refused(Refusal::StopsFull);
+    if 128 <= stops.len() {
+        return Err(Refusal::StopsFull);
     }
-    Answer::Taken
+    Ok(Accepted::Taken)
 }

@@ -1,4 +1,6 @@
--- What a stop that is taken has passed, and its record by the equations of its parts.
+-- What a stop that is taken has passed.
+use Rattle.refusal.specs.declared.Accepted.TheVariants.{Taken}
+use Rattle.std.specs.Prelude.{Option, Ok}
 use Prim.Native.Nat.{ℕ, ◌≤◌, ◌<◌}
 use mathlib.Core.Path.{◌≡◌, refl, sym, ap, ◌∙◌}
 use mathlib.Core.List.{List, []}
@@ -6,36 +8,25 @@ use mathlib.Core.Bool.{Bool, true, false, cond, not, ◌&&◌}
 use native.Mathlib.Omega.{arith}
 use borrow.Author.Tests.{leb-false, ltb-false}
 use lib.Dec.{eqb, ltb}
-use lib.ListN.{length, take}
+use lib.ListN.{length}
 use Rattle.laws.proofs.Bools.{or-false-left, or-false-right}
 use Rattle.key.specs.Utf8.{points}
 use Rattle.key.specs.Name.{usable}
-use Rattle.refusal.specs.declared.Answer.TheVariants.{Taken}
 use Rattle.refusal.specs.First.{first_answer}
 use Rattle.refusal.proofs.FirstLaws.{taken-all-fail}
 use Rattle.place.specs.declared.Degrees.{Degrees}
 use Rattle.place.specs.Positions.{position_of}
 use Rattle.stops.specs.declared.Stop.{Stop}
 use Rattle.stops.specs.declared.StopInput.{StopInput}
-use Rattle.stops.specs.declared.Found.{Found}
-use Rattle.stops.specs.Texts.{held_text, shown}
-use Rattle.stops.specs.Stops.{number_of}
+use Rattle.stops.specs.Texts.{shown}
 use Rattle.stops.specs.Answer.{is_known, id_wrong, type_wrong, name_wrong, name_needed, unusable, stop_tests}
-use Rattle.stops.specs.Taken.{held_degrees, stop_of}
+use Rattle.stops.specs.Taken.{held_degrees}
 
 pub shown-named : (named : Bool) (name : List ℕ) → named ≡ true → shown named name ≡ name
 shown-named named name e = ap (λ (b : Bool). shown b name) e
 
 pub shown-none : (named : Bool) (name : List ℕ) → named ≡ false → shown named name ≡ []
 shown-none named name e = ap (λ (b : Bool). shown b name) e
-
--- the record, by the equations of its parts
-pub made : (id name : List ℕ) (f : Found) (i : StopInput) (a b : List ℕ) (m n p : ℕ) (d : Degrees) → a ≡ held_text 32 id → m ≡ length (take 32 id) → b ≡ held_text 64 (shown i.named name)
-    → n ≡ length (take 64 (shown i.named name)) → p ≡ number_of f → d ≡ held_degrees i.located i.degrees
-    → ◌≡◌ {A = Stop} (record { id = a; id_len = m; name = b; name_len = n; named = i.named; parent = p; location_type = i.location_type; located = i.located; degrees = d; members = i.members }) (stop_of id name f i)
-unfolding stop_of
-made id name f i a b m n p d ea em eb en ep ed =
-    λ t. record { id = ea t; id_len = em t; name = eb t; name_len = en t; named = i.named; parent = ep t; location_type = i.location_type; located = i.located; degrees = ed t; members = i.members }
 
 -- what is held of degrees is held again, and the position is that of the degrees handed in
 pub degrees-twice : (located : Bool) (d : Degrees) → held_degrees located (held_degrees located d) ≡ held_degrees located d
@@ -72,7 +63,7 @@ name-used named needed id name e t =
     usable-by (usable (points (cond named name id))) (sym (ap (λ (b : Bool). b && not (usable (points (cond named name id)))) t) ∙ q)
 
 -- what a taken stop has passed
-pub record Passed (b : Bool) (stops : List Stop) (count : ℕ) (station : Found) (id name : List ℕ) (i : StopInput) : Type 0 where
+pub record Passed (b : Bool) (stops : List Stop) (count : ℕ) (station : Option ℕ) (id name : List ℕ) (i : StopInput) : Type 0 where
   pub unsearched : b ≡ false
   pub id-fits : length id ≤ 32
   pub new : is_known stops count id ≡ false
@@ -81,8 +72,8 @@ pub record Passed (b : Bool) (stops : List Stop) (count : ℕ) (station : Found)
   pub name-used : name_needed i ≡ true → usable (points (cond i.named name id)) ≡ true
   pub room : count < 128
 
-pub passed : (b : Bool) (stops : List Stop) (count : ℕ) (station : Found) (id name : List ℕ) (i : StopInput)
-    → first_answer (stop_tests b stops count station id name i) ≡ Taken → Passed b stops count station id name i
+pub passed : (b : Bool) (stops : List Stop) (count : ℕ) (station : Option ℕ) (id name : List ℕ) (i : StopInput)
+    → first_answer (stop_tests b stops count station id name i) ≡ Ok Taken → Passed b stops count station id name i
 unfolding stop_tests
 passed b stops count station id name i e =
     let f = taken-all-fail (stop_tests b stops count station id name i) (

@@ -1,4 +1,6 @@
 -- A stop that is taken keeps the stops sound: its id is new, and its parent a station.
+use Rattle.std.specs.Option.{unwrap_or}
+use Rattle.std.specs.Prelude.{None, Option, Some, is_some}
 use Prim.Native.Nat.{ℕ, zero, suc, ◌+◌, ◌-◌, ◌≤◌, ◌<◌}
 use mathlib.Core.Path.{◌≡◌, refl, sym, ap, ap₂, subst, ◌∙◌}
 use mathlib.Core.List.{List, [], ◌∷◌}
@@ -11,10 +13,8 @@ use lib.ListN.{length, get_or, take, set, length-set, length-take}
 use lib.Seq.{get_or-set_same, get_or-set_other, get_or-take}
 use Rattle.stops.specs.declared.Stop.{Stop}
 use Rattle.stops.specs.declared.StopInput.{StopInput}
-use Rattle.stops.specs.declared.Found.{Found}
-use Rattle.stops.specs.declared.Found.TheVariants.{At, Nothing}
 use Rattle.stops.specs.Texts.{same_bytes_of, shown}
-use Rattle.stops.specs.Stops.{id_of, is_it, find_stop, is_at, number_of}
+use Rattle.stops.specs.Stops.{id_of, is_it, find_stop}
 use Rattle.stops.specs.Answer.{station_of, is_known}
 use Rattle.stops.specs.Taken.{stop_of, blank_stop}
 use Rattle.laws.proofs.Bools.{and-true-left}
@@ -24,23 +24,23 @@ use Rattle.stops.proofs.Texts.{held-read}
 use Rattle.stops.proofs.Laws.{passed}
 
 -- where nothing was found, no stop has the property
-nothing : (p : Stop → Bool) (l : List Stop) (k j : ℕ) → is_at (find_stop p l k) ≡ false → j < length l → p (get_or l j blank_stop) ≡ false
+nothing : (p : Stop → Bool) (l : List Stop) (k j : ℕ) → is_some (find_stop p l k) ≡ false → j < length l → p (get_or l j blank_stop) ≡ false
 nothing p [] k j e h = absurd (omega arith)
 nothing p (s ∷ ss) k j e h = go (λ i f g. nothing p ss (k + 1) i f g) (p s) refl e j h
   where
-    go : ((i : ℕ) → is_at (find_stop p ss (k + 1)) ≡ false → i < length ss → p (get_or ss i blank_stop) ≡ false)
-        → (b : Bool) → p s ≡ b → is_at (cond b (At k) (find_stop p ss (k + 1))) ≡ false → (j : ℕ) → j < suc (length ss) → p (get_or (s ∷ ss) j blank_stop) ≡ false
+    go : ((i : ℕ) → is_some (find_stop p ss (k + 1)) ≡ false → i < length ss → p (get_or ss i blank_stop) ≡ false)
+        → (b : Bool) → p s ≡ b → is_some (cond b (Some k) (find_stop p ss (k + 1))) ≡ false → (j : ℕ) → j < suc (length ss) → p (get_or (s ∷ ss) j blank_stop) ≡ false
     go r true q e j h = let z : ◌≡◌ {A = ℕ} 0 1 = cc in absurd (omega arith)
     go r false q e zero h = q
     go r false q e (suc j) h = r j e (omega arith)
 
 -- what was found has it
-pub found : (p : Stop → Bool) (l : List Stop) (k m : ℕ) → find_stop p l k ≡ At m → (k ≤ m) × (m < k + length l) × (p (get_or l (m - k) blank_stop) ≡ true)
+pub found : (p : Stop → Bool) (l : List Stop) (k m : ℕ) → find_stop p l k ≡ Some m → (k ≤ m) × (m < k + length l) × (p (get_or l (m - k) blank_stop) ≡ true)
 found p [] k m e = let z : ◌≡◌ {A = ℕ} 0 1 = cc in absurd (omega arith)
 found p (s ∷ ss) k m e = go (λ f. found p ss (k + 1) m f) (p s) refl e
   where
-    go : (find_stop p ss (k + 1) ≡ At m → (k + 1 ≤ m) × (m < k + 1 + length ss) × (p (get_or ss (m - (k + 1)) blank_stop) ≡ true))
-        → (b : Bool) → p s ≡ b → cond b (At k) (find_stop p ss (k + 1)) ≡ At m → (k ≤ m) × (m < k + suc (length ss)) × (p (get_or (s ∷ ss) (m - k) blank_stop) ≡ true)
+    go : (find_stop p ss (k + 1) ≡ Some m → (k + 1 ≤ m) × (m < k + 1 + length ss) × (p (get_or ss (m - (k + 1)) blank_stop) ≡ true))
+        → (b : Bool) → p s ≡ b → cond b (Some k) (find_stop p ss (k + 1)) ≡ Some m → (k ≤ m) × (m < k + suc (length ss)) × (p (get_or (s ∷ ss) (m - k) blank_stop) ≡ true)
     go r true q e =
         let z : k ≡ m = cc in
         let n : m - k ≡ 0 = omega arith in
@@ -63,7 +63,7 @@ module _ (ss : List Stop) (n : ℕ) (s : Stop) (h : n < length ss) where
   still : (p : ℕ) → Parented ss n p → Parented (set ss n s) (n + 1) p
   still p w = ⊎_elim (λ e. inl e) (λ q. inr (omega (arith, q.0), ap (λ (x : Stop). x.location_type) (at_old p q.0) ∙ q.1)) w
 
-held-id : (id name : List ℕ) (f : Found) (i : StopInput) → length id ≤ 32 → id_of (stop_of id name f i) ≡ id
+held-id : (id name : List ℕ) (f : Option ℕ) (i : StopInput) → length id ≤ 32 → id_of (stop_of id name f i) ≡ id
 unfolding stop_of
 held-id id name f i h = held-read 32 id h
 
@@ -79,11 +79,11 @@ module _ (ss : List Stop) (n : ℕ) (long : n ≤ length ss) where
       sym (ap (λ (x : Stop). same_bytes_of (id_of x) id) g) ∙ nothing (is_it false id) (take n ss) 0 j e (omega (arith, count))
 
   -- a station that is found is one
-  station : (has : Bool) (parent : List ℕ) (f : Found) → station_of ss n has parent ≡ f → Parented ss n (number_of f)
+  station : (has : Bool) (parent : List ℕ) (f : Option ℕ) → station_of ss n has parent ≡ f → Parented ss n (unwrap_or f 65535)
   unfolding station_of stop_at
-  station has parent Nothing e = inl refl
-  station false parent (At m) e = let z : ◌≡◌ {A = ℕ} 0 1 = cc in absurd (omega arith)
-  station true parent (At m) e =
+  station has parent None e = inl refl
+  station false parent (Some m) e = let z : ◌≡◌ {A = ℕ} 0 1 = cc in absurd (omega arith)
+  station true parent (Some m) e =
       let f = found (is_it true parent) (take n ss) 0 m e in
       let h : m < n = omega (arith, f.1, count) in
       let zero-off : m - 0 ≡ m = omega arith in
@@ -138,7 +138,7 @@ no-stops-sound = record {
 pub id-kept : IdKept
 id-kept b ss n id name parent i e = held-id id name _ i (passed b ss n _ id name i e).id-fits
 
-held-name : (id name : List ℕ) (f : Found) (i : StopInput) → length (shown i.named name) ≤ 64 → take (stop_of id name f i).name_len (stop_of id name f i).name ≡ shown i.named name
+held-name : (id name : List ℕ) (f : Option ℕ) (i : StopInput) → length (shown i.named name) ≤ 64 → take (stop_of id name f i).name_len (stop_of id name f i).name ≡ shown i.named name
 unfolding stop_of
 held-name id name f i h = held-read 64 (shown i.named name) h
 
@@ -148,7 +148,7 @@ name-kept b ss n id name parent i e = held-name id name _ i (passed b ss n _ id 
 pub needed-usable : NeededUsable
 needed-usable b ss n id name parent i e = (passed b ss n _ id name i e).name-used
 
-kind-kept : (id name : List ℕ) (f : Found) (i : StopInput) → (stop_of id name f i).location_type ≡ i.location_type
+kind-kept : (id name : List ℕ) (f : Option ℕ) (i : StopInput) → (stop_of id name f i).location_type ≡ i.location_type
 unfolding stop_of
 kind-kept id name f i = refl
 

@@ -1,20 +1,17 @@
 -- Why a stop is sent back, in the scope's order: 15, 3, 5, 6, 7, 8, 4.
-use Rattle.std.specs.Prelude.{ℕ, List, [], ◌∷◌, Bool, true, false, not, cond, ◌&&◌, ◌||◌, length, take, ltb, leb, eqb}
+use Rattle.refusal.specs.First.{Answer}
+use Rattle.std.specs.Prelude.{ℕ, List, [], ◌∷◌, Bool, true, false, not, cond, ◌&&◌, ◌||◌, length, take, ltb, leb, eqb, None, Option, Err, is_some}
 use Rattle.refusal.specs.declared.Refusal.TheVariants.{AlreadySearched, IdLength, IdTaken, LocationType, ParentUnknown, NameUnusable, StopsFull}
-use Rattle.refusal.specs.declared.Answer.{Answer}
-use Rattle.refusal.specs.declared.Answer.TheVariants.{Refused}
 use Rattle.key.specs.Utf8.{points}
 use Rattle.key.specs.Name.{usable}
 use Rattle.place.specs.Positions.{position_of, is_usable}
 use Rattle.stops.specs.declared.Stop.{Stop}
 use Rattle.stops.specs.declared.StopInput.{StopInput}
-use Rattle.stops.specs.declared.Found.{Found}
-use Rattle.stops.specs.declared.Found.TheVariants.{Nothing}
-use Rattle.stops.specs.Stops.{is_it, find_stop, is_at}
+use Rattle.stops.specs.Stops.{is_it, find_stop}
 
 -- the station of the load that is named as the parent, if one is named
-unfoldable pub station_of : List Stop → ℕ → Bool → List ℕ → Found
-station_of stops count has parent = cond has (find_stop (is_it true parent) (take count stops) 0) Nothing
+unfoldable pub station_of : List Stop → ℕ → Bool → List ℕ → Option ℕ
+station_of stops count has parent = cond has (find_stop (is_it true parent) (take count stops) 0) None
 
 -- 3: empty, or over 32 bytes
 unfoldable pub id_wrong : List ℕ → Bool
@@ -22,7 +19,7 @@ id_wrong id = eqb (length id) 0 || ltb 32 (length id)
 
 -- 5: a stop of the load has the id
 unfoldable pub is_known : List Stop → ℕ → List ℕ → Bool
-is_known stops count id = is_at (find_stop (is_it false id) (take count stops) 0)
+is_known stops count id = is_some (find_stop (is_it false id) (take count stops) 0)
 
 -- 6: above 1, or a station with a parent
 unfoldable pub type_wrong : ℕ → Bool → Bool
@@ -41,13 +38,13 @@ unfoldable pub name_wrong : Bool → Bool → List ℕ → List ℕ → Bool
 name_wrong named needed id name = (named && ltb 64 (length name)) || (needed && unusable (cond named name id))
 
 -- `searched` is the load's, of whose stops `count` are taken; `station` is the parent found
-unfoldable pub stop_tests : Bool → List Stop → ℕ → Found → List ℕ → List ℕ → StopInput → List (Bool × Answer)
+unfoldable pub stop_tests : Bool → List Stop → ℕ → Option ℕ → List ℕ → List ℕ → StopInput → List (Bool × Answer)
 stop_tests searched stops count station id name i =
-    (searched, Refused AlreadySearched)
-    ∷ (id_wrong id, Refused IdLength)
-    ∷ (is_known stops count id, Refused IdTaken)
-    ∷ (type_wrong i.location_type i.has_parent, Refused LocationType)
-    ∷ (i.has_parent && not (is_at station), Refused ParentUnknown)
-    ∷ (name_wrong i.named (name_needed i) id name, Refused NameUnusable)
-    ∷ (leb 128 count, Refused StopsFull)
+    (searched, Err AlreadySearched)
+    ∷ (id_wrong id, Err IdLength)
+    ∷ (is_known stops count id, Err IdTaken)
+    ∷ (type_wrong i.location_type i.has_parent, Err LocationType)
+    ∷ (i.has_parent && not (is_some station), Err ParentUnknown)
+    ∷ (name_wrong i.named (name_needed i) id name, Err NameUnusable)
+    ∷ (leb 128 count, Err StopsFull)
     ∷ []

@@ -1,7 +1,7 @@
 -- The stops of a load that the steps make: the count is in range, the tail blank, the type 0 or 1, no two stops have one id, a parent is a station
 -- of the load.
-use Rattle.std.specs.Prelude.{ℕ, ◌+◌, ◌-◌, ◌≤◌, ◌<◌, ◌≡◌, List, Bool, true, false, cond, ◌⊎◌, length, get_or, take, drop, set, replicate}
-use Rattle.refusal.specs.declared.Answer.TheVariants.{Taken}
+use Rattle.refusal.specs.declared.Accepted.TheVariants.{Taken}
+use Rattle.std.specs.Prelude.{ℕ, ◌+◌, ◌-◌, ◌≤◌, ◌<◌, ◌≡◌, List, Bool, true, false, cond, ◌⊎◌, length, get_or, take, drop, set, replicate, Ok}
 use Rattle.refusal.specs.First.{first_answer}
 use Rattle.stops.specs.declared.Stop.{Stop}
 use Rattle.stops.specs.declared.StopInput.{StopInput}
@@ -36,23 +36,23 @@ NoStopsSound = StopsSound (replicate 128 blank_stop) 0
 abbrev pub StopKeepsSound : Type 0
 StopKeepsSound = (searched : Bool) (stops : List Stop) (count : ℕ) (id name parent : List ℕ) (i : StopInput) → StopsSound stops count
     → let station = station_of stops count i.has_parent parent in
-    first_answer (stop_tests searched stops count station id name i) ≡ Taken → StopsSound (set stops count (stop_of id name station i)) (count + 1)
+    first_answer (stop_tests searched stops count station id name i) ≡ Ok Taken → StopsSound (set stops count (stop_of id name station i)) (count + 1)
 
 -- a taken stop is held under the id that was handed in
 abbrev pub IdKept : Type 0
 IdKept = (searched : Bool) (stops : List Stop) (count : ℕ) (id name parent : List ℕ) (i : StopInput)
     → let station = station_of stops count i.has_parent parent in
-    first_answer (stop_tests searched stops count station id name i) ≡ Taken → id_of (stop_of id name station i) ≡ id
+    first_answer (stop_tests searched stops count station id name i) ≡ Ok Taken → id_of (stop_of id name station i) ≡ id
 
 -- and with the name, if one was
 abbrev pub NameKept : Type 0
 NameKept = (searched : Bool) (stops : List Stop) (count : ℕ) (id name parent : List ℕ) (i : StopInput)
     → let station = station_of stops count i.has_parent parent in
-    first_answer (stop_tests searched stops count station id name i) ≡ Taken
+    first_answer (stop_tests searched stops count station id name i) ≡ Ok Taken
     → take (stop_of id name station i).name_len (stop_of id name station i).name ≡ shown i.named name
 
 -- refusal 8: where a name is needed, a taken stop's can be used; its id, where it has no name
 abbrev pub NeededUsable : Type 0
 NeededUsable = (searched : Bool) (stops : List Stop) (count : ℕ) (id name parent : List ℕ) (i : StopInput)
     → let station = station_of stops count i.has_parent parent in
-    first_answer (stop_tests searched stops count station id name i) ≡ Taken → name_needed i ≡ true → usable (points (cond i.named name id)) ≡ true
+    first_answer (stop_tests searched stops count station id name i) ≡ Ok Taken → name_needed i ≡ true → usable (points (cond i.named name id)) ≡ true

@@ -1,8 +1,6 @@
 -- Stops of a load, numbered from 0 in the order taken, and the stop with an id.
-use Rattle.std.specs.Prelude.{ℕ, ◌+◌, List, [], ◌∷◌, Bool, true, false, cond, ◌&&◌, eqb, take}
+use Rattle.std.specs.Prelude.{ℕ, ◌+◌, List, [], ◌∷◌, Bool, true, false, cond, ◌&&◌, eqb, take, None, Option, Some}
 use Rattle.stops.specs.declared.Stop.{Stop}
-use Rattle.stops.specs.declared.Found.{Found}
-use Rattle.stops.specs.declared.Found.TheVariants.{At, Nothing}
 use Rattle.stops.specs.Texts.{same_bytes_of}
 
 abbrev pub id_of : Stop → List ℕ
@@ -18,15 +16,6 @@ abbrev pub is_it : Bool → List ℕ → Stop → Bool
 is_it station id s = type_fits station s.location_type && same_bytes_of (id_of s) id
 
 -- the number, counted from k, of the first stop of which p holds
-abbrev pub find_stop : (Stop → Bool) → List Stop → ℕ → Found
-find_stop p [] k = Nothing
-find_stop p (s ∷ ss) k = cond (p s) (At k) (find_stop p ss (k + 1))
-
-abbrev pub is_at : Found → Bool
-is_at (At n) = true
-is_at Nothing = false
-
--- 65535 where there is none
-abbrev pub number_of : Found → ℕ
-number_of (At n) = n
-number_of Nothing = 65535
+abbrev pub find_stop : (Stop → Bool) → List Stop → ℕ → Option ℕ
+find_stop p [] k = None
+find_stop p (s ∷ ss) k = cond (p s) (Some k) (find_stop p ss (k + 1))

@@ -1,13 +1,12 @@
 -- The record of a stop that is taken, and what an unused slot holds.
-use Rattle.std.specs.Prelude.{ℕ, List, Bool, false, cond, length, take, replicate}
+use Rattle.std.specs.Option.{unwrap_or}
+use Rattle.std.specs.Prelude.{ℕ, List, Bool, false, cond, length, take, replicate, Option}
 use Rattle.std.specs.Float.{binary64}
 use Rattle.std.specs.Float.Ieee.{of_bits}
 use Rattle.place.specs.declared.Degrees.{Degrees}
 use Rattle.stops.specs.declared.Stop.{Stop}
 use Rattle.stops.specs.declared.StopInput.{StopInput}
-use Rattle.stops.specs.declared.Found.{Found}
 use Rattle.stops.specs.Texts.{held_text, shown}
-use Rattle.stops.specs.Stops.{number_of}
 
 abbrev pub zero_degrees : Degrees
 zero_degrees = record { latitude = of_bits binary64 0; longitude = of_bits binary64 0 }
@@ -17,14 +16,14 @@ unfoldable pub held_degrees : Bool → Degrees → Degrees
 held_degrees located d = cond located d zero_degrees
 
 -- texts of at most 32 and 64 bytes, as every taken stop has, are held whole
-unfoldable pub stop_of : List ℕ → List ℕ → Found → StopInput → Stop
+unfoldable pub stop_of : List ℕ → List ℕ → Option ℕ → StopInput → Stop
 stop_of id name station i = record {
   id = held_text 32 id;
   id_len = length (take 32 id);
   name = held_text 64 (shown i.named name);
   name_len = length (take 64 (shown i.named name));
   named = i.named;
-  parent = number_of station;
+  parent = unwrap_or station 65535;
   location_type = i.location_type;
   located = i.located;
   degrees = held_degrees i.located i.degrees;

@@ -1,10 +1,6 @@
 -- Texts as a load holds them: bytes in an array, 0 past their length.
-use Rattle.std.specs.Prelude.{ℕ, List, [], ◌∷◌, ◌++◌, Bool, true, false, cond, ◌&&◌, eqb, length, take, drop}
+use Rattle.std.specs.Prelude.{ℕ, List, [], ◌∷◌, Bool, true, false, cond, ◌&&◌, eqb, take}
 use Rattle.laws.specs.Lists.{padded}
-
--- a text over the first bytes of a list, as many as there is room for
-unfoldable pub overlaid : List ℕ → List ℕ → List ℕ
-overlaid s out = take (length out) s ++ drop (length s) out
 
 -- a text in n bytes: its first n, and 0 after them
 unfoldable pub held_text : ℕ → List ℕ → List ℕ

@@ -1,88 +1,43 @@
 // A stop by its id.
-ghost use Rattle.std.specs.Prelude.{◌≡◌, take};
+ghost use Rattle.std.specs.Prelude.{◌≡◌, ◌<◌, length, IfSome};
 ghost use Rattle.stops.specs.Texts.{same_bytes_of};
-ghost use Rattle.stops.specs.Stops.{type_fits, is_it, find_stop, is_at, number_of};
+ghost use Rattle.stops.specs.Stops.{id_of, type_fits, is_it, find_stop};
 
-use crate::{Found, Stop};
+use crate::Stop;
+use prefix::first;
 
-pub fn wide(b: u8) -> usize
-    ensures { result ≡ b }
+// Whether two texts are one.
+pub fn same_text(held: &[u8], id: &[u8]) -> bool
+    ensures { result ≡ same_bytes_of held.now id.now }
 {
-    b as usize
+    held == id
 }
 
-// Whether the first n bytes held are the id.
-pub fn same_text(held: [u8; 32], n: usize, id: &[u8]) -> bool
-    ensures { result ≡ same_bytes_of (take n held) id.now }
-{
-    let mut i: usize = 0;
-    while i < 32 {
-        if n <= i {
-            return id.len() <= i;
-        }
-        if id.len() <= i {
-            return false;
-        }
-        if held[i] != id[i] {
-            return false;
-        }
-        i += 1;
+impl Stop {
+    // The bytes of its id.
+    pub fn id(&self) -> &[u8]
+        ensures { result.now ≡ id_of self.now }
+    {
+        first(&self.id, usize::from(self.id_len))
     }
-    id.len() <= i
 }
 
 fn type_fits(station: bool, kind: u8) -> bool
     ensures { result ≡ type_fits station kind }
 {
-    if station {
-        return kind == 1;
-    }
-    true
+    !station || kind == 1
 }
 
-fn is_it(stop: Stop, id: &[u8], station: bool) -> bool
-    ensures { result ≡ is_it station id.now stop }
+fn is_it(stop: &Stop, id: &[u8], station: bool) -> bool
+    ensures { result ≡ is_it station id.now stop.now }
 {
-    if type_fits(station, stop.location_type) {
-        let held = stop.id;
-        let n = wide(stop.id_len);
-        return same_text(held, n, id);
-    }
-    false
+    type_fits(station, stop.location_type) && same_text(stop.id(), id)
 }
 
-// The number of the first stop with the id, among the first `count`; of stations alone, if that is asked.
-pub fn find(stops: [Stop; 128], count: usize, id: &[u8], station: bool) -> Found
-    ensures { result ≡ find_stop (is_it station id.now) (take count stops) 0 }
+// The place of the first stop with the id; of stations alone, if that is asked.
+pub fn find(stops: &[Stop], id: &[u8], station: bool) -> Option<usize>
+    ensures value { result ≡ find_stop (is_it station id.now) stops.now 0 }
+    ensures bound { IfSome result (λ i. i < length stops.now) }
 {
-    let mut i: usize = 0;
-    while i < 128 {
-        if count <= i {
-            return Found::Nothing;
-        }
-        let stop = stops[i];
-        if is_it(stop, id, station) {
-            return Found::At(i as u16);
-        }
-        i += 1;
-    }
-    Found::Nothing
-}
-
-pub fn is_at(f: Found) -> bool
-    ensures { result ≡ is_at f }
-{
-    match f {
-        Found::At(_) => true,
-        Found::Nothing => false,
-    }
-}
-
-pub fn number(f: Found) -> u16
-    ensures { result ≡ number_of f }
-{
-    match f {
-        Found::At(n) => n,
-        Found::Nothing => 65535,
-    }
+    stops.iter().position(|stop| is_it(stop, id, station))
 }

@@ -6,8 +6,9 @@ pub mod taken;
 
 use place::Degrees;
 
-// A text is held with 0 past its length. The parent is the number of a station, or 65535 where there is none.
-#[derive(Clone, Copy)]
+// A text is held with 0 past its length: the core has no heap. The parent is the number of a station, or 65535 where there is none, as C reads
+// it; `named` and `located` stand beside what they tell of for the same reason.
+#[derive(Clone, Copy, Debug, PartialEq)]
 pub struct Stop {
     pub id: [u8; 32],
     pub id_len: u8,
@@ -22,7 +23,7 @@ pub struct Stop {
 }
 
 // What is handed in beside the texts: id, name and parent's id.
-#[derive(Clone, Copy)]
+#[derive(Clone, Copy, Debug, PartialEq)]
 pub struct StopInput {
     pub named: bool,
     pub has_parent: bool,
@@ -30,11 +31,4 @@ pub struct StopInput {
     pub located: bool,
     pub degrees: Degrees,
     pub members: u8,
-}
-
-// The number of a stop.
-#[derive(Clone, Copy)]
-pub enum Found {
-    At(u16),
-    Nothing,
 }

@@ -3,8 +3,9 @@ ghost use Rattle.std.specs.Prelude.{◌≡◌, take};
 ghost use Rattle.calls.specs.Tables.{due_by, trim, packed, cut, fitted};
 
 use calls::window::view_of;
-use calls::{Call, CallInput, Fitted, Offset, Packed, Table, View, blank_call};
-use refusal::{Answer, Refusal};
+use calls::{Call, CallInput, Fitted, Packed, Table, blank_call};
+use prefix::first;
+use refusal::{Accepted, Refusal};
 
 fn due(call: Call, h: u16) -> bool
     ensures { result ≡ due_by h call }
@@ -13,6 +14,7 @@ fn due(call: Call, h: u16) -> bool
 }
 
 // A call at a smaller horizon: its departure held to it, and no boarding where it was.
+#[tactic(auto, unfolding(calls::specs::Tables::trim))]
 fn trimmed(call: Call, h: u16) -> Call
     ensures { result ≡ trim h call }
 {
@@ -20,40 +22,24 @@ fn trimmed(call: Call, h: u16) -> Call
         return call;
     }
     Call {
-        trip: call.trip,
-        day: call.day,
-        sequence: call.sequence,
-        stop: call.stop,
-        arrival: call.arrival,
         departure: h,
         board: false,
-        alight: call.alight,
         board_request: false, // the mark goes with it
-        alight_request: call.alight_request,
+        ..call
     }
 }
 
-// The calls among the first `count` that are due by `h`, trimmed, in order, and blanks after them.
-pub fn kept(calls: [Call; 512], count: usize, h: u16) -> Packed
-    ensures { result ≡ packed h (take count calls) }
+// The calls that are due by `h`, trimmed, in order, and blanks after them. A table has no more than 512.
+pub fn kept(calls: &[Call], h: u16) -> Packed
+    ensures { result ≡ packed h (take 512 calls.now) }
 {
-    let blank = blank_call();
-    let mut out = [blank; 512];
+    let mut out = [blank_call(); 512];
     let mut n: usize = 0;
-    let mut i: usize = 0;
-    while i < 512 {
-        if count <= i {
-            return Packed {
-                calls: out,
-                held: n,
-            };
-        }
-        let call = calls[i];
+    for &call in first(calls, 512) {
         if due(call, h) {
             out[n] = trimmed(call, h);
             n += 1;
         }
-        i += 1;
     }
     Packed {
         calls: out,
@@ -64,11 +50,10 @@ pub fn kept(calls: [Call; 512], count: usize, h: u16) -> Packed
 fn cut_to(t: Table, h: u16) -> Table
     ensures { result ≡ cut h t }
 {
-    let calls = t.calls;
-    let p = kept(calls, t.count, h);
-    let out = p.calls;
+    let p = kept(first(&t.calls, t.count), h);
+    let calls = p.calls;
     Table {
-        calls: out,
+        calls,
         count: p.held,
         horizon: h,
         limits: 1,
@@ -76,37 +61,32 @@ fn cut_to(t: Table, h: u16) -> Table
 }
 
 // The call in the table, after as many cuts as it takes.
-pub fn fit(table: Table, a: Offset, d: Offset, input: CallInput) -> Fitted
+pub fn fit(table: Table, a: Option<u64>, d: Option<u64>, input: CallInput) -> Fitted
     ensures { result ≡ fitted table a d input }
 {
     let mut t = table;
     loop {
-        let h = t.horizon;
-        let view = view_of(h, a, d, input);
-        let View::In(call) = view else {
+        let Some(call) = view_of(t.horizon, a, d, input) else {
             return Fitted {
-                answer: Answer::Outside,
+                answer: Ok(Accepted::Outside),
                 table: t,
             };
         };
-        let at = t.count;
-        if at < 512 {
-            let mut next = t;
-            next.calls[at] = call;
-            next.count = at + 1;
+        if t.count < 512 {
+            t.calls[t.count] = call;
+            t.count += 1;
             return Fitted {
-                answer: Answer::Taken,
-                table: next,
-            };
-        }
-        let less = h - h / 4;
-        if less < 3600 {
-            return Fitted {
-                answer: Answer::Refused(Refusal::NoRoom),
+                answer: Ok(Accepted::Taken),
                 table: t,
             };
         }
-        let shorter = cut_to(t, less);
-        t = shorter;
+        let less = t.horizon - t.horizon / 4;
+        if less < 3600 {
+            return Fitted {
+                answer: Err(Refusal::NoRoom),
+                table: t,
+            };
+        }
+        t = cut_to(t, less);
     }
 }

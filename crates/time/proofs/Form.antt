@@ -1,4 +1,5 @@
 -- A text of the form is read by its parts, and a text that is taken has them.
+use Rattle.std.specs.Prelude.{Err, Ok}
 use Prim.Native.Nat.{ℕ, ◌+◌, ◌-◌, ◌^◌, ◌<◌, ◌≤◌}
 use mathlib.Core.Path.{◌≡◌, refl, ap, sym, ◌∙◌}
 use mathlib.Core.List.{List, [], ◌∷◌, ◌++◌, append_assoc}
@@ -11,7 +12,6 @@ use lib.ListN.{length, get_or, take, length-append, take-append-drop}
 use lib.Seq.{take_at, get_or-append-add}
 use Rattle.laws.proofs.Bools.{and-true-left, and-true-right, and-true, test}
 use Rattle.refusal.specs.declared.Refusal.TheVariants.{TimeText}
-use Rattle.time.specs.declared.Time.TheVariants.{Seconds, Refused}
 use Rattle.time.specs.Text.{colon, is_digit, all_digits, number, sixty, well_formed, seconds_of, in_range, parsed, time_of}
 use Rattle.time.specs.Promises.{Digits, Form}
 use Rattle.time.proofs.Laws.{back, last-six, by_parts, short, under, sixty-below}
@@ -31,21 +31,21 @@ digits-out [] w = refl
 digits-out (b ∷ bs) (l, h, w) = and-true (leb 48 b && ltb b 58) (all_digits bs) (and-true (leb 48 b) (ltb b 58) (le-leb 48 b l) (lt-ltb b 58 (omega arith))) (digits-out bs w)
 
 -- seconds are given only within u32
-pub in_range-taken : (t n : ℕ) → in_range t ≡ Seconds n → (t < 2 ^ 32) × (n ≡ t)
+pub in_range-taken : (t n : ℕ) → in_range t ≡ Ok n → (t < 2 ^ 32) × (n ≡ t)
 unfolding in_range
 in_range-taken t n e = go (ltb t (2 ^ 32)) refl e
   where
-    go : (b : Bool) → ltb t (2 ^ 32) ≡ b → cond b (Seconds t) (Refused TimeText) ≡ Seconds n → (t < 2 ^ 32) × (n ≡ t)
+    go : (b : Bool) → ltb t (2 ^ 32) ≡ b → cond b (Ok t) (Err TimeText) ≡ Ok n → (t < 2 ^ 32) × (n ≡ t)
     go true h e = (ltb-true t (2 ^ 32) h, cc)
     go false h e = let z : ◌≡◌ {A = ℕ} 0 1 = cc in absurd (omega arith)
 
 -- and only where the parts are as they should be
-pub parsed-taken : (hours : List ℕ) (c : ℕ) (minutes : List ℕ) (d : ℕ) (seconds : List ℕ) (n : ℕ) → parsed hours c minutes d seconds ≡ Seconds n
-    → (well_formed hours c minutes d seconds ≡ true) × (in_range (seconds_of hours minutes seconds) ≡ Seconds n)
+pub parsed-taken : (hours : List ℕ) (c : ℕ) (minutes : List ℕ) (d : ℕ) (seconds : List ℕ) (n : ℕ) → parsed hours c minutes d seconds ≡ Ok n
+    → (well_formed hours c minutes d seconds ≡ true) × (in_range (seconds_of hours minutes seconds) ≡ Ok n)
 unfolding parsed
 parsed-taken hours c minutes d seconds n e = go (well_formed hours c minutes d seconds) e
   where
-    go : (b : Bool) → cond b (in_range (seconds_of hours minutes seconds)) (Refused TimeText) ≡ Seconds n → (b ≡ true) × (in_range (seconds_of hours minutes seconds) ≡ Seconds n)
+    go : (b : Bool) → cond b (in_range (seconds_of hours minutes seconds)) (Err TimeText) ≡ Ok n → (b ≡ true) × (in_range (seconds_of hours minutes seconds) ≡ Ok n)
     go true e = (refl, e)
     go false e = let z : ◌≡◌ {A = ℕ} 0 1 = cc in absurd (omega arith)
 
@@ -82,7 +82,7 @@ sixty-digits : (p : List ℕ) → sixty p ≡ true → all_digits p ≡ true
 unfolding sixty
 sixty-digits p e = and-true-left (all_digits p) (ltb (number p) 60) e
 
-long-form : (text : List ℕ) (n : ℕ) → 7 ≤ length text → time_of text ≡ Seconds n → Form text n
+long-form : (text : List ℕ) (n : ℕ) → 7 ≤ length text → time_of text ≡ Ok n → Form text n
 long-form text n k e =
     let hours = take (length text - 6) text in
     let minutes = back text 5 ∷ back text 4 ∷ [] in
@@ -110,11 +110,11 @@ long-form text n k e =
     }
 
 -- a text that is taken is of the form
-pub form_of : (text : List ℕ) (n : ℕ) → time_of text ≡ Seconds n → Form text n
+pub form_of : (text : List ℕ) (n : ℕ) → time_of text ≡ Ok n → Form text n
 form_of text n e = ⊎_elim whole (λ h. absurd (too_short (leb-false 7 (length text) h))) (test (leb 7 (length text)))
   where
     too_short : length text < 7 → ⊥
-    too_short h = let r : Refused TimeText ≡ Seconds n = short text h ∙ e in let z : ◌≡◌ {A = ℕ} 0 1 = cc in omega arith
+    too_short h = let r : Err TimeText ≡ Ok n = short text h ∙ e in let z : ◌≡◌ {A = ℕ} 0 1 = cc in omega arith
 
     whole : leb 7 (length text) ≡ true → Form text n
     whole h = long-form text n (leb-true 7 (length text) h) e
@@ -153,11 +153,11 @@ unfolding parsed well_formed
 parsed-form hours minutes seconds k h m s = rw (le-leb 1 (length hours) k, m, s, h) refl
 
 -- a text of the form is taken
-pub taken_of : (text : List ℕ) (n : ℕ) → Form text n → time_of text ≡ Seconds n
+pub taken_of : (text : List ℕ) (n : ℕ) → Form text n → time_of text ≡ Ok n
 taken_of text n f = go f.minutes f.seconds f.two_minutes f.two_seconds f.form refl refl
   where
     go : (minutes seconds : List ℕ) → length minutes ≡ 2 → length seconds ≡ 2 → text ≡ f.hours ++ colon ∷ minutes ++ colon ∷ seconds
-        → f.minutes ≡ minutes → f.seconds ≡ seconds → time_of text ≡ Seconds n
+        → f.minutes ≡ minutes → f.seconds ≡ seconds → time_of text ≡ Ok n
     go (a ∷ b ∷ []) (c ∷ d ∷ []) l₁ l₂ e em es =
         let m : sixty (a ∷ b ∷ []) ≡ true = rw em at (sixty-of f.minutes (digits-out f.minutes f.minute_digits) f.minutes_below) in
         let s : sixty (c ∷ d ∷ []) ≡ true = rw es at (sixty-of f.seconds (digits-out f.seconds f.second_digits) f.seconds_below) in

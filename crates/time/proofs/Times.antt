@@ -1,4 +1,6 @@
 -- The promises on time texts, proved.
+use Rattle.std.specs.Prelude.{Err, Ok, Result}
+use Rattle.refusal.specs.declared.Refusal.{Refusal}
 use Prim.Native.Nat.{ℕ, ◌^◌, ◌<◌}
 use mathlib.Core.Path.{◌≡◌, refl, ap}
 use mathlib.Core.List.{List, ◌∷◌}
@@ -8,8 +10,6 @@ use native.Mathlib.Omega.{arith}
 use borrow.Author.Tests.{ltb-true}
 use lib.Dec.{ltb}
 use Rattle.refusal.specs.declared.Refusal.TheVariants.{TimeText}
-use Rattle.time.specs.declared.Time.{Time}
-use Rattle.time.specs.declared.Time.TheVariants.{Seconds, Refused}
 use Rattle.time.specs.Text.{is_digit, sixty, well_formed, seconds_of, in_range, parsed, time_of, answer}
 use Rattle.time.specs.Promises.{Taken, Answered, ZeroInFront, Marked}
 use Rattle.time.proofs.Form.{form_of, taken_of}
@@ -18,14 +18,14 @@ pub taken : Taken
 taken text n = (form_of text n, taken_of text n)
 
 -- seconds below 2 ^ 32, or 16
-abbrev Either : Time → Type 0
+abbrev Either : Result ℕ Refusal → Type 0
 Either t = ((n : ℕ) × (answer t ≡ inl n) × (n < 2 ^ 32)) ⊎ (answer t ≡ inr 16)
 
 in_range-either : (n : ℕ) → Either (in_range n)
 unfolding in_range
 in_range-either n = go (ltb n (2 ^ 32)) refl
   where
-    go : (b : Bool) → ltb n (2 ^ 32) ≡ b → Either (cond b (Seconds n) (Refused TimeText))
+    go : (b : Bool) → ltb n (2 ^ 32) ≡ b → Either (cond b (Ok n) (Err TimeText))
     go true e = inl (n, refl, ltb-true n (2 ^ 32) e)
     go false e = inr refl
 
@@ -33,7 +33,7 @@ parsed-either : (hours : List ℕ) (c : ℕ) (minutes : List ℕ) (d : ℕ) (sec
 unfolding parsed
 parsed-either hours c minutes d seconds = go (well_formed hours c minutes d seconds)
   where
-    go : (b : Bool) → Either (cond b (in_range (seconds_of hours minutes seconds)) (Refused TimeText))
+    go : (b : Bool) → Either (cond b (in_range (seconds_of hours minutes seconds)) (Err TimeText))
     go true = in_range-either (seconds_of hours minutes seconds)
     go false = inr refl
 

@@ -1,7 +1,6 @@
 -- What is proved of time texts.
-use Rattle.std.specs.Prelude.{ℕ, ◌^◌, ◌≤◌, ◌<◌, ◌≡◌, List, [], ◌∷◌, ◌++◌, ◌⊎◌, ◌↔◌, length}
+use Rattle.std.specs.Prelude.{ℕ, ◌^◌, ◌≤◌, ◌<◌, ◌≡◌, List, [], ◌∷◌, ◌++◌, ◌⊎◌, ◌↔◌, length, Ok}
 use Rattle.std.proofs.Common.{inl, inr}
-use Rattle.time.specs.declared.Time.TheVariants.{Seconds}
 use Rattle.time.specs.Text.{colon, number, seconds_of, time_of, answer}
 
 -- the bytes 48 to 57, which are "0" to "9"
@@ -28,7 +27,7 @@ pub record Form (text : List ℕ) (n : ℕ) : Type 0 where
 
 -- a text has seconds exactly if it is of the form
 abbrev pub Taken : Type 0
-Taken = (text : List ℕ) (n : ℕ) → (time_of text ≡ Seconds n) ↔ Form text n
+Taken = (text : List ℕ) (n : ℕ) → (time_of text ≡ Ok n) ↔ Form text n
 
 -- every other is refused with 16
 abbrev pub Answered : Type 0
@@ -36,7 +35,7 @@ Answered = (text : List ℕ) → ((n : ℕ) × (answer (time_of text) ≡ inl n)
 
 -- a zero in front of a text that is taken changes nothing
 abbrev pub ZeroInFront : Type 0
-ZeroInFront = (text : List ℕ) (n : ℕ) → time_of text ≡ Seconds n → time_of (48 ∷ text) ≡ Seconds n
+ZeroInFront = (text : List ℕ) (n : ℕ) → time_of text ≡ Ok n → time_of (48 ∷ text) ≡ Ok n
 
 -- "24:00:00", "7:05:00", "07:5:00", "1193046:28:15", and one second more
 abbrev pub marked : List (List ℕ × (ℕ ⊎ ℕ))

@@ -1,12 +1,11 @@
--- Time text: bytes to u32 seconds, as `Time`. Refused with 16: a text that is not digits, ':', 2 digits, ':', 2 digits; minutes or seconds 60
+-- Result ℕ Refusal text: bytes to u32 seconds, as `Result ℕ Refusal`. Err with 16: a text that is not digits, ':', 2 digits, ':', 2 digits; minutes or seconds 60
 -- or more; over u32.
-use Rattle.std.specs.Prelude.{ℕ, ◌+◌, ◌-◌, ◌*◌, ◌^◌, List, [], ◌∷◌, Bool, true, cond, ◌&&◌, ◌⊎◌, eqb, ltb, leb, length, get_or, take, drop}
+use Rattle.refusal.specs.declared.Refusal.{Refusal}
+use Rattle.std.specs.Prelude.{ℕ, ◌+◌, ◌-◌, ◌*◌, ◌^◌, List, [], ◌∷◌, Bool, true, cond, ◌&&◌, ◌⊎◌, eqb, ltb, leb, length, get_or, take, drop, Err, Ok, Result}
 use Rattle.std.proofs.Common.{inl, inr}
 use Rattle.laws.specs.Lists.{foldl}
 use Rattle.refusal.specs.declared.Refusal.TheVariants.{TimeText}
 use Rattle.refusal.specs.Causes.{number_of}
-use Rattle.time.specs.declared.Time.{Time}
-use Rattle.time.specs.declared.Time.TheVariants.{Seconds, Refused}
 
 abbrev pub colon : ℕ
 colon = 58
@@ -38,19 +37,19 @@ abbrev pub seconds_of : List ℕ → List ℕ → List ℕ → ℕ
 seconds_of hours minutes seconds = number hours * 3600 + (number minutes * 60 + number seconds)
 
 -- n seconds, if that is a u32
-unfoldable pub in_range : ℕ → Time
-in_range n = cond (ltb n (2 ^ 32)) (Seconds n) (Refused TimeText)
+unfoldable pub in_range : ℕ → Result ℕ Refusal
+in_range n = cond (ltb n (2 ^ 32)) (Ok n) (Err TimeText)
 
-unfoldable pub parsed : List ℕ → ℕ → List ℕ → ℕ → List ℕ → Time
-parsed hours c minutes d seconds = cond (well_formed hours c minutes d seconds) (in_range (seconds_of hours minutes seconds)) (Refused TimeText)
+unfoldable pub parsed : List ℕ → ℕ → List ℕ → ℕ → List ℕ → Result ℕ Refusal
+parsed hours c minutes d seconds = cond (well_formed hours c minutes d seconds) (in_range (seconds_of hours minutes seconds)) (Err TimeText)
 
 -- the parts by their places: all but the last six bytes are hours; these are a colon, two bytes, a colon, two bytes
-unfoldable pub time_of : List ℕ → Time
+unfoldable pub time_of : List ℕ → Result ℕ Refusal
 time_of text =
     let end = length text - 6 in
     parsed (take end text) (get_or text end 0) (take 2 (drop (end + 1) text)) (get_or text (end + 3) 0) (drop (end + 4) text)
 
 -- the scope's value or number of each case
-abbrev pub answer : Time → ℕ ⊎ ℕ
-answer (Seconds n) = inl n
-answer (Refused cause) = inr (number_of cause)
+abbrev pub answer : Result ℕ Refusal → ℕ ⊎ ℕ
+answer (Ok n) = inl n
+answer (Err cause) = inr (number_of cause)

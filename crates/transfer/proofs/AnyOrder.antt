@@ -1,4 +1,5 @@
 -- The change between two stops doesn't depend on the order in which the rules were taken: the one of the highest rank is the same.
+use Rattle.std.specs.Prelude.{None, Option, Some}
 use mathlib.Core.Path.{◌≡◌, refl, sym, ap, ◌∙◌}
 use mathlib.Core.Bool.{true, false, true≢false}
 use mathlib.Core.List.Permᴰ
@@ -13,8 +14,6 @@ use Rattle.rules.specs.declared.Rule.{Rule}
 use Rattle.rules.specs.Rules.{blank_rule}
 use Rattle.rules.specs.Sound.{rule_at, RulesSound}
 use Rattle.transfer.specs.declared.Ends.{Ends}
-use Rattle.transfer.specs.declared.Chosen.{Chosen}
-use Rattle.transfer.specs.declared.Chosen.TheVariants.{By, Open}
 use Rattle.transfer.specs.Choice.{applies, rank, chosen}
 use Rattle.transfer.specs.Changes.{ends_of_of, near, change_of, transfer_of}
 use Rattle.transfer.specs.Promises.{Right, TransferInAnyOrder}
@@ -44,23 +43,23 @@ module _ (stops : ℕ) (rules : List Rule) (count : ℕ) (s : RulesSound stops r
   module _ (e : Ends) (others : List Rule)
       (there : (r : Rule) → Memᴰ r (take count rules) → Memᴰ r others)
       (here : (r : Rule) → Memᴰ r others → Memᴰ r (take count rules)) where
-    same_chosen : (c d : Chosen) → Right e (take count rules) c → Right e others d → c ≡ d
-    same_chosen Open Open v w = refl
-    same_chosen Open (By r) v w = absurd (true≢false (sym w.fits ∙ v r (here r (best-taken e others r w))))
-    same_chosen (By q) Open v w = absurd (true≢false (sym v.fits ∙ w q (there q (best-taken e (take count rules) q v))))
-    same_chosen (By q) (By r) v w =
+    same_chosen : (c d : Option Rule) → Right e (take count rules) c → Right e others d → c ≡ d
+    same_chosen None None v w = refl
+    same_chosen None (Some r) v w = absurd (true≢false (sym w.fits ∙ v r (here r (best-taken e others r w))))
+    same_chosen (Some q) None v w = absurd (true≢false (sym v.fits ∙ w q (there q (best-taken e (take count rules) q v))))
+    same_chosen (Some q) (Some r) v w =
         let m = best-taken e (take count rules) q v in
         let n = best-taken e others r w in
         let a = best-most e others r w q (there q m) v.fits in
         let b = best-most e (take count rules) q v r (here r n) w.fits in
         let t : rank e q ≡ rank e r = omega (arith, a, b) in
-        ap By (one-rule e q r m (here r n) v.fits w.fits t)
+        ap Some (one-rule e q r m (here r n) v.fits w.fits t)
 
 pub transfer-in-any-order : TransferInAnyOrder
 unfolding transfer_of
 transfer-in-any-order stops rules count s others p parents places from to change =
     let e = ends_of_of parents from to in
-    ap (λ (c : Chosen). change_of c (near e (get_or places from 65535) (get_or places to 65535)) change)
+    ap (λ (c : Option Rule). change_of c (near e (get_or places from 65535) (get_or places to 65535)) change)
     (same_chosen stops rules count s e others (λ r m. moved p m) (λ r m. moved (Permᴰ.symm p) m)
     (chosen e (take count rules)) (chosen e others) (chosen-right e (take count rules)) (chosen-right e others))
   where

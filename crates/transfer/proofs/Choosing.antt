@@ -1,4 +1,5 @@
 -- Of the rules that apply, the last of those of the highest rank is chosen.
+use Rattle.std.specs.Prelude.{None, Option, Some}
 use mathlib.Core.Path.{◌≡◌, refl, sym, ap, ◌∙◌, subst}
 use mathlib.Core.Logic.{◌⊎◌, inl, inr}
 use mathlib.Core.Bool.{Bool, true, false, cond, true≢false}
@@ -10,8 +11,6 @@ use borrow.Author.Tests.{leb-true, leb-false}
 use Rattle.laws.specs.Lists.{foldl}
 use Rattle.rules.specs.declared.Rule.{Rule}
 use Rattle.transfer.specs.declared.Ends.{Ends}
-use Rattle.transfer.specs.declared.Chosen.{Chosen}
-use Rattle.transfer.specs.declared.Chosen.TheVariants.{By, Open}
 use Rattle.transfer.specs.Choice.{applies, rank, better, read}
 use Rattle.transfer.specs.Promises.{Best, Right, ChosenRight}
 
@@ -25,7 +24,7 @@ better-not e old new h = omega (arith, leb-false)
 
 -- ---- one more rule
 
-right-open : (e : Ends) (l : List Rule) (x : Rule) (b : Bool) → applies e x ≡ b → Right e l Open → Right e (l ++ x ∷ []) (cond b (By x) Open)
+right-open : (e : Ends) (l : List Rule) (x : Rule) (b : Bool) → applies e x ≡ b → Right e l None → Right e (l ++ x ∷ []) (cond b (Some x) None)
 right-open e l x true a h =
     record { before = l; behind = []; split = refl; fits = a; older = λ q m f. absurd (true≢false (sym f ∙ h q m)); newer = λ q m. absurd (Memᴰ.not-nil m) }
 right-open e l x false a h = λ q m. go q (Memᴰ.append_cases l m)
@@ -50,7 +49,7 @@ right-keep e l x r f h = record {
     go q (inr m) t = let s = Memᴰ.eq_of_singleton m in subst (λ (p : Rule). rank e p < rank e r) (sym s) (f (rw s at t))
 
 right_by : (e : Ends) (l : List Rule) (x r : Rule) (a b : Bool) → applies e x ≡ a → better e r x ≡ b → Best e l r
-    → Right e (l ++ x ∷ []) (cond a (cond b (By x) (By r)) (By r))
+    → Right e (l ++ x ∷ []) (cond a (cond b (Some x) (Some r)) (Some r))
 right_by e l x r false b ea eb h = right-keep e l x r (λ t. absurd (true≢false (sym t ∙ ea))) h
 right_by e l x r true false ea eb h = right-keep e l x r (λ t. better-not e r x eb) h
 right_by e l x r true true ea eb h = record { before = l; behind = []; split = refl; fits = ea; older = older; newer = λ q m. absurd (Memᴰ.not-nil m) }
@@ -66,17 +65,17 @@ right_by e l x r true true ea eb h = record { before = l; behind = []; split = r
     older : (q : Rule) → Memᴰ q l → applies e q ≡ true → rank e q ≤ rank e x
     older q m t = parts q (Memᴰ.append_cases h.before (subst (λ (k : List Rule). Memᴰ q k) h.split m)) t
 
-right-step : (e : Ends) (l : List Rule) (x : Rule) (s : Chosen) → Right e l s → Right e (l ++ x ∷ []) (read e s x)
-right-step e l x Open h = right-open e l x (applies e x) refl h
-right-step e l x (By r) h = right_by e l x r (applies e x) (better e r x) refl refl h
+right-step : (e : Ends) (l : List Rule) (x : Rule) (s : Option Rule) → Right e l s → Right e (l ++ x ∷ []) (read e s x)
+right-step e l x None h = right-open e l x (applies e x) refl h
+right-step e l x (Some r) h = right_by e l x r (applies e x) (better e r x) refl refl h
 
-right-fold : (e : Ends) (l m : List Rule) (s : Chosen) → Right e l s → Right e (l ++ m) (foldl (read e) s m)
+right-fold : (e : Ends) (l m : List Rule) (s : Option Rule) → Right e l s → Right e (l ++ m) (foldl (read e) s m)
 right-fold e l [] s h = subst (λ (k : List Rule). Right e k s) (sym (append-nil l)) h
 right-fold e l (x ∷ m) s h =
     subst (λ (k : List Rule). Right e k (foldl (read e) (read e s x) m)) (append_assoc l (x ∷ []) m) (right-fold e (l ++ x ∷ []) m (read e s x) (right-step e l x s h))
 
 pub chosen-right : ChosenRight
-chosen-right e l = right-fold e [] l Open (λ q m. absurd (Memᴰ.not-nil m))
+chosen-right e l = right-fold e [] l None (λ q m. absurd (Memᴰ.not-nil m))
 
 -- no rule that applies ranks above the best
 pub best-most : (e : Ends) (l : List Rule) (r : Rule) → Best e l r → (q : Rule) → Memᴰ q l → applies e q ≡ true → rank e q ≤ rank e r

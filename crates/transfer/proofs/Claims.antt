@@ -1,4 +1,5 @@
 -- What a chosen rule gives, what holds of the rules of a sound load, and what a row decides.
+use Rattle.std.specs.Prelude.{None, Option, Some}
 use mathlib.Core.Path.{◌≡◌, refl, sym, ap, ◌∙◌}
 use mathlib.Core.Logic.{◌⊎◌, inl, inr}
 use mathlib.Core.Bool.{Bool, true, false, true≢false}
@@ -13,9 +14,6 @@ use Rattle.laws.proofs.Tables.{get_d-table}
 use Rattle.rules.specs.declared.Rule.{Rule}
 use Rattle.rules.specs.Sound.{rule_at}
 use Rattle.stops.specs.Sound.{stop_at}
-use Rattle.transfer.specs.declared.Chosen.{Chosen}
-use Rattle.transfer.specs.declared.Change.{Change}
-use Rattle.transfer.specs.declared.Change.TheVariants.{Takes, Never}
 use Rattle.transfer.specs.Changes.{ends_of_of, near, change_of, transfer_of, joins_by, change_number}
 use Rattle.transfer.specs.Copied.{parents_of}
 use Rattle.transfer.specs.Rows.{entry_of, change_row}
@@ -27,7 +25,7 @@ use Rattle.transfer.specs.Promises.{RankRight, TypeThreeForbids, PairOnce, Ranks
 pub type-three-forbids : TypeThreeForbids
 unfolding transfer_of
 type-three-forbids rules parents places from to change r e t =
-    ap (λ (c : Chosen). change_of c (near (ends_of_of parents from to) (get_or places from 65535) (get_or places to 65535)) change) e ∙ cond-by _ _ (eq-eqb r.transfer_type 3 t)
+    ap (λ (c : Option Rule). change_of c (near (ends_of_of parents from to) (get_or places from 65535) (get_or places to 65535)) change) e ∙ cond-by _ _ (eq-eqb r.transfer_type 3 t)
 
 pub pair-once : PairOnce
 pair-once stops rules count s j k hj hk f t = go (tri j k)
@@ -99,9 +97,9 @@ rank_right e r = record {
 pub none-not-named : NoneNotNamed
 none-not-named stops rules count few s k h = ((λ e. omega (arith, s.from_known k h)), (λ e. omega (arith, s.to_known k h)))
 
-number-joins : (c : Change) (arrival departure : ℕ) → departure < 65536 → leb (arrival + change_number c) departure ≡ joins_by c arrival departure
-number-joins (Takes s) arrival departure h = refl
-number-joins Never arrival departure h = lt-leb (arrival + 65536) departure (omega arith)
+number-joins : (c : Option ℕ) (arrival departure : ℕ) → departure < 65536 → leb (arrival + change_number c) departure ≡ joins_by c arrival departure
+number-joins (Some s) arrival departure h = refl
+number-joins None arrival departure h = lt-leb (arrival + 65536) departure (omega arith)
 
 pub row-joins : RowJoins
 unfolding change_row entry_of

@@ -1,4 +1,5 @@
 -- What the proofs of this crate share: rules read one by one, the parts of a transfer, the end of an array.
+use Rattle.std.specs.Prelude.{None, Option, Some}
 use Prim.Native.Nat.{ℕ, ◌+◌, ◌*◌, ◌%◌, ◌≤◌}
 use mathlib.Core.Path.{◌≡◌, refl, sym, ◌∙◌}
 use mathlib.Core.List.{List, [], ◌∷◌}
@@ -13,9 +14,6 @@ use Rattle.laws.proofs.Folds.{foldl-append}
 use Rattle.rules.specs.declared.Rule.{Rule}
 use Rattle.rules.specs.Rules.{blank_rule}
 use Rattle.transfer.specs.declared.Ends.{Ends}
-use Rattle.transfer.specs.declared.Chosen.{Chosen}
-use Rattle.transfer.specs.declared.Chosen.TheVariants.{By, Open}
-use Rattle.transfer.specs.declared.Change.{Change}
 use Rattle.transfer.specs.Choice.{bit, applies, read, chosen}
 use Rattle.transfer.specs.Changes.{ends_of_of, near, change_of, transfer_of}
 use Rattle.transfer.specs.Copied.{rule_at, rules_of}
@@ -24,12 +22,12 @@ pub bits : {p q a b : Bool} → p ≡ a → q ≡ b → 2 * bit p + bit q ≡ 2 
 bits e f = rw (e, f)
 
 -- a rule that does not apply changes nothing
-pub read_none : (e : Ends) (b : Chosen) (r : Rule) → applies e r ≡ false → read e b r ≡ b
-read_none e (By old) r h = cond-not _ _ h
-read_none e Open r h = cond-not _ _ h
+pub read_none : (e : Ends) (b : Option Rule) (r : Rule) → applies e r ≡ false → read e b r ≡ b
+read_none e (Some old) r h = cond-not _ _ h
+read_none e None r h = cond-not _ _ h
 
 -- the parts of a transfer, as the code computes them
-pub transfer-parts : (rules : List Rule) (parents places : List ℕ) (f t m : ℕ) {ends : Ends} {pf pt : ℕ} {rule : Chosen} {close : Bool} {r : Change}
+pub transfer-parts : (rules : List Rule) (parents places : List ℕ) (f t m : ℕ) {ends : Ends} {pf pt : ℕ} {rule : Option Rule} {close : Bool} {r : Option ℕ}
     → ends ≡ ends_of_of parents f t → rule ≡ chosen ends rules → pf ≡ get_or places f 65535 → pt ≡ get_or places t 65535 → close ≡ near ends pf pt → r ≡ change_of rule close m
     → r ≡ transfer_of rules parents places f t m
 unfolding transfer_of

@@ -1,11 +1,9 @@
 -- "`transfer`: among rules whose from is the stop or its parent, likewise to", the one with both sides exact, then with its from side, then
 -- with its to side. Request 06: "Now the one exact on the from side wins, whichever came last. Full exactness still comes first."
-use Rattle.std.specs.Prelude.{Bool, true, false, cond, ◌&&◌, ◌||◌, List, ℕ, ◌+◌, ◌*◌, leb, eqb}
+use Rattle.std.specs.Prelude.{Bool, true, false, cond, ◌&&◌, ◌||◌, List, ℕ, ◌+◌, ◌*◌, leb, eqb, None, Option, Some}
 use Rattle.laws.specs.Lists.{foldl}
 use Rattle.rules.specs.declared.Rule.{Rule}
 use Rattle.transfer.specs.declared.Ends.{Ends}
-use Rattle.transfer.specs.declared.Chosen.{Chosen}
-use Rattle.transfer.specs.declared.Chosen.TheVariants.{By, Open}
 
 -- a number of a rule is the stop or its parent. A stop without a parent has 65535 there, and no rule of a sound load names 65535.
 abbrev pub side : ℕ → ℕ → ℕ → Bool
@@ -27,9 +25,9 @@ abbrev pub better : Ends → Rule → Rule → Bool
 better e old new = leb (rank e old) (rank e new)
 
 -- the rule that holds among those read, and one more
-abbrev pub read : Ends → Chosen → Rule → Chosen
-read e Open r = cond (applies e r) (By r) Open
-read e (By b) r = cond (applies e r) (cond (better e b r) (By r) (By b)) (By b)
+abbrev pub read : Ends → Option Rule → Rule → Option Rule
+read e None r = cond (applies e r) (Some r) None
+read e (Some b) r = cond (applies e r) (cond (better e b r) (Some r) (Some b)) (Some b)
 
-abbrev pub chosen : Ends → List Rule → Chosen
-chosen e rules = foldl (read e) Open rules
+abbrev pub chosen : Ends → List Rule → Option Rule
+chosen e rules = foldl (read e) None rules

@@ -1,14 +1,11 @@
 -- What is proved of changes: which rule is chosen, what it gives, and that a row decides joins.
-use Rattle.std.specs.Prelude.{◌≡◌, true, false, ℕ, ◌+◌, ◌≤◌, ◌<◌, leb, get_or, take}
+use Rattle.std.specs.Prelude.{◌≡◌, true, false, ℕ, ◌+◌, ◌≤◌, ◌<◌, leb, get_or, take, None, Option, Some}
 use mathlib.Core.List.{List, [], ◌++◌, ◌∷◌, Memᴰ, Permᴰ}
 use Rattle.rules.specs.declared.Rule.{Rule}
 use Rattle.rules.specs.Sound.{rule_at, RulesSound}
 use Rattle.stops.specs.declared.Stop.{Stop}
 use Rattle.stops.specs.Sound.{stop_at}
 use Rattle.transfer.specs.declared.Ends.{Ends}
-use Rattle.transfer.specs.declared.Chosen.{Chosen}
-use Rattle.transfer.specs.declared.Chosen.TheVariants.{By, Open}
-use Rattle.transfer.specs.declared.Change.TheVariants.{Never}
 use Rattle.transfer.specs.Choice.{applies, chosen, rank}
 use Rattle.transfer.specs.Changes.{transfer_of, ends_of_of, joins_by}
 use Rattle.transfer.specs.Copied.{parents_of}
@@ -34,9 +31,9 @@ pub record Best (e : Ends) (l : List Rule) (r : Rule) : Type 0 where
   pub older : (q : Rule) → Memᴰ q before → applies e q ≡ true → rank e q ≤ rank e r
   pub newer : (q : Rule) → Memᴰ q behind → applies e q ≡ true → rank e q < rank e r
 
-abbrev pub Right : Ends → List Rule → Chosen → Type 0
-Right e l Open = (q : Rule) → Memᴰ q l → applies e q ≡ false
-Right e l (By r) = Best e l r
+abbrev pub Right : Ends → List Rule → Option Rule → Type 0
+Right e l None = (q : Rule) → Memᴰ q l → applies e q ≡ false
+Right e l (Some r) = Best e l r
 
 -- the rule chosen has the highest rank; none is chosen where none applies. Of equals, which no load has, it is the last
 abbrev pub ChosenRight : Type 0
@@ -46,7 +43,7 @@ ChosenRight = (e : Ends) (rules : List Rule) → Right e rules (chosen e rules)
 abbrev pub TypeThreeForbids : Type 0
 TypeThreeForbids =
     (rules : List Rule) (parents places : List ℕ) (from to change : ℕ) (r : Rule)
-    → chosen (ends_of_of parents from to) rules ≡ By r → r.transfer_type ≡ 3 → transfer_of rules parents places from to change ≡ Never
+    → chosen (ends_of_of parents from to) rules ≡ Some r → r.transfer_type ≡ 3 → transfer_of rules parents places from to change ≡ None
 
 -- q and r are one rule but for the seconds of types 0 and 1, which may differ and be given or not
 pub record ButSeconds (q r : Rule) : Type 0 where

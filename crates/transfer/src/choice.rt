@@ -4,8 +4,8 @@ ghost use Rattle.std.specs.Prelude.{◌≡◌};
 ghost use Rattle.transfer.specs.Choice.{applies, rank, read, chosen};
 ghost use Rattle.transfer.specs.Copied.{rules_of};
 
+use crate::Ends;
 use crate::reads::{at_most, rule_at};
-use crate::{Chosen, Ends};
 use rules::Rule;
 
 // Whether a rule is for these stops, or for their parents.
@@ -38,19 +38,19 @@ fn rule_rank(ends: Ends, rule: Rule) -> u8
 }
 
 // The rule that holds once one more is read.
-fn better_of(ends: Ends, best: Chosen, rule: Rule) -> Chosen
+fn better_of(ends: Ends, best: Option<Rule>, rule: Rule) -> Option<Rule>
     ensures { result ≡ read ends best rule }
 {
     if rule_applies(ends, rule) {
         match best {
-            Chosen::By(old) => {
+            Some(old) => {
                 if rule_rank(ends, old) <= rule_rank(ends, rule) {
-                    return Chosen::By(rule);
+                    return Some(rule);
                 }
                 return best;
             }
-            Chosen::Open => {
-                return Chosen::By(rule);
+            None => {
+                return Some(rule);
             }
         }
     }
@@ -58,11 +58,11 @@ fn better_of(ends: Ends, best: Chosen, rule: Rule) -> Chosen
 }
 
 // The rule that holds among the first `count`.
-pub fn rule_for(rules: &[u16; 640], count: usize, ends: Ends) -> Chosen
+pub fn rule_for(rules: &[u16; 640], count: usize, ends: Ends) -> Option<Rule>
     ensures { result ≡ chosen ends (rules_of rules.now (least count 128)) }
 {
     let n = at_most(count, 128);
-    let mut best = Chosen::Open;
+    let mut best = None;
     let mut i: usize = 0;
     while i < n {
         let rule = rule_at(rules, i);

@@ -17,17 +17,3 @@ pub struct Ends {
     pub to: u16,
     pub to_parent: u16,
 }
-
-// The rule that holds for a change.
-#[derive(Clone, Copy)]
-pub enum Chosen {
-    By(Rule),
-    Open,
-}
-
-// The seconds that a change takes.
-#[derive(Clone, Copy)]
-pub enum Change {
-    Takes(u16),
-    Never,
-}

@@ -4,7 +4,6 @@ ghost use Rattle.std.specs.Prelude.{◌≡◌};
 ghost use Rattle.transfer.specs.Copied.{rules_of};
 ghost use Rattle.transfer.specs.Changes.{transfer_of, join_of};
 
-use crate::Change;
 use crate::choice::rule_for;
 use crate::parts::{are_near, change_by, ends_of};
 use crate::reads::number_at;
@@ -18,7 +17,7 @@ pub fn transfer(
     from: u16,
     to: u16,
     change: u16,
-) -> Change
+) -> Option<u16>
     ensures { result ≡ transfer_of (rules_of rules.now (least count 128)) parents.now places.now from to change }
 {
     let ends = ends_of(parents, from, to);
@@ -31,17 +30,17 @@ pub fn transfer(
 
 // Whether a ride that arrives at `arrival` joins one that departs at `departure`, by the change between
 // their stops; `one_run` says that both are of one trip and day.
-pub fn join(change: Change, one_run: bool, arrival: u16, departure: u16) -> bool
+pub fn join(change: Option<u16>, one_run: bool, arrival: u16, departure: u16) -> bool
     ensures { result ≡ join_of change one_run arrival departure }
 {
     if one_run {
         return false;
     }
     match change {
-        Change::Takes(seconds) => {
+        Some(seconds) => {
             return arrival as u32 + seconds as u32 <= departure as u32;
         }
-        Change::Never => {
+        None => {
             return false;
         }
     }

@@ -2,8 +2,8 @@
 ghost use Rattle.std.specs.Prelude.{◌≡◌, ◌≤◌};
 ghost use Rattle.transfer.specs.Changes.{ends_of_of, near, rule_change, change_of, change_number};
 
+use crate::Ends;
 use crate::reads::number_at;
-use crate::{Change, Chosen, Ends};
 use rules::Rule;
 
 // Two stops and their parents.
@@ -39,45 +39,45 @@ pub fn are_near(ends: Ends, from_place: u16, to_place: u16) -> bool
 }
 
 // The change that a rule gives. Seconds count for type 2 alone.
-pub fn rule_change(rule: Rule, change: u16) -> Change
+pub fn rule_change(rule: Rule, change: u16) -> Option<u16>
     ensures { result ≡ rule_change rule change }
 {
     if rule.transfer_type == 3 {
-        return Change::Never;
+        return None;
     }
     if rule.transfer_type != 2 {
-        return Change::Takes(change);
+        return Some(change);
     }
     if rule.seconds <= change {
-        return Change::Takes(change);
+        return Some(change);
     }
-    Change::Takes(rule.seconds)
+    Some(rule.seconds)
 }
 
 // By the rule, or by nearness where there is none.
-pub fn change_by(rule: Chosen, near: bool, change: u16) -> Change
+pub fn change_by(rule: Option<Rule>, near: bool, change: u16) -> Option<u16>
     ensures { result ≡ change_of rule near change }
 {
     match rule {
-        Chosen::By(by) => {
+        Some(by) => {
             return rule_change(by, change);
         }
-        Chosen::Open => {
+        None => {
             if near {
-                return Change::Takes(change);
+                return Some(change);
             }
-            return Change::Never;
+            return None;
         }
     }
 }
 
 // The seconds of a change, 65536 for one that is never made.
-pub fn change_number(change: Change) -> u32
+pub fn change_number(change: Option<u16>) -> u32
     ensures value { result ≡ change_number change }
     ensures small { result ≤ 65536 }
 {
     match change {
-        Change::Takes(seconds) => seconds as u32,
-        Change::Never => 65536,
+        Some(seconds) => seconds as u32,
+        None => 65536,
     }
 }

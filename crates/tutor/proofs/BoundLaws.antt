@@ -1,14 +1,15 @@
 -- Of a file of bytes: no search is stopped, the horizon falls, and the figures of the journeys admitted have five digits at most.
+use Rattle.refusal.specs.First.{Answer}
+use Rattle.std.specs.Prelude.{None}
 use mathlib.Core.Path.{◌≡◌, refl, sym, ap, ◌∙◌}
 use mathlib.Core.Logic.{◌⊎◌, inl, inr}
 use mathlib.Core.Bool.{Bool, true, false}
-use mathlib.Core.Option.{none, none-ne-some}
+use Rattle.laws.proofs.Options.{none-ne-some}
 use mathlib.Core.List.{List, [], ◌∷◌, ◌++◌}
 use Prim.Native.Nat.{ℕ, zero, suc, ◌+◌, ◌-◌, ◌≤◌, ◌<◌}
 use native.Mathlib.Omega.{arith}
 use lib.ListN.{get_or}
 use lib.IntN.{ℤ, pos, negsuc}
-use Rattle.refusal.specs.declared.Answer.{Answer}
 use Rattle.settings.specs.declared.Settings.{Settings}
 use Rattle.calls.specs.declared.Call.{Call}
 use Rattle.profile.specs.declared.Journey.{Journey}
@@ -27,7 +28,7 @@ use Rattle.tutor.proofs.PrintedLaws.{Small}
 
 -- ---- no search that was stopped
 
-again-none : {s : Settings} {t u : State} → runs.Again s t u → t.stopped ≡ none → u.stopped ≡ none
+again-none : {s : Settings} {t u : State} → runs.Again s t u → t.stopped ≡ None → u.stopped ≡ None
 again-none (runs.in_full e) q = q
 again-none (runs.within e w) q = absurd (none-ne-some _ (sym q ∙ e))
 
@@ -44,7 +45,7 @@ from-file (a_call e f) = tt
 from-file (a_rule e f) = tt
 from-file (a_search e f) = tt
 
-after_none : {s : Settings} {t u : State} {b : List ℕ} {x : Step} {a : Answer} → Says b x → runs.After s t x a u → t.stopped ≡ none → u.stopped ≡ none
+after_none : {s : Settings} {t u : State} {b : List ℕ} {x : Step} {a : Answer} → Says b x → runs.After s t x a u → t.stopped ≡ None → u.stopped ≡ None
 after_none p runs.sent_back q = q
 after_none p runs.a_stop q = q
 after_none p runs.a_rule q = q
@@ -57,7 +58,7 @@ after_none p (runs.a_withdrawal d w) q = absurd (from-file p)
 after_none p runs.a_search q = refl
 after_none p (runs.a_limited w) q = absurd (from-file p)
 
-pub never-stopped : {s : Settings} {t v : State} {bs : List (List ℕ)} {xs : List Step} {rs : List Answer} → EachSays bs xs → runs.Runs s t xs rs v → t.stopped ≡ none → v.stopped ≡ none
+pub never-stopped : {s : Settings} {t v : State} {bs : List (List ℕ)} {xs : List Step} {rs : List Answer} → EachSays bs xs → runs.Runs s t xs rs v → t.stopped ≡ None → v.stopped ≡ None
 never-stopped no_step runs.end q = q
 never-stopped (a_step p ps) (runs.step f w r) q = never-stopped ps r (after_none p w q)
 

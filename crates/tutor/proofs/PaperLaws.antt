@@ -1,4 +1,6 @@
 -- A file that is not refused: its version, its settings and its steps stand in its bytes, and the load is what they give.
+use Rattle.refusal.specs.declared.Accepted.TheVariants.{Taken}
+use Rattle.std.specs.Prelude.{Err, Ok}
 use mathlib.Core.Path.{◌≡◌, refl, sym, ap, ◌∙◌, subst}
 use mathlib.Core.Bool.{Bool, true, false, not, cond, ◌||◌, true≢false, false≢true}
 use mathlib.Core.List.{List, [], ◌∷◌}
@@ -10,7 +12,6 @@ use lib.ListN.{length, drop}
 use lib.Seq.{drop-drop}
 use Rattle.laws.specs.Lists.{All}
 use Rattle.refusal.specs.declared.Refusal.TheVariants.{SettingsRange, ClockRange, FileVersion, RecordLength, RecordKind}
-use Rattle.refusal.specs.declared.Answer.TheVariants.{Taken, Refused}
 use Rattle.refusal.specs.First.{first_answer, is_refused}
 use Rattle.settings.specs.declared.Settings.{Settings}
 use Rattle.settings.specs.Settings.{over_counts, all_near, settings_tests}
@@ -34,11 +35,11 @@ use Rattle.tutor.proofs.RecordsLaws.{taken-tests, whole-record, Rest, goes}
 
 -- ---- the settings
 
-not-sent-back : (s : Settings) → is_refused (open_answer (undated s)) ≡ false → open_answer (undated s) ≡ Taken
+not-sent-back : (s : Settings) → is_refused (open_answer (undated s)) ≡ false → open_answer (undated s) ≡ Ok Taken
 unfolding open_answer first_answer settings_tests
 not-sent-back s e = go (over_counts s.origins s.targets s.max_transfers s.transfer_seconds) (not (all_near s.now s.epochs)) e
   where
-    go : (x y : Bool) → is_refused (cond x (Refused SettingsRange) (cond y (Refused ClockRange) Taken)) ≡ false → cond x (Refused SettingsRange) (cond y (Refused ClockRange) Taken) ≡ Taken
+    go : (x y : Bool) → is_refused (cond x (Err SettingsRange) (cond y (Err ClockRange) (Ok Taken))) ≡ false → cond x (Err SettingsRange) (cond y (Err ClockRange) (Ok Taken)) ≡ Ok Taken
     go true y e = absurd (true≢false e)
     go false true e = absurd (true≢false e)
     go false false e = refl
@@ -118,7 +119,7 @@ end_whole : (o : Bool) (left : ℕ) → is_refused (end_answer o left) ≡ false
 unfolding end_answer first_answer
 end_whole o left e = go (eqb left 0) refl o e
   where
-    go : (x : Bool) → eqb left 0 ≡ x → (o : Bool) → is_refused (cond (not x) (Refused RecordLength) (cond (not o) (Refused RecordKind) Taken)) ≡ false → (left ≡ 0) × (o ≡ true)
+    go : (x : Bool) → eqb left 0 ≡ x → (o : Bool) → is_refused (cond (not x) (Err RecordLength) (cond (not o) (Err RecordKind) (Ok Taken))) ≡ false → (left ≡ 0) × (o ≡ true)
     go true q true e = (eqb-true left 0 q, refl)
     go true q false e = absurd (true≢false e)
     go false q o e = absurd (true≢false e)
@@ -160,8 +161,8 @@ ended v rest second known e = go (is_refused (fed_spec (fresh_reader second) res
 
 -- by the version
 versions : (v : ℕ) (rest : List ℕ) (x y : Bool) → eqb v 1 ≡ x → eqb v 2 ≡ y
-    → is_refused (cond (is_refused (cond (x || y) Taken (Refused FileVersion))) (record { answer = cond (x || y) Taken (Refused FileVersion); reader = fresh_reader y }) (ended_by rest (fed_spec (fresh_reader y) rest))).answer ≡ false
-    → Whole (v ∷ rest) (cond (is_refused (cond (x || y) Taken (Refused FileVersion))) (record { answer = cond (x || y) Taken (Refused FileVersion); reader = fresh_reader y }) (ended_by rest (fed_spec (fresh_reader y) rest)))
+    → is_refused (cond (is_refused (cond (x || y) (Ok Taken) (Err FileVersion))) (record { answer = cond (x || y) (Ok Taken) (Err FileVersion); reader = fresh_reader y }) (ended_by rest (fed_spec (fresh_reader y) rest))).answer ≡ false
+    → Whole (v ∷ rest) (cond (is_refused (cond (x || y) (Ok Taken) (Err FileVersion))) (record { answer = cond (x || y) (Ok Taken) (Err FileVersion); reader = fresh_reader y }) (ended_by rest (fed_spec (fresh_reader y) rest)))
 versions v rest true true e f k = absurd (let a = eqb-true v 1 e in let b = eqb-true v 2 f in omega (arith, a, b))
 versions v rest true false e f k = ended v rest false (subst (λ (n : ℕ). Version n false) (sym (eqb-true v 1 e)) one) k
 versions v rest false true e f k = ended v rest true (subst (λ (n : ℕ). Version n true) (sym (eqb-true v 2 f)) two) k

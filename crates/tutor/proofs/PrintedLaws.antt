@@ -1,12 +1,12 @@
 -- The lines that the program writes say the journeys of the load, its horizon and its mark.
+use Rattle.refusal.specs.declared.Accepted.TheVariants.{Taken, Outside}
+use Rattle.std.specs.Prelude.{Err, Ok}
 use mathlib.Core.Path.{◌≡◌, refl, sym, ap, subst, ◌∙◌}
 use mathlib.Core.Bool.{false, true≢false}
 use mathlib.Core.List.{List, [], ◌∷◌, ◌++◌, append_assoc}
 use Prim.Native.Nat.{ℕ, ◌<◌}
 use Rattle.laws.specs.Lists.{All, concat_map}
-use Rattle.refusal.specs.declared.Answer.{Answer}
-use Rattle.refusal.specs.declared.Answer.TheVariants.{Taken, Outside, Refused}
-use Rattle.refusal.specs.First.{is_refused}
+use Rattle.refusal.specs.First.{is_refused, Answer}
 use Rattle.profile.specs.declared.Journey.{Journey}
 use Rattle.load.specs.declared.Load.{Load}
 use Rattle.lines.specs.Decimal.{spaced}
@@ -57,6 +57,6 @@ lines-say (j ∷ js) h m (p, s) a b =
 
 pub lines-load : (a : Answer) (l : Load) → is_refused a ≡ false → lines_of a l ≡ load_lines l
 unfolding lines_of
-lines-load Taken l e = refl
-lines-load Outside l e = refl
-lines-load (Refused r) l e = absurd (true≢false e)
+lines-load (Ok Taken) l e = refl
+lines-load (Ok Outside) l e = refl
+lines-load (Err r) l e = absurd (true≢false e)

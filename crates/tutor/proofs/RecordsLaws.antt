@@ -1,4 +1,5 @@
 -- Whole records at the start of bytes, none of which is refused: the records that stand there, and the step that each says.
+use Rattle.std.specs.Prelude.{Err}
 use mathlib.Core.Path.{◌≡◌, refl, sym, ap, ◌∙◌, subst}
 use mathlib.Core.Logic.{◌⊎◌, inl, inr}
 use mathlib.Core.Bool.{Bool, true, false, true≢false}
@@ -11,10 +12,8 @@ use lib.Seq.{drop-drop}
 use borrow.Author.Tests.{leb-true, not-false}
 use Rattle.laws.specs.Lists.{All}
 use Rattle.laws.proofs.Bools.{and-true-left, and-true-right}
-use Rattle.refusal.specs.declared.Answer.{Answer}
-use Rattle.refusal.specs.declared.Answer.TheVariants.{Refused}
 use Rattle.refusal.specs.declared.Refusal.{Refusal}
-use Rattle.refusal.specs.First.{First, hit, miss, is_refused}
+use Rattle.refusal.specs.First.{First, hit, miss, is_refused, Answer}
 use Rattle.fields.specs.Numbers.{byte_at, u16_at}
 use Rattle.fields.specs.Layout.{text_at, option_text_at, name_at, parent_at, stop_filled_of, call_filled_of, rule_filled_of, search_filled_of}
 use Rattle.fields.specs.Records.{stop_in, call_in, rule_in}
@@ -33,7 +32,7 @@ use Rattle.tutor.specs.Tutor.{NotRefused}
 
 -- ---- a record that is taken passed the tests
 
-passed : {a : Answer} {b : Bool} {r : Refusal} {ts : List (Bool × Answer)} → First a ((b, Refused r) ∷ ts) → is_refused a ≡ false → (b ≡ false) × First a ts
+passed : {a : Answer} {b : Bool} {r : Refusal} {ts : List (Bool × Answer)} → First a ((b, Err r) ∷ ts) → is_refused a ≡ false → (b ≡ false) × First a ts
 passed (hit e) k = absurd (true≢false k)
 passed (miss e f) k = (e, f)
 

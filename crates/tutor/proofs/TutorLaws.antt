@@ -1,8 +1,9 @@
 -- From bytes to bytes.
+use Rattle.refusal.specs.declared.Accepted.TheVariants.{Taken, Outside}
+use Rattle.std.specs.Prelude.{None, Err, Ok}
 use mathlib.Core.Path.{◌≡◌, refl, sym, ap, ◌∙◌, subst}
 use mathlib.Core.Logic.{◌⊎◌, inl, inr}
 use mathlib.Core.Bool.{Bool, true, false, cond}
-use mathlib.Core.Option.{none}
 use mathlib.Core.List.{List, [], Memᴰ, ◌++◌}
 use Prim.Native.Nat.{ℕ, ◌≤◌, ◌<◌}
 use native.Mathlib.Omega.{arith}
@@ -10,9 +11,7 @@ use lib.Dec.{eqb}
 use lib.ListN.{get_or}
 use Rattle.laws.specs.Lists.{concat_map, one_of}
 use Rattle.laws.proofs.Every.{mem-all, one-of}
-use Rattle.refusal.specs.declared.Answer.{Answer}
-use Rattle.refusal.specs.declared.Answer.TheVariants.{Taken, Outside, Refused}
-use Rattle.refusal.specs.First.{is_refused, answer_number}
+use Rattle.refusal.specs.First.{is_refused, answer_number, Answer}
 use Rattle.settings.specs.declared.Settings.{Settings}
 use Rattle.profile.specs.declared.Journey.{Journey}
 use Rattle.profile.specs.Journeys.{no_journey}
@@ -52,9 +51,9 @@ file-number a e = one-of (answer_number a) (λ (n : ℕ). n < 65536) file_number
 
 taken-so : (a : Answer) (l : Load) → answer_number a < 65536 → ((n : ℕ) → RefusedLine n (lines_of a l) → ⊥) → is_refused a ≡ false
 unfolding lines_of
-taken-so Taken l s k = refl
-taken-so Outside l s k = refl
-taken-so (Refused r) l s k = absurd (k _ (refused_says _ s))
+taken-so (Ok Taken) l s k = refl
+taken-so (Ok Outside) l s k = refl
+taken-so (Err r) l s k = absurd (k _ (refused_says _ s))
 
 -- ---- the lines of the load that steps leave
 
@@ -120,8 +119,8 @@ answers-so xs p k w =
     let bytes : Bytes w.rest = (subst Bytes w.whole p).1 in
     let walks = origin_walk w.second r.head (body_bytes w.rest r.head r.bodies r.records bytes) in
     let u : State = ending (undated s) o r.steps in
-    let runs : Runs s (fresh none) r.steps (answers_from (opened (undated s)) r.steps) u = run (undated s) o r.steps in
-    let stopped : u.stopped ≡ none = never-stopped r.said runs refl in
+    let runs : Runs s (fresh None) r.steps (answers_from (opened (undated s)) r.steps) u = run (undated s) o r.steps in
+    let stopped : u.stopped ≡ None = never-stopped r.said runs refl in
     let d = demand-2 (undated s) r.steps (answers_from (opened (undated s)) r.steps) u o runs in
     let lines : load_lines (end_of (undated s) r.steps) ≡ printed xs = ap load_lines (sym (w.load ∙ r.ends)) ∙ sym (lines-load (read_spec_of xs).answer (read_spec_of xs).reader.load k) in
     record {

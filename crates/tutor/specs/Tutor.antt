@@ -1,13 +1,11 @@
 -- "If a candidate finds a connection that the display doesn't list, may I mark it wrong?" From the bytes that are read to those that are
 -- written: no definition of the program stands here but `printed`.
 -- RULES 8.7, 13.
-use Rattle.std.specs.Prelude.{◌≡◌, true, false, ℕ, ◌≤◌}
-use Rattle.std.proofs.Math.Option.{none}
+use Rattle.refusal.specs.First.{Answer}
+use Rattle.std.specs.Prelude.{◌≡◌, true, false, ℕ, ◌≤◌, None, Err}
 use mathlib.Core.List.{List, [], Memᴰ}
 use Rattle.laws.specs.Lists.{All}
 use Rattle.refusal.specs.declared.Refusal.{Refusal}
-use Rattle.refusal.specs.declared.Answer.{Answer}
-use Rattle.refusal.specs.declared.Answer.TheVariants.{Refused}
 use Rattle.settings.specs.declared.Settings.{Settings}
 use Rattle.profile.specs.declared.Journey.{Journey}
 use Rattle.steps.specs.Steps.{Step}
@@ -26,7 +24,7 @@ abbrev pub printed : List ℕ → List ℕ
 printed xs = lines_of (read_spec_of xs).answer (read_spec_of xs).reader.load
 
 abbrev pub NotRefused : Answer → Type 0
-NotRefused a = (r : Refusal) → a ≡ Refused r → ⊥
+NotRefused a = (r : Refusal) → a ≡ Err r → ⊥
 
 -- of what was typed in, the lines with a horizon
 pub record Listed (s : Settings) (v : State) (lines : List ℕ) : Type 0 where
@@ -52,10 +50,10 @@ pub record Answers (xs lines : List ℕ) : Type 0 where
   pub answers : List Answer
   pub end : State
   pub said : Paper xs settings steps
-  pub runs : Runs settings (fresh none) steps answers end
+  pub runs : Runs settings (fresh None) steps answers end
   pub none_refused : All NotRefused answers
   -- no load file holds a search that was stopped
-  pub finished : end.stopped ≡ none
+  pub finished : end.stopped ≡ None
   pub searched : end.searched ≡ true → Listed settings end lines
   pub unsearched : end.searched ≡ false → NothingListed lines
 

@@ -1,4 +1,5 @@
 -- The ends and the changes: no cause against them exactly if the timetable starts, ends and joins there.
+use Rattle.std.specs.Prelude.{None, Option, Some}
 use mathlib.Core.Path.{◌≡◌, refl, sym, ap, ◌∙◌}
 use mathlib.Core.Bool.{Bool, true, false, not, cond, ◌&&◌, true≢false, false≢true}
 use mathlib.Core.List.{List}
@@ -14,10 +15,6 @@ use Rattle.calls.specs.declared.Call.{Call}
 use Rattle.places.specs.Places.{places_of}
 use Rattle.rules.specs.declared.Rule.{Rule}
 use Rattle.transfer.specs.declared.Ends.{Ends as Ends'}
-use Rattle.transfer.specs.declared.Chosen.{Chosen}
-use Rattle.transfer.specs.declared.Chosen.TheVariants.{By, Open}
-use Rattle.transfer.specs.declared.Change.{Change}
-use Rattle.transfer.specs.declared.Change.TheVariants.{Takes, Never}
 use Rattle.transfer.specs.Choice.{chosen}
 use Rattle.transfer.specs.Copied.{parents_of}
 use Rattle.transfer.specs.Changes.{ends_of_of, near, change_of, transfer_of, joins_by, join_of}
@@ -66,27 +63,27 @@ module _ (l : Load) (b a : Call) (o k : ℕ) where
 
 -- ---- changes
 
-takes-some : (c : Change) (arrival departure : ℕ) → is_never c ≡ false → leb (arrival + needed c) departure ≡ true → joins_by c arrival departure ≡ true
-takes-some (Takes s) arrival departure e f = f
-takes-some Never arrival departure e f = absurd (true≢false e)
+takes-some : (c : Option ℕ) (arrival departure : ℕ) → is_never c ≡ false → leb (arrival + needed c) departure ≡ true → joins_by c arrival departure ≡ true
+takes-some (Some s) arrival departure e f = f
+takes-some None arrival departure e f = absurd (true≢false e)
 
-some-takes : (c : Change) (arrival departure : ℕ) → joins_by c arrival departure ≡ true → (is_never c ≡ false) × (leb (arrival + needed c) departure ≡ true)
-some-takes (Takes s) arrival departure e = (refl, e)
-some-takes Never arrival departure e = absurd (false≢true e)
+some-takes : (c : Option ℕ) (arrival departure : ℕ) → joins_by c arrival departure ≡ true → (is_never c ≡ false) × (leb (arrival + needed c) departure ≡ true)
+some-takes (Some s) arrival departure e = (refl, e)
+some-takes None arrival departure e = absurd (false≢true e)
 
 -- a rule that forbids gives no change
-forbids-never : (r : Chosen) (close : Bool) (s : ℕ) → forbids r ≡ true → change_of r close s ≡ Never
-forbids-never (By r) close s e = cond-by _ _ e
-forbids-never Open close s e = absurd (false≢true e)
+forbids-never : (r : Option Rule) (close : Bool) (s : ℕ) → forbids r ≡ true → change_of r close s ≡ None
+forbids-never (Some r) close s e = cond-by _ _ e
+forbids-never None close s e = absurd (false≢true e)
 
-made-allowed : (r : Chosen) (close : Bool) (s : ℕ) → is_never (change_of r close s) ≡ false → forbids r ≡ false
+made-allowed : (r : Option Rule) (close : Bool) (s : ℕ) → is_never (change_of r close s) ≡ false → forbids r ≡ false
 made-allowed r close s e = go (forbids r) refl
   where
     go : (b : Bool) → forbids r ≡ b → b ≡ false
     go true q = absurd (true≢false (sym (ap is_never (forbids-never r close s q)) ∙ e))
     go false q = refl
 
-join-parts : (c : Change) (run : Bool) (arrival departure : ℕ) → join_of c run arrival departure ≡ true → (run ≡ false) × (joins_by c arrival departure ≡ true)
+join-parts : (c : Option ℕ) (run : Bool) (arrival departure : ℕ) → join_of c run arrival departure ≡ true → (run ≡ false) × (joins_by c arrival departure ≡ true)
 join-parts c true arrival departure e = absurd (false≢true e)
 join-parts c false arrival departure e = (refl, e)
 

@@ -1,4 +1,5 @@
 -- The rule that holds is the last of its pair, so its number is that of the pair.
+use Rattle.std.specs.Prelude.{None, Option, Some}
 use mathlib.Core.Path.{◌≡◌, refl, sym, ap, subst, ◌∙◌}
 use mathlib.Core.Bool.{Bool, true, false, cond, ◌&&◌, ◌||◌, true≢false}
 use mathlib.Core.List.{List, [], ◌∷◌, ◌++◌, append_assoc}
@@ -15,8 +16,6 @@ use Rattle.laws.proofs.Lists.{anyb-append, snoc-ind}
 use Rattle.rules.specs.declared.Rule.{Rule}
 use Rattle.rules.specs.Rules.{blank_rule, same_pair}
 use Rattle.transfer.specs.declared.Ends.{Ends}
-use Rattle.transfer.specs.declared.Chosen.{Chosen}
-use Rattle.transfer.specs.declared.Chosen.TheVariants.{By, Open}
 use Rattle.transfer.specs.Choice.{side, applies, bit, rank, better, read, chosen}
 use Rattle.withdrawal.specs.Removal.{last_of}
 use Rattle.verdicts.specs.Claims.{RuleNumbered}
@@ -66,26 +65,26 @@ module _ (e : Ends) where
     last = anyb-append (same_pair b.from b.to) w.behind (x ∷ []) ∙ rw (w.last, q) refl;
   }
 
-  read-last : (rs : List Rule) (x : Rule) (c : Chosen) → ((b : Rule) → c ≡ By b → Last rs b) → (r : Rule) → read e c x ≡ By r → Last (rs ++ (x ∷ [])) r
-  read-last rs x Open ih r q = go (applies e x) refl q
+  read-last : (rs : List Rule) (x : Rule) (c : Option Rule) → ((b : Rule) → c ≡ Some b → Last rs b) → (r : Rule) → read e c x ≡ Some r → Last (rs ++ (x ∷ [])) r
+  read-last rs x None ih r q = go (applies e x) refl q
     where
-      go : (a : Bool) → applies e x ≡ a → cond a (By x) Open ≡ By r → Last (rs ++ (x ∷ [])) r
+      go : (a : Bool) → applies e x ≡ a → cond a (Some x) None ≡ Some r → Last (rs ++ (x ∷ [])) r
       go true p f = subst (Last (rs ++ (x ∷ []))) (cc) (newest rs x p)
       go false p f = absurd (let z : ◌≡◌ {A = ℕ} 0 1 = cc in omega arith)
-  read-last rs x (By b) ih r q = go (applies e x) (better e b x) refl refl q
+  read-last rs x (Some b) ih r q = go (applies e x) (better e b x) refl refl q
     where
-      other : (same_pair b.from b.to x ≡ true → ⊥) → By b ≡ By r → Last (rs ++ (x ∷ [])) r
+      other : (same_pair b.from b.to x ≡ true → ⊥) → Some b ≡ Some r → Last (rs ++ (x ∷ [])) r
       other n f = subst (Last (rs ++ (x ∷ []))) (cc) (stays rs b x (ih b refl) (not-true (same_pair b.from b.to x) n))
 
-      go : (a t : Bool) → applies e x ≡ a → better e b x ≡ t → cond a (cond t (By x) (By b)) (By b) ≡ By r → Last (rs ++ (x ∷ [])) r
+      go : (a t : Bool) → applies e x ≡ a → better e b x ≡ t → cond a (cond t (Some x) (Some b)) (Some b) ≡ Some r → Last (rs ++ (x ∷ [])) r
       go true true p s f = subst (Last (rs ++ (x ∷ []))) (cc) (newest rs x p)
       go true false p s f = other (λ w. true≢false (sym (pair-better b x w) ∙ s)) f
       go false t p s f = other (λ w. true≢false (sym (pair-applies b x w ∙ (ih b refl).applies-to) ∙ p)) f
 
-  chosen_last : (rs : List Rule) (r : Rule) → chosen e rs ≡ By r → Last rs r
-  chosen_last = snoc-ind (λ (rs : List Rule). (r : Rule) → chosen e rs ≡ By r → Last rs r)
+  chosen_last : (rs : List Rule) (r : Rule) → chosen e rs ≡ Some r → Last rs r
+  chosen_last = snoc-ind (λ (rs : List Rule). (r : Rule) → chosen e rs ≡ Some r → Last rs r)
       (λ r q. absurd (let z : ◌≡◌ {A = ℕ} 0 1 = cc in omega arith))
-      (λ xs x ih r q. read-last xs x (chosen e xs) (λ b f. ih b f) r (sym (foldl-append (read e) Open xs (x ∷ [])) ∙ q))
+      (λ xs x ih r q. read-last xs x (chosen e xs) (λ b f. ih b f) r (sym (foldl-append (read e) None xs (x ∷ [])) ∙ q))
 
 pub rule-numbered : RuleNumbered
 rule-numbered e rs r q =

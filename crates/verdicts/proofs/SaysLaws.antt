@@ -10,7 +10,8 @@ use lib.Dec.{eqb, eqb-suc-zero}
 use lib.ListN.{length}
 use Rattle.laws.proofs.Bools.{cond-not, and-true-left}
 use Rattle.profile.specs.declared.Journey.{Journey}
-use Rattle.profile.specs.Figures.{Figures, covers}
+use Rattle.profile.specs.declared.figures.Figures.{Figures}
+use Rattle.profile.specs.Figures.{covers}
 use Rattle.profile.specs.Journeys.{journey_figures}
 use Rattle.listing.specs.declared.Verdict.{Verdict}
 use Rattle.listing.specs.declared.Verdict.TheVariants.{Listed, AsGood, Beaten, Uncovered}

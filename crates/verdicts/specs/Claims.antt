@@ -1,6 +1,6 @@
 -- What is claimed of verdicts: of every load which of them is given when; of every list of steps with a finished search, that what they
 -- say is so.
-use Rattle.std.specs.Prelude.{◌≡◌, ◌↔◌, Bool, true, false, ℕ, ◌≤◌, ◌<◌, length, get_or}
+use Rattle.std.specs.Prelude.{◌≡◌, ◌↔◌, Bool, true, false, ℕ, ◌≤◌, ◌<◌, length, get_or, Some}
 use mathlib.Core.List.{List, [], ◌∷◌, Memᴰ}
 use Rattle.profile.specs.declared.Journey.{Journey}
 use Rattle.profile.specs.Figures.{covers}
@@ -8,7 +8,6 @@ use Rattle.profile.specs.Journeys.{no_journey, journey_figures}
 use Rattle.rules.specs.declared.Rule.{Rule}
 use Rattle.rules.specs.Rules.{blank_rule}
 use Rattle.transfer.specs.declared.Ends.{Ends}
-use Rattle.transfer.specs.declared.Chosen.TheVariants.{By}
 use Rattle.transfer.specs.Choice.{chosen}
 use Rattle.load.specs.declared.Load.{Load}
 use Rattle.load.specs.Steps.{Opening}
@@ -79,5 +78,5 @@ NeverUncovered = (o : Opening) (xs : List Step) (c : Connection) → Opens o →
 
 -- the number of the rule that holds is its place among the rules
 abbrev pub RuleNumbered : Type 0
-RuleNumbered = (e : Ends) (rs : List Rule) (r : Rule) → chosen e rs ≡ By r
-    → (number_in rs (By r) < length rs) × (get_or rs (number_in rs (By r)) blank_rule ≡ r)
+RuleNumbered = (e : Ends) (rs : List Rule) (r : Rule) → chosen e rs ≡ Some r
+    → (number_in rs (Some r) < length rs) × (get_or rs (number_in rs (Some r)) blank_rule ≡ r)

@@ -1,11 +1,9 @@
 -- A small paper, and a connection for each verdict and each cause: what `verdict_of` says of them after its steps, by computation. So the
 -- premises of the claims can be met.
-use Rattle.std.specs.Prelude.{◌≡◌, true, false, List, [], ◌∷◌, map, ℕ, pos}
+use Rattle.std.specs.Prelude.{◌≡◌, true, false, List, [], ◌∷◌, map, ℕ, pos, None, Some}
 use Rattle.std.specs.Float.{binary64}
 use Rattle.std.specs.Float.Ieee.{of_bits}
 use Rattle.settings.specs.declared.Settings.{Settings}
-use Rattle.calls.specs.declared.Seconds.TheVariants.{Given}
-use Rattle.rules.specs.declared.MinTime.TheVariants as min-time
 use Rattle.load.specs.declared.Load.{Load}
 use Rattle.load.specs.Steps.{Opening, undated}
 use Rattle.load.specs.Filling.{stop, call, rule}
@@ -50,14 +48,14 @@ station id members = filling (stop (id ∷ []) [] [] (record {
 -- trip, sequence, stop, time, pickup and drop-off
 abbrev pub call_at : ℕ → ℕ → ℕ → ℕ → ℕ → ℕ → Step
 call_at trip sequence at time pickup off =
-    filling (call [] (record { trip = trip; day = 0; sequence = sequence; stop = at; arrival = Given time; departure = Given time; pickup = pickup; drop_off = off }))
+    filling (call [] (record { trip = trip; day = 0; sequence = sequence; stop = at; arrival = Some time; departure = Some time; pickup = pickup; drop_off = off }))
 
 -- stop 0 is of the origin, stop 3 of the target; from stop 1 to stop 2 one may not change, and to stop 4 it takes 240 seconds
 abbrev pub typed : List Step
 typed =
     station 65 1 ∷ station 66 0 ∷ station 67 0 ∷ station 68 16 ∷ station 69 0 ∷ station 70 0
-    ∷ filling (rule (record { from = 1; to = 4; transfer_type = 2; seconds = min-time.Given 240 }))
-    ∷ filling (rule (record { from = 1; to = 2; transfer_type = 3; seconds = min-time.Absent }))
+    ∷ filling (rule (record { from = 1; to = 4; transfer_type = 2; seconds = Some 240 }))
+    ∷ filling (rule (record { from = 1; to = 2; transfer_type = 3; seconds = None }))
     -- two trips alike, one that leaves earlier and arrives later, one that is due after the horizon
     ∷ call_at 1 1 0 600 0 0 ∷ call_at 1 2 3 1200 0 0
     ∷ call_at 2 1 0 600 0 0 ∷ call_at 2 2 3 1200 0 0

@@ -2,3 +2,4 @@ pub mod PlaceLaws
 pub mod StepLaws
 pub mod Known
 pub mod SoundLaws
+pub mod Held

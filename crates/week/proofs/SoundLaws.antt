@@ -1,5 +1,7 @@
 -- The weeks of openings are sound, and the steps keep a week sound. What a step leaves that is sent back.
-use Prim.Native.Nat.{ℕ, ◌+◌, ◌-◌}
+use Rattle.refusal.specs.declared.Accepted.TheVariants.{Taken, Outside}
+use Rattle.std.specs.Prelude.{Err, Ok}
+use Prim.Native.Nat.{ℕ, ◌+◌}
 use mathlib.Core.Path.{◌≡◌, refl, sym, ap, ◌∙◌}
 use mathlib.Core.Bool.{Bool, true, false, cond, ◌||◌, true≢false, false≢true}
 use mathlib.Core.List.{List}
@@ -8,10 +10,8 @@ use lib.ListN.{set, length-set}
 use lib.Seq.{drop-set-lt}
 use Rattle.laws.proofs.Bools.{or_true_right, or-false-right}
 use Rattle.laws.proofs.Slots.{blank-set}
-use Rattle.refusal.specs.declared.Answer.{Answer}
-use Rattle.refusal.specs.declared.Answer.TheVariants.{Taken, Outside, Refused}
 use Rattle.refusal.specs.declared.Refusal.TheVariants.{AlreadySearched}
-use Rattle.refusal.specs.First.{hit, is_refused, is_taken}
+use Rattle.refusal.specs.First.{hit, is_refused, is_taken, Answer}
 use Rattle.refusal.proofs.FirstLaws.{first-is-answer}
 use Rattle.services.specs.Exceptions.{days_on, excepted_of}
 use Rattle.week.specs.declared.Week.{Week}
@@ -81,9 +81,9 @@ exception-keeps-sound w searched name date kind s = go (is_taken (exception_answ
 -- ---- what is sent back
 
 refused-not-taken : (a : Answer) → is_refused a ≡ true → is_taken a ≡ false
-refused-not-taken Taken e = absurd (false≢true e)
-refused-not-taken Outside e = refl
-refused-not-taken (Refused r) e = refl
+refused-not-taken (Ok Taken) e = absurd (false≢true e)
+refused-not-taken (Ok Outside) e = refl
+refused-not-taken (Err r) e = refl
 
 pub service-unchanged : ServiceUnchanged
 service-unchanged w searched name weekdays start end e =
@@ -93,11 +93,11 @@ pub exception-unchanged : ExceptionUnchanged
 exception-unchanged w searched name date kind e =
     sym (ap (λ (r : WeekStepped). r.week) (exception-refused w searched name date kind _ refl (refused-not-taken (exception_answer w searched name date kind) e)))
 
-service-late : (w : Week) (searched : Bool) (name : List ℕ) (start end : ℕ) → w.closed ≡ true → Refused AlreadySearched ≡ service_answer w searched name start end
+service-late : (w : Week) (searched : Bool) (name : List ℕ) (start end : ℕ) → w.closed ≡ true → Err AlreadySearched ≡ service_answer w searched name start end
 unfolding service_tests
 service-late w searched name start end c = first-is-answer _ _ (hit (or_true_right searched w.closed c))
 
-exception-late : (w : Week) (searched : Bool) (name : List ℕ) (date kind : ℕ) → w.closed ≡ true → Refused AlreadySearched ≡ exception_answer w searched name date kind
+exception-late : (w : Week) (searched : Bool) (name : List ℕ) (date kind : ℕ) → w.closed ≡ true → Err AlreadySearched ≡ exception_answer w searched name date kind
 unfolding exception_tests
 exception-late w searched name date kind c = first-is-answer _ _ (hit (or_true_right searched w.closed c))
 

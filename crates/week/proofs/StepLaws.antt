@@ -8,8 +8,7 @@ use borrow.Author.Tests.{leb-false, not-false}
 use lib.ListN.{length, get_or, take, set, length-take}
 use Rattle.laws.specs.Lists.{anyb}
 use Rattle.laws.proofs.Bools.{cond-by, cond-not}
-use Rattle.refusal.specs.declared.Answer.{Answer}
-use Rattle.refusal.specs.First.{is_taken}
+use Rattle.refusal.specs.First.{is_taken, Answer}
 use Rattle.refusal.proofs.FirstLaws.{answer-is-first, first_taken, taken_is}
 use Rattle.services.specs.declared.Service.{Service}
 use Rattle.services.specs.Runs.{runs_of}

@@ -1,6 +1,5 @@
 -- What a service and an exception are answered, and what is left of a week that turns one away.
-use Rattle.std.specs.Prelude.{ℕ, ◌≡◌, Bool, true, List}
-use Rattle.refusal.specs.declared.Answer.TheVariants.{Refused}
+use Rattle.std.specs.Prelude.{ℕ, ◌≡◌, Bool, true, List, Err}
 use Rattle.refusal.specs.declared.Refusal.TheVariants.{AlreadySearched}
 use Rattle.refusal.specs.First.{is_refused}
 use Rattle.week.specs.declared.Week.{Week}
@@ -8,8 +7,8 @@ use Rattle.week.specs.Weeks.{service_answer, service_on, exception_answer, excep
 
 -- no service or exception is taken after an answered call
 pub record Closed (w : Week) : Type 0 where
-  pub service : (searched : Bool) (name : List ℕ) (weekdays start end : ℕ) → service_on w searched name weekdays start end ≡ record { answer = Refused AlreadySearched; week = w }
-  pub exception : (searched : Bool) (name : List ℕ) (date kind : ℕ) → exception_on w searched name date kind ≡ record { answer = Refused AlreadySearched; week = w }
+  pub service : (searched : Bool) (name : List ℕ) (weekdays start end : ℕ) → service_on w searched name weekdays start end ≡ record { answer = Err AlreadySearched; week = w }
+  pub exception : (searched : Bool) (name : List ℕ) (date kind : ℕ) → exception_on w searched name date kind ≡ record { answer = Err AlreadySearched; week = w }
 
 abbrev pub ClosedStays : Type 0
 ClosedStays = (w : Week) → w.closed ≡ true → Closed w

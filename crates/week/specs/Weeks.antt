@@ -1,11 +1,9 @@
 -- The dated part of a load: the dates of its days and its services. Why a service or an exception is sent back, what it leaves, and whether the
 -- service that a call names runs.
-use Rattle.std.specs.Prelude.{ℕ, suc, ◌+◌, ◌%◌, Bool, true, false, not, cond, ◌||◌, List, [], ◌∷◌, leb, length, get_or, take, set, replicate}
+use Rattle.std.specs.Prelude.{ℕ, suc, ◌+◌, ◌%◌, Bool, true, false, not, cond, ◌||◌, List, [], ◌∷◌, leb, length, get_or, take, set, replicate, Err}
 use Rattle.laws.specs.Lists.{anyb}
 use Rattle.refusal.specs.declared.Refusal.TheVariants.{AlreadySearched, IdLength, IdTaken, DateWrong, ServiceUnknown, ServicesFull}
-use Rattle.refusal.specs.declared.Answer.{Answer}
-use Rattle.refusal.specs.declared.Answer.TheVariants.{Refused}
-use Rattle.refusal.specs.First.{first_answer, is_taken}
+use Rattle.refusal.specs.First.{first_answer, is_taken, Answer}
 use Rattle.services.specs.declared.Service.{Service}
 use Rattle.services.specs.Runs.{runs_of}
 use Rattle.services.specs.Exceptions.{days_on, excepted_of}
@@ -70,11 +68,11 @@ with_services w ss n = record { dated = w.dated; dates = w.dates; services = ss;
 -- after the search or after an answered call; a new service's name meets 3 as an id does
 unfoldable pub service_tests : Bool → Bool → List Service → ℕ → List ℕ → ℕ → ℕ → List (Bool × Answer)
 service_tests searched closed services count name start end =
-    (searched || closed, Refused AlreadySearched)
-    ∷ (id_wrong name, Refused IdLength)
-    ∷ (anyb (named name) (take count services), Refused IdTaken)
-    ∷ (span_wrong start end, Refused DateWrong)
-    ∷ (leb 64 count, Refused ServicesFull)
+    (searched || closed, Err AlreadySearched)
+    ∷ (id_wrong name, Err IdLength)
+    ∷ (anyb (named name) (take count services), Err IdTaken)
+    ∷ (span_wrong start end, Err DateWrong)
+    ∷ (leb 64 count, Err ServicesFull)
     ∷ []
 
 abbrev pub service_answer : Week → Bool → List ℕ → ℕ → ℕ → Answer
@@ -92,9 +90,9 @@ service_on w searched name weekdays start end = record {
 
 unfoldable pub exception_tests : Bool → Bool → List Service → ℕ → List ℕ → ℕ → ℕ → List (Bool × Answer)
 exception_tests searched closed services count name date kind =
-    (searched || closed, Refused AlreadySearched)
-    ∷ (exception_wrong date kind, Refused DateWrong)
-    ∷ (not (anyb (named name) (take count services)), Refused ServiceUnknown)
+    (searched || closed, Err AlreadySearched)
+    ∷ (exception_wrong date kind, Err DateWrong)
+    ∷ (not (anyb (named name) (take count services)), Err ServiceUnknown)
     ∷ []
 
 abbrev pub exception_answer : Week → Bool → List ℕ → ℕ → ℕ → Answer

@@ -1,14 +1,15 @@
 // A new service, a service by its name, and why a service or an exception is sent back.
-ghost use Rattle.std.specs.Prelude.{◌≡◌, ◌||◌, get_or, take};
+ghost use Rattle.std.specs.Prelude.{◌≡◌, length};
 ghost use Rattle.laws.specs.Lists.{anyb};
 ghost use Rattle.refusal.specs.First.{first_answer};
 ghost use Rattle.week.specs.Weeks.{blank_service, service_of, named, place_of, service_tests, exception_tests};
 
-use refusal::{Answer, Refusal};
+use prefix::first;
+use refusal::{Accepted, Answer, Refusal};
 use services::{Service, exception_wrong, span_wrong};
 use stop_answer::id_wrong;
-use stops::find::{same_text, wide};
-use stops::taken::{length_to, text32};
+use stops::find::same_text;
+use stops::taken::{length_to, text};
 
 // What an unused slot holds.
 pub fn blank_service() -> Service
@@ -27,14 +28,14 @@ pub fn blank_service() -> Service
 }
 
 // A new service: seven weekday marks, no exception yet.
+#[tactic(auto, unfolding(crate::specs::Weeks::service_of))]
 pub fn service_of(name: &[u8], weekdays: u8, start: u32, end: u32) -> Service
     ensures { result ≡ service_of name.now weekdays start end }
 {
-    let text = text32(name);
-    let name_len = length_to(name, 32);
+    let held = text::<32>(name);
     Service {
-        name: text,
-        name_len,
+        name: held,
+        name_len: length_to(name, 32),
         weekdays: weekdays % 128,
         start,
         end,
@@ -43,113 +44,76 @@ pub fn service_of(name: &[u8], weekdays: u8, start: u32, end: u32) -> Service
     }
 }
 
-fn is_named(service: Service, name: &[u8]) -> bool
-    ensures { result ≡ named name.now service }
+fn is_named(service: &Service, name: &[u8]) -> bool
+    ensures { result ≡ named name.now service.now }
 {
-    let held = service.name;
-    let n = wide(service.name_len);
-    same_text(held, n, name)
+    same_text(first(&service.name, usize::from(service.name_len)), name)
 }
 
-// The place of the first service with the name, among the first `count`; where none has it, how many there are.
-pub fn place_of(services: [Service; 64], count: usize, name: &[u8]) -> usize
-    ensures { result ≡ place_of (named name.now) (take count services) }
+// The place of the first service with the name; where none has it, how many there are.
+pub fn place_of(services: &[Service], name: &[u8]) -> usize
+    ensures { result ≡ place_of (named name.now) services.now }
 {
-    let mut i: usize = 0;
-    while i < 64 {
-        if count <= i {
-            return i;
-        }
-        let service = services[i];
-        if is_named(service, name) {
-            return i;
-        }
-        i += 1;
-    }
-    i
+    let found = services.iter().position(|service| is_named(service, name));
+    found.unwrap_or(services.len())
 }
 
-// That service; the blank one where none has the name.
-pub fn service_in(services: [Service; 64], count: usize, name: &[u8]) -> Service
-    ensures { result ≡ get_or services (place_of (named name.now) (take count services)) blank_service }
+pub fn is_known(services: &[Service], name: &[u8]) -> bool
+    ensures { result ≡ anyb (named name.now) services.now }
 {
-    let at = place_of(services, count, name);
-    if at < 64 {
-        return services[at];
-    }
-    blank_service()
+    services.iter().any(|service| is_named(service, name))
 }
 
-pub fn is_known(services: [Service; 64], count: usize, name: &[u8]) -> bool
-    ensures { result ≡ anyb (named name.now) (take count services) }
-{
-    let at = place_of(services, count, name);
-    if at < 64 {
-        return at < count;
-    }
-    false
-}
-
-// After the search, or after an answered call.
-fn is_late(searched: bool, closed: bool) -> bool
-    ensures { result ≡ (searched || closed) }
-{
-    if searched {
-        return true;
-    }
-    closed
-}
-
-// 15, 3, 5, 20, 22.
+// What a service is answered, by the services taken: 15, 3, 5, 20, 22.
+#[tactic(auto, unfolding(crate::specs::Weeks::service_tests, refusal::specs::First::first_answer))]
 pub fn service_answer(
     searched: bool,
     closed: bool,
-    services: [Service; 64],
-    count: usize,
+    services: &[Service],
     name: &[u8],
     start: u32,
     end: u32,
 ) -> Answer
-    ensures { result ≡ first_answer (service_tests searched closed services count name.now start end) }
+    ensures { result ≡ first_answer (service_tests searched closed services.now (length services.now) name.now start end) }
 {
-    if is_late(searched, closed) {
-        return Answer::Refused(Refusal::AlreadySearched);
+    if searched || closed {
+        return Err(Refusal::AlreadySearched);
     }
     if id_wrong(name) {
-        return Answer::Refused(Refusal::IdLength);
+        return Err(Refusal::IdLength);
     }
-    if is_known(services, count, name) {
-        return Answer::Refused(Refusal::IdTaken);
+    if is_known(services, name) {
+        return Err(Refusal::IdTaken);
     }
     if span_wrong(start, end) {
-        return Answer::Refused(Refusal::DateWrong);
+        return Err(Refusal::DateWrong);
     }
-    if 64 <= count {
-        return Answer::Refused(Refusal::ServicesFull);
+    if 64 <= services.len() {
+        return Err(Refusal::ServicesFull);
     }
-    Answer::Taken
+    Ok(Accepted::Taken)
 }
 
-// 15, 20, 21.
+// The same of an exception: 15, 20, 21.
+#[tactic(auto, unfolding(crate::specs::Weeks::exception_tests, refusal::specs::First::first_answer))]
 pub fn exception_answer(
     searched: bool,
     closed: bool,
-    services: [Service; 64],
-    count: usize,
+    services: &[Service],
     name: &[u8],
     date: u32,
     kind: u8,
 ) -> Answer
-    ensures { result ≡ first_answer (exception_tests searched closed services count name.now date kind) }
+    ensures { result ≡ first_answer (exception_tests searched closed services.now (length services.now) name.now date kind) }
 {
-    if is_late(searched, closed) {
-        return Answer::Refused(Refusal::AlreadySearched);
+    if searched || closed {
+        return Err(Refusal::AlreadySearched);
     }
     if exception_wrong(date, kind) {
-        return Answer::Refused(Refusal::DateWrong);
+        return Err(Refusal::DateWrong);
     }
-    if is_known(services, count, name) {
-        return Answer::Taken;
+    if !is_known(services, name) {
+        return Err(Refusal::ServiceUnknown);
     }
-    Answer::Refused(Refusal::ServiceUnknown)
+    Ok(Accepted::Taken)
 }

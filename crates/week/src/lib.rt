@@ -12,7 +12,7 @@ use refusal::Answer;
 use services::Service;
 
 // A load opened without dates is not dated, and its services are closed from the start. A slot past the count holds the blank service.
-#[derive(Clone, Copy)]
+#[derive(Clone, Copy, Debug, PartialEq, Eq)]
 pub struct Week {
     pub dated: bool,
     pub dates: [u32; 3],
@@ -22,14 +22,14 @@ pub struct Week {
 }
 
 // What a service or an exception is answered, and the week after it: the week given, where it is sent back.
-#[derive(Clone, Copy)]
+#[derive(Clone, Copy, Debug, PartialEq, Eq)]
 pub struct WeekStepped {
     pub answer: Answer,
     pub week: Week,
 }
 
 // Of the service that a call names, on the call's day.
-#[derive(Clone, Copy)]
+#[derive(Clone, Copy, Debug, PartialEq, Eq)]
 pub enum Running {
     Unknown,
     Rests,

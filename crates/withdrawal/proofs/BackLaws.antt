@@ -1,4 +1,6 @@
 -- A call that is taken and cuts nothing is put in last; withdrawing it gives back the table.
+use Rattle.refusal.specs.declared.Accepted.TheVariants.{Taken, Outside}
+use Rattle.std.specs.Prelude.{Option, Some, Err, Ok}
 use Prim.Native.Nat.{ℕ, ◌-◌, ◌≤◌, ◌<◌}
 use mathlib.Core.Path.{◌≡◌, refl, sym, ap, subst, ◌∙◌}
 use mathlib.Core.Logic.{◌⊎◌, inl, inr}
@@ -11,14 +13,10 @@ use lib.ListN.{length, replicate, length-take, take-append-drop}
 use Rattle.laws.specs.Lists.{anyb, padded}
 use Rattle.laws.proofs.Lists.{anyb-append}
 use Rattle.laws.proofs.Bools.{or_true_right, and-true}
-use Rattle.refusal.specs.declared.Answer.{Answer}
-use Rattle.refusal.specs.declared.Answer.TheVariants.{Taken, Outside, Refused}
-use Rattle.refusal.specs.First.{first_answer, is_taken}
+use Rattle.refusal.specs.First.{first_answer, is_taken, Answer}
 use Rattle.settings.specs.declared.Settings.{Settings}
 use Rattle.calls.specs.declared.Call.{Call}
 use Rattle.calls.specs.declared.CallInput.{CallInput}
-use Rattle.calls.specs.declared.Offset.{Offset}
-use Rattle.calls.specs.declared.View.TheVariants.{In}
 use Rattle.calls.specs.declared.Table.{Table}
 use Rattle.calls.specs.declared.Fitted.{Fitted}
 use Rattle.calls.specs.Windows.{seen_call, seen}
@@ -43,7 +41,7 @@ low : (t u : Table) → Cut t u → u.horizon ≤ t.horizon
 low t u (inl e) = rw e (omega arith)
 low t u (inr h) = omega arith
 
-cut_keeps : (t : Table) (a d : Offset) (i : CallInput) → Keeps (Cut t) a d i
+cut_keeps : (t : Table) (a d : Option ℕ) (i : CallInput) → Keeps (Cut t) a d i
 unfolding cut
 cut_keeps t a d i u c p e f l = inr (omega (arith, low t u p, shrinks u.horizon l))
 
@@ -55,7 +53,7 @@ pub record Entered (s : Settings) (b : Bool) (n : ℕ) (t : Table) (i : CallInpu
   pub key : has_key (key_of i) call ≡ true
   pub known-key : key_known (key_of i) ≡ true
 
-seen_key : (h : ℕ) (a d : Offset) (i : CallInput) (c : Call) → seen h a d i ≡ In c → has_key (key_of i) c ≡ true
+seen_key : (h : ℕ) (a d : Option ℕ) (i : CallInput) (c : Call) → seen h a d i ≡ Some c → has_key (key_of i) c ≡ true
 unfolding seen_call has_key
 seen_key h a d i c e =
     let same = seen-is h a d i c e in
@@ -68,7 +66,7 @@ five true true false d e q = absurd (true≢false q)
 five true false c d e q = absurd (true≢false q)
 five false b c d e q = absurd (true≢false q)
 
-tests-key : (b : Bool) (n : ℕ) (i : CallInput) → first_answer (call_tests b n i) ≡ Taken → key_known (key_of i) ≡ true
+tests-key : (b : Bool) (n : ℕ) (i : CallInput) → first_answer (call_tests b n i) ≡ Ok Taken → key_known (key_of i) ≡ true
 unfolding call_tests known key_known
 tests-key b n i e = five (ltb i.stop n) (ltb i.trip 65535) (leb i.day 2) (leb i.pickup 3) (leb i.drop_off 3) (call-tests-fail b n i e).1.0
 
@@ -78,7 +76,7 @@ record Inside (t : Table) (i : CallInput) (u : Table) : Type 0 where
   room : t.count < 512
   key : has_key (key_of i) call ≡ true
 
-entered : (t : Table) (a d : Offset) (i : CallInput) (f : Fitted) → Ends (Cut t) a d i f → (ended t f).answer ≡ Taken → (ended t f).table.horizon ≡ t.horizon → Inside t i (ended t f).table
+entered : (t : Table) (a d : Option ℕ) (i : CallInput) (f : Fitted) → Ends (Cut t) a d i f → (ended t f).answer ≡ Ok Taken → (ended t f).table.horizon ≡ t.horizon → Inside t i (ended t f).table
 entered t a d i _ (stands u p e) q h = let z : ◌≡◌ {A = ℕ} 0 1 = cc in absurd (omega arith)
 entered t a d i _ (turned u c p e f m) q h = let z : ◌≡◌ {A = ℕ} 0 1 = cc in absurd (omega arith)
 entered t a d i _ (enters u c p e r) q h = go p
@@ -87,19 +85,19 @@ entered t a d i _ (enters u c p e r) q h = go p
     go (inl x) = record { call = c; table = ap (λ (y : Table). put y c) x; room = subst (λ (y : Table). y.count < 512) x r; key = seen_key u.horizon a d i c e }
     go (inr x) = absurd (omega (arith, h))
 
-pub call-entered : (s : Settings) (b : Bool) (n : ℕ) (t : Table) (i : CallInput) → (call_on s b n t i).answer ≡ Taken → (call_on s b n t i).table.horizon ≡ t.horizon → Entered s b n t i
+pub call-entered : (s : Settings) (b : Bool) (n : ℕ) (t : Table) (i : CallInput) → (call_on s b n t i).answer ≡ Ok Taken → (call_on s b n t i).table.horizon ≡ t.horizon → Entered s b n t i
 unfolding call_on call_fit
 call-entered s b n t i q h = go (first_answer (call_tests b n i)) refl q h
   where
-    go : (a : Answer) → first_answer (call_tests b n i) ≡ a → (goes_on_of s t i a).answer ≡ Taken → (goes_on_of s t i a).table.horizon ≡ t.horizon → Entered s b n t i
-    go (Refused w) e x y = let z : ◌≡◌ {A = ℕ} 0 1 = cc in absurd (omega arith)
-    go Outside e x y = let z : ◌≡◌ {A = ℕ} 0 1 = cc in absurd (omega arith)
-    go Taken e x y =
+    go : (a : Answer) → first_answer (call_tests b n i) ≡ a → (goes_on_of s t i a).answer ≡ Ok Taken → (goes_on_of s t i a).table.horizon ≡ t.horizon → Entered s b n t i
+    go (Err w) e x y = let z : ◌≡◌ {A = ℕ} 0 1 = cc in absurd (omega arith)
+    go (Ok Outside) e x y = let z : ◌≡◌ {A = ℕ} 0 1 = cc in absurd (omega arith)
+    go (Ok Taken) e x y =
         let w = entered t (call_time s i i.arrival) (call_time s i i.departure) i _ (ends (Cut t) _ _ i (cut_keeps t _ _ i) t (inl refl)) x y in
         record { call = w.call; table = rw e w.table; room = w.room; key = w.key; known-key = tests-key b n i e }
 
 -- a call that is not taken, and cut nothing, leaves the table
-stood : (t : Table) (a d : Offset) (i : CallInput) (f : Fitted) → Ends (Cut t) a d i f → is_taken (ended t f).answer ≡ false → (ended t f).table.horizon ≡ t.horizon → (ended t f).table ≡ t
+stood : (t : Table) (a d : Option ℕ) (i : CallInput) (f : Fitted) → Ends (Cut t) a d i f → is_taken (ended t f).answer ≡ false → (ended t f).table.horizon ≡ t.horizon → (ended t f).table ≡ t
 stood t a d i _ (stands u p e) q h = go p
   where
     go : Cut t u → u ≡ t
@@ -113,9 +111,9 @@ unfolding call_on call_fit
 call-stood s b n t i q h = go (first_answer (call_tests b n i)) q h
   where
     go : (a : Answer) → is_taken (goes_on_of s t i a).answer ≡ false → (goes_on_of s t i a).table.horizon ≡ t.horizon → (goes_on_of s t i a).table ≡ t
-    go (Refused w) x y = refl
-    go Outside x y = refl
-    go Taken x y = stood t (call_time s i i.arrival) (call_time s i i.departure) i _ (ends (Cut t) _ _ i (cut_keeps t _ _ i) t (inl refl)) x y
+    go (Err w) x y = refl
+    go (Ok Outside) x y = refl
+    go (Ok Taken) x y = stood t (call_time s i i.arrival) (call_time s i i.departure) i _ (ends (Cut t) _ _ i (cut_keeps t _ _ i) t (inl refl)) x y
 
 -- ---- and taken out again
 

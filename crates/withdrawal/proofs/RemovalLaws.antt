@@ -1,43 +1,20 @@
 -- The last element that passes a test, its place, and the list without it.
-use Prim.Native.Nat.{ℕ, suc, ◌+◌, ◌-◌, ◌≤◌, ◌<◌, min}
+use Prim.Native.Nat.{ℕ, suc, ◌-◌, ◌≤◌, ◌<◌, min}
 use mathlib.Core.Path.{◌≡◌, refl, sym, ap, ◌∙◌}
 use mathlib.Core.Bool.{Bool, true, false, cond, ◌||◌}
-use mathlib.Core.List.{List, [], ◌∷◌, ◌++◌, append_assoc, append-nil}
-use native.Mathlib.Numerals.{add-one}
+use mathlib.Core.List.{List, [], ◌∷◌, ◌++◌}
 use native.Mathlib.Omega.{arith}
-use borrow.Author.Tests.{eq-eqb, ne_eqb, lt-ltb, le-ltb, le-leb, lt-leb, ltb-true, ltb-false}
-use lib.Dec.{eqb, ltb, leb}
-use lib.ListN.{length, get_or, take, drop, set, length-take, drop_of_length-le}
-use lib.Seq.{take-suc, take_all, drop-cons, set_split, take-suc-set, drop-set-lt, length-take-le}
+use borrow.Author.Tests.{le-leb, lt-leb, ltb-true, ltb-false}
+use lib.Dec.{ltb}
+use lib.ListN.{length, get_or, take, drop, set, length-take}
+use lib.Seq.{take-suc, take_all, drop-set-lt, length-take-le}
+use borrow.Rule.Slice.PartMut.{put_mid}
+use Rattle.std.proofs.lemmas.Slice.{put_mid-rotated}
+use Rattle.std.proofs.lemmas.List.{take-set, get_or-set_same}
+use lib.ListN.{length-set}
 use Rattle.laws.specs.Lists.{anyb}
 use Rattle.laws.proofs.Lists.{anyb-append}
-use Rattle.calls.specs.declared.Call.{Call}
-use Rattle.withdrawal.specs.declared.CallKey.{CallKey}
-use Rattle.withdrawal.specs.Removal.{last_of, closed_up, has_key, key_known}
-
--- ---- keys, by their parts
-
-module _ (k : CallKey) (c : Call) where
-  pub key-last : c.trip ≡ k.trip → c.day ≡ k.day → eqb c.sequence k.sequence ≡ has_key k c
-  unfolding has_key
-  key-last e f = rw (eq-eqb c.trip k.trip e, eq-eqb c.day k.day f) refl
-
-  pub key-day : c.trip ≡ k.trip → (c.day ≡ k.day → ⊥) → false ≡ has_key k c
-  unfolding has_key
-  key-day e f = rw (eq-eqb c.trip k.trip e, ne_eqb c.day k.day f) refl
-
-  pub key-trip : (c.trip ≡ k.trip → ⊥) → false ≡ has_key k c
-  unfolding has_key
-  key-trip e = rw (ne_eqb c.trip k.trip e) refl
-
-module _ (k : CallKey) where
-  pub known-day : k.trip < 65535 → leb k.day 2 ≡ key_known k
-  unfolding key_known
-  known-day e = rw (lt-ltb k.trip 65535 e) refl
-
-  pub known-trip : 65535 ≤ k.trip → false ≡ key_known k
-  unfolding key_known
-  known-trip e = rw (le-ltb k.trip 65535 e) refl
+use Rattle.withdrawal.specs.Removal.{last_of, closed_up}
 
 -- ---- the place of the last
 
@@ -54,7 +31,7 @@ module _ {A : Type 0} (p : A → Bool) where
       go false true = refl
       go false false = refl
 
-  last-below : (xs : List A) → last_of p xs ≤ length xs
+  pub last-below : (xs : List A) → last_of p xs ≤ length xs
   last-below [] = omega arith
   last-below (x ∷ xs) = go (anyb p xs) (p x) (last-below xs)
     where
@@ -79,6 +56,10 @@ module _ {A : Type 0} (p : A → Bool) where
           let m : min count 512 ≡ 512 = omega arith in
           take_all count l (omega (arith, e)) ∙ sym (take_all 512 l (omega (arith, e))) ∙ ap (λ (n : ℕ). take n l) (sym m)
 
+  -- the last of a list
+  pub last_end : (xs ys : List A) (x : A) → xs ≡ ys ++ (x ∷ []) → last_of p xs ≡ cond (p x) (suc (length ys)) (last_of p ys)
+  last_end xs ys x e = ap (last_of p) e ∙ last_snoc ys x
+
   -- a turn, from the right
   pub last_turn : (d : A) (l : List A) (n : ℕ) → 0 < n → n ≤ length l → last_of p (take n l) ≡ cond (p (get_or l (n - 1) d)) n (last_of p (take (n - 1) l))
   last_turn d l n h g =
@@ -100,16 +81,11 @@ module _ {A : Type 0} (b : A) where
   pub closed_some : (n : ℕ) (l : List A) → length l ≡ 512 → n < 512 → closing n l ≡ closed_up b n l
   closed_some n l e h = rw (lt-leb (length l) n (omega (arith, e))) refl
 
-  -- a turn: what stands at i + 1 goes one place to the left
-  pub closing-turn : (d y : A) (i : ℕ) (l : List A) → i + 1 < length l → get_or l (i + 1) d ≡ y → closing (i + 1) (set l i y) ≡ closing i l
-  closing-turn d y i l h q =
-      let t : take (i + 1) (set l i y) ≡ take i l ++ (y ∷ []) = rw (add-one i) (take-suc-set l i y (omega arith)) in
-      let u : drop (i + 1) l ≡ y ∷ drop (suc (i + 1)) l = rw (← q) (drop-cons l (i + 1) d h) in
-      let v : drop (suc i) l ≡ y ∷ drop (suc (i + 1)) l = ap (λ (m : ℕ). drop m l) (sym (add-one i)) ∙ u in
-      rw (t, drop-set-lt (suc (i + 1)) l i y (omega arith), v) (ap (λ (r : List A). r ++ (b ∷ [])) (append_assoc (take i l) (y ∷ []) (drop (suc (i + 1)) l)))
-
-  -- the end: b stands last
-  pub closing_end : (l : List A) → length l ≡ 512 → set l 511 b ≡ closing 511 l
-  closing_end l e =
-      let none : drop 512 l ≡ [] = drop_of_length-le l {i = 512} (omega (arith, e)) in
-      set_split l 511 b (omega (arith, e)) ∙ rw none (ap (λ (r : List A). r ++ (b ∷ [])) (sym (append-nil (take 511 l))))
+  -- b at the place n, moved behind those after it
+  pub closed_by : (n : ℕ) (l m : List A) → length l ≡ 512 → n < 512
+      → m ≡ drop 1 (take (512 - n) (drop n (set l n b))) ++ take 1 (take (512 - n) (drop n (set l n b))) → put_mid n (512 - n) (set l n b) m ≡ closed_up b n l
+  closed_by n l m e h q =
+      let long : length (set l n b) ≡ 512 = length-set l n b ∙ e in
+      put_mid-rotated n (512 - n) (set l n b) m b (omega arith) (omega arith) q
+      ∙ rw (take-set l n b, drop-set-lt (suc n) l n b (omega arith), get_or-set_same l n b b (omega arith))
+      (closed_some n l e h)

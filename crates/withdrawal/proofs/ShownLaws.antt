@@ -1,4 +1,5 @@
 -- The call that goes from the table is the last that the window shows with the key.
+use Rattle.std.specs.Prelude.{None, Option, Some}
 use Prim.Native.Nat.{ℕ}
 use mathlib.Core.Path.{◌≡◌, refl, sym, ap, ◌∙◌}
 use mathlib.Core.Bool.{Bool, true, false, cond, ◌||◌}
@@ -8,8 +9,6 @@ use Rattle.settings.specs.declared.Settings.{Settings}
 use Rattle.calls.specs.declared.Call.{Call}
 use Rattle.calls.specs.declared.CallInput.{CallInput}
 use Rattle.calls.specs.declared.Table.{Table}
-use Rattle.calls.specs.declared.View.{View}
-use Rattle.calls.specs.declared.View.TheVariants.{In, Out}
 use Rattle.calls.specs.Calls.{window}
 use Rattle.calls.specs.Shown.{shown, windowed}
 use Rattle.withdrawal.specs.declared.CallKey.{CallKey}
@@ -21,24 +20,24 @@ module _ (s : Settings) (h : ℕ) (k : CallKey) where
   any-shown [] = refl
   any-shown (x ∷ xs) = go (window s h x) (any-shown xs)
     where
-      go : (v : View) → anyb (has_key k) (windowed s h xs) ≡ anyb (named_in s h k) xs → anyb (has_key k) (shown v ++ windowed s h xs) ≡ (shown_key k v || anyb (named_in s h k) xs)
-      go Out ih = ih
-      go (In c) ih = ap (λ (b : Bool). has_key k c || b) ih
+      go : (v : Option Call) → anyb (has_key k) (windowed s h xs) ≡ anyb (named_in s h k) xs → anyb (has_key k) (shown v ++ windowed s h xs) ≡ (shown_key k v || anyb (named_in s h k) xs)
+      go None ih = ih
+      go (Some c) ih = ap (λ (b : Bool). has_key k c || b) ih
 
   pub shown-without : (is : List CallInput) → without_last (has_key k) (windowed s h is) ≡ windowed s h (without_last (named_in s h k) is)
   shown-without [] = refl
   shown-without (x ∷ xs) = go (window s h x) refl (anyb (named_in s h k) xs) refl (shown-without xs)
     where
-      go : (v : View) → window s h x ≡ v → (b : Bool) → anyb (named_in s h k) xs ≡ b → without_last (has_key k) (windowed s h xs) ≡ windowed s h (without_last (named_in s h k) xs)
+      go : (v : Option Call) → window s h x ≡ v → (b : Bool) → anyb (named_in s h k) xs ≡ b → without_last (has_key k) (windowed s h xs) ≡ windowed s h (without_last (named_in s h k) xs)
           → without_last (has_key k) (shown v ++ windowed s h xs) ≡ windowed s h (cond b (x ∷ without_last (named_in s h k) xs) (cond (shown_key k v) xs (x ∷ xs)))
-      go Out e true q ih = ih ∙ sym (ap (λ (v : View). shown v ++ windowed s h (without_last (named_in s h k) xs)) e)
-      go Out e false q ih = none-gone (has_key k) (windowed s h xs) (any-shown xs ∙ q) ∙ sym (ap (λ (v : View). shown v ++ windowed s h xs) e)
-      go (In c) e true q ih = rw (any-shown xs ∙ q) (ap {B = List Call} (λ l. c ∷ l) ih ∙ sym (ap (λ (v : View). shown v ++ windowed s h (without_last (named_in s h k) xs)) e))
-      go (In c) e false q ih = rw (any-shown xs ∙ q) (by (has_key k c))
+      go None e true q ih = ih ∙ sym (ap (λ (v : Option Call). shown v ++ windowed s h (without_last (named_in s h k) xs)) e)
+      go None e false q ih = none-gone (has_key k) (windowed s h xs) (any-shown xs ∙ q) ∙ sym (ap (λ (v : Option Call). shown v ++ windowed s h xs) e)
+      go (Some c) e true q ih = rw (any-shown xs ∙ q) (ap {B = List Call} (λ l. c ∷ l) ih ∙ sym (ap (λ (v : Option Call). shown v ++ windowed s h (without_last (named_in s h k) xs)) e))
+      go (Some c) e false q ih = rw (any-shown xs ∙ q) (by (has_key k c))
         where
           by : (d : Bool) → cond d (windowed s h xs) (c ∷ windowed s h xs) ≡ windowed s h (cond d xs (x ∷ xs))
           by true = refl
-          by false = sym (ap (λ (v : View). shown v ++ windowed s h xs) e)
+          by false = sym (ap (λ (v : Option Call). shown v ++ windowed s h xs) e)
 
 -- horizon and settings stay
 same_horizon : (t : Table) (k : CallKey) → (withdrawn t k).horizon ≡ t.horizon

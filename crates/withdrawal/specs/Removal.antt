@@ -1,13 +1,11 @@
 -- A call taken out of the table: the last of its trip, day and sequence.
-use Rattle.std.specs.Prelude.{ℕ, suc, ◌-◌, ◌≡◌, Bool, true, false, cond, not, ◌&&◌, List, [], ◌∷◌, ◌++◌, eqb, ltb, leb, length, take, drop}
+use Rattle.refusal.specs.declared.Accepted.TheVariants.{Taken}
+use Rattle.std.specs.Prelude.{ℕ, suc, ◌-◌, ◌≡◌, Bool, true, false, cond, not, ◌&&◌, List, [], ◌∷◌, ◌++◌, eqb, ltb, leb, length, take, drop, None, Option, Some, Ok}
 use Rattle.laws.specs.Lists.{anyb}
-use Rattle.refusal.specs.declared.Answer.TheVariants.{Taken}
 use Rattle.settings.specs.declared.Settings.{Settings}
 use Rattle.calls.specs.declared.Call.{Call}
 use Rattle.calls.specs.declared.CallInput.{CallInput}
 use Rattle.calls.specs.declared.Table.{Table}
-use Rattle.calls.specs.declared.View.{View}
-use Rattle.calls.specs.declared.View.TheVariants.{In, Out}
 use Rattle.calls.specs.Tables.{blank_call}
 use Rattle.calls.specs.Calls.{call_on, window}
 use Rattle.calls.specs.Shown.{table_calls, Shows}
@@ -24,6 +22,11 @@ module _ {A : Type 0} (p : A → Bool) where
   abbrev pub without_last : List A → List A
   without_last [] = []
   without_last (x ∷ xs) = cond (anyb p xs) (x ∷ without_last xs) (cond (p x) xs (x ∷ xs))
+
+-- a place counted from 1; 0 for none
+abbrev pub counted : Option ℕ → ℕ
+counted None = 0
+counted (Some n) = suc n
 
 -- an array without the element at n: those behind it move down, and b stands last; past the end nothing goes
 abbrev pub closed_up : {A : Type 0} → A → ℕ → List A → List A
@@ -81,13 +84,13 @@ WithdrawnLeaves = (t : Table) (k : CallKey) → TableSound t → anyb (has_key k
 -- withdrawing straight after a call was taken gives back the table, if taking it didn't shrink the horizon
 abbrev pub TableTakenBack : Type 0
 TableTakenBack = (s : Settings) (b : Bool) (n : ℕ) (t : Table) (i : CallInput) → TableSound t
-    → (call_on s b n t i).answer ≡ Taken → (call_on s b n t i).table.horizon ≡ t.horizon
+    → (call_on s b n t i).answer ≡ Ok Taken → (call_on s b n t i).table.horizon ≡ t.horizon
     → withdrawn (call_on s b n t i).table (key_of i) ≡ t
 
 -- a call handed in that the window shows, with the key: one that a cut dropped doesn't count
-abbrev pub shown_key : CallKey → View → Bool
-shown_key k (In c) = has_key k c
-shown_key k Out = false
+abbrev pub shown_key : CallKey → Option Call → Bool
+shown_key k (Some c) = has_key k c
+shown_key k None = false
 
 abbrev pub named_in : Settings → ℕ → CallKey → CallInput → Bool
 named_in s h k i = shown_key k (window s h i)

@@ -1,14 +1,14 @@
 // A call taken out of the table: the last of its trip, day and sequence goes, and those behind it move down.
 #![tactic(auto)]
 
-ghost use Rattle.std.specs.Prelude.{◌≡◌, min, take};
+ghost use Rattle.std.specs.Prelude.{◌≡◌};
 ghost use Rattle.calls.specs.Tables.{blank_call};
-ghost use Rattle.withdrawal.specs.Removal.{last_of, closed_up, has_key, key_known};
+ghost use Rattle.withdrawal.specs.Removal.{counted, last_of, closed_up, has_key, key_known};
 
 use calls::{Call, blank_call};
 
 // What a withdrawal names.
-#[derive(Clone, Copy)]
+#[derive(Clone, Copy, Debug, PartialEq, Eq)]
 pub struct CallKey {
     pub trip: u16,
     pub day: u8,
@@ -16,63 +16,42 @@ pub struct CallKey {
 }
 
 // Whether a call can have the key: trip 65535 and days above 2 are no call's.
+#[tactic(auto, unfolding(crate::specs::Removal::key_known))]
 pub fn is_known(key: CallKey) -> bool
     ensures { result ≡ key_known key }
 {
-    if key.trip < 65535 {
-        return key.day <= 2;
-    }
-    false
+    key.trip < 65535 && key.day <= 2
 }
 
+#[tactic(auto, unfolding(crate::specs::Removal::has_key))]
 fn has_key(call: Call, key: CallKey) -> bool
     ensures { result ≡ has_key key call }
 {
-    if call.trip == key.trip {
-        if call.day == key.day {
-            return call.sequence == key.sequence;
-        }
-    }
-    false
+    call.trip == key.trip && call.day == key.day && call.sequence == key.sequence
 }
 
-fn covered(count: usize) -> usize
-    ensures { result ≡ min count 512 }
+// The place of the last of the calls with the key.
+pub fn last_of(calls: &[Call], key: CallKey) -> Option<usize>
+    ensures { counted result ≡ last_of (has_key key) calls.now }
 {
-    if count < 512 {
-        return count;
-    }
-    512
-}
-
-// The place of the last of the first `count` calls with the key, counted from 1; 0 where none has it.
-pub fn last_of(calls: [Call; 512], count: usize, key: CallKey) -> usize
-    ensures { result ≡ last_of (has_key key) (take count calls) }
-{
-    let mut n = covered(count);
-    while 0 < n {
-        let call = calls[n - 1];
+    let mut rest = calls;
+    while let Some((&call, before)) = rest.split_last() {
         if has_key(call, key) {
-            return n;
+            return Some(before.len());
         }
-        n -= 1;
+        rest = before;
     }
-    0
+    None
 }
 
-// The calls without the one at the place: those behind it move down, and a blank one stands last.
+// The calls without the one at the place: it is blanked, and those behind it move down before it.
 pub fn without(calls: [Call; 512], at: usize) -> [Call; 512]
     ensures { result ≡ closed_up blank_call at calls }
 {
     let mut out = calls;
-    if 512 <= at {
-        return out;
+    if at < 512 {
+        out[at] = blank_call();
+        out[at..].rotate_left(1);
     }
-    let mut i = at;
-    while i < 511 {
-        out[i] = out[i + 1];
-        i += 1;
-    }
-    out[511] = blank_call();
     out
 }

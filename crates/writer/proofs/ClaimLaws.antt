@@ -1,4 +1,6 @@
 -- 25 and 26 exactly by their causes; the buffer after writing.
+use Rattle.refusal.specs.declared.Accepted.TheVariants.{Taken}
+use Rattle.std.specs.Prelude.{Err, Ok}
 use Prim.Native.Nat.{ℕ, ◌≤◌}
 use mathlib.Core.Path.{◌≡◌, refl, sym, ap, ◌∙◌}
 use mathlib.Core.Bool.{Bool, true, false, cond, ◌||◌, true≢false, false≢true}
@@ -11,9 +13,7 @@ use lib.Seq.{take_at, drop_at}
 use borrow.Author.Tests.{ltb-true, ltb-false, lt-ltb}
 use Rattle.laws.proofs.Bools.{or-true-cases, or-true-left, or_true_right, cond-by, cond-not}
 use Rattle.refusal.specs.declared.Refusal.TheVariants.{LoadUnwritable, BufferShort}
-use Rattle.refusal.specs.declared.Answer.{Answer}
-use Rattle.refusal.specs.declared.Answer.TheVariants.{Taken, Refused}
-use Rattle.refusal.specs.First.{first_answer, is_taken, answer_number}
+use Rattle.refusal.specs.First.{first_answer, is_taken, answer_number, Answer}
 use Rattle.refusal.proofs.FirstLaws.{takes_none, answer-is-first, first_taken}
 use Rattle.load.specs.declared.Load.{Load}
 use Rattle.writer.specs.File.{write_spec_of}
@@ -22,7 +22,7 @@ use Rattle.writer.specs.Claims.{Unwritten, dated, stopped, cut, UnwritableExactl
 
 -- the answer, by its two tests
 abbrev by_tests_of : Bool → Bool → Answer
-by_tests_of x y = cond x (Refused LoadUnwritable) (cond y (Refused BufferShort) Taken)
+by_tests_of x y = cond x (Err LoadUnwritable) (cond y (Err BufferShort) (Ok Taken))
 
 abbrev barred : Load → Bool
 barred l = unwritable l.week.dated l.stopped l.table_horizon
@@ -46,12 +46,12 @@ cause-barred l (stopped d) = or_true_right l.week.dated _ (or-true-left l.stoppe
 cause-barred l (cut h) = or_true_right l.week.dated _ (or_true_right l.stopped _ (lt-ltb l.table_horizon 21600 h))
 
 -- each answer by its tests
-is-25 : (x y : Bool) → by_tests_of x y ≡ Refused LoadUnwritable → x ≡ true
+is-25 : (x y : Bool) → by_tests_of x y ≡ Err LoadUnwritable → x ≡ true
 is-25 true y e = refl
 is-25 false true e = let z : ◌≡◌ {A = ℕ} 26 25 = ap answer_number e in absurd (omega arith)
 is-25 false false e = let z : ◌≡◌ {A = ℕ} 0 25 = ap answer_number e in absurd (omega arith)
 
-is-26 : (x y : Bool) → by_tests_of x y ≡ Refused BufferShort → (x ≡ false) × (y ≡ true)
+is-26 : (x y : Bool) → by_tests_of x y ≡ Err BufferShort → (x ≡ false) × (y ≡ true)
 is-26 true y e = let z : ◌≡◌ {A = ℕ} 25 26 = ap answer_number e in absurd (omega arith)
 is-26 false true e = (refl, refl)
 is-26 false false e = let z : ◌≡◌ {A = ℕ} 0 26 = ap answer_number e in absurd (omega arith)

@@ -1,7 +1,8 @@
 -- Records put behind their length, the parts of a record, and a buffer after a file was put into it.
+use Rattle.refusal.specs.declared.Accepted.TheVariants.{Taken}
+use Rattle.std.specs.Prelude.{Some, Err, Ok}
 use mathlib.Core.Path.{◌≡◌, refl, sym, ap, ◌∙◌}
 use mathlib.Core.Bool.{Bool, true, false}
-use mathlib.Core.Option.{some}
 use mathlib.Core.Logic.{◌⊎◌, inl, inr}
 use mathlib.Core.List.{List, [], ◌∷◌, ◌++◌, append_assoc}
 use Prim.Native.Nat.{ℕ, zero, suc, ◌+◌, ◌-◌, ◌≤◌, ◌<◌}
@@ -12,7 +13,6 @@ use lib.Seq.{sets, take_all, sets-eq}
 use borrow.Author.Tests.{lt-ltb, le-ltb}
 use Rattle.laws.specs.Lists.{concat_map}
 use Rattle.refusal.specs.declared.Refusal.TheVariants.{LoadUnwritable, BufferShort}
-use Rattle.refusal.specs.declared.Answer.TheVariants.{Taken, Refused}
 use Rattle.refusal.specs.First.{first_answer}
 use Rattle.place.specs.declared.Degrees.{Degrees}
 use Rattle.load.specs.declared.Load.{Load}
@@ -24,7 +24,7 @@ use Rattle.stops.specs.Sound.{stop_at}
 use Rattle.rules.specs.declared.Rule.{Rule}
 use Rattle.calls.specs.declared.Call.{Call}
 use Rattle.codec.specs.Shapes.{two, four, eight, number, text, option, both, write, two_bytes, four_bytes, eight_bytes, framed}
-use Rattle.codec.specs.Kinds.{unsigned_of, bits_of, min_time_value, given, degrees_value, settings_body, stop_body, rule_body, call_body, search_body}
+use Rattle.codec.specs.Kinds.{unsigned_of, bits_of, given, degrees_value, settings_body, stop_body, rule_body, call_body, search_body}
 use Rattle.codec.specs.Parts.{at_start, name_of, has_parent, stop_input_of, type_of, min_time_of, rule_input_of, call_input_of}
 use Rattle.writer.specs.declared.Wrote.{Wrote}
 use Rattle.writer.specs.File.{settings_file, stop_file, rule_file, call_file, search_file, write_spec_of}
@@ -97,7 +97,7 @@ pub degrees-none : (located : Bool) (d : Degrees) → located ≡ false
 degrees-none located d e = ap (λ (b : Bool). write (option (both (number eight) (number eight))) (given b (degrees_value d))) (sym e)
 
 pub rule-file : (r : Rule)
-    → framed ((4 ∷ []) ++ (two_bytes r.from ++ (two_bytes r.to ++ ((r.transfer_type ∷ []) ++ write (option (number two)) (min_time_value (min_time_of r.timed r.seconds))))))
+    → framed ((4 ∷ []) ++ (two_bytes r.from ++ (two_bytes r.to ++ ((r.transfer_type ∷ []) ++ write (option (number two)) (min_time_of r.timed r.seconds)))))
     ≡ rule_file r
 unfolding rule_file rule_body rule_input_of
 rule-file r = refl
@@ -107,9 +107,9 @@ unfolding call_file call_key call_times call_body call_input_of four_bytes two_b
 call-file c = refl
 
 pub times-parts : (c : Call) (p q : ℕ) → p ≡ type_of c.board c.board_request → q ≡ type_of c.alight c.alight_request
-    → write (option (number four)) (some c.arrival) ++ (write (option (number four)) (some c.departure) ++ ((p ∷ []) ++ (q ∷ []))) ≡ call_times c
+    → write (option (number four)) (Some c.arrival) ++ (write (option (number four)) (Some c.departure) ++ ((p ∷ []) ++ (q ∷ []))) ≡ call_times c
 unfolding call_times
-times-parts c p q d e = λ t. write (option (number four)) (some c.arrival) ++ (write (option (number four)) (some c.departure) ++ ((d t ∷ []) ++ (e t ∷ [])))
+times-parts c p q d e = λ t. write (option (number four)) (Some c.arrival) ++ (write (option (number four)) (Some c.departure) ++ ((d t ∷ []) ++ (e t ∷ [])))
 
 pub search-there : (b : Bool) → b ≡ true → two_bytes 1 ++ (5 ∷ []) ≡ search_file b
 unfolding search_file search_body framed
@@ -138,17 +138,17 @@ module _ (l : Load) (before : List ℕ) where
   abbrev room : ℕ
   room = length before
 
-  pub wrote-barred : unwritable l.week.dated l.stopped l.table_horizon ≡ true → (◌≡◌ {A = Wrote} (record { answer = Refused LoadUnwritable; length = 0 }) (wrote_spec l room)) × (before ≡ buffer_after l before)
+  pub wrote-barred : unwritable l.week.dated l.stopped l.table_horizon ≡ true → (◌≡◌ {A = Wrote} (record { answer = Err LoadUnwritable; length = 0 }) (wrote_spec l room)) × (before ≡ buffer_after l before)
   unfolding wrote_spec buffer_after write_tests first_answer
   wrote-barred e = (rw e refl, rw e refl)
 
   pub wrote-short : unwritable l.week.dated l.stopped l.table_horizon ≡ false → room < length (write_spec_of l)
-      → (◌≡◌ {A = Wrote} (record { answer = Refused BufferShort; length = 0 }) (wrote_spec l room)) × (before ≡ buffer_after l before)
+      → (◌≡◌ {A = Wrote} (record { answer = Err BufferShort; length = 0 }) (wrote_spec l room)) × (before ≡ buffer_after l before)
   unfolding wrote_spec buffer_after write_tests first_answer
   wrote-short e h = let k = lt-ltb room (length (write_spec_of l)) h in (rw (e, k) refl, rw (e, k) refl)
 
   pub wrote-all : {m r : ℕ} {after : List ℕ} → unwritable l.week.dated l.stopped l.table_horizon ≡ false → length (write_spec_of l) ≤ room → Put m (write_spec_of l) 0 before r after
-      → (◌≡◌ {A = Wrote} (record { answer = Taken; length = length (write_spec_of l) }) (wrote_spec l room)) × (after ≡ buffer_after l before)
+      → (◌≡◌ {A = Wrote} (record { answer = Ok Taken; length = length (write_spec_of l) }) (wrote_spec l room)) × (after ≡ buffer_after l before)
   unfolding wrote_spec buffer_after write_tests first_answer
   wrote-all e h p =
       let k = le-ltb room (length (write_spec_of l)) h in

@@ -1,7 +1,7 @@
 -- What is claimed of writing: 25 and 26 exactly by their causes, and which bytes of the buffer stay.
-use Rattle.std.specs.Prelude.{ℕ, ◌<◌, ◌≡◌, true, false, List, length, take, drop}
+use Rattle.refusal.specs.declared.Accepted.TheVariants.{Taken}
+use Rattle.std.specs.Prelude.{ℕ, ◌<◌, ◌≡◌, true, false, List, length, take, drop, Err, Ok}
 use Rattle.refusal.specs.declared.Refusal.TheVariants.{LoadUnwritable, BufferShort}
-use Rattle.refusal.specs.declared.Answer.TheVariants.{Taken, Refused}
 use Rattle.refusal.specs.First.{First, AllFail, is_taken}
 use Rattle.load.specs.declared.Load.{Load}
 use Rattle.writer.specs.File.{write_spec_of}
@@ -16,7 +16,7 @@ pub data Unwritten (l : Load) : Type 0 where
 -- 25 exactly there, also with no room
 abbrev pub UnwritableExactly : Type 0
 UnwritableExactly = (l : Load) (room : ℕ)
-    → ((wrote_spec l room).answer ≡ Refused LoadUnwritable → Unwritten l) × (Unwritten l → (wrote_spec l room).answer ≡ Refused LoadUnwritable)
+    → ((wrote_spec l room).answer ≡ Err LoadUnwritable → Unwritten l) × (Unwritten l → (wrote_spec l room).answer ≡ Err LoadUnwritable)
 
 -- 26 exactly where the file of another load is longer than the buffer
 pub record Short (l : Load) (room : ℕ) : Type 0 where
@@ -24,12 +24,12 @@ pub record Short (l : Load) (room : ℕ) : Type 0 where
   pub longer : room < length (write_spec_of l)
 
 abbrev pub ShortExactly : Type 0
-ShortExactly = (l : Load) (room : ℕ) → ((wrote_spec l room).answer ≡ Refused BufferShort → Short l room) × (Short l room → (wrote_spec l room).answer ≡ Refused BufferShort)
+ShortExactly = (l : Load) (room : ℕ) → ((wrote_spec l room).answer ≡ Err BufferShort → Short l room) × (Short l room → (wrote_spec l room).answer ≡ Err BufferShort)
 
 -- the answer is that of the first cause that holds, and a written load has none
 pub record WroteAnswered (l : Load) (room : ℕ) : Type 0 where
   pub first : First (wrote_spec l room).answer (write_tests l room)
-  pub taken : (wrote_spec l room).answer ≡ Taken → AllFail (write_tests l room)
+  pub taken : (wrote_spec l room).answer ≡ Ok Taken → AllFail (write_tests l room)
 
 abbrev pub WriteAnswered : Type 0
 WriteAnswered = (l : Load) (room : ℕ) → WroteAnswered l room

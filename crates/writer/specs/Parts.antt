@@ -1,6 +1,5 @@
 -- The parts of a record that are put by a function of their own.
-use Rattle.std.specs.Prelude.{ℕ, List, [], ◌∷◌, ◌++◌, ℤ, take}
-use Rattle.std.proofs.Math.Option.{some}
+use Rattle.std.specs.Prelude.{ℕ, List, [], ◌∷◌, ◌++◌, ℤ, take, Some}
 use Rattle.settings.specs.declared.Settings.{Settings}
 use Rattle.stops.specs.declared.Stop.{Stop}
 use Rattle.stops.specs.Stops.{id_of}
@@ -38,5 +37,5 @@ call_key c = (3 ∷ []) ++ (two_bytes c.trip ++ ((c.day ∷ []) ++ (four_bytes c
 
 unfoldable pub call_times : Call → List ℕ
 call_times c =
-    write (option (number four)) (some c.arrival)
-    ++ (write (option (number four)) (some c.departure) ++ ((type_of c.board c.board_request ∷ []) ++ (type_of c.alight c.alight_request ∷ [])))
+    write (option (number four)) (Some c.arrival)
+    ++ (write (option (number four)) (Some c.departure) ++ ((type_of c.board c.board_request ∷ []) ++ (type_of c.alight c.alight_request ∷ [])))

@@ -1,9 +1,7 @@
 -- What writing a load into a lent buffer answers, and what it leaves in the buffer.
-use Rattle.std.specs.Prelude.{ℕ, Bool, cond, ◌||◌, List, [], ◌∷◌, ◌++◌, ltb, length, drop}
+use Rattle.std.specs.Prelude.{ℕ, Bool, cond, ◌||◌, List, [], ◌∷◌, ◌++◌, ltb, length, drop, Err}
 use Rattle.refusal.specs.declared.Refusal.TheVariants.{LoadUnwritable, BufferShort}
-use Rattle.refusal.specs.declared.Answer.{Answer}
-use Rattle.refusal.specs.declared.Answer.TheVariants.{Refused}
-use Rattle.refusal.specs.First.{first_answer, is_taken}
+use Rattle.refusal.specs.First.{first_answer, is_taken, Answer}
 use Rattle.load.specs.declared.Load.{Load}
 use Rattle.writer.specs.declared.Wrote.{Wrote}
 use Rattle.writer.specs.File.{write_spec_of}
@@ -15,8 +13,8 @@ unwritable dated stopped horizon = dated || (stopped || ltb horizon 21600)
 -- why a load is not written, in request 13's order: 25, then 26 for a buffer with room for less than the file
 unfoldable pub write_tests : Load → ℕ → List (Bool × Answer)
 write_tests l room =
-    (unwritable l.week.dated l.stopped l.table_horizon, Refused LoadUnwritable)
-    ∷ (ltb room (length (write_spec_of l)), Refused BufferShort)
+    (unwritable l.week.dated l.stopped l.table_horizon, Err LoadUnwritable)
+    ∷ (ltb room (length (write_spec_of l)), Err BufferShort)
     ∷ []
 
 abbrev pub write_answer : Load → ℕ → Answer

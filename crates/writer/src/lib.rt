@@ -10,7 +10,7 @@ ghost use Rattle.writer.specs.Wrote.{unwritable, wrote_spec, buffer_after};
 
 use crate::file::{file_length, put_file};
 use load::Load;
-use refusal::{Answer, Refusal};
+use refusal::{Accepted, Answer, Refusal};
 
 // Taken, and how long the file is; or why nothing was written.
 #[derive(Clone, Copy)]
@@ -32,10 +32,10 @@ fn is_unwritable(dated: bool, stopped: bool, horizon: u16) -> bool
 }
 
 fn refused(cause: Refusal) -> Wrote
-    ensures { result ≡ record { answer = Answer.Refused cause; length = 0 } }
+    ensures { result ≡ record { answer = Err cause; length = 0 } }
 {
     Wrote {
-        answer: Answer::Refused(cause),
+        answer: Err(cause),
         length: 0,
     }
 }
@@ -54,7 +54,7 @@ pub fn write(load: Load, out: &mut [u8]) -> Wrote
     }
     put_file(out, load);
     Wrote {
-        answer: Answer::Taken,
+        answer: Ok(Accepted::Taken),
         length: n,
     }
 }

@@ -1,10 +1,9 @@
 // The records of a load, each put behind the two bytes of its length.
 ghost use Rattle.std.specs.Prelude.{◌≡◌, not, ◌+◌, ◌≤◌, eqb};
-ghost use Rattle.std.proofs.Math.Option.{some};
 ghost use Rattle.stops.specs.Stops.{id_of};
 ghost use Rattle.lines.specs.Buffer.{Put};
 ghost use Rattle.codec.specs.Shapes.{two, four, eight, number, text, option, both, write, framed};
-ghost use Rattle.codec.specs.Kinds.{min_time_value, given, degrees_value, stop_body};
+ghost use Rattle.codec.specs.Kinds.{given, degrees_value, stop_body};
 ghost use Rattle.codec.specs.Parts.{type_of, min_time_of, name_of, stop_input_of};
 ghost use Rattle.writer.specs.File.{settings_file, rule_file, call_file, search_file};
 ghost use Rattle.writer.specs.Parts.{settings_walks, starts, settings_rest, stop_texts, stop_rest, call_key, call_times};
@@ -125,7 +124,7 @@ pub fn put_stop(out: &mut [u8], at: usize, s: Stop, station: Stop) -> usize
 
 fn put_min_time(out: &mut [u8], at: usize, timed: bool, seconds: u16) -> usize
     requires { at + 3 ≤ 1000000 }
-    ensures { Put 3 (write (option (number two)) (min_time_value (min_time_of timed seconds))) at out.old result out.new }
+    ensures { Put 3 (write (option (number two)) (min_time_of timed seconds)) at out.old result out.new }
 {
     if timed {
         let from = put_byte(out, at, 1);
@@ -164,7 +163,7 @@ fn type_of(may: bool, asked: bool) -> u8
 // A time that is there.
 fn put_seconds(out: &mut [u8], at: usize, n: u16) -> usize
     requires { at + 5 ≤ 1000000 }
-    ensures { Put 5 (write (option (number four)) (some n)) at out.old result out.new }
+    ensures { Put 5 (write (option (number four)) (Some n)) at out.old result out.new }
 {
     let from = put_byte(out, at, 1);
     put_u32(out, from, n as u32)

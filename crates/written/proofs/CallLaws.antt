@@ -1,4 +1,6 @@
 -- The call step keeps the trips and days of the table's calls in range.
+use Rattle.refusal.specs.declared.Accepted.TheVariants.{Taken, Outside}
+use Rattle.std.specs.Prelude.{Option, Some, Err, Ok}
 use Prim.Native.Nat.{ℕ, ◌≤◌, ◌<◌}
 use mathlib.Core.Path.{◌≡◌, refl, sym, subst}
 use mathlib.Core.Bool.{Bool, true, false, not, cond, ◌&&◌, true≢false}
@@ -9,14 +11,10 @@ use borrow.Author.Tests.{ltb-true, leb-true}
 use Rattle.laws.specs.Lists.{All}
 use Rattle.laws.proofs.Bools.{and-true-left, and-true-right}
 use Rattle.laws.proofs.Every.{all_append, all-gather}
-use Rattle.refusal.specs.declared.Answer.{Answer}
-use Rattle.refusal.specs.declared.Answer.TheVariants.{Taken, Outside, Refused}
-use Rattle.refusal.specs.First.{first_answer}
+use Rattle.refusal.specs.First.{first_answer, Answer}
 use Rattle.settings.specs.declared.Settings.{Settings}
 use Rattle.calls.specs.declared.Call.{Call}
 use Rattle.calls.specs.declared.CallInput.{CallInput}
-use Rattle.calls.specs.declared.Offset.{Offset}
-use Rattle.calls.specs.declared.View.TheVariants.{In}
 use Rattle.calls.specs.declared.Table.{Table}
 use Rattle.calls.specs.declared.Fitted.{Fitted}
 use Rattle.calls.specs.Windows.{seen_call, seen}
@@ -42,18 +40,18 @@ record Held (t : Table) : Type 0 where
   sound : TableSound t
   kept : TableKept t
 
-held_keeps : (a d : Offset) (i : CallInput) → Keeps Held a d i
+held_keeps : (a d : Option ℕ) (i : CallInput) → Keeps Held a d i
 held_keeps a d i t c p e f l = record {
   sound = sound-keeps a d i t c p.sound e f l;
   kept = subst (All CallKept) (sym (cut-calls (less t.horizon) t p.sound))
       (all-gather CallKept CallKept (due_by (less t.horizon)) (trim (less t.horizon)) (λ x q r. trim-kept (less t.horizon) x q) (take t.count t.calls) p.kept);
 }
 
-seen-kept : (h : ℕ) (a d : Offset) (i : CallInput) (c : Call) → i.trip < 65535 → i.day ≤ 2 → seen h a d i ≡ In c → CallKept c
+seen-kept : (h : ℕ) (a d : Option ℕ) (i : CallInput) (c : Call) → i.trip < 65535 → i.day ≤ 2 → seen h a d i ≡ Some c → CallKept c
 unfolding seen_call
 seen-kept h a d i c t k e = subst CallKept (seen-is h a d i c e) (record { trip_known = t; day_known = k })
 
-ended-kept : (u : Table) (a d : Offset) (i : CallInput) → i.trip < 65535 → i.day ≤ 2 → TableKept u → (f : Fitted) → Ends Held a d i f → TableKept (ended u f).table
+ended-kept : (u : Table) (a d : Option ℕ) (i : CallInput) → i.trip < 65535 → i.day ≤ 2 → TableKept u → (f : Fitted) → Ends Held a d i f → TableKept (ended u f).table
 ended-kept u a d i x y s _ (stands t p e) = p.kept
 ended-kept u a d i x y s _ (enters t c p e h) =
     subst (All CallKept) (sym (put-calls t c p.sound h)) (all_append CallKept (take t.count t.calls) (c ∷ []) p.kept (seen-kept t.horizon a d i c x y e, tt))
@@ -80,8 +78,8 @@ unfolding call_on call_fit call_tests
 call-keeps s b n t i p k = go (first_answer (call_tests b n i)) refl
   where
     go : (a : Answer) → first_answer (call_tests b n i) ≡ a → TableKept (goes_on_of s t i a).table
-    go (Refused w) e = k
-    go Outside e = k
-    go Taken e =
+    go (Err w) e = k
+    go (Ok Outside) e = k
+    go (Ok Taken) e =
         let w = known_of n i (call-tests-fail b n i e).1.0 in
         ended-kept t (call_time s i i.arrival) (call_time s i i.departure) i w.trip_known w.day_known k _ (ends Held _ _ i (held_keeps _ _ i) t (record { sound = p; kept = k }))

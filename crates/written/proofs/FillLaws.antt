@@ -1,4 +1,6 @@
 -- Opening and the steps that fill a load give what a written load needs beside soundness.
+use Rattle.refusal.specs.declared.Accepted.TheVariants.{Taken}
+use Rattle.std.specs.Prelude.{Ok}
 use Prim.Native.Nat.{ℕ}
 use mathlib.Core.Path.{◌≡◌, refl}
 use mathlib.Core.Bool.{Bool, true, false, not, cond}
@@ -6,7 +8,6 @@ use mathlib.Core.List.{List, [], ◌∷◌}
 use native.Mathlib.Omega.{arith}
 use lib.Dec.{ltb}
 use lib.ListN.{get_or}
-use Rattle.refusal.specs.declared.Answer.TheVariants.{Taken}
 use Rattle.refusal.specs.First.{first_answer, is_refused, is_taken}
 use Rattle.refusal.proofs.FirstLaws.{taken_is}
 use Rattle.settings.specs.declared.Settings.{Settings}
@@ -60,7 +61,7 @@ canonical-twice s = λ t. record {
 
 -- opening reads nothing that it leaves out
 open-taken : (s : Settings) → over_counts s.origins s.targets s.max_transfers s.transfer_seconds ≡ false
-    → not (all_near s.now s.epochs) ≡ false → first_answer (settings_tests (canonical_of s)) ≡ Taken
+    → not (all_near s.now s.epochs) ≡ false → first_answer (settings_tests (canonical_of s)) ≡ Ok Taken
 unfolding first_answer settings_tests canonical_of
 open-taken s c n = rw (c, n) refl
 

@@ -1,4 +1,7 @@
 -- A rule that is taken can be handed in again, and so can those before it.
+use Rattle.std.specs.Option.{unwrap_or}
+use Rattle.refusal.specs.declared.Accepted.TheVariants.{Taken}
+use Rattle.std.specs.Prelude.{None, Option, Some, Ok, is_some}
 use Prim.Native.Nat.{ℕ, ◌+◌, ◌<◌}
 use mathlib.Core.Path.{◌≡◌, refl, sym, subst, ◌∙◌}
 use mathlib.Core.Bool.{Bool}
@@ -8,30 +11,28 @@ use lib.ListN.{length, get_or, set}
 use lib.Seq.{get_or-set_same, get_or-set_other}
 use borrow.Author.Tests.{leb-false, not-false}
 use Rattle.laws.proofs.Slots.{below-cases}
-use Rattle.refusal.specs.declared.Answer.TheVariants.{Taken}
 use Rattle.refusal.specs.First.{AllFail, first_answer}
 use Rattle.refusal.proofs.FirstLaws.{first_taken, answer-is-first}
 use Rattle.rules.specs.declared.Rule.{Rule}
 use Rattle.rules.specs.declared.RuleInput.{RuleInput}
-use Rattle.rules.specs.declared.MinTime.{MinTime}
-use Rattle.rules.specs.Rules.{blank_rule, type_right_of, seconds_of, is_given, rule_tests, rule_of}
+use Rattle.rules.specs.Rules.{blank_rule, type_right_of, rule_tests, rule_of}
 use Rattle.rules.specs.Sound.{rule_at}
 use Rattle.codec.specs.Parts.{min_time_of, rule_input_of}
 use Rattle.written.specs.Kept.{RuleKept}
 
-rule-type : (k : ℕ) (m : MinTime) → type_right_of k (min_time_of (is_given m) (seconds_of m)) ≡ type_right_of k m
-rule-type k (MinTime.Given n) = refl
-rule-type k MinTime.Absent = refl
+rule-type : (k : ℕ) (m : Option ℕ) → type_right_of k (min_time_of (is_some m) (unwrap_or m 0)) ≡ type_right_of k m
+rule-type k (Some n) = refl
+rule-type k None = refl
 
 rule-whole : (i : RuleInput) → rule_of (rule_input_of (rule_of i)) ≡ rule_of i
 unfolding rule_input_of
 rule-whole i = go i.seconds
   where
-    go : (m : MinTime) → rule_of (record { from = i.from; to = i.to; transfer_type = i.transfer_type; seconds = min_time_of (is_given m) (seconds_of m) }) ≡ record { from = i.from; to = i.to; transfer_type = i.transfer_type; seconds = seconds_of m; timed = is_given m }
-    go (MinTime.Given n) = refl
-    go MinTime.Absent = refl
+    go : (m : Option ℕ) → rule_of (record { from = i.from; to = i.to; transfer_type = i.transfer_type; seconds = min_time_of (is_some m) (unwrap_or m 0) }) ≡ record { from = i.from; to = i.to; transfer_type = i.transfer_type; seconds = unwrap_or m 0; timed = is_some m }
+    go (Some n) = refl
+    go None = refl
 
-module _ (searched : Bool) (stops : ℕ) (rules : List Rule) (n : ℕ) (i : RuleInput) (taken : first_answer (rule_tests searched stops rules n i) ≡ Taken) where
+module _ (searched : Bool) (stops : ℕ) (rules : List Rule) (n : ℕ) (i : RuleInput) (taken : first_answer (rule_tests searched stops rules n i) ≡ Ok Taken) where
   rule-tests : AllFail (rule_tests searched stops rules n i)
   unfolding rule_tests
   rule-tests = first_taken _ (rule_tests searched stops rules n i) refl (answer-is-first (rule_tests searched stops rules n i)) taken

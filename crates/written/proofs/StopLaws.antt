@@ -1,4 +1,7 @@
 -- A stop that is taken can be handed in again, and so can those before it.
+use Rattle.std.specs.Option.{unwrap_or}
+use Rattle.refusal.specs.declared.Accepted.TheVariants.{Taken}
+use Rattle.std.specs.Prelude.{None, Option, Some, Ok, is_some}
 use Prim.Native.Nat.{ℕ, ◌+◌, ◌-◌, ◌≤◌, ◌<◌}
 use mathlib.Core.Path.{◌≡◌, refl, sym, ap, subst, ◌∙◌}
 use mathlib.Core.List.{List}
@@ -11,18 +14,15 @@ use lib.Seq.{get_or-set_same, get_or-set_other, get_or-take}
 use borrow.Author.Tests.{eqb-true, ne_eqb}
 use Rattle.laws.proofs.Bools.{and-true-left}
 use Rattle.laws.proofs.Slots.{below-cases}
-use Rattle.refusal.specs.declared.Answer.TheVariants.{Taken}
 use Rattle.refusal.specs.First.{AllFail, first_answer}
 use Rattle.refusal.proofs.FirstLaws.{first_taken, answer-is-first}
 use Rattle.place.specs.declared.Degrees.{Degrees}
-use Rattle.place.specs.declared.Position.{Position}
+use Rattle.place.specs.declared.Degrees.{Degrees}
 use Rattle.place.specs.Positions.{is_usable}
 use Rattle.stops.specs.declared.Stop.{Stop}
 use Rattle.stops.specs.declared.StopInput.{StopInput}
-use Rattle.stops.specs.declared.Found.{Found}
-use Rattle.stops.specs.declared.Found.TheVariants.{At, Nothing}
 use Rattle.stops.specs.Texts.{same_bytes_of, held_text, shown}
-use Rattle.stops.specs.Stops.{id_of, is_it, is_at, number_of}
+use Rattle.stops.specs.Stops.{id_of, is_it}
 use Rattle.stops.specs.Answer.{station_of, id_wrong, type_wrong, name_needed, name_wrong, stop_tests}
 use Rattle.stops.specs.Taken.{zero_degrees, held_degrees, stop_of, blank_stop}
 use Rattle.stops.specs.Sound.{stop_at, StopsSound}
@@ -36,16 +36,16 @@ use Rattle.written.specs.Kept.{StopKept}
 -- ---- the station that was found
 
 -- a station that is named is found among the first n, or none is named
-data Station (ss : List Stop) (n : ℕ) (has : Bool) : Found → Type 0 where
-  there : (m : ℕ) → has ≡ true → m < n → (stop_at ss m).location_type ≡ 1 → Station ss n has (At m)
-  nowhere : has ≡ false → Station ss n has Nothing
+data Station (ss : List Stop) (n : ℕ) (has : Bool) : Option ℕ → Type 0 where
+  there : (m : ℕ) → has ≡ true → m < n → (stop_at ss m).location_type ≡ 1 → Station ss n has (Some m)
+  nowhere : has ≡ false → Station ss n has None
 
-station : (ss : List Stop) (n : ℕ) (has : Bool) (parent : List ℕ) → n ≤ length ss → (f : Found) → station_of ss n has parent ≡ f → (has && not (is_at f)) ≡ false → Station ss n has f
+station : (ss : List Stop) (n : ℕ) (has : Bool) (parent : List ℕ) → n ≤ length ss → (f : Option ℕ) → station_of ss n has parent ≡ f → (has && not (is_some f)) ≡ false → Station ss n has f
 unfolding station_of stop_at
-station ss n true parent long Nothing e t = absurd (true≢false t)
-station ss n false parent long Nothing e t = nowhere refl
-station ss n false parent long (At m) e t = let z : ◌≡◌ {A = ℕ} 0 1 = cc in absurd (omega arith)
-station ss n true parent long (At m) e t =
+station ss n true parent long None e t = absurd (true≢false t)
+station ss n false parent long None e t = nowhere refl
+station ss n false parent long (Some m) e t = let z : ◌≡◌ {A = ℕ} 0 1 = cc in absurd (omega arith)
+station ss n true parent long (Some m) e t =
     let f = found (is_it true parent) (take n ss) 0 m e in
     let count : length (take n ss) ≡ n = simp length-take (omega arith) in
     let h : m < n = omega (arith, f.1, count) in
@@ -55,15 +55,15 @@ station ss n true parent long (At m) e t =
 
 -- its number says whether it is there
 module _ (ss : List Stop) (n : ℕ) (small : n ≤ 128) where
-  has-is : (has : Bool) (f : Found) → Station ss n has f → not (eqb (number_of f) 65535) ≡ has
+  has-is : (has : Bool) (f : Option ℕ) → Station ss n has f → not (eqb (unwrap_or f 65535) 65535) ≡ has
   has-is has _ (there m e h t) = ap not (ne_eqb m 65535 (λ q. omega arith)) ∙ sym e
   has-is has _ (nowhere e) = sym e
 
-  station-back : (has : Bool) (f : Found) → Station ss n has f → cond (not (eqb (number_of f) 65535)) (At (number_of f)) Nothing ≡ f
+  station-back : (has : Bool) (f : Option ℕ) → Station ss n has f → cond (not (eqb (unwrap_or f 65535) 65535)) (Some (unwrap_or f 65535)) None ≡ f
   station-back has _ (there m e h t) = rw (ne_eqb m 65535 (λ q. omega arith)) refl
   station-back has _ (nowhere e) = refl
 
-  first-is : (has : Bool) (f : Found) → Station ss n has f → not (eqb (number_of f) 65535) ≡ true → (number_of f < n) × ((stop_at ss (number_of f)).location_type ≡ 1)
+  first-is : (has : Bool) (f : Option ℕ) → Station ss n has f → not (eqb (unwrap_or f 65535) 65535) ≡ true → (unwrap_or f 65535 < n) × ((stop_at ss (unwrap_or f 65535)).location_type ≡ 1)
   first-is has _ (there m e h t) k = (h, t)
   first-is has _ (nowhere e) k = absurd (false≢true k)
 
@@ -101,7 +101,7 @@ unfolding name_wrong
 shown-wrong true needed id name = refl
 shown-wrong false needed id name = refl
 
-pub shown_of : (id name : List ℕ) (f : Found) (i : StopInput) → stop_of id (shown i.named name) f i ≡ stop_of id name f i
+pub shown_of : (id name : List ℕ) (f : Option ℕ) (i : StopInput) → stop_of id (shown i.named name) f i ≡ stop_of id name f i
 unfolding stop_of
 shown_of id name f i = go i.named refl
   where
@@ -122,7 +122,7 @@ held_input i = record {
   members = i.members;
 }
 
-held_of : (id name : List ℕ) (f : Found) (i : StopInput) → stop_of id name f (held_input i) ≡ stop_of id name f i
+held_of : (id name : List ℕ) (f : Option ℕ) (i : StopInput) → stop_of id name f (held_input i) ≡ stop_of id name f i
 unfolding stop_of held_input
 held_of id name f i = λ t. record {
   id = held_text 32 id;
@@ -130,7 +130,7 @@ held_of id name f i = λ t. record {
   name = held_text 64 (shown i.named name);
   name_len = length (take 64 (shown i.named name));
   named = i.named;
-  parent = number_of f;
+  parent = unwrap_or f 65535;
   location_type = i.location_type;
   located = i.located;
   degrees = degrees-twice i.located i.degrees t;
@@ -139,7 +139,7 @@ held_of id name f i = λ t. record {
 
 held-needed : (i : StopInput) → name_needed (held_input i) ≡ name_needed i
 unfolding name_needed held_input
-held-needed i = ap (λ (p : Position). eqb i.location_type 0 && not i.has_parent && is_usable p) (position-held i.located i.degrees)
+held-needed i = ap (λ (p : Option Degrees). eqb i.location_type 0 && not i.has_parent && is_usable p) (position-held i.located i.degrees)
 
 zero-fit : DegreesFit zero_degrees
 unfolding fits of_bits
@@ -153,8 +153,8 @@ degrees-kept false d w = record { fit = zero-fit; absent = λ e. refl }
 -- ---- the stop that is taken
 
 module _ (searched : Bool) (ss : List Stop) (n : ℕ) (id name parent : List ℕ) (i : StopInput) (sound : StopsSound ss n)
-    (taken : first_answer (stop_tests searched ss n (station_of ss n i.has_parent parent) id name i) ≡ Taken) (deg : DegreesFit i.degrees) where
-  abbrev f : Found
+    (taken : first_answer (stop_tests searched ss n (station_of ss n i.has_parent parent) id name i) ≡ Ok Taken) (deg : DegreesFit i.degrees) where
+  abbrev f : Option ℕ
   f = station_of ss n i.has_parent parent
 
   abbrev st : Stop

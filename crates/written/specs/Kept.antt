@@ -1,7 +1,7 @@
 -- What the steps keep beside soundness, so that no record of a written load would be sent back.
-use Rattle.std.specs.Prelude.{ℕ, ◌≤◌, ◌<◌, ◌≡◌, true, false, List, take}
+use Rattle.refusal.specs.declared.Accepted.TheVariants.{Taken}
+use Rattle.std.specs.Prelude.{ℕ, ◌≤◌, ◌<◌, ◌≡◌, true, false, List, take, Ok}
 use Rattle.laws.specs.Lists.{All}
-use Rattle.refusal.specs.declared.Answer.TheVariants.{Taken}
 use Rattle.refusal.specs.First.{first_answer}
 use Rattle.settings.specs.declared.Settings.{Settings}
 use Rattle.settings.specs.Settings.{settings_tests, canonical_of}
@@ -21,7 +21,7 @@ use Rattle.codec.specs.Parts.{name_of, has_parent, station_of_stop, stop_input_o
 
 -- the settings are not sent back (1, 2), and are as opening leaves them
 pub record SettingsKept (s : Settings) : Type 0 where
-  pub opens : first_answer (settings_tests s) ≡ Taken
+  pub opens : first_answer (settings_tests s) ≡ Ok Taken
   pub canonical : canonical_of s ≡ s
 
 -- the stop of number k

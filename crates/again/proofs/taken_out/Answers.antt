@@ -1,22 +1,31 @@
 -- 9, 24, or the table without the call.
-use mathlib.Core.Path.{sym, ◌∙◌}
-use Rattle.again.proofs.CodeLaws.{out-unknown, out_none, out-there, counted}
+use mathlib.Core.Path.{◌≡◌, refl, sym, ap, ◌∙◌}
+use native.Mathlib.Omega.{arith}
+use Prim.Native.Nat.{ℕ, suc, ◌-◌}
+use mathlib.Core.List.{List}
+use Rattle.std.specs.Prelude.{Option}
+use Rattle.calls.specs.declared.Call.{Call}
+use Rattle.calls.specs.Tables.{blank_call}
+use Rattle.withdrawal.specs.Removal.{counted, last_of, closed_up, has_key}
+use Rattle.again.proofs.CodeLaws.{out-unknown, out_none, out-there, counted as one-counted}
 use Rattle.again.proofs.taken_out.Goals as goal
 
-pub returns-then-place-eq0 : goal.returns-then-place-eq0
-returns-then-place-eq0 c =
+pub returns-in_default : goal.returns-in_default
+returns-in_default c =
     let a = c.args in
-    out_none a.load a.key _ c.last_of-place.ensures (sym c.is_known.ensures ∙ c.if-is_known.true) c.if-place-eq0.true
+    out_none a.load a.key _ (sym (ap counted c.in_default.is) ∙ c.last_of.ensures ∙ ap (last_of (has_key a.key)) c.first-held.ensures) (sym c.is_known.ensures ∙ c.if-is_known.true) refl
 
 pub overflow_sub-next : goal.overflow_sub-next
 overflow_sub-next c =
     let a = c.args in
-    counted a.load a.key _ c.last_of-place.ensures c.if-place-eq0.false
+    one-counted a.load a.key _ (sym (ap counted c.in-Some.is) ∙ c.last_of.ensures ∙ ap (last_of (has_key a.key)) c.first-held.ensures) (λ q. omega (arith, q))
 
 pub returns-then-is_known : goal.returns-then-is_known
 returns-then-is_known c =
     let a = c.args in
-    out-there a.load a.key _ _ c.last_of-place.ensures (sym c.is_known.ensures ∙ c.if-is_known.true) c.if-place-eq0.false c.without-left.ensures
+    let less : suc c.in-Some.place - 1 ≡ c.in-Some.place = omega arith in
+    out-there a.load a.key (suc c.in-Some.place) _ (sym (ap counted c.in-Some.is) ∙ c.last_of.ensures ∙ ap (last_of (has_key a.key)) c.first-held.ensures) (sym c.is_known.ensures ∙ c.if-is_known.true) (λ q. omega (arith, q))
+    (c.without-left.ensures ∙ ap (λ (n : ℕ). closed_up blank_call n a.load.calls) (sym less))
 
 pub returns : goal.returns
 returns c = out-unknown c.args.load c.args.key (sym c.is_known.ensures ∙ c.if-is_known.false)

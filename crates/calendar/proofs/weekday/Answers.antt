@@ -1,32 +1,33 @@
 -- `weekday` meets its contract: the parts of a date are in range, so no difference falls below 0 and no sum wraps.
-use mathlib.Core.Path.{refl, sym, ◌∙◌}
-use Rattle.calendar.specs.Dates.{weekday_of}
-use Rattle.calendar.proofs.Dates.{sizes}
+use mathlib.Core.Path.{◌≡◌, refl, sym, ◌∙◌}
+use Prim.Native.Nat.{ℕ}
+use mathlib.Core.Bool.{Bool, true}
 use native.Mathlib.Omega.{arith}
+use Rattle.calendar.specs.Dates.{is_date, weekday_of}
+use Rattle.calendar.proofs.Dates.{Sizes, sizes}
 use Rattle.calendar.proofs.weekday.Goals as goal
 
-pub overflow_sub-k : goal.overflow_sub-k
-overflow_sub-k c = omega (arith, (sizes _ (sym c.is_date.ensures ∙ c.if-is_date.true)).month)
+dated : {d : ℕ} {r : Bool} → r ≡ is_date d → r ≡ true → Sizes d
+dated e t = sizes _ (sym e ∙ t)
 
-pub overflow_sub-y : goal.overflow_sub-y
-overflow_sub-y c = omega (arith, (sizes _ (sym c.is_date.ensures ∙ c.if-is_date.true)).year)
+pub returns-then-not-is_date : goal.returns-then-not-is_date
+unfolding weekday_of
+returns-then-not-is_date c = rw (sym c.is_date.ensures ∙ c.if-not-is_date.true) refl
+
+pub overflow_sub-year : goal.overflow_sub-year
+overflow_sub-year c = omega (arith, (dated c.is_date.ensures c.if-not-is_date.false).year)
+
+pub overflow_sub-month : goal.overflow_sub-month
+overflow_sub-month c = omega (arith, (dated c.is_date.ensures c.if-not-is_date.false).month)
+
+pub overflow_sub-day : goal.overflow_sub-day
+overflow_sub-day c = omega (arith, (dated c.is_date.ensures c.if-not-is_date.false).day)
 
 pub overflow_add-days : goal.overflow_add-days
-overflow_add-days c =
-    let s = sizes _ (sym c.is_date.ensures ∙ c.if-is_date.true) in
-    omega (arith, s.years, s.months, c.months_days.ensures, c.years_days.ensures)
+overflow_add-days c = omega (arith, (dated c.is_date.ensures c.if-not-is_date.false).years, (dated c.is_date.ensures c.if-not-is_date.false).months, c.months_days.ensures, c.years_days.ensures)
 
-pub overflow_sub-days : goal.overflow_sub-days
-overflow_sub-days c = omega (arith, (sizes _ (sym c.is_date.ensures ∙ c.if-is_date.true)).day)
-
-pub overflow_add-days-then-is_date : goal.overflow_add-days-then-is_date
-overflow_add-days-then-is_date c =
-    let s = sizes _ (sym c.is_date.ensures ∙ c.if-is_date.true) in
-    omega (arith, s.years, s.months, c.months_days.ensures, c.years_days.ensures)
-
-pub returns-then-is_date : goal.returns-then-is_date
-returns-then-is_date c = rw (c.months_days.ensures, c.years_days.ensures) (sizes _ (sym c.is_date.ensures ∙ c.if-is_date.true)).weekday
+pub overflow_add-days-2 : goal.overflow_add-days-2
+overflow_add-days-2 c = omega (arith, (dated c.is_date.ensures c.if-not-is_date.false).years, (dated c.is_date.ensures c.if-not-is_date.false).months, c.months_days.ensures, c.years_days.ensures)
 
 pub returns : goal.returns
-unfolding weekday_of
-returns c = rw (sym c.is_date.ensures ∙ c.if-is_date.false) refl
+returns c = rw (c.from-2.ensures, c.from.ensures, c.months_days.ensures, c.years_days.ensures) (dated c.is_date.ensures c.if-not-is_date.false).weekday

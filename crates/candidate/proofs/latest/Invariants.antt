@@ -1,14 +1,10 @@
--- `latest` meets its contract. The invariant: the latest so far and that of the rows left is the latest of all.
+-- The latest so far and that of the rows left is the latest of all.
 use mathlib.Core.Path.{◌≡◌}
-use Prim.Native.Nat.{◌-◌, max}
+use Prim.Native.Nat.{max}
 use lib.ListN.{drop}
-use Rattle.state.specs.Layout.{slots}
 use Rattle.state.specs.View.{rows}
 use Rattle.candidate.specs.Pieces.{latest_due}
 use Rattle.candidate.proofs.latest.Given as goal
 
 abbrev pub invariant-loop-i : goal.invariant-loop-i
 invariant-loop-i l = max l.m (latest_due (drop l.i (rows l.st))) ≡ latest_due (rows l.st)
-
-abbrev pub decreases-loop-i : goal.decreases-loop-i
-decreases-loop-i l = slots - l.i

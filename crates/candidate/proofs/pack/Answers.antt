@@ -1,24 +1,35 @@
--- `pack` meets its contract. The invariant: the rows that stay of those looked at stand in front, and the rest is as it was.
+-- `pack` meets its contract, row by row.
+use mathlib.Core.Path.{refl, ◌∙◌}
+use Prim.Native.Nat.{◌<◌}
 use native.Mathlib.Omega.{arith}
-use Rattle.candidate.proofs.StepLaws.{pack-turn, packed_all}
+use Rattle.state.specs.Layout.{slots}
+use Rattle.state.proofs.RowLaws.{row-got}
+use Rattle.candidate.proofs.StepLaws.{pack-kept, pack-gone}
+use Rattle.candidate.proofs.pack.Goals.{then-stays, else-stays}
 use Rattle.candidate.proofs.pack.Goals as goal
 
-pub loop-i-init : goal.loop-i-init
-loop-i-init c = (c.requires.0, c.requires.1)
-
-pub moved-n-requires : goal.moved-n-requires
-moved-n-requires c =
-    (c.loop-i.invariant.0.long, omega (arith, c.requires.2), c.loop-i.invariant.0.small)
-
-pub overflow_add-i : goal.overflow_add-i
-overflow_add-i c = omega arith
-
-pub loop-i-smaller : goal.loop-i-smaller
-loop-i-smaller c = omega arith
+pub store-requires : goal.store-requires
+store-requires g c =
+    let i = c.loop-i.invariant in
+    let p = c.requires in
+    (i.1, omega (arith, i.2, c.loop-i-test.true, p), row-got _ _ _ (omega (arith, c.loop-i-test.true, p)) c.row_at-k.ensures)
 
 pub loop-i-preserved : goal.loop-i-preserved
-loop-i-preserved c =
-    (pack-turn _ _ _ _ _ _ _ (omega (arith, c.requires.2)) c.loop-i.invariant.0 c.moved-n.ensures, omega arith)
-
-pub returns : goal.returns
-returns c = packed_all _ _ _ _ _ _ c.loop-i.invariant.1 (omega arith) c.loop-i.invariant.0
+loop-i-preserved g c =
+    let i = c.loop-i.invariant in
+    let lt : c.loop-i.i < slots = omega (arith, c.loop-i-test.true, c.requires) in
+    elim c.if-stays.branch [
+      | then-stays w ↦ (
+        i.0,
+        c.if-stays.array_long,
+        omega (arith, w.n-is, i.2),
+        λ p says s.
+            rw w.n-is (pack-kept p _ _ _ _ _ lt _ c.row_at-k.ensures (says _ _ w.if-stays.ensures) (i.3 p says s) refl (w.st-is ∙ w.store.ensures)),
+      )
+      | else-stays w ↦ (
+        i.0,
+        c.if-stays.array_long,
+        omega (arith, w.n-is, i.2),
+        λ p says s. rw w.n-is (pack-gone p _ _ _ _ _ lt _ c.row_at-k.ensures (says _ _ w.if-stays.ensures) (i.3 p says s) refl w.st-is),
+      )
+    ]

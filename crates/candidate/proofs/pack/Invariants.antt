@@ -1,10 +1,15 @@
--- `pack` meets its contract. The invariant: the rows that stay of those looked at stand in front, and the rest is as it was.
-use Prim.Native.Nat.{◌-◌, ◌≤◌}
-use Rattle.candidate.specs.Pieces.{Packed, stays}
+-- The rows that stay of those looked at stand in front, and the rest is as it was, by each test that the closure answers.
+use mathlib.Core.Path.{◌≡◌}
+use mathlib.Core.Bool.{Bool}
+use Prim.Native.Nat.{◌≤◌}
+use lib.ListN.{length}
+use Rattle.profile.specs.declared.Row.{Row}
+use Rattle.state.specs.Layout.{size}
+use Rattle.candidate.specs.Pieces.{Packed}
 use Rattle.candidate.proofs.pack.Given as goal
 
 abbrev pub invariant-loop-i : goal.invariant-loop-i
-invariant-loop-i l = Packed (stays l.by l.o l.h) l.initial.st l.st l.i l.n × (l.i ≤ l.c)
-
-abbrev pub decreases-loop-i : goal.decreases-loop-i
-decreases-loop-i l = l.c - l.i
+invariant-loop-i g l =
+    goal.F-IsAlwaysCallable g l.stays × (length l.st ≡ size) × (l.n ≤ l.i)
+    × ((p : Row → Bool) → ((k : Row) (b : Bool) → goal.F-post g l.stays k b → b ≡ p k)
+    → Packed p l.initial.st l.initial.st l.from l.kept → Packed p l.initial.st l.st l.i l.n)

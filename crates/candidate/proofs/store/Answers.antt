@@ -4,8 +4,8 @@ use Rattle.candidate.proofs.PutLaws.{put-there}
 use Rattle.candidate.proofs.store.Goals as goal
 
 pub returns-then-n-i : goal.returns-then-n-i
-returns-then-n-i c = put-there _ _ _ _ c.if-n-i.true c.requires.2
-
-pub returns : goal.returns
 unfolding put_row
-returns c = c.put_row.ensures
+returns-then-n-i c = c.put_row.ensures
+
+pub returns-else-n-i : goal.returns-else-n-i
+returns-else-n-i c = put-there _ _ _ _ c.if-n-i.false c.requires.2

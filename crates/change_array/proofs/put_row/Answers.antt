@@ -5,16 +5,10 @@ use Rattle.laws.proofs.Regions.{region-none, region-more, region-all}
 use Rattle.change_array.proofs.put_row.Goals as goal
 
 pub loop-k-init : goal.loop-k-init
-loop-k-init c = (omega arith, refl, omega arith, omega arith, region-none _ _ _)
+loop-k-init c = region-none _ _ _
 
 pub loop-k-preserved : goal.loop-k-preserved
-loop-k-preserved c = (
-  omega arith,
-  refl,
-  c.loop-k.invariant.2,
-  c.loop-k.invariant.3,
-  region-more _ _ _ c.loop-k.changes c.loop-k.k _ c.loop-k.invariant.4 (omega arith) refl,
-)
+loop-k-preserved c = region-more _ _ _ c.loop-k.changes c.loop-k.k _ c.loop-k.invariant (omega arith) refl
 
 pub returns : goal.returns
-returns c = region-all _ _ _ c.loop-k.changes _ c.loop-k.k 128 c.loop-k.invariant.4 (omega arith) refl
+returns c = region-all _ _ _ c.loop-k.changes _ c.loop-k.k 128 c.loop-k.invariant (omega arith) refl

@@ -7,13 +7,13 @@ use Rattle.changes_c.specs.Plain.{plain_stop, stops_with}
 use Rattle.changes_c.proofs.stops_with.Goals as goal
 
 pub loop-i-init : goal.loop-i-init
-loop-i-init c = (omega arith, filled_none _ blank_stop 128 _ (length-replicate 128 c.stop_with-first.result))
+loop-i-init c = filled_none _ blank_stop 128 _ (length-replicate 128 c.stop_with-stops.result)
 
 pub loop-i-preserved : goal.loop-i-preserved
 unfolding plain_stop
 loop-i-preserved c =
-    (omega arith, filled_more _ blank_stop 128 _ c.loop-i.stops c.loop-i.i _ c.loop-i.invariant.1 (omega arith) c.stop_with.ensures)
+    filled_more _ blank_stop 128 _ c.loop-i.stop-items c.loop-i.i _ c.loop-i.invariant (omega arith) c.stop_with.ensures
 
 pub returns : goal.returns
 unfolding stops_with
-returns c = filled-all _ blank_stop 128 _ c.loop-i.stops c.loop-i.i c.loop-i.invariant.1 (omega arith)
+returns c = filled-all _ blank_stop 128 _ c.loop-i.stop-items c.loop-i.i c.loop-i.invariant (omega arith)

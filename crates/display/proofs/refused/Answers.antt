@@ -3,4 +3,4 @@ use Rattle.display.proofs.DisplayLaws.{refused-made}
 use Rattle.display.proofs.refused.Goals as goal
 
 pub returns : goal.returns
-returns c = refused-made _ c.no_part-none.ensures
+returns c = refused-made _ c.no_part.ensures

@@ -12,7 +12,7 @@ use Rattle.laws.proofs.Regions.{region-none, region-more, region-all}
 use Rattle.feed_array.proofs.put_members.Goals as goal
 
 pub loop-k-init : goal.loop-k-init
-loop-k-init c = (omega arith, omega arith, region-none _ _ _)
+loop-k-init c = region-none _ _ _
 
 pub loop-k-preserved : goal.loop-k-preserved
 unfolding stop_at
@@ -20,7 +20,7 @@ loop-k-preserved c =
     let a = c.args in
     let n : length a.stops ≡ 128 = c.well_formed.1.0.1.0.1 in
     let e = ap (λ (s : Stop). masked_of a.origins a.targets s.members) (get_d_any a.stops c.loop-k.k past blank_stop (omega arith)) in
-    (omega arith, c.loop-k.invariant.1, region-more _ 3072 _ c.loop-k.feed c.loop-k.k _ c.loop-k.invariant.2 (omega arith) (c.masked_of.ensures ∙ e))
+    region-more _ 3072 _ c.loop-k.feed c.loop-k.k _ c.loop-k.invariant (omega arith) (c.masked_of.ensures ∙ e)
 
 pub returns : goal.returns
-returns c = region-all _ _ _ c.loop-k.feed _ c.loop-k.k 128 c.loop-k.invariant.2 (omega arith) refl
+returns c = region-all _ _ _ c.loop-k.feed _ c.loop-k.k 128 c.loop-k.invariant (omega arith) refl

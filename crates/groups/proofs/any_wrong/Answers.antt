@@ -1,36 +1,20 @@
--- None of the groups passed is wrong.
-use mathlib.Core.Path.{refl, sym, ◌∙◌}
-use native.Mathlib.Omega.{arith}
-use lib.ListN.{length-take}
+-- The chain asks each group.
+use Rattle.std.proofs.Common.{rules, tests}
+use Rattle.std.proofs.lemmas.Iterator.{YieldsList-from_slice}
+use Rattle.std.proofs.lemmas.Iterator.Search.{any_from_yields_List}
+use mathlib.Core.Path.{ap, ◌∙◌}
+use lib.IntN.{ℤ}
 use mir.Syntax.{w64}
 use mir.Val.{to_z, of_z}
+use Rattle.laws.specs.Lists.{anyb}
 use Rattle.laws.proofs.Ints.{again}
 use Rattle.groups.specs.Refused.{is_wrong}
-use Rattle.groups.proofs.GroupLaws.{any-end, any_here, any_next}
-use borrow.Author.Rules.{rules}
+use Rattle.groups.proofs.GroupLaws.{any-same}
 use Rattle.groups.proofs.any_wrong.Goals as goal
-
-pub loop-k-init : goal.loop-k-init
-loop-k-init c = (omega arith, search rules, refl)
-
-pub returns-then-n-k : goal.returns-then-n-k
-returns-then-n-k c =
-    let a = c.args in
-    any-end a.given a.n c.loop-k.k (is_wrong a.low) (omega (arith, length-take a.n a.given)) ∙ (rw (again c.ranges.low) at c.loop-k.invariant.2)
-
-pub returns-then-is_wrong : goal.returns-then-is_wrong
-returns-then-is_wrong c =
-    let a = c.args in
-    let e = again c.ranges.low in
-    any_here a.given a.n c.loop-k.k _ (omega arith) (omega (arith, c.loop-k.invariant.1)) (is_wrong a.low) (sym (rw e at c.is_wrong.ensures) ∙ c.if-is_wrong.true)
-    ∙ (rw e at c.loop-k.invariant.2)
-
-pub loop-k-preserved : goal.loop-k-preserved
-loop-k-preserved c =
-    let a = c.args in
-    (omega arith, c.loop-k.invariant.1, any_next a.given a.n c.loop-k.k _ (omega arith) (omega (arith, c.loop-k.invariant.1)) (is_wrong (to_z w64 (of_z w64 a.low))) (sym c.is_wrong.ensures ∙ c.if-is_wrong.false) ∙ c.loop-k.invariant.2)
 
 pub returns : goal.returns
 returns c =
-    let a = c.args in
-    any-end a.given a.n c.loop-k.k (is_wrong a.low) (omega (arith, length-take a.n a.given, c.loop-k.invariant.1)) ∙ (rw (again c.ranges.low) at c.loop-k.invariant.2)
+    let gs = c.args.given.now in
+    let low = to_z w64 (of_z w64 c.args.low) in
+    any_from_yields_List (is_wrong low) _ _ c.any.result c.any.ensures.ran (YieldsList-from_slice gs cc) (λ x b q k. search (rules, tests))
+    ∙ any-same (is_wrong low) gs ∙ ap (λ (z : ℤ). anyb (is_wrong z) gs) (again c.ranges.low)

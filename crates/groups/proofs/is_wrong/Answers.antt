@@ -1,17 +1,30 @@
--- Above 3, unsearched, or of another start.
+-- Above 3 or unsearched, or else of another start.
+use Rattle.std.proofs.Common.{rules}
+use mathlib.Core.Path.{◌≡◌, sym, ◌∙◌}
+use mathlib.Core.Bool.{not, ◌||◌}
+use borrow.Author.Tests.{lt-ltb, le-ltb}
+use lib.Dec.{ltb}
 use mir.Syntax.{w64}
+use Rattle.laws.proofs.Bools.{or-by, or-not}
 use Rattle.laws.proofs.Ints.{again}
-use Rattle.groups.proofs.GroupLaws.{wrong-above, wrong-unsearched, wrong_start}
-use borrow.Author.Rules.{rules}
+use Rattle.groups.proofs.RefusedLaws.{unlike-bits, wrong-first, wrong-last}
 use Rattle.groups.proofs.is_wrong.Goals as goal
+use Rattle.groups.proofs.is_wrong.Goals.{then-group-gt3, else-group-gt3}
 
-pub returns-then-group-gt3 : goal.returns-then-group-gt3
-returns-then-group-gt3 c = wrong-above _ _ c.if-group-gt3.true
+pub returns-then-not-group : goal.returns-then-not-group
+returns-then-not-group c =
+    let g = c.args.group.now in
+    let is : c.if-group-gt3.value ≡ (ltb 3 g.number || not g.searched) = elim c.if-group-gt3.branch [
+      | then-group-gt3 w ↦ w.value-is ∙ lt-ltb 3 g.number w.if-group-gt3.true ∙ sym (or-by _ (lt-ltb 3 g.number w.if-group-gt3.true))
+      | else-group-gt3 w ↦ w.value-is ∙ sym (or-not _ (le-ltb 3 g.number w.if-group-gt3.false))
+    ] in
+    wrong-first c.args.low g is c.if-not-group.true
 
-pub returns-then-group : goal.returns-then-group
-returns-then-group c =
-    wrong_start c.args.low c.args.group c.if-group-gt3.false c.if-group.true
-    (again {w = w64} {z = c.args.group.now} (search rules)) (again c.ranges.low) c.differ.ensures
-
-pub returns : goal.returns
-returns c = wrong-unsearched _ _ c.if-group-gt3.false c.if-group.false
+pub returns-else-not-group : goal.returns-else-not-group
+returns-else-not-group c =
+    let g = c.args.group.now in
+    let is : c.if-group-gt3.value ≡ (ltb 3 g.number || not g.searched) = elim c.if-group-gt3.branch [
+      | then-group-gt3 w ↦ w.value-is ∙ lt-ltb 3 g.number w.if-group-gt3.true ∙ sym (or-by _ (lt-ltb 3 g.number w.if-group-gt3.true))
+      | else-group-gt3 w ↦ w.value-is ∙ sym (or-not _ (le-ltb 3 g.number w.if-group-gt3.false))
+    ] in
+    wrong-last c.args.low g is c.if-not-group.false (unlike-bits g.now c.args.low (again {w = w64} (search rules)) (again c.ranges.low))

@@ -1,16 +1,26 @@
--- The groups are asked from the highest number down; the lowest that is given has the last word.
+-- The lowest number that is given has its start.
+use Rattle.std.specs.Prelude.{Some, None, Option}
+use Rattle.std.specs.Option.{option_or}
+use Rattle.std.proofs.Common.{rules}
+use mathlib.Core.Path.{◌≡◌, ap, ◌∙◌}
+use lib.IntN.{pos}
 use mir.Syntax.{w64}
-use mathlib.Core.Path.{refl, ◌∙◌}
-use lib.ListN.{take}
 use Rattle.laws.proofs.Ints.{again}
-use Rattle.groups.proofs.GroupLaws.{lowest-made}
+use Rattle.groups.specs.declared.Group.{Group}
+use Rattle.groups.specs.Groups.{start_or}
+use Rattle.groups.proofs.GroupLaws.{lowest-is}
 use Rattle.groups.proofs.lowest_start.Goals as goal
 
-pub returns : goal.returns
-returns c =
-    let a = c.args in
-    again {w = w64} (record { sfits = c.start_or.type_inv })
-    ∙ lowest-made (take a.n a.given) _ _ _ _ _ _ _ _ _ _ _ c.group_at.ensures refl c.start_or-d.ensures
-    c.group_at-2.ensures (again {w = w64} (record { sfits = c.start_or-d.type_inv })) c.start_or-c.ensures
-    c.group_at-3.ensures (again {w = w64} (record { sfits = c.start_or-c.type_inv })) c.start_or-b.ensures
-    c.group_at-4.ensures (again {w = w64} (record { sfits = c.start_or-b.type_inv })) c.start_or.ensures
+pub returns-in-Some : goal.returns-in-Some
+unfolding start_or
+returns-in-Some c =
+    let e : Some c.in-Some.group ≡ option_or (option_or (option_or c.group_at.result c.group_at-2.result) c.group_at-3.result) c.group_at-4.result = cc in
+    again {w = w64} {z = c.in-Some.group.now} (search rules) ∙ ap (λ (o : Option Group). start_or o (pos 0)) e
+    ∙ lowest-is c.args.given.now c.group_at.ensures c.group_at-2.ensures c.group_at-3.ensures c.group_at-4.ensures
+
+pub returns-in-None : goal.returns-in-None
+unfolding start_or
+returns-in-None c =
+    let e : None ≡ option_or (option_or (option_or c.group_at.result c.group_at-2.result) c.group_at-3.result) c.group_at-4.result = cc in
+    ap (λ (o : Option Group). start_or o (pos 0)) e
+    ∙ lowest-is c.args.given.now c.group_at.ensures c.group_at-2.ensures c.group_at-3.ensures c.group_at-4.ensures

@@ -1,12 +1,13 @@
--- `name_key` meets its contract. The loop's invariant: the name's key is the key of what is left, from what is kept.
-use Rattle.std.proofs.Common.{◌≡◌, ◌-◌, ◌≤◌, length, drop}
+-- The name's key is the key of what is left, from what is kept.
+use mathlib.Core.Path.{◌≡◌}
+use lib.ListN.{length}
 use Rattle.key.specs.Utf8.{points}
 use Rattle.key.specs.Name.{name_key}
 use Rattle.key.proofs.Stream.{rest}
 use Rattle.key.proofs.name_key.Given as goal
 
-abbrev pub invariant-loop-i : goal.invariant-loop-i
-invariant-loop-i l = (l.i ≤ length l.name) × (name_key l.name ≡ rest l.any l.gap l.hash (points (drop l.i l.name)))
+abbrev pub invariant-loop-bytes : goal.invariant-loop-bytes
+invariant-loop-bytes l = name_key l.name ≡ rest l.reading.any l.reading.gap l.reading.hash (points l.bytes)
 
-abbrev pub decreases-loop-i : goal.decreases-loop-i
-decreases-loop-i l = length l.name - l.i
+abbrev pub decreases-loop-bytes : goal.decreases-loop-bytes
+decreases-loop-bytes l = length l.bytes

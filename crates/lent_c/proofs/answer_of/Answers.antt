@@ -3,10 +3,10 @@ use mathlib.Core.Path.{sym, ap}
 use Rattle.lent_c.specs.Plain.{answer_of}
 use Rattle.lent_c.proofs.answer_of.Goals as goal
 
-pub returns-in-Best : goal.returns-in-Best
+pub returns-in-Some : goal.returns-in-Some
 unfolding answer_of
-returns-in-Best c = ap answer_of (sym c.in-Best.is)
+returns-in-Some c = ap answer_of (sym c.in-Some.is)
 
-pub returns-in-Nothing : goal.returns-in-Nothing
+pub returns-in-None : goal.returns-in-None
 unfolding answer_of
-returns-in-Nothing c = ap answer_of (sym c.in-Nothing.is)
+returns-in-None c = ap answer_of (sym c.in-None.is)

@@ -1,8 +1,9 @@
 -- `best_lent_numbers` meets its contract: by what its calls ensure.
+use mathlib.Core.Path.{refl}
 use mir.Facts.{to_z-of_z}
 use Rattle.lent_c.proofs.Answers.{answered}
 use Rattle.lent_c.proofs.best_lent_numbers.Goals as goal
 
 pub returns : goal.returns
 returns c =
-    answered _ _ _ _ c.args.count c.args.horizon (to_z-of_z c.ranges.second) c.journeys_of-journeys.ensures c.best_lent.ensures c.answer_of-numbers.ensures
+    answered _ _ _ _ c.args.count c.args.horizon (to_z-of_z c.ranges.second) c.journeys_of-journeys.ensures refl c.best_lent.ensures c.answer_of.ensures

@@ -7,8 +7,8 @@ use Rattle.lent_c.proofs.journeys_of.Goals as goal
 
 pub loop-i-preserved : goal.loop-i-preserved
 loop-i-preserved c =
-    (omega arith, filled_more _ no_journey 64 _ c.loop-i.journeys c.loop-i.i _ c.loop-i.invariant.1 (omega arith) c.journey_with.ensures)
+    filled_more _ no_journey 64 _ c.loop-i.journey-items c.loop-i.i _ c.loop-i.invariant (omega arith) c.journey_with.ensures
 
 pub returns : goal.returns
 unfolding journeys_of
-returns c = filled-all _ no_journey 64 _ c.loop-i.journeys c.loop-i.i c.loop-i.invariant.1 (omega arith)
+returns c = filled-all _ no_journey 64 _ c.loop-i.journey-items c.loop-i.i c.loop-i.invariant (omega arith)

@@ -1,13 +1,10 @@
 -- By the answer.
 use mathlib.Core.Path.{sym}
-use Rattle.lines.proofs.RideLaws.{taken-put, outside-put, refused-put}
+use Rattle.lines.proofs.RideLaws.{accepted-put, refused-put}
 use Rattle.lines.proofs.answer_lines.Goals as goal
 
-pub returns-in-Taken : goal.returns-in-Taken
-returns-in-Taken c = taken-put c.args.rides c.args.load c.in-Taken.is c.load_lines.ensures
+pub returns-in-Ok : goal.returns-in-Ok
+returns-in-Ok c = accepted-put c.args.rides c.args.load c.in-Ok.is c.load_lines.ensures
 
-pub returns-in-Outside : goal.returns-in-Outside
-returns-in-Outside c = outside-put c.args.rides c.args.load c.in-Outside.is c.load_lines-in-Outside.ensures
-
-pub returns-in-Refused : goal.returns-in-Refused
-returns-in-Refused c = refused-put c.args.rides c.args.load c.in-Refused.is (sym c.number.ensures) c.refused_line.ensures
+pub returns-in-Err : goal.returns-in-Err
+returns-in-Err c = refused-put c.args.rides c.args.load c.in-Err.is (sym c.from.ensures) c.refused_line.ensures

@@ -1,8 +1,9 @@
 -- The lines stand at the start of the buffer.
+use native.Mathlib.Omega.{arith}
 use Rattle.lines.proofs.LineLaws.{rides-lines}
 use Rattle.lines.proofs.ride_lines.Goals as goal
 
 pub returns : goal.returns
 returns c =
-    let p = rides-lines c.args.answer c.args.load c.known_long.ensures c.answer_lines.ensures in
+    let p = rides-lines c.args.answer c.args.load (omega arith) c.answer_lines.ensures in
     record { out_after = p.0; counts = p.1 }

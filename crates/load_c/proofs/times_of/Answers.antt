@@ -2,10 +2,10 @@
 use Rattle.load_c.specs.Best.{times_of}
 use Rattle.load_c.proofs.times_of.Goals as goal
 
-pub returns-in-Best : goal.returns-in-Best
+pub returns-in-Some : goal.returns-in-Some
 unfolding times_of
-returns-in-Best c = rw (c.in-Best.is, c.wide.ensures, c.wide-in-Best.ensures)
+returns-in-Some c = rw (c.in-Some.is, c.wide.ensures, c.wide-in-Some.ensures)
 
-pub returns-in-Nothing : goal.returns-in-Nothing
+pub returns-in-None : goal.returns-in-None
 unfolding times_of
-returns-in-Nothing c = rw c.in-Nothing.is
+returns-in-None c = rw c.in-None.is

@@ -3,9 +3,6 @@ use Rattle.state.specs.View.{row_at}
 use Rattle.state.proofs.RowLaws.{row_in, row-past}
 use Rattle.state.proofs.row_at.Goals as goal
 
-pub slot_at-requires : goal.slot_at-requires
-slot_at-requires c = (c.known.ensures, c.if-i-lt-SLOTS.true)
-
 pub returns-then-i-lt-SLOTS : goal.returns-then-i-lt-SLOTS
 unfolding row_at
 returns-then-i-lt-SLOTS c = row_in _ _ _ c.if-i-lt-SLOTS.true c.slot_at.ensures

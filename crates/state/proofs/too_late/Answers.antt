@@ -2,8 +2,8 @@
 use Rattle.state.proofs.ViewLaws.{late-refused, late-open}
 use Rattle.state.proofs.too_late.Goals as goal
 
-pub returns-then-st-ne0 : goal.returns-then-st-ne0
-returns-then-st-ne0 c = late-refused _ _ c.if-st-ne0.true
+pub returns-then-is_refused : goal.returns-then-is_refused
+returns-then-is_refused c = late-refused _ _ c.is_refused.ensures c.if-is_refused.true
 
-pub returns : goal.returns
-returns c = late-open _ _ _ c.if-st-ne0.false c.is_late.ensures
+pub returns-else-is_refused : goal.returns-else-is_refused
+returns-else-is_refused c = late-open _ _ c.is_refused.ensures c.if-is_refused.false c.horizon.ensures

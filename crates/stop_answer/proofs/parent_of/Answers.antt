@@ -1,13 +1,8 @@
--- A parent is looked for only where one is named.
-use Prim.Native.Nat.{◌-◌}
-use mathlib.Core.Path.{refl, ◌∙◌}
-use Rattle.stops.specs.Answer.{station_of}
+-- A place among the first 128 is a number.
+use mathlib.Core.Path.{ap, ◌∙◌}
+use native.Mathlib.Omega.{arith}
+use lib.ListN.{length, length-take}
 use Rattle.stop_answer.proofs.parent_of.Goals as goal
 
-pub returns-then-has : goal.returns-then-has
-unfolding station_of
-returns-then-has c = c.find.ensures ∙ rw c.if-has.true refl
-
-pub returns : goal.returns
-unfolding station_of
-returns c = rw c.if-has.false refl
+pub overflow_cast-result : goal.overflow_cast-result
+overflow_cast-result c = record { fits = omega (arith, c.in-Some.ensures.bound, ap length c.first.ensures ∙ length-take 128 c.args.stops.now) }

@@ -1,27 +1,22 @@
--- `with_hours` meets its contract. The loop's invariant: the answer is that of the digits left, after the number of those read, which is at most 1193046.
+-- `with_hours` meets its contract: each turn takes one digit, or finds another byte or too many hours.
 use mathlib.Core.Path.{sym, ◌∙◌}
 use native.Mathlib.Omega.{arith}
-use Rattle.time.proofs.Laws.{over, under, too_many, digit-turn, other-turn, hours-end}
+use Rattle.time.proofs.Laws.{too_many, digit-turn, other-turn, hours_end, checked_sum}
 use Rattle.time.proofs.with_hours.Goals as goal
 
-pub returns-else-digit : goal.returns-else-digit
-returns-else-digit c =
-    sym (c.loop-i.invariant.2
-    ∙ sym (other-turn _ _ _ _ c.loop-i-test.true (sym c.digit.ensures ∙ c.if-digit.false)))
+pub returns-then-not-digit : goal.returns-then-not-digit
+returns-then-not-digit c =
+    sym (c.loop-b.invariant.1 ∙ sym (other-turn _ _ _ _ c.loop-b-test.true (sym c.digit.ensures.value ∙ c.if-not-digit.true)))
 
 pub returns-then-v-gt1193046 : goal.returns-then-v-gt1193046
 returns-then-v-gt1193046 c =
-    too_many _ _ _ c.if-v-gt1193046.true
-    ∙ sym (c.loop-i.invariant.2 ∙ digit-turn _ _ _ _ _ c.loop-i-test.true (sym c.digit.ensures ∙ c.if-digit.true) c.digit_value.ensures)
+    too_many _ _ _ (omega arith)
+    ∙ sym (c.loop-b.invariant.1 ∙ digit-turn _ _ _ _ _ c.loop-b-test.true (sym c.digit.ensures.value ∙ c.if-not-digit.false) c.from.ensures)
 
-pub loop-i-preserved : goal.loop-i-preserved
-loop-i-preserved c =
-    (omega arith, c.if-v-gt1193046.false, c.loop-i.invariant.2 ∙ digit-turn _ _ _ _ _ c.loop-i-test.true (sym c.digit.ensures ∙ c.if-digit.true) c.digit_value.ensures)
-
-pub returns-then-total-lt4294967296 : goal.returns-then-total-lt4294967296
-returns-then-total-lt4294967296 c =
-    under _ c.if-total-lt4294967296.true ∙ sym (c.loop-i.invariant.2 ∙ hours-end _ _ _ _ c.loop-i-test.false)
+pub loop-b-preserved : goal.loop-b-preserved
+loop-b-preserved c =
+    (omega arith, c.loop-b.invariant.1 ∙ digit-turn _ _ _ _ _ c.loop-b-test.true (sym c.digit.ensures.value ∙ c.if-not-digit.false) c.from.ensures)
 
 pub returns : goal.returns
 returns c =
-    over _ c.if-total-lt4294967296.false ∙ sym (c.loop-i.invariant.2 ∙ hours-end _ _ _ _ c.loop-i-test.false)
+    c.ok_or.ensures.value ∙ checked_sum _ _ c.checked_add.ensures ∙ sym (c.loop-b.invariant.1 ∙ hours_end _ _ _ _ c.loop-b-test.false)

@@ -110,7 +110,7 @@ impl Both {
     }
 }
 fn rows(st: &[u16; SLOTS]) -> Vec<(u16, u16, u8)> {
-    st.chunks(10).take(usize::from(st[COUNT])).map(|row| (row[0], row[1], row[2] as u8)).collect()
+    st.chunks(12).take(usize::from(st[COUNT])).map(|row| (row[0], row[1], row[2] as u8)).collect()
 }
 
 /// The list, what is offered, to how many states each, and how many are kept after it.

@@ -7,8 +7,8 @@ use Rattle.state.specs.View.{rows}
 use Rattle.candidate.specs.Pieces.{Skipped}
 use Rattle.candidate.proofs.walk.first_near.Given as goal
 
-abbrev pub invariant-loop-o : goal.invariant-loop-o
-invariant-loop-o l = Skipped l.o (take l.c (rows l.st)) 0 l.i × (l.i ≤ l.c) × (l.at ≡ l.i * width)
+abbrev pub invariant-loop-i : goal.invariant-loop-i
+invariant-loop-i l = Skipped l.o (take l.c (rows l.st)) 0 l.i × (l.i ≤ l.c) × (l.at ≡ l.i * width)
 
-abbrev pub decreases-loop-o : goal.decreases-loop-o
-decreases-loop-o l = l.c - l.i
+abbrev pub decreases-loop-i : goal.decreases-loop-i
+decreases-loop-i l = l.c - l.i

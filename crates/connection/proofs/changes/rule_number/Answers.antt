@@ -6,7 +6,7 @@ use Rattle.connection.specs.Changes.{number_in}
 use borrow.Author.Rules.{rules}
 use Rattle.connection.proofs.changes.rule_number.Goals as goal
 
-pub returns-in-By : goal.returns-in-By
-returns-in-By c =
+pub returns-in-Some : goal.returns-in-Some
+returns-in-Some c =
     let a = c.args in
-    c.less_one.ensures ∙ ap (λ (n : ℕ). n - 1) c.pair_place-at.ensures ∙ sym (ap (number_in (take a.count a.rules)) c.in-By.is)
+    c.saturating_sub.ensures ∙ ap (λ (n : ℕ). n - 1) c.pair_place-at.ensures ∙ sym (ap (number_in (take a.count a.rules)) c.in-Some.is)

@@ -1,31 +1,16 @@
--- Those counted and those left are all that are due.
-use native.Mathlib.Omega.{arith}
-use lib.ListN.{length-take}
-use Rattle.display.proofs.PartLaws.{due-next, due-past}
-use borrow.Author.Rules.{rules}
+-- The chain counts those that are due.
+use Rattle.std.proofs.Common.{rules, tests}
+use Rattle.std.proofs.lemmas.Iterator.{YieldsList-from_slice}
+use Rattle.std.proofs.lemmas.Iterator.Consumers.{YieldsList-from_filter, count_from_yields_List}
+use mathlib.Core.Path.{ap, ◌∙◌}
+use lib.ListN.{length}
+use Rattle.display.specs.Parts.{is_due}
+use Rattle.display.proofs.PartLaws.{due-same}
 use Rattle.display.proofs.part.due_by.Goals as goal
-
-pub loop-k-init : goal.loop-k-init
-loop-k-init c = (omega arith, search rules, omega arith, omega arith)
-
-pub returns-then-count-k : goal.returns-then-count-k
-returns-then-count-k c =
-    let a = c.args in
-    omega (arith, c.loop-k.invariant.3, due-past a.window a.journeys a.count c.loop-k.k (omega (arith, length-take a.count a.journeys)))
-
-pub overflow_add-n : goal.overflow_add-n
-overflow_add-n c = omega (arith, c.shown_of-n.ensures.upper_bound)
-
-pub loop-k-preserved : goal.loop-k-preserved
-loop-k-preserved c =
-    let a = c.args in (
-      omega arith,
-      c.loop-k.invariant.1,
-      omega (arith, c.shown_of-n.ensures.upper_bound),
-      due-next a.window a.journeys a.count c.loop-k.k _ c.loop-k.n _ _ (omega arith) (omega (arith, c.loop-k.invariant.1)) c.shown_of-n.ensures.value c.loop-k.invariant.3,
-    )
 
 pub returns : goal.returns
 returns c =
-    let a = c.args in
-    omega (arith, c.loop-k.invariant.3, due-past a.window a.journeys a.count c.loop-k.k (omega (arith, length-take a.count a.journeys, c.loop-k.invariant.1)))
+    let ks = c.args.list.now in
+    let w = c.args.window in
+    count_from_yields_List c.filter.result c.count.result c.count.ensures.ran (YieldsList-from_filter _ (is_due w) (YieldsList-from_slice ks cc) c.filter.ensures.closure (λ x r q k. search (rules, tests)))
+    ∙ ap length (due-same w ks)

@@ -1,25 +1,14 @@
 -- A second before the arrival of the first that doesn't fit, or the horizon.
-use Prim.Native.Nat.{◌<◌, ◌≤◌}
-use native.Mathlib.Omega.{arith}
-use lib.ListN.{length}
-use Rattle.groups.specs.Groups.{list_of}
+use mathlib.Core.Path.{ap, ◌∙◌}
+use Prim.Native.Nat.{◌-◌}
+use Rattle.profile.specs.declared.Journey.{Journey}
 use Rattle.display.proofs.PartLaws.{window-cut, window-all}
 use Rattle.display.proofs.part.window_at.Goals as goal
 
-pub offset_bounds-journeys-share : goal.offset_bounds-journeys-share
-offset_bounds-journeys-share c = omega (arith, c.listed-n.ensures.upper_bound)
+pub returns-in-Some : goal.returns-in-Some
+returns-in-Some c =
+    let l = c.in-Some.ensures.lookup in
+    c.saturating_sub.ensures ∙ ap (λ (j : Journey). j.arrival - 1) l.1 ∙ window-cut c.args.list.now c.args.share c.args.horizon _ l.3.0
 
-pub bounds-journeys-share : goal.bounds-journeys-share
-bounds-journeys-share c = omega (arith, c.listed-n.ensures.upper_bound)
-
-pub returns-then-share-n : goal.returns-then-share-n
-returns-then-share-n c =
-    let a = c.args in
-    let h : a.share < length (list_of a.group) = omega (arith, c.listed-n.ensures.value, c.if-share-n.true) in
-    window-cut a.group.journeys a.group.count a.share a.group.horizon _ h c.a_second_before.ensures
-
-pub returns : goal.returns
-returns c =
-    let a = c.args in
-    let h : length (list_of a.group) ≤ a.share = omega (arith, c.listed-n.ensures.value, c.if-share-n.false) in
-    window-all (list_of a.group) a.share a.group.horizon h
+pub returns-in-None : goal.returns-in-None
+returns-in-None c = window-all c.args.list.now c.args.share c.args.horizon c.in-None.ensures.lookup.3

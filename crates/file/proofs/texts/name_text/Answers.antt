@@ -4,4 +4,4 @@ use Rattle.file.proofs.StopLaws.{text-part}
 use Rattle.file.proofs.texts.name_text.Goals as goal
 
 pub returns : goal.returns
-returns c = c.part.ensures ∙ text-part _ _ c.name_at-name.ensures.value c.text_from-from.ensures c.parent_at-end.ensures.value
+returns c = c.part.ensures ∙ text-part _ _ c.name_at.ensures.value c.text_from.ensures c.parent_at.ensures.value

@@ -4,4 +4,4 @@ use Rattle.file.proofs.StopLaws.{text-part}
 use Rattle.file.proofs.texts.parent_text.Goals as goal
 
 pub returns : goal.returns
-returns c = c.part.ensures ∙ text-part _ _ c.parent_at-parent.ensures.value c.text_from-from.ensures c.type_at-end.ensures.value
+returns c = c.part.ensures ∙ text-part _ _ c.parent_at.ensures.value c.text_from.ensures c.type_at.ensures.value

@@ -1,17 +1,12 @@
 -- `at_alighting` meets its contract: the targets of the stop, if the call is alightable.
-use Rattle.feed.proofs.FeedLaws.{targets-small}
 use Rattle.limited_rides.specs.Earliest.{alight_due}
 use Rattle.limited_rides.proofs.DueLaws.{soonest-none}
 use Rattle.limited_rides.proofs.earliest.at_alighting.Goals as goal
 
-pub at_targets-requires : goal.at_targets-requires
-at_targets-requires c = rw c.targets_of.ensures (targets-small _ _)
-
 pub returns-then-c : goal.returns-then-c
 unfolding alight_due
-returns-then-c c =
-    rw (← c.call_at-c.ensures, c.if-c.true, ← c.targets_of.ensures) c.at_targets.ensures
+returns-then-c c = rw (← c.at-c.ensures, c.if-c.true, ← c.targets.ensures) c.at_targets.ensures
 
 pub returns : goal.returns
 unfolding alight_due
-returns c = rw (← c.call_at-c.ensures, c.if-c.false) soonest-none
+returns c = rw (← c.at-c.ensures, c.if-c.false) soonest-none

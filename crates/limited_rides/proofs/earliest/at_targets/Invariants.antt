@@ -1,9 +1,8 @@
--- `at_targets` meets its contract: a loop over the set digits of the mask.
+-- `at_targets` meets its contract: a loop over the targets.
 use Rattle.limited_rides.proofs.DueLaws.{InDue}
 use Rattle.limited_rides.proofs.earliest.at_targets.Given as goal
 
-abbrev pub invariant-loop-left : goal.invariant-loop-left
-invariant-loop-left l = InDue l.feed l.a l.mask l.t l.left
-
-abbrev pub decreases-loop-left : goal.decreases-loop-left
-decreases-loop-left l = l.left
+abbrev pub invariant-loop-x : goal.invariant-loop-x
+invariant-loop-x l =
+    (goal.iterator-loop-x).can_next l.x-iterator × (goal.iterator-loop-x).is_finite l.x-iterator
+    × InDue l.calls.feed.now l.a l.fn.targets.left l.t l.x-iterator.left

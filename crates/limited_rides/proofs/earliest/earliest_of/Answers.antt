@@ -2,4 +2,4 @@
 use Rattle.limited_rides.proofs.earliest.earliest_of.Goals as goal
 
 pub returns : goal.returns
-returns c = rw (← c.at_most_512.ensures) c.least_of.ensures
+returns c = let e = c.first.ensures in rw (← e.same, ← e.count) c.least_of.ensures

@@ -1,5 +1,4 @@
 -- `last_alight` meets its contract: a join, and then its offers if the search is not over.
-use Rattle.feed.proofs.FeedLaws.{targets-small}
 use Rattle.rides.specs.Loops.{last_alight_rows}
 use Rattle.rides.specs.Sheets.{sheet_of}
 use Rattle.limited_rides.specs.RowEvents.{join_then, last_joined}
@@ -8,19 +7,14 @@ use Rattle.limited_rides.proofs.last.last_alight.Goals as goal
 
 pub returns-then-is_over : goal.returns-then-is_over
 unfolding last_joined join_then sheet_of
-returns-then-is_over c = rw (← c.call_at-a.ensures, c.if-a.true) (join-then c.spend.ensures (over-met c.is_over.ensures c.if-is_over.true))
-
-pub last_targets-requires : goal.last_targets-requires
-last_targets-requires c =
-    let p = c.requires in
-    (p.0, p.1, rw c.targets_of.ensures (targets-small _ _))
+returns-then-is_over c = rw (← c.at-a.ensures, c.if-a.true) (join-then c.spend.ensures (over-met c.is_over.ensures c.if-is_over.true))
 
 pub returns-else-is_over : goal.returns-else-is_over
 unfolding last_joined join_then last_alight_rows sheet_of
 returns-else-is_over c =
-    rw (← c.call_at-a.ensures, c.if-a.true, ← c.targets_of.ensures)
+    rw (← c.at-a.ensures, c.if-a.true, ← c.targets.ensures)
     (join-then c.spend.ensures (offered-met c.is_over.ensures c.if-is_over.false c.last_targets.ensures))
 
 pub returns-else-a : goal.returns-else-a
 unfolding last_joined join_then sheet_of
-returns-else-a c = rw (← c.call_at-a.ensures, c.if-a.false) nothing
+returns-else-a c = rw (← c.at-a.ensures, c.if-a.false) nothing

@@ -2,8 +2,8 @@
 use Rattle.limited_rides.proofs.RunLaws.{over-refused, over-stopped}
 use Rattle.limited_rides.proofs.tally.is_over.Goals as goal
 
-pub returns-then-tally-eq0 : goal.returns-then-tally-eq0
-returns-then-tally-eq0 c = over-refused _ _ c.if-tally-eq0.true c.is_refused.ensures
+pub returns-in-Some : goal.returns-in-Some
+returns-in-Some c = rw c.in-Some.is (over-refused _ _ c.is_refused.ensures)
 
-pub returns : goal.returns
-returns c = over-stopped _ _ c.if-tally-eq0.false
+pub returns-in-None : goal.returns-in-None
+returns-in-None c = rw c.in-None.is (over-stopped _)

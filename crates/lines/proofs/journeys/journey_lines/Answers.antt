@@ -1,23 +1,28 @@
 -- Line after line.
+use mathlib.Core.Path.{ap}
 use native.Mathlib.Omega.{arith}
+use lib.Seq.{take_all}
+use Rattle.laws.specs.Lists.{concat_map}
 use Rattle.lines.specs.Rides.{line_for}
-use Rattle.lines.proofs.BufferLaws.{put-none, put-turn, put-within, put-long}
-use Rattle.lines.proofs.RideLaws.{most-room}
-use borrow.Author.Rules.{rules}
+use Rattle.lines.proofs.BufferLaws.{put-none, put-turn, put_as, put-within}
+use Rattle.lines.proofs.RideLaws.{most-room, most-all}
 use Rattle.lines.proofs.journeys.journey_lines.Goals as goal
 
-pub loop-i-init : goal.loop-i-init
-loop-i-init c = (omega arith, omega arith, search rules, put-within _ (omega arith) (put-none _ _))
+pub loop-j-init : goal.loop-j-init
+loop-j-init c = put-within _ (omega arith) (put-none _ _)
 
 pub journey_line-at-requires : goal.journey_line-at-requires
 journey_line-at-requires c =
-    let L = c.loop-i in
-    omega (arith, L.invariant.3.behind, L.invariant.3.small, most-room c.args.rides L.i (omega arith))
+    let L = c.loop-j in
+    omega (arith, L.invariant.behind, L.invariant.small, most-room c.args.rides L.j-index (omega arith))
 
-pub loop-i-preserved : goal.loop-i-preserved
-loop-i-preserved c =
-    let L = c.loop-i in
-    (omega arith, L.invariant.1, L.invariant.2, put-turn (line_for _) _ L.i _ (omega arith) L.invariant.3 c.journey_line-at.ensures)
+pub loop-j-preserved : goal.loop-j-preserved
+loop-j-preserved c =
+    let L = c.loop-j in
+    put-turn (line_for _) _ L.j-index _ (omega arith) L.invariant c.journey_line-at.ensures
 
-pub shape_of-out : goal.shape_of-out
-shape_of-out c = put-long c.loop-i.invariant.3
+pub returns : goal.returns
+returns c =
+    let L = c.loop-j in
+    let p = put_as (ap (concat_map (line_for c.args.rides)) (take_all L.j-index c.args.journeys.now (omega arith))) L.invariant in
+    put-within _ (omega (arith, p.small, most-all c.args.rides L.j-index (omega (arith, L.auto.j-index-end)))) p

@@ -10,4 +10,4 @@ put_three-requires c = omega (arith, c.put_three-b.ensures.behind, c.put_three-b
 
 pub returns : goal.returns
 unfolding journey_text
-returns c = put_then c.put_word-a.ensures (put-three-then (spaced _) (spaced _) (spaced _) c.put_three-b.ensures c.put_three.ensures)
+returns c = rw (c.from.ensures, c.from-2.ensures, c.from-3.ensures, c.from-4.ensures) at (put_then c.put_word-a.ensures (put-three-then (spaced _) (spaced _) (spaced _) c.put_three-b.ensures c.put_three.ensures))

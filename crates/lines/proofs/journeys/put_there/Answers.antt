@@ -6,5 +6,5 @@ use Rattle.lines.proofs.journeys.put_there.Goals as goal
 pub returns-then-there : goal.returns-then-there
 returns-then-there c = rw c.if-there.true c.put_ride.ensures
 
-pub returns : goal.returns
-returns c = rw c.if-there.false (put-within 50 (omega arith) (put-none _ _))
+pub returns-else-there : goal.returns-else-there
+returns-else-there c = rw c.if-there.false (put-within 50 (omega arith) (put-none _ _))

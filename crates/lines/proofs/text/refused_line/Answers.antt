@@ -5,4 +5,4 @@ use Rattle.lines.proofs.text.refused_line.Goals as goal
 
 pub returns : goal.returns
 unfolding refused_line_of
-returns c = put_then c.put_word-a.ensures (put_then c.put_spaced-b.ensures c.put_byte.ensures)
+returns c = rw c.from.ensures at (put_then c.put_word-a.ensures (put_then c.put_spaced-b.ensures c.put_byte.ensures))

@@ -4,4 +4,4 @@ use Rattle.rides.proofs.bounds.put_call.Goals as goal
 
 pub returns : goal.returns
 returns c =
-    filled _ c.known.ensures c.requires.0 c.requires.1 c.board_bound-t.ensures c.requires.2 c.put_bucket.ensures
+    filled _ c.told-bounds c.args.calls.now.fits c.requires.0 c.board_bound-t.ensures c.requires.1 c.put_bucket.ensures

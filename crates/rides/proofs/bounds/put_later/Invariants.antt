@@ -3,7 +3,4 @@ use Rattle.rides.proofs.BoundLaws.{From}
 use Rattle.rides.proofs.bounds.put_later.Given as goal
 
 abbrev pub invariant-loop-q : goal.invariant-loop-q
-invariant-loop-q l = From l.initial.bounds l.bounds l.q
-
-abbrev pub decreases-loop-q : goal.decreases-loop-q
-decreases-loop-q l = l.q
+invariant-loop-q l = From l.fn.bounds l.bounds l.q

@@ -1,21 +1,16 @@
--- `target_bound` meets its contract: a loop over the set digits of the mask.
-use Rattle.rides.proofs.BoundLaws.{mask_start, mask_low, mask-less, mask-turn, mask_done}
+-- `target_bound` meets its contract: a loop over the targets.
+use Rattle.rides.proofs.BoundLaws.{mask-start, mask-turn, mask-done}
+use Rattle.rides.proofs.LoopLaws.{digits-small}
 use Rattle.rides.proofs.bounds.target_bound.Goals as goal
 
-pub loop-left-init : goal.loop-left-init
-loop-left-init c = mask_start c.requires
+pub loop-x-init : goal.loop-x-init
+loop-x-init c = rw c.into_iter-x-iterator.ensures.into_iter_gives (tt, tt, mask-start)
 
-pub due_at-due-requires : goal.due_at-due-requires
-due_at-due-requires c = mask_low c.loop-left-test.true c.loop-left.invariant c.lowest-x.ensures
+pub due_at-requires : goal.due_at-requires
+due_at-requires c = digits-small _ c.in-Some.ensures.steps
 
-pub loop-left-smaller : goal.loop-left-smaller
-loop-left-smaller c =
-    mask-less c.loop-left-test.true c.loop-left.invariant c.clear_lowest-left.ensures
-
-pub loop-left-preserved : goal.loop-left-preserved
-loop-left-preserved c =
-    mask-turn c.loop-left-test.true c.loop-left.invariant c.lowest-x.ensures c.clear_lowest-left.ensures
-    c.due_at-due.ensures c.earlier-t.ensures
+pub loop-x-preserved : goal.loop-x-preserved
+loop-x-preserved c = (tt, tt, mask-turn c.in-Some.ensures.steps c.due_at.ensures c.min-t.ensures c.loop-x.invariant.2)
 
 pub returns : goal.returns
-returns c = mask_done c.loop-left-test.false c.loop-left.invariant
+returns c = mask-done c.in-None.ensures.steps.0 c.loop-x.invariant.2

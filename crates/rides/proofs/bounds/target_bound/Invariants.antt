@@ -1,9 +1,8 @@
--- `target_bound` meets its contract: a loop over the set digits of the mask.
+-- `target_bound` meets its contract: a loop over the targets.
 use Rattle.rides.proofs.BoundLaws.{InMask}
 use Rattle.rides.proofs.bounds.target_bound.Given as goal
 
-abbrev pub invariant-loop-left : goal.invariant-loop-left
-invariant-loop-left l = InMask l.feed l.a l.mask l.t l.left
-
-abbrev pub decreases-loop-left : goal.decreases-loop-left
-decreases-loop-left l = l.left
+abbrev pub invariant-loop-x : goal.invariant-loop-x
+invariant-loop-x l =
+    (goal.iterator-loop-x).can_next l.x-iterator × (goal.iterator-loop-x).is_finite l.x-iterator
+    × InMask l.calls.feed.now l.a l.fn.targets.left l.t l.x-iterator.left

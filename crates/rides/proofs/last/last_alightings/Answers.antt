@@ -1,32 +1,21 @@
 -- `last_alightings` meets its contract: a loop over the later calls of the run.
-use native.Mathlib.Omega.{arith}
-use Rattle.rides.proofs.LoopLaws.{starts, run-turn, run-other, run-done}
+use Rattle.std.proofs.Common.{arith}
+use Rattle.rides.specs.Loops.{over_run}
+use Rattle.rides.proofs.LoopLaws.{rest-turn, rest-none, later-within}
+use Rattle.rides.proofs.RestLaws.{rest-has, rest-same}
 use Rattle.rides.proofs.last.last_alightings.Goals as goal
 
-pub overflow_add-m : goal.overflow_add-m
-overflow_add-m c = omega arith
-
 pub loop-m-init : goal.loop-m-init
-loop-m-init c = starts
+loop-m-init c = rw c.into_iter-m-iterator.ensures.into_iter_gives (tt, tt, rest-same c.than-m-items.ensures)
 
-pub same_run-requires : goal.same_run-requires
-same_run-requires c = tt
-
-pub overflow_add-m-then-same_run : goal.overflow_add-m-then-same_run
-overflow_add-m-then-same_run c = omega arith
-
-pub loop-m-smaller : goal.loop-m-smaller
-loop-m-smaller c = omega arith
+pub invariant_of-r : goal.invariant_of-r
+invariant_of-r c =
+    let h = later-within _ _ _ _ (rest-has c.in-Some.ensures.steps c.loop-m.invariant.2) in
+    record { placed = (omega arith, omega (arith, h.within)) }
 
 pub loop-m-preserved : goal.loop-m-preserved
-loop-m-preserved c =
-    run-turn _ _ _ _ _ c.loop-m-test.true c.call_at-b.ensures c.call_at-a.ensures
-    c.same_run.ensures c.if-same_run.true c.last_alight.ensures c.loop-m.invariant
-
-pub returns-else-same_run : goal.returns-else-same_run
-returns-else-same_run c =
-    run-other _ _ _ _ _ c.loop-m-test.true c.call_at-b.ensures c.call_at-a.ensures
-    c.same_run.ensures c.if-same_run.false c.loop-m.invariant
+loop-m-preserved c = (tt, tt, rest-turn c.in-Some.ensures.steps c.loop-m.invariant.2 c.last_alight.ensures)
 
 pub returns : goal.returns
-returns c = run-done _ _ _ _ _ c.loop-m-test.false c.loop-m.invariant
+unfolding over_run
+returns c = rest-none c.in-None.ensures.steps.0 c.loop-m.invariant.2

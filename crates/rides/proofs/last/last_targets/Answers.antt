@@ -1,21 +1,19 @@
--- `last_targets` meets its contract: a loop over the set digits of the mask.
-use Rattle.rides.proofs.LoopLaws.{bits-start, bits-low, bits-less, bits-turn, bits-done}
+-- `last_targets` meets its contract: a loop over the targets.
+use Rattle.std.proofs.Common.{refl}
+use Rattle.rides.specs.Loops.{over_bits}
+use Rattle.rides.proofs.LoopLaws.{rest-turn, rest-none, digits-small}
+use Rattle.rides.proofs.RestLaws.{rest-same}
 use Rattle.rides.proofs.last.last_targets.Goals as goal
 
-pub loop-left-init : goal.loop-left-init
-loop-left-init c = bits-start c.requires.2
+pub loop-x-init : goal.loop-x-init
+loop-x-init c = rw c.into_iter-x-iterator.ensures.into_iter_gives (tt, tt, rest-same refl)
 
 pub last_at-requires : goal.last_at-requires
-last_at-requires c =
-    (c.requires.0, c.requires.1, bits-low c.loop-left-test.true c.loop-left.invariant c.lowest-x.ensures)
+last_at-requires c = digits-small _ c.in-Some.ensures.steps
 
-pub loop-left-smaller : goal.loop-left-smaller
-loop-left-smaller c =
-    bits-less c.loop-left-test.true c.loop-left.invariant c.clear_lowest-left.ensures
-
-pub loop-left-preserved : goal.loop-left-preserved
-loop-left-preserved c =
-    bits-turn c.loop-left-test.true c.loop-left.invariant c.lowest-x.ensures c.clear_lowest-left.ensures c.last_at.ensures
+pub loop-x-preserved : goal.loop-x-preserved
+loop-x-preserved c = (tt, tt, rest-turn c.in-Some.ensures.steps c.loop-x.invariant.2 c.last_at.ensures)
 
 pub returns : goal.returns
-returns c = bits-done c.loop-left-test.false c.loop-left.invariant
+unfolding over_bits
+returns c = rest-none c.in-None.ensures.steps.0 c.loop-x.invariant.2

@@ -8,4 +8,4 @@ use Rattle.rides.proofs.onward.end_at.Goals as goal
 pub returns : goal.returns
 unfolding end_at three_row sheet_of
 returns c =
-    rw (← c.target_walk-walk.ensures, ← c.call_at-call.ensures, ← c.arrival_of.ensures) (single c.candidate.ensures.0)
+    rw (← c.target_walk-walk.ensures, ← c.at-a.ensures, ← c.arrival_of.ensures) (single c.candidate.ensures.0)

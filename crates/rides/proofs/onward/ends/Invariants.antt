@@ -1,11 +1,11 @@
--- `ends` meets its contract: a loop over the set digits of the mask.
-use Rattle.rides.specs.Loops.{over_bits, end_at}
+-- `ends` meets its contract: a loop over the targets.
+use Rattle.laws.specs.Bits.{bits_of}
+use Rattle.rides.specs.Loops.{end_at}
 use Rattle.rides.specs.Sheets.{sheet_of}
-use Rattle.rides.proofs.LoopLaws.{InBits}
+use Rattle.rides.proofs.LoopLaws.{Rest}
 use Rattle.rides.proofs.onward.ends.Given as goal
 
-abbrev pub invariant-loop-left : goal.invariant-loop-left
-invariant-loop-left l = InBits l.initial.st l.st (over_bits (end_at (sheet_of l.feed) l.f l.b l.a l.j l.m) l.initial.left) (end_at (sheet_of l.feed) l.f l.b l.a l.j l.m) l.left
-
-abbrev pub decreases-loop-left : goal.decreases-loop-left
-decreases-loop-left l = l.left
+abbrev pub invariant-loop-x : goal.invariant-loop-x
+invariant-loop-x l =
+    (goal.iterator-loop-x).can_next l.x-iterator × (goal.iterator-loop-x).is_finite l.x-iterator
+    × Rest l.fn.st l.st (end_at (sheet_of l.calls.feed.now) l.f l.p.board l.p.alight l.r.board l.r.alight) (bits_of l.fn.targets.left) (bits_of l.x-iterator.left)

@@ -1,24 +1,20 @@
--- `directs` meets its contract: a loop over the set digits of the stop's targets.
-use Rattle.rides.specs.Loops.{direct_rows}
+-- `directs` meets its contract: a loop over the stop's targets.
+use Rattle.std.proofs.Common.{refl}
+use Rattle.rides.specs.Loops.{over_bits, direct_rows}
 use Rattle.rides.specs.Sheets.{sheet_of}
-use Rattle.feed.proofs.FeedLaws.{targets-small}
-use Rattle.rides.proofs.LoopLaws.{bits-start, bits-low, bits-less, bits-turn, bits-done}
+use Rattle.rides.proofs.LoopLaws.{rest-turn, rest-none, digits-small}
+use Rattle.rides.proofs.RestLaws.{rest-same}
 use Rattle.rides.proofs.paths.directs.Goals as goal
 
-pub loop-left-init : goal.loop-left-init
-unfolding direct_rows sheet_of
-loop-left-init c = rw c.targets_of-left.ensures (bits-start (targets-small _ _))
+pub loop-x-init : goal.loop-x-init
+loop-x-init c = rw (c.into_iter-x-iterator.ensures.into_iter_gives, c.targets-x-items.ensures) (tt, tt, rest-same refl)
 
 pub direct_at-requires : goal.direct_at-requires
-direct_at-requires c = bits-low c.loop-left-test.true c.loop-left.invariant c.lowest-x.ensures
+direct_at-requires c = digits-small _ c.in-Some.ensures.steps
 
-pub loop-left-smaller : goal.loop-left-smaller
-loop-left-smaller c =
-    bits-less c.loop-left-test.true c.loop-left.invariant c.clear_lowest-left.ensures
-
-pub loop-left-preserved : goal.loop-left-preserved
-loop-left-preserved c =
-    bits-turn c.loop-left-test.true c.loop-left.invariant c.lowest-x.ensures c.clear_lowest-left.ensures c.direct_at.ensures
+pub loop-x-preserved : goal.loop-x-preserved
+loop-x-preserved c = (tt, tt, rest-turn c.in-Some.ensures.steps c.loop-x.invariant.2 c.direct_at.ensures)
 
 pub returns : goal.returns
-returns c = bits-done c.loop-left-test.false c.loop-left.invariant
+unfolding over_bits direct_rows sheet_of
+returns c = rest-none c.in-None.ensures.steps.0 c.loop-x.invariant.2

@@ -1,11 +1,13 @@
--- `directs` meets its contract: a loop over the set digits of the stop's targets.
-use Rattle.rides.specs.Loops.{direct_at, direct_rows}
+-- `directs` meets its contract: a loop over the stop's targets.
+use Rattle.laws.specs.Bits.{bits_of}
+use Rattle.feed.specs.Feed.{target_mask}
+use Rattle.rides.specs.Loops.{direct_at}
 use Rattle.rides.specs.Sheets.{sheet_of}
-use Rattle.rides.proofs.LoopLaws.{InBits}
+use Rattle.rides.proofs.LoopLaws.{Rest}
 use Rattle.rides.proofs.paths.directs.Given as goal
 
-abbrev pub invariant-loop-left : goal.invariant-loop-left
-invariant-loop-left l = InBits l.initial.st l.st (direct_rows (sheet_of l.feed) l.f) (direct_at (sheet_of l.feed) l.f) l.left
-
-abbrev pub decreases-loop-left : goal.decreases-loop-left
-decreases-loop-left l = l.left
+abbrev pub invariant-loop-x : goal.invariant-loop-x
+invariant-loop-x l =
+    let feed = l.calls.feed.now in
+    (goal.iterator-loop-x).can_next l.x-iterator × (goal.iterator-loop-x).is_finite l.x-iterator
+    × Rest l.fn.st l.st (direct_at (sheet_of feed) l.f) (bits_of (target_mask feed l.f.stop)) (bits_of l.x-iterator.left)

@@ -2,8 +2,8 @@
 use Rattle.rides.proofs.ReachLaws.{joins-some, joins-none}
 use Rattle.rides.proofs.reach.joined_time.Goals as goal
 
-pub returns-then-a : goal.returns-then-a
-returns-then-a c = joins-some _ _ _ _ _ _ c.first_of.ensures c.least_joined.ensures
+pub returns-then-at : goal.returns-then-at
+returns-then-at c = joins-some _ _ _ _ _ _ c.first_ride.ensures c.least_joined.ensures
 
 pub returns : goal.returns
-returns c = joins-none _ _ _ _ _ _ c.call_at-a.ensures c.if-a.false
+returns c = joins-none _ _ _ _ _ _ c.at.ensures c.if-at.false

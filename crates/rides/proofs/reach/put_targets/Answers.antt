@@ -5,16 +5,10 @@ use Rattle.rides.proofs.ReachLaws.{none_yet, put_right, each_to}
 use Rattle.rides.proofs.reach.put_targets.Goals as goal
 
 pub loop-m-init : goal.loop-m-init
-loop-m-init c = (omega arith, none_yet _ _ _)
-
-pub overflow_add-m : goal.overflow_add-m
-overflow_add-m c = omega arith
-
-pub loop-m-smaller : goal.loop-m-smaller
-loop-m-smaller c = omega arith
+loop-m-init c = none_yet _ _ _
 
 pub loop-m-preserved : goal.loop-m-preserved
-loop-m-preserved c = (omega arith, put_right _ refl (omega arith) c.alight_bound-t.ensures c.loop-m.invariant.1)
+loop-m-preserved c = put_right _ refl (omega arith) c.alight_bound.ensures c.loop-m.invariant
 
 pub returns : goal.returns
-returns c = each_to _ (omega (arith, c.loop-m.invariant.0)) c.loop-m.invariant.1
+returns c = each_to _ (omega arith) c.loop-m.invariant

@@ -1,17 +1,15 @@
--- The loop looks for the stop among the first `count`.
-use borrow.Author.Rules.{rules}
-use mathlib.Core.Path.{◌≡◌, refl, sym, ◌∙◌}
-use mathlib.Core.Bool.{false}
-use native.Mathlib.Omega.{arith}
-use lib.ListN.{length, get_or}
+-- What `position` finds, in the words of `find_stop`.
+use mathlib.Core.Path.{◌∙◌}
+use Rattle.std.proofs.Common.{rules}
+use Rattle.std.proofs.lemmas.Iterator.{YieldsList-from_slice}
+use Rattle.std.proofs.lemmas.Iterator.Search.{position_from_yields_List}
+use Rattle.laws.proofs.Chains.{position-found}
 use Rattle.stops.specs.Stops.{is_it}
-use Rattle.stops.proofs.Texts.{find-turn, past}
+use Rattle.stops.proofs.Texts.{find-is}
 use Rattle.stops.proofs.find.find.Goals as goal
 
-pub loop-i-preserved : goal.loop-i-preserved
-loop-i-preserved c =
-    let a = c.args in
-    let n : length a.stops ≡ 128 = omega arith in
-    let f : is_it a.station a.id.now (get_or a.stops c.loop-i.i past) ≡ false = sym c.is_it.ensures ∙ c.if-is_it.false in
-    let t = find-turn (is_it a.station a.id.now) a.stops a.count c.loop-i.i past (omega arith) (omega arith) in
-    (search rules, c.loop-i.invariant.1 ∙ t ∙ rw f refl)
+pub returns-clause-value : goal.returns-clause-value
+returns-clause-value c =
+    position_from_yields_List (is_it c.args.station c.args.id.now) _ _ c.position.result c.position.ensures.ran (YieldsList-from_slice c.args.stops.now c.iter.ensures.rest) (λ x b q k. search rules)
+    ∙ position-found (is_it c.args.station c.args.id.now) c.args.stops.now
+    ∙ find-is (is_it c.args.station c.args.id.now) c.args.stops.now 0

@@ -1,7 +1,6 @@
 -- Each turn ends in an answer, or cuts the table and tries the same call anew.
 use mathlib.Core.Path.{◌≡◌}
 use Rattle.calls.specs.Tables.{fitted}
-use Rattle.calls.proofs.FitLaws as law
 use Rattle.table.proofs.cuts.fit.Given as goal
 
 abbrev pub invariant-loop-call : goal.invariant-loop-call

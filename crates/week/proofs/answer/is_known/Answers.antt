@@ -1,16 +1,13 @@
--- Found among the first `count`, by its place.
-use mathlib.Core.Path.{◌≡◌}
-use native.Mathlib.Omega.{arith}
-use lib.ListN.{length}
-use Rattle.week.proofs.PlaceLaws.{place-known, place-unknown}
+-- What `any` finds, by the services of the slice.
+use mathlib.Core.Path.{◌∙◌}
+use Rattle.std.proofs.Common.{rules}
+use Rattle.std.proofs.lemmas.Iterator.{YieldsList-from_slice}
+use Rattle.std.proofs.lemmas.Iterator.Search.{any_from_yields_List}
+use Rattle.laws.proofs.Chains.{any-is}
+use Rattle.week.specs.Weeks.{named}
 use Rattle.week.proofs.answer.is_known.Goals as goal
-
-pub returns-then-at-lt64 : goal.returns-then-at-lt64
-returns-then-at-lt64 c =
-    let n : length c.args.services ≡ 64 = c.well_formed.0.1.0.1 in
-    place-known _ c.args.services c.args.count _ c.place_of-at.ensures (omega arith)
 
 pub returns : goal.returns
 returns c =
-    let n : length c.args.services ≡ 64 = c.well_formed.0.1.0.1 in
-    place-unknown _ c.args.services c.args.count (omega (arith, c.place_of-at.ensures))
+    any_from_yields_List (named c.args.name.now) _ _ c.any.result c.any.ensures.ran (YieldsList-from_slice c.args.services.now c.iter.ensures.rest) (λ x b q k. search rules)
+    ∙ any-is (named c.args.name.now) c.args.services.now

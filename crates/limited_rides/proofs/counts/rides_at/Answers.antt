@@ -1,9 +1,0 @@
--- `rides_at` meets its contract.
-use mathlib.Core.Path.{refl}
-use Rattle.limited_rides.proofs.counts.rides_at.Goals as goal
-
-pub returns-then-b : goal.returns-then-b
-returns-then-b c = rw (← c.call_at-b.ensures, c.if-b.true) refl
-
-pub returns : goal.returns
-returns c = rw (← c.call_at-b.ensures, c.if-b.false) refl

@@ -1,0 +1,60 @@
+// Exceptions to services: their faults, and exceptions told in words.
+use crate::fault::{Fault, Faults};
+use crate::inputs::{MONDAY, service_of};
+use crate::loads::{searched_if, small, week, with};
+use crate::service_cases::{called, date_of};
+use crate::shown::then;
+use crate::step::Step;
+use crate::{good, pairs};
+use load::{Load, Stepped};
+use refusal::Refusal;
+use std::io;
+
+const FAULTS: [Fault; 3] = [
+    Fault::Meets(Refusal::AlreadySearched),
+    Fault::Meets(Refusal::DateWrong),
+    Fault::Meets(Refusal::ServiceUnknown),
+];
+
+fn tried(faults: Faults) -> Stepped {
+    let load = searched_if(faults.meet(Refusal::AlreadySearched), week(2));
+    load.exception(service_of(faults), date_of(faults), 2)
+}
+
+fn told(rt: &impl Print, label: &str, load: Load, name: &[u8]) -> io::Result<()> {
+    then(rt, Step::Exception, label, load.exception(name, MONDAY, 1))
+}
+
+fn told_of(rt: &impl Print, label: &str, name: &[u8], kind: u8) -> io::Result<()> {
+    then(
+        rt,
+        Step::Exception,
+        label,
+        week(2).exception(name, MONDAY, kind),
+    )
+}
+
+pub fn run(rt: &impl Print) -> io::Result<()> {
+    pairs::each(rt, Step::Exception, &FAULTS, tried)?;
+    told_of(rt, "of type 1", b"A", 1)?;
+    told_of(rt, "of type 2", b"A", 2)?;
+    told_of(rt, "of type 0", b"A", 0)?;
+    told_of(rt, "of type 3", b"A", 3)?;
+    told_of(rt, "of type 3 and an unknown service", b"unknown", 3)?;
+    let other = week(2).exception(b"A", 20240229, 1);
+    then(rt, Step::Exception, "on another date", other)?;
+    told(rt, "without a name", week(2), b"")?;
+    told(rt, "with a name of 33 bytes", week(2), &[b'a'; 33])?;
+    let many = with(week(2), 1000, good::exception);
+    told(rt, "after 1000 others", many, b"A")?;
+    let undated = small().exception(b"unknown", 0, 3);
+    then(rt, Step::Exception, "of a load without dates", undated)?;
+    told(
+        rt,
+        "after a call that is refused",
+        called(b"unknown", 600),
+        b"A",
+    )?;
+    told(rt, "after a call that doesn't run", called(b"B", 600), b"A")?;
+    told(rt, "after a call that is taken", called(b"A", 600), b"A")
+}

@@ -1,0 +1,106 @@
+// The calls, rules and stops that steps are tried with.
+ghost use Rattle.std.specs.Prelude.{◌≡◌, Some};
+ghost use Rattle.refusals.specs.Inputs.{call_with, rule_with};
+
+use crate::fault::{Fault, Faults};
+use calls::CallInput;
+use place::Degrees;
+use refusal::Refusal;
+use rules::RuleInput;
+use stops::StopInput;
+
+// A call of day 0.
+pub fn call(
+    trip: u16,
+    sequence: u32,
+    stop: u16,
+    arrival: Option<u32>,
+    departure: Option<u32>,
+) -> CallInput
+    ensures { result ≡ call_with trip sequence stop arrival departure }
+{
+    CallInput {
+        trip,
+        day: 0,
+        sequence,
+        stop,
+        arrival,
+        departure,
+        pickup: 0,
+        drop_off: 0,
+    }
+}
+
+// One that leaves as it arrives.
+pub fn call_at(trip: u16, sequence: u32, stop: u16, time: u32) -> CallInput
+    ensures { result ≡ call_with trip sequence stop (Some time) (Some time) }
+{
+    call(trip, sequence, stop, Some(time), Some(time))
+}
+
+// A call of trip 900, at this time if it is inside the window.
+pub fn faulty_call(faults: Faults, sequence: u32, stop: u16, time: u16) -> CallInput {
+    let trip = if faults.meet(Refusal::FieldRange) {
+        65535
+    } else {
+        900
+    };
+    let time = if faults.have(Fault::Outside) {
+        30000
+    } else {
+        u32::from(time)
+    };
+    let arrival = if faults.meet(Refusal::TimesReversed) {
+        time + 1
+    } else {
+        time
+    };
+    let departure = if faults.have(Fault::Absent) {
+        None
+    } else {
+        Some(time)
+    };
+    call(trip, sequence, stop, Some(arrival), departure)
+}
+
+// The service that a call names: "A" runs every day, "B" on none.
+pub fn service_of(faults: Faults) -> &'static [u8] {
+    if faults.meet(Refusal::ServiceUnknown) {
+        b"unknown"
+    } else if faults.have(Fault::Rests) {
+        b"B"
+    } else {
+        b"A"
+    }
+}
+
+pub fn rule(from: u16, to: u16, kind: u8, seconds: Option<u16>) -> RuleInput
+    ensures { result ≡ rule_with from to kind seconds }
+{
+    RuleInput {
+        from,
+        to,
+        transfer_type: kind,
+        seconds,
+    }
+}
+
+// A stop without a name, a parent or a position, of no origin or target.
+pub const PLAIN: StopInput = StopInput {
+    named: false,
+    has_parent: false,
+    location_type: 0,
+    located: false,
+    degrees: Degrees {
+        latitude: 0.0,
+        longitude: 0.0,
+    },
+    members: 0,
+};
+
+// The first date and the last.
+pub const FIRST: u32 = 10101;
+
+pub const LAST: u32 = 99991231;
+
+pub const MONDAY: u32 = 20261116;

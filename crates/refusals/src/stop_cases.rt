@@ -1,0 +1,171 @@
+// Stops: their faults, and stops told in words.
+use crate::fault::{Fault, Faults};
+use crate::inputs::PLAIN;
+use crate::loads::{full_of_stops, searched_if, small};
+use crate::pairs;
+use crate::shown::{held, then};
+use crate::step::Step;
+use load::Stepped;
+use place::Degrees;
+use refusal::Refusal;
+use std::io;
+use stops::StopInput;
+
+const FAULTS: [Fault; 7] = [
+    Fault::Meets(Refusal::AlreadySearched),
+    Fault::Meets(Refusal::IdLength),
+    Fault::Meets(Refusal::IdTaken),
+    Fault::Meets(Refusal::LocationType),
+    Fault::Meets(Refusal::ParentUnknown),
+    Fault::Meets(Refusal::NameUnusable),
+    Fault::Meets(Refusal::StopsFull),
+];
+
+fn id_of(faults: Faults) -> &'static [u8] {
+    if faults.meet(Refusal::IdLength) {
+        b""
+    } else if faults.meet(Refusal::IdTaken) {
+        b"B"
+    } else {
+        b"new"
+    }
+}
+
+// The parent of a stop, if it has one, is unknown.
+fn tried(faults: Faults) -> Stepped {
+    let full = faults.meet(Refusal::StopsFull);
+    let load = if full { full_of_stops() } else { small() };
+    let name: &[u8] = if faults.meet(Refusal::NameUnusable) {
+        &[b'a'; 65]
+    } else {
+        b"name"
+    };
+    let input = StopInput {
+        named: true,
+        has_parent: faults.meet(Refusal::ParentUnknown),
+        location_type: if faults.meet(Refusal::LocationType) {
+            2
+        } else {
+            0
+        },
+        ..PLAIN
+    };
+    searched_if(faults.meet(Refusal::AlreadySearched), load).stop(
+        id_of(faults),
+        name,
+        b"unknown",
+        input,
+    )
+}
+
+// A stop and its texts.
+#[derive(Clone, Copy)]
+struct NewStop<'a> {
+    id: &'a [u8],
+    name: &'a [u8],
+    parent: &'a [u8],
+    input: StopInput,
+}
+
+fn with_id(id: &[u8]) -> NewStop<'_> {
+    NewStop {
+        id,
+        name: b"",
+        parent: b"",
+        input: PLAIN,
+    }
+}
+
+fn with_name(name: &[u8]) -> NewStop<'_> {
+    NewStop {
+        id: b"new",
+        name,
+        parent: b"",
+        input: StopInput {
+            named: true,
+            ..PLAIN
+        },
+    }
+}
+
+fn with_parent(parent: &[u8], location_type: u8) -> NewStop<'_> {
+    NewStop {
+        id: b"new",
+        name: b"",
+        parent,
+        input: StopInput {
+            has_parent: true,
+            location_type,
+            ..PLAIN
+        },
+    }
+}
+
+impl<'a> NewStop<'a> {
+    fn at(self, latitude: f64) -> NewStop<'a> {
+        let input = StopInput {
+            located: true,
+            degrees: Degrees {
+                latitude,
+                longitude: 0.0,
+            },
+            ..self.input
+        };
+        NewStop { input, ..self }
+    }
+}
+
+fn told(rt: &impl Print, label: &str, stop: NewStop<'_>) -> io::Result<()> {
+    let stepped = small().stop(stop.id, stop.name, stop.parent, stop.input);
+    then(rt, Step::Stop, label, stepped)
+}
+
+fn texts(rt: &impl Print) -> io::Result<()> {
+    told(rt, "id of 32 bytes", with_id(&[b'a'; 32]))?;
+    told(rt, "id of 33 bytes", with_id(&[b'a'; 33]))?;
+    told(rt, "station with a parent", with_parent(b"A", 1))?;
+    told(rt, "stop with a parent", with_parent(b"A", 0))?;
+    told(rt, "parent that is no station", with_parent(b"B", 0))?;
+    told(rt, "name of 64 bytes", with_name(&[b'a'; 64]).at(52.5))
+}
+
+// A name is needed at a position that can be used.
+fn needed(rt: &impl Print, label: &str, name: &[u8]) -> io::Result<()> {
+    told(rt, label, with_name(name).at(52.5))
+}
+
+fn names(rt: &impl Print) -> io::Result<()> {
+    needed(rt, "needed name of 65 bytes", &[b'a'; 65])?;
+    needed(rt, "needed name without a word", b" \t ")?;
+    needed(rt, "needed name with a control", b"a\x1f")?;
+    told(
+        rt,
+        "name without a word, latitude 91",
+        with_name(b" \t ").at(91.0),
+    )?;
+    needed(rt, "needed name with an accent", b"B\xc3\xa9con")?;
+    needed(rt, "needed name with control 128", b"a\xc2\x80")?;
+    needed(rt, "needed name of 133 and 160", b"\xc2\x85\xc2\xa0")?;
+    needed(rt, "needed name, ill-formed", b"a\x80")?;
+    needed(rt, "needed name, overlong", b"\xc1\x81")?;
+    needed(rt, "needed name cut short", b"a\xc3")?;
+    needed(rt, "needed name with code point 256", b"\xc4\x80")?;
+    told(
+        rt,
+        "ill-formed name, latitude 91",
+        with_name(b"a\x80").at(91.0),
+    )?;
+    told(
+        rt,
+        "needed id with an accent",
+        with_id(b"\xc3\xa9").at(52.5),
+    )?;
+    told(rt, "needed id, ill-formed", with_id(b"\x80").at(52.5))
+}
+
+pub fn run(rt: &impl Print) -> io::Result<()> {
+    pairs::each(rt, Step::Stop, &FAULTS, tried)?;
+    texts(rt)?;
+    names(rt)?;
+    held(rt, Step::Stop, full_of_stops().stop_count)
+}

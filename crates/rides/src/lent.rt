@@ -1,0 +1,46 @@
+// The lent arrays of a search.
+ghost use Rattle.std.specs.Prelude.{◌≡◌, ◌<◌, ◌&&◌, min};
+ghost use Rattle.feed.specs.Feed.{call_at};
+ghost use Rattle.rides.specs.Sheets.{joins_of};
+
+use crate::calls::Calls;
+use feed::layout::{Changes, Feed};
+use feed::{FirstRide, change_at, join};
+
+// The calls, and the changes between stops.
+#[derive(Clone, Copy)]
+pub struct Lent<'a> {
+    pub calls: Calls<'a>,
+    pub changes: &'a Changes,
+}
+
+impl<'a> Lent<'a> {
+    // With the first n calls, no more than the 512 that there are.
+    pub fn first(feed: &'a Feed, changes: &'a Changes, n: usize) -> Lent<'a>
+        ensures calls { result.calls.feed.now ≡ feed.now }
+        ensures changes { result.changes.now ≡ changes.now }
+        ensures count { result.calls.n ≡ min n 512 }
+    {
+        Lent {
+            calls: Calls::first(feed, n),
+            changes,
+        }
+    }
+
+    // Whether the ride f joins one that boards at j.
+    pub fn joins(&self, f: FirstRide, j: usize) -> bool
+        requires { j < 512 }
+        ensures { result ≡ joins_of self.now.calls.feed.now self.now.changes.now f j }
+    {
+        let b = self.calls.at(j);
+        join(f, b, change_at(self.changes, f.stop, b.stop))
+    }
+
+    // Whether it does and one can board there.
+    pub fn can_board(&self, f: FirstRide, j: usize) -> bool
+        requires { j < 512 }
+        ensures { result ≡ (call_at self.now.calls.feed.now j).board && joins_of self.now.calls.feed.now self.now.changes.now f j }
+    {
+        self.calls.at(j).board && self.joins(f, j)
+    }
+}

@@ -1,6 +1,0 @@
--- The place stays within the buffer.
-use Rattle.std.proofs.Common.{◌≤◌}
-use Rattle.stdio.proofs.load_lines.table.Given as goal
-
-abbrev pub invariant-loop-i : goal.invariant-loop-i
-invariant-loop-i l = l.to ≤ 65536

@@ -1,3 +1,0 @@
-pub mod Trims
-pub mod StepLaws
-pub mod UncutWays
