@@ -1,6 +1,6 @@
 -- A call and a withdrawal are answered by the first of their tests that holds, and a refused load comes back unchanged: of any load.
 use Rattle.refusal.specs.declared.Accepted.TheVariants.{Taken, Outside}
-use Rattle.std.specs.Prelude.{Option, Err, Ok}
+use Rattle.std.specs.Prelude.{Option, Err, Ok, None, Some}
 use Prim.Native.Nat.{ℕ, ◌≤◌}
 use mathlib.Core.Path.{◌≡◌, refl, sym, ap, subst, ◌∙◌}
 use mathlib.Core.Bool.{Bool, true, false, cond, not, ◌&&◌, true≢false, false≢true}
@@ -10,7 +10,7 @@ use borrow.Author.Tests.{eq-eqb, eqb-true, eqb-false, lt-ltb, le-ltb}
 use lib.Dec.{eqb, ltb}
 use Rattle.laws.specs.Lists.{anyb}
 use Rattle.laws.proofs.Bools.{cond-by, cond-not}
-use Rattle.refusal.specs.declared.Refusal.TheVariants.{FieldRange, NoRoom, CallUnknown}
+use Rattle.refusal.specs.declared.Refusal.TheVariants.{FieldRange, NoRoom, CallUnknown, Neighbours}
 use Rattle.refusal.specs.First.{First, none, hit, miss, AllFail, first_answer, is_refused, is_taken, Answer}
 use Rattle.refusal.proofs.FirstLaws.{answer-is-first, first_taken, first-append, first_past, taken_is}
 use Rattle.calls.specs.declared.Call.{Call}
@@ -37,13 +37,15 @@ use Rattle.week.specs.declared.Running.{Running}
 use Rattle.week.specs.declared.Running.TheVariants.{Runs}
 use Rattle.week.specs.Weeks.{closed_week, running}
 use Rattle.week.proofs.StepLaws.{runs-undated}
+use Rattle.offers.specs.Order.{clashes}
+use Rattle.offers.specs.Offers.{sorted}
 use Rattle.search.specs.Timetable.{timetable_of}
 use Rattle.search.specs.Search.{would_fall}
 use Rattle.search.specs.Within.{would_fall_within}
 use Rattle.withdrawal.specs.declared.CallKey.{CallKey}
 use Rattle.withdrawal.specs.Removal.{has_key, key_known}
 use Rattle.again.specs.Again.{unsearched_of, researched, again, searched_as, leaves_table_of, added_to, add_spec_of, withdraw_tests, withdraw_answer, taken_out, withdraw_spec}
-use Rattle.again.specs.Causes.{no_room_of, search_tests, again_tests, later_tests, Answered, AddAnswered, WithdrawAnswered}
+use Rattle.again.specs.Causes.{no_room_of, search_tests, again_tests, later_tests, Answered, AddAnswered, WithdrawAnswered, falls_again}
 use Rattle.again.proofs.WeekLaws.{research-week}
 use Rattle.again.proofs.ResearchLaws.{research-first}
 use Rattle.again.proofs.SoundLaws.{unsearched-new, taken-out-searched}
@@ -56,24 +58,24 @@ past_one (miss e f) q = f
 
 -- the step's answer a, unless the search is refused
 searched-first : (l m : Load) → m.searched ≡ false → (a : Answer) (more : List (Bool × Answer)) → First a more
-    → First (searched_as l a (researched l.stopped l.limit m)).answer (search_tests l m ++ more)
-searched-first l m new a more f = go (is_taken (researched l.stopped l.limit m).answer) refl
+    → First (searched_as l a (researched l.limit m)).answer (search_tests l m ++ more)
+searched-first l m new a more f = go (is_taken (researched l.limit m).answer) refl
   where
-    first : First (researched l.stopped l.limit m).answer (search_tests l m)
-    first = research-first l.stopped l.limit m new
+    first : First (researched l.limit m).answer (search_tests l m)
+    first = research-first l.limit m new
 
-    go : (b : Bool) → is_taken (researched l.stopped l.limit m).answer ≡ b
-        → First (cond {A = Stepped} b (record { answer = a; load = (researched l.stopped l.limit m).load }) (record { answer = (researched l.stopped l.limit m).answer; load = l })).answer (search_tests l m ++ more)
+    go : (b : Bool) → is_taken (researched l.limit m).answer ≡ b
+        → First (cond {A = Stepped} b (record { answer = a; load = (researched l.limit m).load }) (record { answer = (researched l.limit m).answer; load = l })).answer (search_tests l m ++ more)
     go true e = first_past a (search_tests l m) more (first_taken _ (search_tests l m) refl first (taken_is _ e)) f
     go false e = first-append _ (search_tests l m) more first (λ q. false≢true (sym e ∙ ap is_taken q))
 
 -- refused, the searched load stays
 again-same : (l : Load) (r : Stepped) → is_refused (again l r).answer ≡ true → (again l r).load ≡ l
 unfolding again
-again-same l r q = go (is_refused r.answer) (is_taken (researched l.stopped l.limit r.load).answer) refl q
+again-same l r q = go (is_refused r.answer) (is_taken (researched l.limit r.load).answer) refl q
   where
     go : (b c : Bool) → is_refused r.answer ≡ b
-        → (let x = cond {A = Stepped} b (record { answer = r.answer; load = l }) (cond {A = Stepped} c (record { answer = r.answer; load = (researched l.stopped l.limit r.load).load }) (record { answer = (researched l.stopped l.limit r.load).answer; load = l })) in
+        → (let x = cond {A = Stepped} b (record { answer = r.answer; load = l }) (cond {A = Stepped} c (record { answer = r.answer; load = (researched l.limit r.load).load }) (record { answer = (researched l.limit r.load).answer; load = l })) in
         is_refused x.answer ≡ true → x.load ≡ l)
     go true c e q = refl
     go false true e q = absurd (true≢false (sym q ∙ e))
@@ -116,12 +118,12 @@ again-first l u k new = go (is_refused (taken_out u k).answer) refl
     first : First (taken_out u k).answer (withdraw_tests u k)
     first = subst (λ (a : Answer). First a (withdraw_tests u k)) (sym (out-answer u k)) (answer-is-first (withdraw_tests u k))
 
-    go : (b : Bool) → is_refused r.answer ≡ b → First (cond {A = Stepped} b (record { answer = r.answer; load = l }) (searched_as l r.answer (researched l.stopped l.limit r.load))).answer (ts ++ search_tests l r.load)
+    go : (b : Bool) → is_refused r.answer ≡ b → First (cond {A = Stepped} b (record { answer = r.answer; load = l }) (searched_as l r.answer (researched l.limit r.load))).answer (ts ++ search_tests l r.load)
     go true e = first-append r.answer ts (search_tests l r.load) first (λ q. true≢false (sym e ∙ ap is_refused q))
     go false e =
         let t : r.answer ≡ (Ok Taken) = out-answer u k ∙ tests-taken u k (ap is_refused (sym (out-answer u k)) ∙ e) in
         let all : AllFail (withdraw_tests u k) = first_taken r.answer (withdraw_tests u k) refl first t in
-        first_past (searched_as l r.answer (researched l.stopped l.limit r.load)).answer ts (search_tests l r.load) all
+        first_past (searched_as l r.answer (researched l.limit r.load)).answer ts (search_tests l r.load) all
         (searched-first l r.load (taken-out-searched u k ∙ new) r.answer [] (subst (λ (a : Answer). First a []) (sym t) none))
 
 pub withdraw-answered : WithdrawAnswered
@@ -225,7 +227,7 @@ module _ (l : Load) (i : CallInput) where
       m = with_table u r
 
       go : (b : Bool) → eqb r.horizon l.table_horizon ≡ b
-          → First (cond {A = Stepped} b (record { answer = Ok Outside; load = with_week l (with_table u r).week }) (searched_as l (Ok Outside) (researched l.stopped l.limit (with_table u r)))).answer (tests ++ again_tests l a d r (with_table u r))
+          → First (cond {A = Stepped} b (record { answer = Ok Outside; load = with_week l (with_table u r).week }) (searched_as l (Ok Outside) (researched l.limit (with_table u r)))).answer (tests ++ again_tests l a d r (with_table u r))
       go true e =
           let h : ltb r.horizon l.table_horizon ≡ false = le-ltb r.horizon l.table_horizon (omega (arith, eqb-true r.horizon l.table_horizon e)) in
           first_past (Ok Outside) tests (again_tests l a d r (with_table u r)) p (hit (rw (o, h) refl))
@@ -285,15 +287,19 @@ unfolding added_to again
 week-answer l a m w = go (leaves_table_of l (record { answer = a; load = m })) (is_refused a)
   where
     go : (b c : Bool)
-        → (cond {A = Stepped} b (record { answer = a; load = with_week l w }) (cond {A = Stepped} c (record { answer = a; load = l }) (searched_as l a (researched l.stopped l.limit (with_week m w))))).answer
-        ≡ (cond {A = Stepped} b (record { answer = a; load = with_week l m.week }) (cond {A = Stepped} c (record { answer = a; load = l }) (searched_as l a (researched l.stopped l.limit m)))).answer
+        → (cond {A = Stepped} b (record { answer = a; load = with_week l w }) (cond {A = Stepped} c (record { answer = a; load = l }) (searched_as l a (researched l.limit (with_week m w))))).answer
+        ≡ (cond {A = Stepped} b (record { answer = a; load = with_week l m.week }) (cond {A = Stepped} c (record { answer = a; load = l }) (searched_as l a (researched l.limit m)))).answer
     go true c = refl
     go false true = refl
-    go false false = ap (λ (q : Stepped). (searched_as l a q).answer) (research-week l.stopped l.limit m w) ∙ searched-week l a (researched l.stopped l.limit m) w
+    go false false = ap (λ (q : Stepped). (searched_as l a q).answer) (research-week l.limit m w) ∙ searched-week l a (researched l.limit m) w
 
 search-tests-week : (l m : Load) (w : Week) → search_tests l (with_week m w) ≡ search_tests l m
 unfolding timetable_of would_fall would_fall_within
-search-tests-week l m w = refl
+search-tests-week l m w = ap (λ (b : Bool). (clashes (sorted (timetable_of m)), Err Neighbours) ∷ (b, Err NoRoom) ∷ []) (go l.limit)
+  where
+    go : (limit : Option ℕ) → falls_again limit (with_week m w) ≡ falls_again limit m
+    go (Some n) = refl
+    go None = refl
 
 -- two tests more that fail
 insert-two : {a b c d e : Answer} {p q x y : Bool} {ts : List (Bool × Answer)} → x ≡ false → y ≡ false → First a ((p, b) ∷ (q, c) ∷ ts)

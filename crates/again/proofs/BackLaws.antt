@@ -28,7 +28,7 @@ use Rattle.again.proofs.SoundLaws.{there-goes}
 
 -- a sound unsearched load has its table's horizon and mark
 table-back : (l : Load) → Sound l → l.searched ≡ false → with_table l (table_of l) ≡ l
-table-back l s u = λ j. with_seen l (table_of l) (record { journeys = l.journeys; count = l.journey_count; horizon = sym (s.same_horizon u) j; limits = sym (s.same_limits u) j; searched = l.searched; stopped = l.stopped; limit = l.limit })
+table-back l s u = λ j. with_seen l (table_of l) (record { journeys = l.journeys; count = l.journey_count; horizon = sym (s.same_horizon u) j; limits = sym (s.same_limits u) j; searched = l.searched; limit = l.limit })
 
 -- a call that is taken and cuts nothing is put into the table, and the services are closed
 pub record Put (l : Load) (name : List ℕ) (i : CallInput) : Type 0 where

@@ -91,7 +91,7 @@ clear_apart : (l : List Call) → AllApart l → clashes (in_order_of l) ≡ fal
 clear_apart l a = ap clashes (ordered-sort earlier l (apart-ordered l a)) ∙ apart-clear l a
 
 -- the calls of a searched load
-own-apart : (l : Load) → Sound l → researched l.stopped l.limit (unsearched_of l) ≡ record { answer = Ok Taken; load = l } → AllApart (table_calls (table_of l))
+own-apart : (l : Load) → Sound l → researched l.limit (unsearched_of l) ≡ record { answer = Ok Taken; load = l } → AllApart (table_calls (table_of l))
 unfolding timetable_of
 own-apart l s e =
     let clear = own-clear l e in

@@ -3,18 +3,14 @@ use Rattle.refusal.specs.declared.Accepted.TheVariants.{Taken}
 use Rattle.std.specs.Prelude.{Err, Ok}
 use Prim.Native.Nat.{ℕ, ◌-◌, ◌≤◌}
 use mathlib.Core.Path.{◌≡◌, refl, sym, ap, ◌∙◌}
-use mathlib.Core.Bool.{Bool, true, false, not, ◌&&◌}
+use mathlib.Core.Bool.{true, false, not}
 use mathlib.Core.List.{List}
 use native.Mathlib.Omega.{arith}
 use borrow.Author.Tests.{eq-eqb, ne_eqb}
-use lib.Dec.{leb}
-use lib.ListN.{replicate}
 use Rattle.laws.specs.Lists.{anyb}
 use Rattle.laws.proofs.Bools.{cond-by, cond-not}
 use Rattle.refusal.specs.declared.Refusal.TheVariants.{FieldRange, CallUnknown}
 use Rattle.refusal.specs.First.{first_answer, is_refused, is_taken}
-use Rattle.profile.specs.declared.Journey.{Journey}
-use Rattle.profile.specs.Journeys.{no_journey}
 use Rattle.calls.specs.declared.Call.{Call}
 use Rattle.calls.specs.declared.CallInput.{CallInput}
 use Rattle.calls.specs.Tables.{blank_call}
@@ -25,42 +21,18 @@ use Rattle.withdrawal.proofs.RemovalLaws.{last-counted}
 use Rattle.withdrawal.proofs.LeftLaws.{place-tells}
 use Rattle.load.specs.declared.Load.{Load}
 use Rattle.load.specs.declared.Stepped.{Stepped}
-use Rattle.load.specs.Load.{table_of, with_seen, with_table, with_week}
+use Rattle.load.specs.Load.{table_of, with_table, with_week}
 use Rattle.load.specs.Steps.{call_spec}
-use Rattle.search.specs.declared.Limited.{Limited}
-use Rattle.search.specs.Search.{search_spec}
-use Rattle.search.specs.Within.{within_spec, step_of}
-use Rattle.again.specs.Again.{unsearched_of, is_limited, researched, searched_as, again, leaves_table_of, added_to, add_spec_of, taken_out, withdraw_spec}
-
-pub unsearched-made : (l : Load) (j : Journey) → j ≡ no_journey
-    → with_seen l (table_of l) (record { journeys = replicate 64 j; count = 0; horizon = l.table_horizon; limits = l.table_limits; searched = false; stopped = false; limit = 0 }) ≡ unsearched_of l
-unfolding unsearched_of
-unsearched-made l j e =
-    ap (λ (x : Journey). with_seen l (table_of l) (record { journeys = replicate 64 x; count = 0; horizon = l.table_horizon; limits = l.table_limits; searched = false; stopped = false; limit = 0 })) e
+use Rattle.again.specs.Again.{unsearched_of, researched, searched_as, again, leaves_table_of, added_to, add_spec_of, taken_out, withdraw_spec}
 
 -- ---- searched again
-
-pub limited-no : (stopped : Bool) (most : ℕ) → stopped ≡ false → false ≡ (stopped && leb most 1)
-limited-no stopped most e = sym (ap (λ (b : Bool). b && leb most 1) e)
-
-pub limited-by : (stopped : Bool) (most : ℕ) → stopped ≡ true → leb most 1 ≡ (stopped && leb most 1)
-limited-by stopped most e = sym (ap (λ (b : Bool). b && leb most 1) e)
-
-module _ (stopped : Bool) (n : ℕ) (m : Load) (b : Bool) (is : b ≡ is_limited stopped m) where
-  pub as-within : (w : Limited) → w ≡ within_spec m n → b ≡ true → ◌≡◌ {A = Stepped} (record { answer = w.answer; load = w.load }) (researched stopped n m)
-  unfolding researched
-  as-within w q t = ap step_of q ∙ sym (cond-by _ _ (sym is ∙ t))
-
-  pub as-full : (r : Stepped) → r ≡ search_spec m → b ≡ false → r ≡ researched stopped n m
-  unfolding researched
-  as-full r q f = q ∙ sym (cond-not _ _ (sym is ∙ f))
 
 module _ (l : Load) (r : Stepped) where
   pub again-refused : is_refused r.answer ≡ true → ◌≡◌ {A = Stepped} (record { answer = r.answer; load = l }) (again l r)
   unfolding again
   again-refused e = sym (cond-by _ _ e)
 
-  module _ (q : Stepped) (is : q ≡ researched l.stopped l.limit r.load) (e : is_refused r.answer ≡ false) where
+  module _ (q : Stepped) (is : q ≡ researched l.limit r.load) (e : is_refused r.answer ≡ false) where
     went : searched_as l r.answer q ≡ again l r
     unfolding again
     went = ap (searched_as l r.answer) is ∙ sym (cond-not _ _ e)

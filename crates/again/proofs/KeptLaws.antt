@@ -1,6 +1,6 @@
 -- After each step a searched load is the search of its own table, and the table's horizon has not risen; when a withdrawal is answered 24.
 use Rattle.refusal.specs.declared.Accepted.TheVariants.{Taken}
-use Rattle.std.specs.Prelude.{Err, Ok}
+use Rattle.std.specs.Prelude.{Err, Ok, Option}
 use Prim.Native.Nat.{ℕ, ◌≤◌}
 use mathlib.Core.Path.{◌≡◌, refl, sym, ap, subst, ◌∙◌}
 use mathlib.Core.Bool.{Bool, true, false, cond, true≢false}
@@ -53,8 +53,8 @@ within-kept l n w = go (is_taken (within_spec l n).answer) refl
     go true t = record { sound = within-sound l n w.sound; own = within-own l n w.sound t }
     go false t = subst Kept (sym (untaken-within l n t)) w
 
-research-kept : (b : Bool) (n : ℕ) (m : Load) → Kept m → Kept (researched b n m).load
-research-kept b n m w = research-cases b n m (λ r. Kept r.load) (λ x. within-kept m n w) (search-kept m w)
+research-kept : (limit : Option ℕ) (m : Load) → Kept m → Kept (researched limit m).load
+research-kept limit m w = research-cases limit m (λ r. Kept r.load) (λ n x. within-kept m n w) (search-kept m w)
 
 -- an unsearched load has no search to be
 pub new-kept : (l : Load) → Sound l → l.searched ≡ false → Kept l
@@ -63,12 +63,12 @@ new-kept l s n = record { sound = s; own = λ e. absurd (true≢false (sym e ∙
 -- of any step on the unsearched load
 pub again_kept : (l : Load) (r : Stepped) → Kept l → Kept r.load → Kept (again l r).load
 unfolding again
-again_kept l r w n = go (is_refused r.answer) (is_taken (researched l.stopped l.limit r.load).answer)
+again_kept l r w n = go (is_refused r.answer) (is_taken (researched l.limit r.load).answer)
   where
     go : (b c : Bool) → Kept (cond {A = Stepped} b (record { answer = r.answer; load = l })
-        (cond {A = Stepped} c (record { answer = r.answer; load = (researched l.stopped l.limit r.load).load }) (record { answer = (researched l.stopped l.limit r.load).answer; load = l }))).load
+        (cond {A = Stepped} c (record { answer = r.answer; load = (researched l.limit r.load).load }) (record { answer = (researched l.limit r.load).answer; load = l }))).load
     go true c = w
-    go false true = research-kept l.stopped l.limit r.load n
+    go false true = research-kept l.limit r.load n
     go false false = w
 
 either-searched : (m l : Load) (b : Bool) → m.searched ≡ l.searched → (cond b l m).searched ≡ l.searched
@@ -128,12 +128,12 @@ back-horizon l = refl
 -- the load itself, or one with the horizon of what the step made of its unsearched load
 again-horizon : (P : ℕ → Type 0) (l : Load) (r : Stepped) → P l.table_horizon → P r.load.table_horizon → P (again l r).load.table_horizon
 unfolding again
-again-horizon P l r p q = go (is_refused r.answer) (is_taken (researched l.stopped l.limit r.load).answer)
+again-horizon P l r p q = go (is_refused r.answer) (is_taken (researched l.limit r.load).answer)
   where
     go : (b c : Bool) → P (cond {A = Stepped} b (record { answer = r.answer; load = l })
-        (cond {A = Stepped} c (record { answer = r.answer; load = (researched l.stopped l.limit r.load).load }) (record { answer = (researched l.stopped l.limit r.load).answer; load = l }))).load.table_horizon
+        (cond {A = Stepped} c (record { answer = r.answer; load = (researched l.limit r.load).load }) (record { answer = (researched l.limit r.load).answer; load = l }))).load.table_horizon
     go true c = p
-    go false true = subst P (sym (researched-horizon l.stopped l.limit r.load)) q
+    go false true = subst P (sym (researched-horizon l.limit r.load)) q
     go false false = p
 
 add-lower : (l : Load) (name : List ℕ) (i : CallInput) → (add_spec_of l name i).load.table_horizon ≤ l.table_horizon
@@ -168,17 +168,17 @@ first-number _ x y (hit h) e = let n = ap answer_number e in omega (arith, n)
 first-number _ x y (miss h (hit k)) e = let n = ap answer_number e in omega (arith, n)
 first-number _ x y (miss h (miss k none)) e = let n = ap answer_number e in omega (arith, n)
 
-search-number : (b : Bool) (n : ℕ) (m : Load) → m.searched ≡ false → (researched b n m).answer ≡ Err CallUnknown → ⊥
-search-number b n m new e = first-number _ _ _ (research-first b n m new) e
+search-number : (limit : Option ℕ) (m : Load) → m.searched ≡ false → (researched limit m).answer ≡ Err CallUnknown → ⊥
+search-number limit m new e = first-number _ _ _ (research-first limit m new) e
 
 -- nor is the search again of a step that is taken
 again-number : (l m : Load) → m.searched ≡ false → (again l (record { answer = Ok Taken; load = m })).answer ≡ Err CallUnknown → ⊥
 unfolding again
-again-number l m n q = go (is_taken (researched l.stopped l.limit m).answer) q
+again-number l m n q = go (is_taken (researched l.limit m).answer) q
   where
-    go : (c : Bool) → (cond {A = Stepped} c (record { answer = Ok Taken; load = (researched l.stopped l.limit m).load }) (record { answer = (researched l.stopped l.limit m).answer; load = l })).answer ≡ Err CallUnknown → ⊥
+    go : (c : Bool) → (cond {A = Stepped} c (record { answer = Ok Taken; load = (researched l.limit m).load }) (record { answer = (researched l.limit m).answer; load = l })).answer ≡ Err CallUnknown → ⊥
     go true e = let z = ap answer_number e in omega (arith, z)
-    go false e = search-number l.stopped l.limit m n e
+    go false e = search-number l.limit m n e
 
 module _ (l : Load) (k : CallKey) (known : key_known k ≡ true) where
   same-calls : table_calls (table_of (unsearched_of l)) ≡ table_calls (table_of l)

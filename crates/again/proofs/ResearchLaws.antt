@@ -1,9 +1,9 @@
 -- The search again, within a limit or in full: its tests, what it finds, and that it leaves a sound load.
 use Rattle.refusal.specs.declared.Accepted.TheVariants.{Taken}
-use Rattle.std.specs.Prelude.{Err, Ok}
+use Rattle.std.specs.Prelude.{None, Option, Some, Err, Ok}
 use Prim.Native.Nat.{ℕ, ◌≤◌}
 use mathlib.Core.Path.{◌≡◌, refl, sym, ap, subst, ◌∙◌}
-use mathlib.Core.Bool.{Bool, true, false, cond, ◌&&◌, true≢false}
+use mathlib.Core.Bool.{Bool, true, false, cond, true≢false}
 use mathlib.Core.List.{List, [], ◌∷◌}
 use borrow.Author.Tests.{leb-true, le-leb}
 use lib.Dec.{leb}
@@ -25,41 +25,36 @@ use Rattle.search.proofs.RunLaws.{taken-found, untaken-stays}
 use Rattle.search.proofs.AnswerLaws.{search-answered}
 use Rattle.search.proofs.SearchSound.{search-sound}
 use Rattle.search.proofs.WithinLaws.{within_first, ran-answer, within-runs, taken-within, untaken-within, within-clear, within-sound, finished-is-search}
-use Rattle.again.specs.Again.{is_limited, researched}
+use Rattle.again.specs.Again.{researched}
 use Rattle.again.specs.Causes.{falls_again}
 
--- one of at most one change, stopped before
-pub record Limits (b : Bool) (m : Load) : Type 0 where
-  pub stopped : b ≡ true
+-- stopped before at the limit n, and of at most one change
+pub record Limits (limit : Option ℕ) (m : Load) (n : ℕ) : Type 0 where
+  pub stopped : limit ≡ Some n
   pub one : m.settings.max_transfers ≤ 1
 
-limits : (b : Bool) (m : Load) → is_limited b m ≡ true → Limits b m
-limits true m e = record { stopped = refl; one = leb-true m.settings.max_transfers 1 e }
-limits false m e = absurd (true≢false (sym e))
+-- of any property of the search, by which of the two it is
+pub research-cases : (limit : Option ℕ) (m : Load) (P : Stepped → Type 0) → ((n : ℕ) → Limits limit m n → P (step_of (within_spec m n))) → P (search_spec m)
+    → P (researched limit m)
+unfolding researched
+research-cases None m P within full = full
+research-cases (Some n) m P within full = go (leb m.settings.max_transfers 1) refl
+  where
+    go : (c : Bool) → leb m.settings.max_transfers 1 ≡ c → P (cond c (step_of (within_spec m n)) (search_spec m))
+    go true e = within n (record { stopped = refl; one = leb-true m.settings.max_transfers 1 e })
+    go false e = full
 
-limited-by : (b : Bool) (m : Load) → b ≡ true → m.settings.max_transfers ≤ 1 → is_limited b m ≡ true
-limited-by b m e one = ap (λ (c : Bool). c && leb m.settings.max_transfers 1) e ∙ le-leb m.settings.max_transfers 1 one
+pub researched-within : (n : ℕ) (m : Load) → m.settings.max_transfers ≤ 1 → researched (Some n) m ≡ step_of (within_spec m n)
+unfolding researched
+researched-within n m one = cond-by _ _ (le-leb m.settings.max_transfers 1 one)
 
-module _ (b : Bool) (n : ℕ) (m : Load) where
-  -- of any property of the search, by which of the two it is
-  pub research-cases : (P : Stepped → Type 0) → (Limits b m → P (step_of (within_spec m n))) → P (search_spec m) → P (researched b n m)
-  unfolding researched
-  research-cases P within full = go (is_limited b m) refl
-    where
-      go : (c : Bool) → is_limited b m ≡ c → P (cond c (step_of (within_spec m n)) (search_spec m))
-      go true e = within (limits b m e)
-      go false e = full
+researched-else : (n : ℕ) (m : Load) → leb m.settings.max_transfers 1 ≡ false → researched (Some n) m ≡ search_spec m
+unfolding researched
+researched-else n m e = cond-not _ _ e
 
-  pub researched-within : b ≡ true → m.settings.max_transfers ≤ 1 → researched b n m ≡ step_of (within_spec m n)
-  unfolding researched
-  researched-within e one = cond-by _ _ (limited-by b m e one)
-
-  pub researched-else : is_limited b m ≡ false → researched b n m ≡ search_spec m
-  unfolding researched
-  researched-else e = cond-not _ _ e
-
-  pub researched-full : b ≡ false → researched b n m ≡ search_spec m
-  researched-full e = researched-else (ap (λ (c : Bool). c && leb m.settings.max_transfers 1) e)
+pub researched-full : (m : Load) → researched None m ≡ search_spec m
+unfolding researched
+researched-full m = refl
 
 -- ---- 14, 11
 
@@ -67,93 +62,95 @@ past_one : {a c : Answer} {b : Bool} {ts : List (Bool × Answer)} → First a ((
 past_one (hit e) q = absurd (true≢false (sym e ∙ q))
 past_one (miss e f) q = f
 
-pub research-first : (b : Bool) (n : ℕ) (m : Load) → m.searched ≡ false
-    → First (researched b n m).answer ((clashes (sorted (timetable_of m)), Err Neighbours) ∷ (falls_again b n m, Err NoRoom) ∷ [])
+pub research-first : (limit : Option ℕ) (m : Load) → m.searched ≡ false
+    → First (researched limit m).answer ((clashes (sorted (timetable_of m)), Err Neighbours) ∷ (falls_again limit m, Err NoRoom) ∷ [])
 unfolding researched
-research-first b n m new = go (is_limited b m) refl
+research-first None m new = past_one (search-answered m).first new
+research-first (Some n) m new = go (leb m.settings.max_transfers 1) refl
   where
-    go : (c : Bool) → is_limited b m ≡ c
+    go : (c : Bool) → leb m.settings.max_transfers 1 ≡ c
         → First (cond c (step_of (within_spec m n)) (search_spec m)).answer ((clashes (sorted (timetable_of m)), Err Neighbours) ∷ (cond c (would_fall_within m n) (would_fall m), Err NoRoom) ∷ [])
     go true e =
-        let q = within-runs m n new (limits b m e).one in
+        let q = within-runs m n new (leb-true m.settings.max_transfers 1 e) in
         subst (λ (a : Answer). First a ((clashes (sorted (timetable_of m)), Err Neighbours) ∷ (would_fall_within m n, Err NoRoom) ∷ []))
         (sym (ap (λ (w : Stepped). w.answer) (ap step_of q) ∙ ran-answer m n (outcome_within m n))) (within_first m n)
     go false e = past_one (search-answered m).first new
 
 -- ---- what is found
 
--- an accepted search: of a load that was not searched, whose calls don't clash; these journeys, and whether and where it was stopped
-pub record Researched (b : Bool) (n : ℕ) (m : Load) : Type 0 where
+-- an accepted search: of a load that was not searched, whose calls don't clash; these journeys, and the limit at which it was stopped, if it was
+pub record Researched (before : Option ℕ) (m : Load) : Type 0 where
   pub new : m.searched ≡ false
   pub kept : List Journey
   pub to : ℕ
   pub mark : ℕ
-  pub stop : Bool
-  pub at : ℕ
-  pub is : researched b n m ≡ record { answer = Ok Taken; load = with_found m kept to mark stop at }
+  pub limit : Option ℕ
+  pub is : researched before m ≡ record { answer = Ok Taken; load = with_found m kept to mark limit }
   pub clear : clashes (sorted (timetable_of m)) ≡ false
 
 full-clear : (m : Load) (h k : ℕ) (ks : List Journey) → outcome_of m ≡ found ks h k → clashes (sorted (timetable_of m)) ≡ false
 unfolding outcome_of
 full-clear m h k ks e = (search-found (timetable_of m) m.table_horizon m.table_limits h k ks e).0
 
-module _ (b : Bool) (n : ℕ) (m : Load) where
-  found-full : researched b n m ≡ search_spec m → is_taken (search_spec m).answer ≡ true → Researched b n m
+module _ (limit : Option ℕ) (m : Load) where
+  found-full : researched limit m ≡ search_spec m → is_taken (search_spec m).answer ≡ true → Researched limit m
   found-full q t =
       let w = taken-found m t in
-      record { new = w.new; kept = w.kept; to = w.to; mark = w.mark; stop = false; at = 0; is = q ∙ w.is; clear = full-clear m w.to w.mark w.kept w.outcome }
+      record { new = w.new; kept = w.kept; to = w.to; mark = w.mark; limit = None; is = q ∙ w.is; clear = full-clear m w.to w.mark w.kept w.outcome }
 
-  found-stopped : researched b n m ≡ step_of (within_spec m n) → finishes_in m n ≡ false → is_taken (within_spec m n).answer ≡ true → Researched b n m
-  found-stopped q e t =
+  found-stopped : (n : ℕ) → researched limit m ≡ step_of (within_spec m n) → finishes_in m n ≡ false → is_taken (within_spec m n).answer ≡ true → Researched limit m
+  found-stopped n q e t =
       let w = taken-within m n t in
       record {
         new = w.new;
         kept = w.kept;
         to = w.to;
         mark = w.mark;
-        stop = true;
-        at = n;
+        limit = Some n;
         is = q ∙ ap step_of w.is ∙ ap (λ (x : Load). record { answer = Ok Taken; load = x }) (cond-not _ _ e);
         clear = within-clear m n w.kept w.to w.mark w.outcome;
       }
 
   -- searched in full, a limited search that finished among them; or stopped at n
   pub data Ran : Type 0 where
-    full : researched b n m ≡ search_spec m → Ran
-    stopped : Limits b m → researched b n m ≡ step_of (within_spec m n) → finishes_in m n ≡ false → Ran
+    full : researched limit m ≡ search_spec m → Ran
+    stopped : (n : ℕ) → researched limit m ≡ step_of (within_spec m n) → finishes_in m n ≡ false → Ran
 
-  pub ran : Ran
-  ran = go (is_limited b m) refl
+pub ran : (limit : Option ℕ) (m : Load) → Ran limit m
+ran None m = full (researched-full m)
+ran (Some n) m = go (leb m.settings.max_transfers 1) refl
+  where
+    by : m.settings.max_transfers ≤ 1 → (c : Bool) → finishes_in m n ≡ c → Ran (Some n) m
+    by one true e = full (researched-within n m one ∙ finished-is-search m n one e)
+    by one false e = stopped n (researched-within n m one) e
+
+    go : (c : Bool) → leb m.settings.max_transfers 1 ≡ c → Ran (Some n) m
+    go true e = by (leb-true m.settings.max_transfers 1 e) (finishes_in m n) refl
+    go false e = full (researched-else n m e)
+
+module _ (limit : Option ℕ) (m : Load) where
+  pub taken-researched : is_taken (researched limit m).answer ≡ true → Researched limit m
+  taken-researched t = go (ran limit m)
     where
-      by : Limits b m → (c : Bool) → finishes_in m n ≡ c → Ran
-      by w true e = full (researched-within b n m w.stopped w.one ∙ finished-is-search m n w.one e)
-      by w false e = stopped w (researched-within b n m w.stopped w.one) e
-
-      go : (c : Bool) → is_limited b m ≡ c → Ran
-      go true e = by (limits b m e) (finishes_in m n) refl
-      go false e = full (researched-else b n m e)
-
-  pub taken-researched : is_taken (researched b n m).answer ≡ true → Researched b n m
-  taken-researched t = go ran
-    where
-      go : Ran → Researched b n m
-      go (full q) = found-full q (sym (ap (λ (r : Stepped). is_taken r.answer) q) ∙ t)
-      go (stopped w q e) = found-stopped q e (sym (ap (λ (r : Stepped). is_taken r.answer) q) ∙ t)
+      go : Ran limit m → Researched limit m
+      go (full q) = found-full limit m q (sym (ap (λ (r : Stepped). is_taken r.answer) q) ∙ t)
+      go (stopped n q e) = found-stopped limit m n q e (sym (ap (λ (r : Stepped). is_taken r.answer) q) ∙ t)
 
   -- and one that is not leaves the load
-  pub untaken-researched : is_taken (researched b n m).answer ≡ false → (researched b n m).load ≡ m
-  untaken-researched = research-cases b n m (λ r. is_taken r.answer ≡ false → r.load ≡ m) (λ w. untaken-within m n) (untaken-stays m)
+  pub untaken-researched : is_taken (researched limit m).answer ≡ false → (researched limit m).load ≡ m
+  untaken-researched = research-cases limit m (λ r. is_taken r.answer ≡ false → r.load ≡ m) (λ n w. untaken-within m n) (untaken-stays m)
 
-  pub researched-sound : Sound m → Sound (researched b n m).load
-  researched-sound s = research-cases b n m (λ r. Sound r.load) (λ w. within-sound m n s) (search-sound m s)
+  pub researched-sound : Sound m → Sound (researched limit m).load
+  researched-sound s = research-cases limit m (λ r. Sound r.load) (λ n w. within-sound m n s) (search-sound m s)
 
   -- what no search alters, this one leaves
-  pub researched-keeps : {X : Type 0} (f : Load → X) → ((ks : List Journey) (h k : ℕ) (c : Bool) (j : ℕ) → f (with_found m ks h k c j) ≡ f m) → f (researched b n m).load ≡ f m
-  researched-keeps f same = go (is_taken (researched b n m).answer) refl
+  pub researched-keeps : {X : Type 0} (f : Load → X) → ((ks : List Journey) (h k : ℕ) (x : Option ℕ) → f (with_found m ks h k x) ≡ f m)
+      → f (researched limit m).load ≡ f m
+  researched-keeps f same = go (is_taken (researched limit m).answer) refl
     where
-      go : (c : Bool) → is_taken (researched b n m).answer ≡ c → f (researched b n m).load ≡ f m
-      go true t = let w = taken-researched t in ap (λ (r : Stepped). f r.load) w.is ∙ same w.kept w.to w.mark w.stop w.at
+      go : (c : Bool) → is_taken (researched limit m).answer ≡ c → f (researched limit m).load ≡ f m
+      go true t = let w = taken-researched t in ap (λ (r : Stepped). f r.load) w.is ∙ same w.kept w.to w.mark w.limit
       go false t = ap f (untaken-researched t)
 
-  pub researched-horizon : (researched b n m).load.table_horizon ≡ m.table_horizon
-  researched-horizon = researched-keeps (λ x. x.table_horizon) (λ ks h k c j. refl)
+  pub researched-horizon : (researched limit m).load.table_horizon ≡ m.table_horizon
+  researched-horizon = researched-keeps (λ x. x.table_horizon) (λ ks h k x. refl)

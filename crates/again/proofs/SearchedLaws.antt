@@ -1,6 +1,6 @@
 -- Withdrawing straight after taking gives back a searched load too, if the table's horizon didn't fall.
 use Rattle.refusal.specs.declared.Accepted.TheVariants.{Taken}
-use Rattle.std.specs.Prelude.{Ok}
+use Rattle.std.specs.Prelude.{None, Option, Some, is_some, Ok}
 use Prim.Native.Nat.{ℕ, ◌+◌, ◌≤◌, ◌<◌}
 use mathlib.Core.Path.{◌≡◌, refl, sym, ap, subst, ◌∙◌}
 use mathlib.Core.Bool.{Bool, true, false, cond, not, ◌&&◌, true≢false, false≢true}
@@ -23,7 +23,7 @@ use Rattle.offers.proofs.OrderLaws.{sorted_front}
 use Rattle.limited.specs.Limited.{finished_within}
 use Rattle.load.specs.declared.Load.{Load}
 use Rattle.load.specs.declared.Stepped.{Stepped}
-use Rattle.load.specs.Load.{table_of, with_table, with_week}
+use Rattle.load.specs.Load.{stopped, table_of, with_table, with_week}
 use Rattle.load.specs.Steps.{closed_load, call_spec}
 use Rattle.load.specs.Filling.{call}
 use Rattle.load.specs.Sound.{Sound}
@@ -50,8 +50,8 @@ use Rattle.again.proofs.BackLaws.{call-put}
 
 record Adds (l : Load) (r : Stepped) (n : Load) : Type 0 where
   answer : r.answer ≡ Ok Taken
-  accepted : is_taken (researched l.stopped l.limit r.load).answer ≡ true
-  is : n ≡ (researched l.stopped l.limit r.load).load
+  accepted : is_taken (researched l.limit r.load).answer ≡ true
+  is : n ≡ (researched l.limit r.load).load
 
 not-both : (a b : Bool) → a ≡ true → (not a && b) ≡ true → ⊥
 not-both true b e q = false≢true q
@@ -60,14 +60,14 @@ not-both false b e q = false≢true e
 -- the same, by its three tests
 abbrev pub added_by : Load → Stepped → Bool → Bool → Bool → Stepped
 added_by l r b c d = cond b (record { answer = r.answer; load = with_week l r.load.week }) (cond c (record { answer = r.answer; load = l })
-    (cond d (record { answer = r.answer; load = (researched l.stopped l.limit r.load).load })
-    (record { answer = (researched l.stopped l.limit r.load).answer; load = l })))
+    (cond d (record { answer = r.answer; load = (researched l.limit r.load).load })
+    (record { answer = (researched l.limit r.load).answer; load = l })))
 
 added : (l : Load) (r : Stepped) → (added_to l r).answer ≡ Ok Taken → Adds l r (added_to l r).load
 unfolding added_to again
-added l r q = go (leaves_table_of l r) (is_refused r.answer) (is_taken (researched l.stopped l.limit r.load).answer) refl refl refl q
+added l r q = go (leaves_table_of l r) (is_refused r.answer) (is_taken (researched l.limit r.load).answer) refl refl refl q
   where
-    go : (b c d : Bool) → leaves_table_of l r ≡ b → is_refused r.answer ≡ c → is_taken (researched l.stopped l.limit r.load).answer ≡ d → (added_by l r b c d).answer ≡ Ok Taken → Adds l r (added_by l r b c d).load
+    go : (b c d : Bool) → leaves_table_of l r ≡ b → is_refused r.answer ≡ c → is_taken (researched l.limit r.load).answer ≡ d → (added_by l r b c d).answer ≡ Ok Taken → Adds l r (added_by l r b c d).load
     go true c d e f g q = absurd (not-both (is_taken r.answer) (eqb r.load.table_horizon l.table_horizon) (ap is_taken q) e)
     go false true d e f g q = absurd (true≢false (sym f ∙ ap is_refused q))
     go false false true e f g q = record { answer = q; accepted = g; is = refl }
@@ -75,17 +75,17 @@ added l r q = go (leaves_table_of l r) (is_refused r.answer) (is_taken (research
 
 -- ---- the calls of a searched load are in order
 
-pub own-sorted : (l : Load) → researched l.stopped l.limit (unsearched_of l) ≡ record { answer = Ok Taken; load = l } → table_calls (table_of l) ≡ in_order_of (table_calls (table_of l))
+pub own-sorted : (l : Load) → researched l.limit (unsearched_of l) ≡ record { answer = Ok Taken; load = l } → table_calls (table_of l) ≡ in_order_of (table_calls (table_of l))
 unfolding unsearched_of
 own-sorted l e =
-    let w = taken-researched l.stopped l.limit (unsearched_of l) (ap (λ (r : Stepped). is_taken r.answer) e) in
+    let w = taken-researched l.limit (unsearched_of l) (ap (λ (r : Stepped). is_taken r.answer) e) in
     let same : l.calls ≡ sort_first l.call_count l.calls = sym (ap (λ (r : Stepped). r.load.calls) e) ∙ ap (λ (r : Stepped). r.load.calls) w.is in
     ap (take l.call_count) same ∙ sorted_front l.call_count l.calls
 
 -- and none clash
-pub own-clear : (l : Load) → researched l.stopped l.limit (unsearched_of l) ≡ record { answer = Ok Taken; load = l } → clashes (in_order_of (table_calls (table_of l))) ≡ false
+pub own-clear : (l : Load) → researched l.limit (unsearched_of l) ≡ record { answer = Ok Taken; load = l } → clashes (in_order_of (table_calls (table_of l))) ≡ false
 unfolding timetable_of unsearched_of
-own-clear l e = (taken-researched l.stopped l.limit (unsearched_of l) (ap (λ (r : Stepped). is_taken r.answer) e)).clear
+own-clear l e = (taken-researched l.limit (unsearched_of l) (ap (λ (r : Stepped). is_taken r.answer) e)).clear
 
 kept-horizon : (l : Load) → l.table_horizon ≡ (unsearched_of l).table_horizon
 unfolding unsearched_of
@@ -97,7 +97,7 @@ kept-count l h = h
 
 -- u is unsearched, c was put into its table, and the search of that found ks and was stopped as l's was; the key of c is taken out again
 module _ (l : Load) (s : Sound l) (c : Call) (k : CallKey) (room : l.call_count < 512) (known : key_known k ≡ true) (key : has_key k c ≡ true)
-    (own : researched l.stopped l.limit (unsearched_of l) ≡ record { answer = Ok Taken; load = l }) (ks : List Journey) (h m : ℕ) where
+    (own : researched l.limit (unsearched_of l) ≡ record { answer = Ok Taken; load = l }) (ks : List Journey) (h m : ℕ) where
   abbrev u : Load
   u = unsearched_of l
 
@@ -105,7 +105,7 @@ module _ (l : Load) (s : Sound l) (c : Call) (k : CallKey) (room : l.call_count 
   with-c = with_table u (put (table_of u) c)
 
   abbrev n : Load
-  n = with_found with-c ks h m l.stopped l.limit
+  n = with_found with-c ks h m l.limit
 
   abbrev cs : List Call
   cs = table_calls (table_of l)
@@ -134,12 +134,12 @@ module _ (l : Load) (s : Sound l) (c : Call) (k : CallKey) (room : l.call_count 
   unfolding withdraw_spec again
   back sn e = ap (again n) (goes_back sn e) ∙ ap (searched_as n (Ok Taken)) own
 
-  -- a search of it within l's limit is stopped again: there are no fewer joins
-  stops-again : l.stopped ≡ true → clashes (sorted (timetable_of with-c)) ≡ false → finishes_in u l.limit ≡ false → finishes_in with-c l.limit ≡ false
+  -- a search of it within a limit is stopped again: there are no fewer joins
+  stops-again : (j : ℕ) → clashes (sorted (timetable_of with-c)) ≡ false → finishes_in u j ≡ false → finishes_in with-c j ≡ false
   unfolding finishes_in timetable_of unsearched_of
-  stops-again d e f =
-      ap (λ (ys : List Call). finished_within l.limit (with_calls (timetable_of (unsearched_of l)) ys)) calls-with
-      ∙ stopped-with-more l.limit (timetable_of (unsearched_of l)) c (clear-with e) f
+  stops-again j e f =
+      ap (λ (ys : List Call). finished_within j (with_calls (timetable_of (unsearched_of l)) ys)) calls-with
+      ∙ stopped-with-more j (timetable_of (unsearched_of l)) c (clear-with e) f
 
 -- the unsearched load with its services closed, and c put in
 same-with : (l : Load) (c : Call) → with_table (closed_load (unsearched_of l)) (put (table_of (unsearched_of l)) c) ≡ with_table (unsearched_of (closed_load l)) (put (table_of (unsearched_of (closed_load l))) c)
@@ -147,39 +147,39 @@ unfolding unsearched_of
 same-with l c = refl
 
 -- with c put in, the settings are l's
-with-one : (l : Load) (c : Call) → Sound l → l.stopped ≡ true → (with_table (unsearched_of l) (put (table_of (unsearched_of l)) c)).settings.max_transfers ≤ 1
+with-one : (l : Load) (c : Call) → Sound l → stopped l ≡ true → (with_table (unsearched_of l) (put (table_of (unsearched_of l)) c)).settings.max_transfers ≤ 1
 unfolding unsearched_of
 with-one l c s e = s.stopped_change e
 
 -- an accepted search that was stopped as the one before it
-record Same (b : Bool) (n : ℕ) (m : Load) : Type 0 where
+record Same (limit : Option ℕ) (m : Load) : Type 0 where
   kept : List Journey
   to : ℕ
   mark : ℕ
-  is : researched b n m ≡ record { answer = Ok Taken; load = with_found m kept to mark b n }
+  is : researched limit m ≡ record { answer = Ok Taken; load = with_found m kept to mark limit }
   clear : clashes (sorted (timetable_of m)) ≡ false
 
-stopped-same : (b : Bool) (n : ℕ) (m : Load) → (b ≡ false → n ≡ 0) → (b ≡ true → m.settings.max_transfers ≤ 1)
-    → (b ≡ true → clashes (sorted (timetable_of m)) ≡ false → finishes_in m n ≡ false) → is_taken (researched b n m).answer ≡ true → Same b n m
-stopped-same false n m z one stays t =
-    let q = researched-full false n m refl in
+stopped-same : (limit : Option ℕ) (m : Load) → (is_some limit ≡ true → m.settings.max_transfers ≤ 1)
+    → ((n : ℕ) → limit ≡ Some n → clashes (sorted (timetable_of m)) ≡ false → finishes_in m n ≡ false) → is_taken (researched limit m).answer ≡ true → Same limit m
+stopped-same None m one stays t =
+    let q = researched-full m in
     let w = taken-found m (sym (ap (λ (r : Stepped). is_taken r.answer) q) ∙ t) in
     record {
       kept = w.kept;
       to = w.to;
       mark = w.mark;
-      is = q ∙ w.is ∙ (λ i. record { answer = Ok Taken; load = with_found m w.kept w.to w.mark false (sym (z refl) i) });
-      clear = (taken-researched false n m t).clear;
+      is = q ∙ w.is;
+      clear = (taken-researched None m t).clear;
     }
-stopped-same true n m z one stays t =
-    let q = researched-within true n m refl (one refl) in
+stopped-same (Some n) m one stays t =
+    let q = researched-within n m (one refl) in
     let w = taken-within m n (sym (ap (λ (r : Stepped). is_taken r.answer) q) ∙ t) in
-    let clear = (taken-researched true n m t).clear in
+    let clear = (taken-researched (Some n) m t).clear in
     record {
       kept = w.kept;
       to = w.to;
       mark = w.mark;
-      is = q ∙ ap step_of w.is ∙ ap (λ (x : Load). record { answer = Ok Taken; load = x }) (cond-not _ _ (stays refl clear));
+      is = q ∙ ap step_of w.is ∙ ap (λ (x : Load). record { answer = Ok Taken; load = x }) (cond-not _ _ (stays n refl clear));
       clear = clear;
     }
 
@@ -192,18 +192,18 @@ searched-taken-back l name i kept d q h =
     let su = unsearched-sound l kept.sound in
     let as_added : add_spec_of l name i ≡ added_to l (call_spec u name i) = cond-by _ _ d in
     let a = added l (call_spec u name i) (sym (ap (λ (r : Stepped). r.answer) as_added) ∙ q) in
-    let is : (add_spec_of l name i).load ≡ (researched l.stopped l.limit (call_spec u name i).load).load = ap (λ (r : Stepped). r.load) as_added ∙ a.is in
+    let is : (add_spec_of l name i).load ≡ (researched l.limit (call_spec u name i).load).load = ap (λ (r : Stepped). r.load) as_added ∙ a.is in
     let same : (call_spec u name i).load.table_horizon ≡ u.table_horizon =
-    sym (researched-horizon l.stopped l.limit (call_spec u name i).load) ∙ sym (ap (λ (m : Load). m.table_horizon) is) ∙ h ∙ kept-horizon l in
+    sym (researched-horizon l.limit (call_spec u name i).load) ∙ sym (ap (λ (m : Load). m.table_horizon) is) ∙ h ∙ kept-horizon l in
     let w = call-put u name i su a.answer same in
     let k = closed-kept l kept in
     let m : Load = with_table (unsearched_of big) (put (table_of (unsearched_of big)) w.call) in
     let made : (call_spec u name i).load ≡ m = w.is ∙ same-with l w.call in
     let f = own-unfinished big k.sound (k.own d) in
-    let g = stopped-same l.stopped l.limit m kept.sound.no_limit (with-one big w.call k.sound) (λ x clear. stops-again big k.sound w.call (key_of i) (kept-count l w.room) w.known-key w.key (k.own d) [] 0 0 x clear (f x))
-    (ap (λ (x : Load). is_taken (researched l.stopped l.limit x).answer) (sym made) ∙ a.accepted) in
-    let n : Load = with_found m g.kept g.to g.mark l.stopped l.limit in
-    let to-n : (researched l.stopped l.limit (call_spec u name i).load).load ≡ n = ap (λ (x : Load). (researched l.stopped l.limit x).load) made ∙ ap (λ (r : Stepped). r.load) g.is in
-    let sn : Sound n = subst Sound to-n (researched-sound l.stopped l.limit (call_spec u name i).load (fill-keeps-sound u (call name i) su)) in
+    let g = stopped-same l.limit m (with-one big w.call k.sound) (λ j x clear. stops-again big k.sound w.call (key_of i) (kept-count l w.room) w.known-key w.key (k.own d) [] 0 0 j clear (f j x))
+    (ap (λ (x : Load). is_taken (researched l.limit x).answer) (sym made) ∙ a.accepted) in
+    let n : Load = with_found m g.kept g.to g.mark l.limit in
+    let to-n : (researched l.limit (call_spec u name i).load).load ≡ n = ap (λ (x : Load). (researched l.limit x).load) made ∙ ap (λ (r : Stepped). r.load) g.is in
+    let sn : Sound n = subst Sound to-n (researched-sound l.limit (call_spec u name i).load (fill-keeps-sound u (call name i) su)) in
     ap (λ (x : Load). withdraw_spec x (key_of i)) (is ∙ to-n)
     ∙ back big k.sound w.call (key_of i) (kept-count l w.room) w.known-key w.key (k.own d) g.kept g.to g.mark sn g.clear

@@ -35,7 +35,6 @@ unsearched-sound l s = record {
   none_kept = λ e. refl;
   same_horizon = λ e. refl;
   same_limits = λ e. refl;
-  no_limit = λ e. refl;
   stopped_search = λ e. absurd (false≢true e);
   stopped_change = λ e. absurd (false≢true e);
   week = s.week;
@@ -93,7 +92,6 @@ module _ (l : Load) (k : CallKey) where
         none_kept = s.none_kept;
         same_horizon = λ e. refl;
         same_limits = λ e. refl;
-        no_limit = s.no_limit;
         stopped_search = s.stopped_search;
         stopped_change = s.stopped_change;
         week = s.week;

@@ -1,12 +1,12 @@
 -- The week stands beside what a search, a withdrawal and a plain call read; an answered call closes the services and does no more to it.
 use Rattle.refusal.specs.declared.Accepted.TheVariants.{Taken}
-use Rattle.std.specs.Prelude.{Err, Ok}
+use Rattle.std.specs.Prelude.{Err, Ok, None, Option, Some}
 use Prim.Native.Nat.{ℕ}
 use mathlib.Core.Path.{◌≡◌, refl, sym, ap, ◌∙◌}
 use mathlib.Core.Logic.{inl, inr}
 use mathlib.Core.Bool.{Bool, true, false, cond, false≢true}
 use mathlib.Core.List.{List}
-use lib.Dec.{ltb}
+use lib.Dec.{leb, ltb}
 use Rattle.laws.proofs.Bools.{cond-not}
 use Rattle.refusal.specs.declared.Refusal.TheVariants.{SettingsRange, AlreadySearched}
 use Rattle.refusal.specs.First.{is_refused, is_taken}
@@ -27,7 +27,7 @@ use Rattle.load.proofs.StepLaws.{Called, without, goes_on, stays_out, sent_back,
 use Rattle.search.specs.Timetable.{timetable_of}
 use Rattle.search.specs.Search.{outcome_of, with_found, with_journeys, settled, search_spec}
 use Rattle.search.specs.Within.{outcome_within, finishes_in, sent_back_of, ran_within, within_spec, step_of}
-use Rattle.again.specs.Again.{unsearched_of, is_limited, researched}
+use Rattle.again.specs.Again.{unsearched_of, researched}
 use Rattle.again.specs.Claims.{Own, Kept, ClosedSame}
 
 abbrev with_week_of : Week → Stepped → Stepped
@@ -47,7 +47,7 @@ search-week m w = go m.searched (outcome_of m)
     go false (found ks h k) = refl
 
 found-week : (m : Load) (n : ℕ) (w : Week) (ks : List Journey) (h k : ℕ) (f : Bool)
-    → cond f (with_journeys (with_week m w) ks h k) (with_found (with_week m w) ks h k true n) ≡ with_week (cond f (with_journeys m ks h k) (with_found m ks h k true n)) w
+    → cond f (with_journeys (with_week m w) ks h k) (with_found (with_week m w) ks h k (Some n)) ≡ with_week (cond f (with_journeys m ks h k) (with_found m ks h k (Some n))) w
 found-week m n w ks h k true = refl
 found-week m n w ks h k false = refl
 
@@ -64,9 +64,11 @@ within-week m n w = go m.searched (ltb 1 m.settings.max_transfers) (outcome_with
     go false false falling = refl
     go false false (found ks h k) = ap (λ (x : Load). record { answer = Ok Taken; load = x }) (found-week m n w ks h k (finishes_in m n))
 
-pub research-week : (b : Bool) (n : ℕ) (m : Load) (w : Week) → researched b n (with_week m w) ≡ record { answer = (researched b n m).answer; load = with_week (researched b n m).load w }
+pub research-week : (limit : Option ℕ) (m : Load) (w : Week)
+    → researched limit (with_week m w) ≡ record { answer = (researched limit m).answer; load = with_week (researched limit m).load w }
 unfolding researched
-research-week b n m w = go (is_limited b m)
+research-week None m w = search-week m w
+research-week (Some n) m w = go (leb m.settings.max_transfers 1)
   where
     go : (c : Bool) → cond c (step_of (within_spec (with_week m w) n)) (search_spec (with_week m w)) ≡ with_week_of w (cond c (step_of (within_spec m n)) (search_spec m))
     go true = within-week m n w
@@ -74,7 +76,7 @@ research-week b n m w = go (is_limited b m)
 
 pub own-week : (l : Load) (w : Week) → Own l → Own (with_week l w)
 unfolding unsearched_of
-own-week l w o d = research-week l.stopped l.limit (unsearched_of l) w ∙ ap (with_week_of w) (o d)
+own-week l w o d = research-week l.limit (unsearched_of l) w ∙ ap (with_week_of w) (o d)
 
 pub week-kept : (l : Load) (w : Week) → WeekSound w → Kept l → Kept (with_week l w)
 week-kept l w v k = record { sound = with-week-sound l w k.sound v; own = own-week l w k.own }

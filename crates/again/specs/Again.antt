@@ -1,7 +1,7 @@
 -- A call added to a load, or withdrawn from it. On a searched load it goes back to the unsearched load, with the table's horizon and
 -- mark, is done there, and the load is searched again: "A call added to or withdrawn from a stopped load has it searched within the same
 -- limit, and any other searched load in full". A refusal, also of that search, leaves the searched load.
-use Rattle.std.specs.Prelude.{ℕ, Bool, false, cond, not, ◌&&◌, List, [], ◌∷◌, leb, eqb, replicate, Err}
+use Rattle.std.specs.Prelude.{ℕ, Bool, false, cond, not, ◌&&◌, List, [], ◌∷◌, leb, eqb, replicate, None, Option, Some, Err}
 use Rattle.laws.specs.Lists.{anyb}
 use Rattle.refusal.specs.declared.Refusal.TheVariants.{FieldRange, CallUnknown}
 use Rattle.refusal.specs.First.{first_answer, is_refused, is_taken, Answer}
@@ -26,19 +26,16 @@ unsearched_of l =
       horizon = l.table_horizon;
       limits = l.table_limits;
       searched = false;
-      stopped = false;
-      limit = 0;
+      limit = None;
     })
 
 -- ---- searched again
 
--- a search that was stopped is done within its limit; a load that steps stop has at most one change (`Sound`)
-abbrev pub is_limited : Bool → Load → Bool
-is_limited stopped m = stopped && leb m.settings.max_transfers 1
-
--- m searched: within the limit n where the search before it was stopped there, in full otherwise
-unfoldable pub researched : Bool → ℕ → Load → Stepped
-researched stopped n m = cond (is_limited stopped m) (step_of (within_spec m n)) (search_spec m)
+-- m searched: within the limit at which the search before it was stopped, if it was, and in full otherwise. A load that steps stop has at most
+-- one change (`Sound`)
+unfoldable pub researched : Option ℕ → Load → Stepped
+researched (Some n) m = cond (leb m.settings.max_transfers 1) (step_of (within_spec m n)) (search_spec m)
+researched None m = search_spec m
 
 -- the step's answer a with the load that the search q leaves; or why that search is sent back, and the searched load l
 abbrev pub searched_as : Load → Answer → Stepped → Stepped
@@ -46,7 +43,7 @@ searched_as l a q = cond (is_taken q.answer) (record { answer = a; load = q.load
 
 -- r is what a step made of l's unsearched load
 unfoldable pub again : Load → Stepped → Stepped
-again l r = cond (is_refused r.answer) (record { answer = r.answer; load = l }) (searched_as l r.answer (researched l.stopped l.limit r.load))
+again l r = cond (is_refused r.answer) (record { answer = r.answer; load = l }) (searched_as l r.answer (researched l.limit r.load))
 
 -- ---- call: 9, 21, not running, absent time, 10, outside, 11; on a searched load then 14, 11 of its search
 

@@ -1,7 +1,7 @@
 -- The tests of a call and of a withdrawal, each with its answer, in order. 14 and 11 of the search again are asked of the load that is
 -- searched again.
 use Rattle.refusal.specs.declared.Accepted.TheVariants.{Taken, Outside}
-use Rattle.std.specs.Prelude.{ℕ, ◌≡◌, ◌↔◌, Bool, true, false, cond, not, ◌&&◌, List, [], ◌∷◌, ◌++◌, ltb, Option, Err, Ok}
+use Rattle.std.specs.Prelude.{ℕ, ◌≡◌, ◌↔◌, Bool, true, false, cond, not, ◌&&◌, List, [], ◌∷◌, ◌++◌, leb, ltb, None, Option, Some, Err, Ok}
 use Rattle.laws.specs.Lists.{anyb}
 use Rattle.refusal.specs.declared.Refusal.TheVariants.{FieldRange, Neighbours, NoRoom, CallUnknown}
 use Rattle.refusal.specs.First.{First, AllFail, is_refused, Answer}
@@ -24,15 +24,16 @@ use Rattle.week.specs.Weeks.{running}
 use Rattle.search.specs.Timetable.{timetable_of}
 use Rattle.search.specs.Search.{would_fall}
 use Rattle.search.specs.Within.{would_fall_within}
-use Rattle.again.specs.Again.{unsearched_of, is_limited, add_spec_of, withdraw_tests, taken_out, withdraw_spec}
+use Rattle.again.specs.Again.{unsearched_of, add_spec_of, withdraw_tests, taken_out, withdraw_spec}
 
 -- the horizon would fall below 3600 in the search again, by the offers before the stop or by all of them
-abbrev pub falls_again : Bool → ℕ → Load → Bool
-falls_again stopped n m = cond (is_limited stopped m) (would_fall_within m n) (would_fall m)
+abbrev pub falls_again : Option ℕ → Load → Bool
+falls_again (Some n) m = cond (leb m.settings.max_transfers 1) (would_fall_within m n) (would_fall m)
+falls_again None m = would_fall m
 
 -- of the search again of m, what a step made of l's unsearched load: 14, 11
 abbrev pub search_tests : Load → Load → List (Bool × Answer)
-search_tests l m = (clashes (sorted (timetable_of m)), Err Neighbours) ∷ (falls_again l.stopped l.limit m, Err NoRoom) ∷ []
+search_tests l m = (clashes (sorted (timetable_of m)), Err Neighbours) ∷ (falls_again l.limit m, Err NoRoom) ∷ []
 
 -- a full table whose horizon would fall below 3600
 abbrev pub no_room_of : Table → Bool

@@ -1,6 +1,6 @@
 -- What is claimed of calls added to and withdrawn from a load.
 use Rattle.refusal.specs.declared.Accepted.TheVariants.{Taken}
-use Rattle.std.specs.Prelude.{ℕ, ◌≤◌, ◌≡◌, ◌⊎◌, true, false, List, [], ◌∷◌, ◌++◌, Ok}
+use Rattle.std.specs.Prelude.{ℕ, ◌≤◌, ◌≡◌, ◌⊎◌, true, false, List, [], ◌∷◌, ◌++◌, None, Some, Ok}
 use Rattle.calls.specs.declared.Call.{Call}
 use Rattle.calls.specs.declared.CallInput.{CallInput}
 use Rattle.offers.specs.Order.{in_order_of, clashes}
@@ -19,7 +19,7 @@ use Rattle.again.specs.Again.{unsearched_of, researched, add_spec_of, taken_out,
 -- a searched load is the search of its own table: the list is the one that a fresh search of the load gives, in full or, where it was stopped,
 -- within its limit
 abbrev pub Own : Load → Type 0
-Own l = l.searched ≡ true → researched l.stopped l.limit (unsearched_of l) ≡ record { answer = Ok Taken; load = l }
+Own l = l.searched ≡ true → researched l.limit (unsearched_of l) ≡ record { answer = Ok Taken; load = l }
 
 -- a load that steps make: sound, and where it is searched the search of its own table
 pub record Kept (l : Load) : Type 0 where
@@ -41,15 +41,14 @@ WithdrawKept = (l : Load) (k : CallKey) → Kept l → Kept (withdraw_spec l k).
 
 -- so a finished searched load is the full search of its own table; and of one that was stopped the search within its limit is not finished
 abbrev pub OwnFinished : Type 0
-OwnFinished = (l : Load) → Kept l → l.searched ≡ true → l.stopped ≡ false → search_spec (unsearched_of l) ≡ record { answer = Ok Taken; load = l }
+OwnFinished = (l : Load) → Kept l → l.searched ≡ true → l.limit ≡ None → search_spec (unsearched_of l) ≡ record { answer = Ok Taken; load = l }
 
-pub record Stops (l : Load) : Type 0 where
-  pub is : within_spec (unsearched_of l) l.limit
-      ≡ record { answer = Ok Taken; load = l; joins = joins_within l.limit (timetable_of l); finished = false }
-  pub unfinished : finishes_in l l.limit ≡ false
+pub record Stops (n : ℕ) (l : Load) : Type 0 where
+  pub is : within_spec (unsearched_of l) n ≡ record { answer = Ok Taken; load = l; joins = joins_within n (timetable_of l); finished = false }
+  pub unfinished : finishes_in l n ≡ false
 
 abbrev pub OwnStopped : Type 0
-OwnStopped = (l : Load) → Kept l → l.stopped ≡ true → Stops l
+OwnStopped = (l : Load) → Kept l → (n : ℕ) → l.limit ≡ Some n → Stops n l
 
 -- a call more has no fewer joins: a search that was stopped is stopped with it too
 abbrev pub MoreJoins : Type 0

@@ -2,7 +2,7 @@
 // is searched again.
 #![tactic(auto)]
 
-ghost use Rattle.std.specs.Prelude.{◌≡◌, ◌&&◌, leb};
+ghost use Rattle.std.specs.Prelude.{◌≡◌};
 ghost use Rattle.again.specs.Again.{unsearched_of, researched, again, added_to, add_spec_of, taken_out, withdraw_spec};
 
 use calls::CallInput;
@@ -14,44 +14,37 @@ use search::{search, search_within};
 use withdrawal::{CallKey, is_known, last_of, without};
 
 // The load before its search: the calls as they stand, no journey, the table's horizon and mark.
+#[tactic(auto, unfolding(crate::specs::Again::unsearched_of))]
 pub fn unsearched(load: Load) -> Load
     ensures { result ≡ unsearched_of load }
 {
-    let journey = no_journey();
-    let journeys = [journey; 64];
-    let mut back = load;
-    back.journeys = journeys;
-    back.journey_count = 0;
-    back.horizon = load.table_horizon;
-    back.limits = load.table_limits;
-    back.searched = false;
-    back.stopped = false;
-    back.limit = 0;
-    back
+    Load {
+        journeys: [no_journey(); 64],
+        journey_count: 0,
+        horizon: load.table_horizon,
+        limits: load.table_limits,
+        searched: false,
+        limit: None,
+        ..load
+    }
 }
 
-// Whether a load is searched within a limit: its search was stopped, and it has at most one change, as a stopped load has.
-fn is_limited(stopped: bool, most: u8) -> bool
-    ensures { result ≡ (stopped && leb most 1) }
+// The load searched: within the limit where the search before it was stopped at one, in full otherwise. A load of more than one change,
+// which no step stops, is searched in full.
+#[tactic(auto, unfolding(crate::specs::Again::researched))]
+fn search_as(limit: Option<u64>, load: Load) -> Stepped
+    ensures { result ≡ researched limit load }
 {
-    if stopped {
-        return most <= 1;
+    match limit {
+        Some(n) if load.settings.max_transfers <= 1 => {
+            let within = search_within(load, n);
+            Stepped {
+                answer: within.answer,
+                load: within.load,
+            }
+        }
+        _ => search(load),
     }
-    false
-}
-
-// The load searched: within the limit where the search before it was stopped there, in full otherwise.
-fn search_as(stopped: bool, limit: u64, load: Load) -> Stepped
-    ensures { result ≡ researched stopped limit load }
-{
-    let settings = load.settings;
-    if is_limited(stopped, settings.max_transfers) {
-        let found = search_within(load, limit);
-        let answer = found.answer;
-        let left = found.load;
-        return Stepped { answer, load: left };
-    }
-    search(load)
 }
 
 // What a step made of the unsearched load, searched as that load was; a refusal, also of the search, leaves the searched load.
@@ -62,14 +55,12 @@ fn searched_again(load: Load, made: Stepped) -> Stepped
     if is_refused(answer) {
         return Stepped { answer, load };
     }
-    let next = made.load;
-    let found = search_as(load.stopped, load.limit, next);
+    let found = search_as(load.limit, made.load);
     let second = found.answer;
     if is_taken(second) {
-        let after = found.load;
         return Stepped {
             answer,
-            load: after,
+            load: found.load,
         };
     }
     Stepped {
@@ -86,11 +77,9 @@ fn added(load: Load, made: Stepped) -> Stepped
     if is_taken(answer) {
         return searched_again(load, made);
     }
-    let after = made.load;
-    if after.table_horizon == load.table_horizon {
-        let week = after.week;
+    if made.load.table_horizon == load.table_horizon {
         let mut next = load;
-        next.week = week;
+        next.week = made.load.week;
         return Stepped { answer, load: next };
     }
     searched_again(load, made)
@@ -102,8 +91,7 @@ pub fn add(load: Load, service: &[u8], input: CallInput) -> Stepped
 {
     if load.searched {
         let before = unsearched(load);
-        let made = before.call_of(service, input);
-        return added(load, made);
+        return added(load, before.call_of(service, input));
     }
     load.call_of(service, input)
 }
@@ -143,9 +131,7 @@ pub fn withdraw(load: Load, key: CallKey) -> Stepped
     ensures { result ≡ withdraw_spec load key }
 {
     if load.searched {
-        let before = unsearched(load);
-        let made = taken_out(before, key);
-        return searched_again(load, made);
+        return searched_again(load, taken_out(unsearched(load), key));
     }
     taken_out(load, key)
 }

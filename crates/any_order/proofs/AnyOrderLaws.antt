@@ -8,6 +8,7 @@ use native.Mathlib.Omega.{arith}
 use lib.Dec.{ltb}
 use borrow.Author.Tests.{le-ltb}
 use lib.ListN.{length, take, drop}
+use Rattle.steps.proofs.PermLaws.{perm-length}
 use Rattle.refusal.specs.First.{is_refused}
 use Rattle.calls.specs.declared.Call.{Call}
 use Rattle.load.specs.declared.Load.{Load}
@@ -18,7 +19,7 @@ use Rattle.load.proofs.SoundLaws.{open-sound, fill-keeps-sound}
 use Rattle.any_order.specs.Calls.{Named, called, answers, answer_first, cramped}
 use Rattle.any_order.specs.Alike.{with_stored, OnlyOrder}
 use Rattle.any_order.specs.AnyOrder.{InAnyOrder, ProvisoAlike, AnyOrder, RoomForAll}
-use Rattle.any_order.proofs.PermLaws.{perm-length, perm-map, perm-concat, perm-any}
+use Rattle.any_order.proofs.PermLaws.{perm-map, perm-concat, perm-any}
 use Rattle.any_order.proofs.FateLaws.{Fate, sent, out, goes, fate, said}
 use Rattle.any_order.proofs.RunLaws.{into, entering, answered, cramped-over, answered-alone, made_of, Grown, grown}
 use Rattle.any_order.proofs.SearchLaws.{search-order-unread, limited-order-unread}

@@ -118,7 +118,7 @@ module _ (s : Settings) (b : Bool) (n : ℕ) (t : Table) (i : CallInput) (k : Ca
   Turned f = (f.answer ≡ Err NoRoom) ⊎ (f.table.horizon < t.horizon)
 
   turns : seen t.horizon arr dep i ≡ Some k → 512 ≤ t.count → (f : Fitted) → Ends (Down t) arr dep i f → Turned (ended t f)
-  turns e h _ (stands u (inl q) o) = let z : ◌≡◌ {A = ℕ} 0 1 = cc in absurd (omega arith)
+  turns e h _ (stands u (inl q) o) = absurd (cc)
   turns e h _ (stands u (inr q) o) = inr q
   turns e h _ (enters u c (inl q) o m) = absurd (omega (arith, ap (λ (x : Table). x.count) q))
   turns e h _ (enters u c (inr q) o m) = inr q
@@ -151,7 +151,7 @@ module _ (l : Load) (i : CallInput) (s : Sound l) where
   as_seen : l.searched ≡ false → (cs : List Call) (n : ℕ)
       → (let t : Table = record { calls = cs; count = n; horizon = l.table_horizon; limits = l.table_limits } in with_table l t ≡ with_seen l t (seen_of l))
   as_seen u cs n = λ k. with_seen l (record { calls = cs; count = n; horizon = l.table_horizon; limits = l.table_limits })
-      (record { journeys = l.journeys; count = l.journey_count; horizon = sym (s.same_horizon u) k; limits = sym (s.same_limits u) k; searched = l.searched; stopped = l.stopped; limit = l.limit })
+      (record { journeys = l.journeys; count = l.journey_count; horizon = sym (s.same_horizon u) k; limits = sym (s.same_limits u) k; searched = l.searched; limit = l.limit })
 
   is-outside : l.searched ≡ false → uncut_on l.settings l.searched l.stop_count l.call_count l.table_horizon i ≡ Beyond
       → plain_call l i ≡ record { answer = Ok Outside; load = l }

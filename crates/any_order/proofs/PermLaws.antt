@@ -3,8 +3,6 @@ use mathlib.Core.Path.{◌≡◌, refl, ap, subst, ◌∙◌}
 use mathlib.Core.Bool.{Bool, true, false, ◌||◌}
 use mathlib.Core.List.Permᴰ
 use mathlib.Core.List.{List, [], ◌∷◌, ◌++◌, map, Permᴰ}
-use Prim.Native.Nat.{suc}
-use lib.ListN.{length}
 use Rattle.laws.specs.Lists.{anyb, concat_map}
 
 across : {B : Type 0} (xs ys l : List B) → Permᴰ (xs ++ (ys ++ l)) (ys ++ (xs ++ l))
@@ -26,12 +24,6 @@ module _ {A B : Type 0} where
       subst (λ (x : A). Permᴰ (g a ++ (g b ++ concat_map g l)) (g x ++ (g b' ++ concat_map g l))) e
       (subst (λ (x : A). Permᴰ (g a ++ (g b ++ concat_map g l)) (g b ++ (g x ++ concat_map g l))) d (across (g a) (g b) (concat_map g l)))
   perm-concat g (Permᴰ.trans p q) = Permᴰ.trans (perm-concat g p) (perm-concat g q)
-
-pub perm-length : {A : Type 0} {xs ys : List A} → Permᴰ xs ys → length xs ≡ length ys
-perm-length Permᴰ.nil = refl
-perm-length (Permᴰ.cons e p) = ap suc (perm-length p)
-perm-length (Permᴰ.swap d e) = refl
-perm-length (Permᴰ.trans p q) = perm-length p ∙ perm-length q
 
 or-across : (a b c : Bool) → (a || (b || c)) ≡ (b || (a || c))
 or-across true true c = refl

@@ -14,7 +14,7 @@ use Rattle.settings.specs.Settings.{near, walks_of, canonical_of}
 use Rattle.stops.specs.Answer.{station_of, id_wrong, is_known, type_wrong, name_needed, name_wrong, stop_tests}
 use Rattle.stops.specs.Sound.{stop_at}
 use Rattle.stops.specs.Taken.{stop_of}
-use Rattle.stops.specs.Texts.{held_text}
+use Rattle.texts.specs.Texts.{held}
 use Rattle.calls.specs.declared.Call.{Call}
 use Rattle.calls.specs.declared.CallInput.{CallInput}
 use Rattle.calls.specs.declared.Table.{Table}
@@ -98,7 +98,7 @@ record Computed : Type 0 where
   late-cut : due_by 16200 (call_at 20000) ≡ false
 
 computed : Computed
-unfolding first_answer near walks_of canonical_of station_of id_wrong is_known type_wrong name_needed name_wrong stop_tests stop_at stop_of held_text known call_tests call_fit fitted call_on time_after seen_call seen empty_of undated_week stop_spec plain_call call_spec fate call_at
+unfolding first_answer near walks_of canonical_of station_of id_wrong is_known type_wrong name_needed name_wrong stop_tests stop_at stop_of held known call_tests call_fit fitted call_on time_after seen_call seen empty_of undated_week stop_spec plain_call call_spec fate call_at
 computed = record {
   none_yet = refl;
   early-goes = refl;
@@ -127,18 +127,18 @@ module _ (cs : List Named) (ks : List Call) (e : entering one_stop cs ≡ ks) (m
       let few : one_stop.call_count + length cs ≤ 512 = omega arith in
       room-for-all (undated blank_settings) stop_alone cs few
 
-  held : Grown one_stop ks (answered one_stop cs) (called one_stop cs)
-  held = subst (λ (xs : List Call). Grown one_stop xs (answered one_stop cs) (called one_stop cs)) e (grown cs one_stop (made-sound (undated blank_settings) stop_alone) fits_all)
+  grew : Grown one_stop ks (answered one_stop cs) (called one_stop cs)
+  grew = subst (λ (xs : List Call). Grown one_stop xs (answered one_stop cs) (called one_stop cs)) e (grown cs one_stop (made-sound (undated blank_settings) stop_alone) fits_all)
 
   count : one_stop.call_count + length ks ≡ 512
   count = let z = computed.none_yet in omega arith
 
   shows : take 512 (called one_stop cs).calls ≡ ks
-  shows = ap (λ (x : ℕ). take x (called one_stop cs).calls) (sym count) ∙ held.calls ∙ ap (λ (x : ℕ). take x one_stop.calls ++ ks) computed.none_yet
+  shows = ap (λ (x : ℕ). take x (called one_stop cs).calls) (sym count) ∙ grew.calls ∙ ap (λ (x : ℕ). take x one_stop.calls ++ ks) computed.none_yet
 
   asked : (c : Named) → (calling (called one_stop cs) c).answer ≡ (call_on blank_settings false 1 (full_table (called one_stop cs).calls) c.1).answer
   asked c =
-      ap (λ (m : Load). (calling m c).answer) (held.is ∙ ap (λ (x : ℕ). made_of one_stop (called one_stop cs).calls x (answered one_stop cs)) count)
+      ap (λ (m : Load). (calling m c).answer) (grew.is ∙ ap (λ (x : ℕ). made_of one_stop (called one_stop cs).calls x (answered one_stop cs)) count)
       ∙ computed.asks (called one_stop cs).calls (answered one_stop cs) c
 
 abbrev lates : List Named

@@ -1,5 +1,5 @@
 -- A search takes no notice of the stored order: the calls of an accepted search have one order alone.
-use Rattle.std.specs.Prelude.{Err}
+use Rattle.std.specs.Prelude.{Err, None, Option, Some}
 use Prim.Native.Nat.{ℕ}
 use mathlib.Core.Path.{◌≡◌, refl, sym, ap, subst, ◌∙◌}
 use mathlib.Core.Bool.{Bool, true, false, cond, true≢false}
@@ -55,16 +55,16 @@ module _ (a : Load) (cs : List Call) where
     ran l o = record { answer = answer_of o; load = settled l o }
 
     -- the loads with what both found, their calls in one order
-    found-load : (ks : List Journey) (h m : ℕ) (b : Bool) (j : ℕ) → in_order_of (take n a.calls) ≡ in_order_of (take n cs) → with_found a ks h m b j ≡ with_found other ks h m b j
-    found-load ks h m b j e = λ k. with_seen a
+    found-load : (ks : List Journey) (h m : ℕ) (limit : Option ℕ) → in_order_of (take n a.calls) ≡ in_order_of (take n cs) → with_found a ks h m limit ≡ with_found other ks h m limit
+    found-load ks h m limit e = λ k. with_seen a
         (record { calls = e k ++ u k; count = n; horizon = a.table_horizon; limits = a.table_limits })
-        (record { journeys = (with_found a ks h m b j).journeys; count = (with_found a ks h m b j).journey_count; horizon = h; limits = m; searched = true; stopped = b; limit = j })
+        (record { journeys = (with_found a ks h m limit).journeys; count = (with_found a ks h m limit).journey_count; horizon = h; limits = m; searched = true; limit = limit })
 
     -- of loads not searched before
     same_load : (o : Outcome) → outcome_of a ≡ o → is_refused (answer_of o) ≡ false → settled a o ≡ settled other o
     same_load clashing e q = absurd (true≢false q)
     same_load falling e q = absurd (true≢false q)
-    same_load (found ks h m) e q = found-load ks h m false 0 (same-sorted ks h m e)
+    same_load (found ks h m) e q = found-load ks h m None (same-sorted ks h m e)
 
     alike : Alike search_spec a other
     alike = record {
@@ -102,9 +102,9 @@ module _ (a : Load) (cs : List Call) where
       one-order clear = accepted-any-order (take n a.calls) (take n cs) p clear
 
       either-load : (ks : List Journey) (h m : ℕ) (f : Bool) → in_order_of (take n a.calls) ≡ in_order_of (take n cs)
-          → cond f (with_journeys a ks h m) (with_found a ks h m true j) ≡ cond f (with_journeys other ks h m) (with_found other ks h m true j)
-      either-load ks h m true e = found-load ks h m false 0 e
-      either-load ks h m false e = found-load ks h m true j e
+          → cond f (with_journeys a ks h m) (with_found a ks h m (Some j)) ≡ cond f (with_journeys other ks h m) (with_found other ks h m (Some j))
+      either-load ks h m true e = found-load ks h m None e
+      either-load ks h m false e = found-load ks h m (Some j) e
 
       -- by its tests, of loads with one outcome
       abbrev by : Load → Bool → Bool → Outcome → Limited
@@ -135,7 +135,7 @@ module _ (a : Load) (cs : List Call) where
       by-load false false falling e q = absurd (true≢false q)
       by-load false false (found ks h m) e q =
           let clear = within-clear a j ks h m e in
-          either-load ks h m (finishes_in a j) (one-order clear) ∙ ap (λ (f : Bool). cond f (with_journeys other ks h m) (with_found other ks h m true j)) (same-finishes clear)
+          either-load ks h m (finishes_in a j) (one-order clear) ∙ ap (λ (f : Bool). cond f (with_journeys other ks h m) (with_found other ks h m (Some j))) (same-finishes clear)
 
       limited-alike : Alike (λ l. step_of (within_spec l j)) a other
       limited-alike =

@@ -1,8 +1,6 @@
 -- What the proviso is for: 513 calls, of which one is answered otherwise in another order.
 use Rattle.refusal.specs.declared.Accepted.TheVariants.{Taken, Outside}
-use Rattle.std.specs.Prelude.{ℕ, ◌≡◌, false, List, [], ◌∷◌, replicate, Some, Ok}
-use Rattle.std.specs.Float.{binary64}
-use Rattle.std.specs.Float.Ieee.{of_bits}
+use Rattle.std.specs.Prelude.{ℕ, ◌≡◌, List, [], ◌∷◌, replicate, None, Some, Ok}
 use Rattle.load.specs.declared.Load.{Load}
 use Rattle.load.specs.Load.{blank_settings}
 use Rattle.load.specs.Steps.{undated, opened}
@@ -11,14 +9,7 @@ use Rattle.any_order.specs.Calls.{Named, calling, called, answers}
 
 -- one stop
 abbrev pub stop_alone : List Filling
-stop_alone = stop (65 ∷ []) [] [] (record {
-  named = false;
-  has_parent = false;
-  location_type = 0;
-  located = false;
-  degrees = record { latitude = of_bits binary64 0; longitude = of_bits binary64 0 };
-  members = 0;
-}) ∷ []
+stop_alone = stop (65 ∷ []) None None (record { location_type = 0; degrees = None; members = 0 }) ∷ []
 
 -- a load with it, whose start and epochs are 0
 abbrev pub one_stop : Load

@@ -2,12 +2,13 @@
 // follows is not read. `best_over` reads a list in any order.
 #![tactic(auto)]
 
-ghost use Rattle.std.specs.Prelude.{◌≡◌, leb, take};
+ghost use Rattle.std.specs.Prelude.{◌≡◌, leb};
 ghost use Rattle.std.specs.List.{find};
 ghost use Rattle.best.specs.Best.{best_of_of, first_leaving, after_of, best_spec, next_spec};
 ghost use Rattle.best.specs.Turn.{better_of, turn_of};
 
 use load::Load;
+use prefix::first;
 use profile::Journey;
 
 // The preferred of what was found and j, without one that leaves before the second.
@@ -36,7 +37,8 @@ fn turn(found: Option<Journey>, j: Journey, horizon: u16, second: i64) -> Option
     better(found, j, second as u64)
 }
 
-// Best over the journeys, in any order and of any number; of full ties the first.
+// Best over the journeys, in any order and of any number; of full ties the first. No struct of the three parameters: each caller takes
+// list and horizon from elsewhere, and would make one for this call alone.
 pub fn best_over(journeys: &[Journey], horizon: u16, second: i64) -> Option<Journey>
     ensures { result ≡ best_of_of journeys.now horizon second }
 {
@@ -52,7 +54,7 @@ fn first_from(journeys: &[Journey], t: u64) -> Option<Journey>
     journeys.iter().find(|j| t <= j.leave as u64).copied()
 }
 
-// The same at any second: none before 0 and after the horizon.
+// The same at any second: none before 0 and after the horizon. Three parameters, as `best_over` has them.
 pub fn first_leaving(journeys: &[Journey], horizon: u16, second: i64) -> Option<Journey>
     ensures { result ≡ first_leaving journeys.now horizon second }
 {
@@ -62,20 +64,13 @@ pub fn first_leaving(journeys: &[Journey], horizon: u16, second: i64) -> Option<
     first_from(journeys, second as u64)
 }
 
-// The first `count` of the journeys; all of them, if `count` is more.
-pub fn front(journeys: &[Journey], count: usize) -> &[Journey]
-    ensures { result.now ≡ take count journeys.now }
-{
-    &journeys[..count.min(journeys.len())]
-}
-
 // The best journey that leaves at or after the second; none of an unsearched load.
 #[tactic(auto, unfolding(crate::specs::Best::best_spec))]
 pub fn best(load: Load, second: i64) -> Option<Journey>
     ensures { result ≡ best_spec load second }
 {
     if load.searched {
-        let kept = front(&load.journeys, load.journey_count);
+        let kept = first(&load.journeys, load.journey_count);
         first_leaving(kept, load.horizon, second)
     } else {
         None

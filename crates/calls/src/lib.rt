@@ -9,6 +9,7 @@ ghost use Rattle.calls.specs.Tables.{blank_call};
 
 use refusal::Answer;
 
+// What is handed in. `pickup` and `drop_off` are bytes, as any may be handed in: 9 tells of those above 3.
 #[derive(Clone, Copy, Debug, PartialEq, Eq)]
 pub struct CallInput {
     pub trip: u16,
@@ -21,7 +22,7 @@ pub struct CallInput {
     pub drop_off: u8,
 }
 
-#[derive(Clone, Copy, Debug, PartialEq, Eq)]
+#[derive(Clone, Copy, Debug, Default, PartialEq, Eq)]
 pub struct Call {
     pub trip: u16,
     pub day: u8,
@@ -35,7 +36,8 @@ pub struct Call {
     pub alight_request: bool,
 }
 
-// What becomes of a call for which nothing is cut: it goes in, or lies outside. `Other`: it is sent back, or the table is full.
+// What becomes of a call for which nothing is cut: it goes in, or lies outside. `Other`: it is sent back, or the table is full. No
+// `Option`: a file's run of calls goes on past one that lies outside, and ends at another.
 #[derive(Clone, Copy, Debug, PartialEq, Eq)]
 pub enum Uncut {
     In(Call),
@@ -52,32 +54,23 @@ pub struct Table {
     pub limits: u8,
 }
 
+// The calls of a smaller horizon, again with their count.
 #[derive(Clone, Copy, Debug, PartialEq, Eq)]
 pub struct Packed {
     pub calls: [Call; 512],
     pub held: usize,
 }
 
+// What a call is answered, and the table after it: the table by value, beside its answer, as the load goes through every step.
 #[derive(Clone, Copy, Debug, PartialEq, Eq)]
 pub struct Fitted {
     pub answer: Answer,
     pub table: Table,
 }
 
-// What an unused slot holds. No `Default`: its contract can't name the record.
+// What an unused slot holds.
 pub fn blank_call() -> Call
     ensures { result ≡ blank_call }
 {
-    Call {
-        trip: 0,
-        day: 0,
-        sequence: 0,
-        stop: 0,
-        arrival: 0,
-        departure: 0,
-        board: false,
-        alight: false,
-        board_request: false,
-        alight_request: false,
-    }
+    Call::default()
 }

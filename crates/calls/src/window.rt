@@ -47,6 +47,7 @@ fn held_to(t: Option<u64>, h: u16) -> u16
     }
 }
 
+// Of a kind, the byte that is handed in: 1 bars, 2 and 3 are on request.
 fn may(inside: bool, kind: u8) -> bool
     ensures { result ≡ allowed inside kind }
 {
@@ -79,6 +80,8 @@ fn call_of(h: u16, a: Option<u64>, d: Option<u64>, input: CallInput) -> Call
     }
 }
 
+// What the window shows of a call, none outside it. The times a and d, from the load's start, come beside the call, which holds those
+// that were handed in.
 #[tactic(auto, unfolding(crate::specs::Windows::seen))]
 pub fn view_of(h: u16, a: Option<u64>, d: Option<u64>, input: CallInput) -> Option<Call>
     ensures { result ≡ seen h a d input }

@@ -108,7 +108,7 @@ module _ (l m l' : List ℕ) (n h : ℕ) (mark : get_or l refused_place 0 ≡ 0)
 -- ---- one added
 
 module _ (l m : List ℕ) (n : ℕ) (o : Row) (long : length l ≡ size) (mark : get_or l refused_place 0 ≡ 0) (em : m ≡ put_row l n o) where
-  pub added-long : length m ≡ size
+  added-long : length m ≡ size
   added-long = ap length em ∙ put-long l n o ∙ long
 
   added-tail : n < slots → Tail l m
@@ -225,9 +225,6 @@ module _ (l l' : List ℕ) (c v : ℕ) (long : length l ≡ size) (ec : c ≡ co
   pub marked-count : c ≡ count_of l'
   unfolding count_of
   marked-count = ec ∙ sym (ap (λ (x : ℕ). min x 64) (marked-past count_place (omega arith)))
-
-  pub marked-long : length l' ≡ size
-  marked-long = ap length el ∙ length-set l (c * width) v ∙ long
 
   pub marked-open : Open l → Open l'
   unfolding Open

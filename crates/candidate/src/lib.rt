@@ -19,7 +19,7 @@ use state::{count, horizon, row_at, too_late};
 
 // Stores a row in slot i.
 fn put_row(st: &mut State, i: usize, r: Row)
-    requires { (length st.old ≡ size) × (i < slots) }
+    requires { i < slots }
     ensures { st.new ≡ stored st.old i r }
 {
     let at = i * WIDTH;
@@ -39,7 +39,7 @@ fn put_row(st: &mut State, i: usize, r: Row)
 
 // Moves those of the rows from `from` up to c that stay behind the first `kept`, in order; how many there are then.
 fn pack<F: Fn(Row) -> bool>(st: &mut State, from: usize, kept: usize, c: usize, stays: F) -> usize
-    requires { F.IsAlwaysCallable stays × (length st.old ≡ size) × (kept ≤ from) × (from ≤ c) × (c ≤ slots) }
+    requires { F.IsAlwaysCallable stays × (kept ≤ from) × (from ≤ c) × (c ≤ slots) }
     ensures { (p : Row → Bool) → ((k : Row) (b : Bool) → F.post stays k b → b ≡ p k)
         → Packed p st.old st.old from kept → Packed p st.old st.new c result }
 {
@@ -56,7 +56,7 @@ fn pack<F: Fn(Row) -> bool>(st: &mut State, from: usize, kept: usize, c: usize, 
 
 // Puts the row k, which stands at i, at n; there is nothing to do if that is the same place.
 fn store(st: &mut State, i: usize, n: usize, k: Row)
-    requires { (length st.old ≡ size) × (n < slots) × (k ≡ row_at st.old i) }
+    requires { (n < slots) × (k ≡ row_at st.old i) }
     ensures { st.new ≡ put_row st.old n k }
 {
     if n != i {
@@ -77,7 +77,7 @@ fn latest(st: &State) -> u16
 
 // The horizon falls to h, and of the 65 rows those due later go.
 fn fall(st: &mut State, h: u16)
-    requires { (length st.old ≡ size) × Open st.old × (3600 ≤ h) × (latest_due (rows st.old) ≡ h + 1) }
+    requires { Open st.old × (3600 ≤ h) × (latest_due (rows st.old) ≡ h + 1) }
     ensures { view st.new ≡ settled st.old (rows st.old) }
 {
     let n = pack(st, 0, 0, SLOTS, |k| k.arrival <= h);
@@ -88,7 +88,7 @@ fn fall(st: &mut State, h: u16)
 
 // The 65 rows are to be kept, which is one too many.
 fn overflow(st: &mut State)
-    requires { (length st.old ≡ size) × Open st.old }
+    requires { Open st.old }
     ensures { view st.new ≡ settled st.old (rows st.old) }
 {
     let late = latest(st);
@@ -101,7 +101,7 @@ fn overflow(st: &mut State)
 
 // The first n rows are to be kept, and o after them.
 fn added(st: &mut State, n: usize, o: Row)
-    requires { (length st.old ≡ size) × Open st.old × (n ≤ 64) }
+    requires { Open st.old × (n ≤ 64) }
     ensures { view st.new ≡ settled st.old (take n (rows st.old) ++ o ∷ []) }
 {
     put_row(st, n, o);
@@ -114,7 +114,7 @@ fn added(st: &mut State, n: usize, o: Row)
 
 // The walk over the c kept rows: o is passed over, or what it covers from where the walk stops goes and it is added. How many are read.
 fn walked(st: &mut State, c: usize, o: Row) -> usize
-    requires { (length st.old ≡ size) × Open st.old × (due o ≤ horizon_of st.old) × (c ≡ count_of st.old) × Ends st.old c o }
+    requires { Open st.old × (due o ≤ horizon_of st.old) × (c ≡ count_of st.old) × Ends st.old c o }
     ensures { (view st.new ≡ offer_to (view st.old) o) × (result ≡ reads_to (view st.old) o) }
 {
     match first_near(st, c, o) {
@@ -130,7 +130,7 @@ fn walked(st: &mut State, c: usize, o: Row) -> usize
 
 // Marks the end of the c kept rows for a walk: the slot behind them leaves when o does.
 fn mark(st: &mut State, c: usize, leave: u16)
-    requires { (length st.old ≡ size) × (c ≤ 64) }
+    requires { c ≤ 64 }
     ensures { st.new ≡ set st.old (c * width) leave }
 {
     st[c * WIDTH] = leave;
@@ -138,7 +138,7 @@ fn mark(st: &mut State, c: usize, leave: u16)
 
 // The offer of a row that is due in time; how many kept rows are read.
 fn consider(st: &mut State, o: Row) -> usize
-    requires { (length st.old ≡ size) × Open st.old × (due o ≤ horizon_of st.old) }
+    requires { Open st.old × (due o ≤ horizon_of st.old) }
     ensures { (view st.new ≡ offer_to (view st.old) o) × (result ≡ reads_to (view st.old) o) }
 {
     let c = count(st);
@@ -146,6 +146,7 @@ fn consider(st: &mut State, o: Row) -> usize
     walked(st, c, o)
 }
 
+// The arrival of an offer that is due in time. The bound makes the cast exact, and stands here once.
 fn narrow(horizon: u16, arrival: u32) -> u16
     requires { arrival ≤ horizon }
     ensures { result ≡ arrival }
@@ -153,7 +154,8 @@ fn narrow(horizon: u16, arrival: u32) -> u16
     arrival as u16
 }
 
-// A journey as it is offered: the numbers of a row, with an arrival that may be past 65535, and so due after every horizon.
+// A journey as it is offered: the numbers of a row, with an arrival that may be past 65535, and so due after every horizon. No `Row`, whose
+// arrival is below 65536; one type for both would need a parameter at each use.
 #[derive(Clone, Copy, Debug, PartialEq, Eq)]
 pub struct Offer {
     pub leave: u16,
@@ -197,8 +199,8 @@ pub fn candidate(st: &mut State, offer: Offer) -> usize
     )
 }
 
-// Whether the offer of a journey with these figures would be passed over; then so would that of each one that it equals or beats. Only the end of
-// the kept rows is marked.
+// Whether the offer of a journey with these figures would be passed over; then so would that of each one that it equals or beats. Only the
+// end of the kept rows is marked, between the two tests.
 #[inline]
 pub fn passes_over(st: &mut State, offer: Figures) -> bool
     ensures { (view st.new ≡ view st.old) × (result ≡ passed_over (view st.old) (with_figures offer)) }

@@ -7,10 +7,11 @@ ghost use Rattle.candidate.specs.Pieces.{rank_by, turn_of, Ends, walk_end};
 use profile::Row;
 use state::layout::{State, WIDTH};
 
-// Whether the row whose numbers start at `at` is no worse than o by arrival, rides and walk.
+// Whether the row whose numbers start at `at` is no worse than o by arrival, rides and walk. Number by number, from state and place:
+// compared as tuples, or read as a row first, a walk takes a tenth to a quarter longer.
 #[tactic(auto, unfolding(crate::specs::Pieces::rank_by, laws::specs::Lex::lexb))]
 fn row_ranks(st: &State, at: usize, o: Row) -> bool
-    requires { (length st.now ≡ size) × (at < count_place) }
+    requires { at < count_place }
     ensures { result ≡ rank_by (get_or st.now (at + 1) 0) (get_or st.now (at + 2) 0) (get_or st.now (at + 3) 0)
         o.arrival o.rides o.walk }
 {
@@ -23,7 +24,7 @@ fn row_ranks(st: &State, at: usize, o: Row) -> bool
 // Whether o is no worse than that row.
 #[tactic(auto, unfolding(crate::specs::Pieces::rank_by, laws::specs::Lex::lexb))]
 fn offer_ranks(st: &State, at: usize, o: Row) -> bool
-    requires { (length st.now ≡ size) × (at < count_place) }
+    requires { at < count_place }
     ensures { result ≡ rank_by o.arrival o.rides o.walk
         (get_or st.now (at + 1) 0) (get_or st.now (at + 2) 0) (get_or st.now (at + 3) 0) }
 {
@@ -43,7 +44,7 @@ enum Turn {
 
 // What the walk of o does at row i of the c kept ones, whose numbers start at `at`. A figure is read only where it decides.
 fn turn_at(st: &State, at: usize, i: usize, c: usize, o: Row) -> Turn
-    requires { (length st.now ≡ size) × (c ≤ 64) × (i ≤ c) × (at ≡ i * width) × Ends st.now c o }
+    requires { (c ≤ 64) × (i ≤ c) × (at ≡ i * width) × Ends st.now c o }
     ensures { result ≡ turn_of i c o (row_at st.now i) }
 {
     if st[at] < o.leave {
@@ -64,11 +65,11 @@ fn turn_at(st: &State, at: usize, i: usize, c: usize, o: Row) -> Turn
     Turn::On
 }
 
-// The walk of o over the c kept rows: as a search, `Ok` has the place of the row that covers o; where none does, `Err` has where the numbers
-// of the first that o covers start, or of the slot behind them all. The loop carries both, and as u16: so the compiler finds a walk that needs
-// no register that must be saved first.
+// The walk of o over the c kept rows: as a search, `Ok` has the place of the row that covers o; where none does, `Err` has where the
+// numbers of the first that o covers start, or of the slot behind them all. The loop carries both, and as u16: so the compiler finds a
+// walk that needs no register that must be saved first.
 pub fn first_near(st: &State, c: usize, o: Row) -> Result<u16, u16>
-    requires { (length st.now ≡ size) × (c ≤ 64) × Ends st.now c o }
+    requires { (c ≤ 64) × Ends st.now c o }
     ensures { result ≡ walk_end o (take c (rows st.now)) }
 {
     let mut i = 0;

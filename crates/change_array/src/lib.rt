@@ -1,62 +1,42 @@
 // The changes from the stops that calls name to each of 128, one row of 128 numbers after the other.
 #![tactic(auto)]
 
-ghost use Rattle.laws.specs.Bounds.{least};
 ghost use Rattle.std.specs.Prelude.{◌≡◌, true, false, ℕ, ◌+◌, ◌*◌, ◌<◌, get_or, set};
-ghost use Rattle.transfer.specs.Copied.{rules_of};
-ghost use Rattle.transfer.specs.Rows.{entry_of};
+ghost use Rattle.transfer.specs.Lent.{entry_in};
 ghost use Rattle.laws.specs.Regions.{Region};
 ghost use Rattle.change_array.specs.Named.{Marks, Marked, HoldsChanges};
 
 use change_row::change_row;
 use feed::at_most_512;
 use feed::layout::{CALL_WIDTH, CHANGES_SIZE, Changes, Feed, STOPS};
+use transfer::Transfers;
 
-// A row is copied into its place.
+// A row is copied into its place. The bound on a stop's number is asked for: a type that holds it would be taken apart at each use.
 fn put_row(changes: &mut Changes, from: usize, row: &[u32; 128])
     requires { from < 128 }
     ensures { Region (λ k. get_or row.now k 0) (from * 128) 128 changes.old changes.new }
 {
     let at = from * STOPS;
-    for k in 0..STOPS {
-        changes[at + k] = row[k];
-    }
+    changes[at..at + STOPS].copy_from_slice(row);
 }
 
-// The changes from one stop are put in.
-fn put_changes(
-    changes: &mut Changes,
-    rules: &[u16; 640],
-    count: usize,
-    parents: &[u16; 128],
-    places: &[u16; 128],
-    from: u16,
-    change: u16,
-)
+// The changes from one stop are put in; the bound as in `put_row`.
+fn put_changes(changes: &mut Changes, transfers: &Transfers, from: u16)
     requires { from < 128 }
-    ensures { Region (entry_of (rules_of rules.now (least count 128)) parents.now places.now from change) (from * 128) 128 changes.old changes.new }
+    ensures { Region (entry_in transfers.now from) (from * 128) 128 changes.old changes.new }
 {
-    let mut row = [0u32; 128];
-    change_row(&mut row, rules, count, parents, places, from, change);
-    put_row(changes, from as usize, &row);
+    let mut row = [0u32; STOPS];
+    change_row(&mut row, transfers, from);
+    put_row(changes, usize::from(from), &row);
 }
 
-// The same for a stop that is marked; for any other nothing is done.
-fn put_marked(
-    changes: &mut Changes,
-    mark: bool,
-    rules: &[u16; 640],
-    count: usize,
-    parents: &[u16; 128],
-    places: &[u16; 128],
-    from: u16,
-    change: u16,
-)
+// The same for a stop that is marked, the bound as there; for any other nothing is done.
+fn put_marked(changes: &mut Changes, mark: bool, transfers: &Transfers, from: u16)
     requires { from < 128 }
-    ensures { Marked mark (entry_of (rules_of rules.now (least count 128)) parents.now places.now from change) (from * 128) 128 changes.old changes.new }
+    ensures { Marked mark (entry_in transfers.now from) (from * 128) 128 changes.old changes.new }
 {
     if mark {
-        put_changes(changes, rules, count, parents, places, from, change);
+        put_changes(changes, transfers, from);
     }
 }
 
@@ -64,7 +44,7 @@ fn put_marked(
 fn mark_stop(marks: &mut [bool; 128], stop: u16)
     ensures { marks.new ≡ set marks.old stop true }
 {
-    let k = stop as usize;
+    let k = usize::from(stop);
     if k < STOPS {
         marks[k] = true;
     }
@@ -82,49 +62,25 @@ fn named_stops(feed: &Feed, calls: usize) -> [bool; 128]
 }
 
 // The rows of the marked stops.
-fn marked_rows(
-    marks: &[bool; 128],
-    rules: &[u16; 640],
-    count: usize,
-    parents: &[u16; 128],
-    places: &[u16; 128],
-    change: u16,
-) -> Changes
-    ensures { (from to : ℕ) → from < 128 → get_or marks.now from false ≡ true → to < 128 → get_or result (from * 128 + to) 0 ≡ entry_of (rules_of rules.now (least count 128)) parents.now places.now from change to }
+fn marked_rows(marks: &[bool; 128], transfers: &Transfers) -> Changes
+    ensures { (from to : ℕ) → from < 128 → get_or marks.now from false ≡ true → to < 128
+        → get_or result (from * 128 + to) 0 ≡ entry_in transfers.now from to }
 {
     let mut changes = [0; CHANGES_SIZE];
     for from in 0..128 {
-        put_marked(
-            &mut changes,
-            marks[from as usize],
-            rules,
-            count,
-            parents,
-            places,
-            from,
-            change,
-        );
+        put_marked(&mut changes, marks[from as usize], transfers, from);
     }
     changes
 }
 
-// The seconds of a change at from * 128 + to, 65536 where there is none, from each stop that one of the first `calls` calls of the feed names;
-// with depth 0 there are no changes to read. `change` is the settings' change time.
-pub fn changes_of(
-    feed: &Feed,
-    calls: usize,
-    depth: u16,
-    rules: &[u16; 640],
-    count: usize,
-    parents: &[u16; 128],
-    places: &[u16; 128],
-    change: u16,
-) -> Changes
-    ensures { HoldsChanges result feed.now calls depth (λ from to. entry_of (rules_of rules.now (least count 128)) parents.now places.now from change to) }
+// The seconds of a change at from * 128 + to, 65536 where there is none, from each stop that one of the first `calls` calls of the feed
+// names; with depth 0 there are no changes to read.
+pub fn changes_of(feed: &Feed, calls: usize, depth: u16, transfers: &Transfers) -> Changes
+    ensures { HoldsChanges result feed.now calls depth (entry_in transfers.now) }
 {
     if 1 <= depth {
         let marks = named_stops(feed, calls);
-        return marked_rows(&marks, rules, count, parents, places, change);
+        return marked_rows(&marks, transfers);
     }
     [0; CHANGES_SIZE]
 }

@@ -1,20 +1,17 @@
--- Stops from plain numbers, with the longest texts: the id ends in the two bytes of a number, the name is one byte 64 times; a position, no parent.
-use Rattle.std.specs.Prelude.{true, List, ℕ, ◌/◌, ◌%◌, get_or, set, replicate, Float}
+-- Stops from plain numbers, with the longest texts: the id ends in the two bytes of a number, the name is one byte 64 times; a position, no
+-- parent.
+use Rattle.std.specs.Prelude.{List, ℕ, ◌/◌, ◌%◌, get_or, set, replicate, Float, None, Some}
 use Rattle.std.specs.Float.{nan}
 use Rattle.laws.specs.Tables.{table}
 use Rattle.stops.specs.declared.Stop.{Stop}
 
 unfoldable pub stop_with : ℕ → ℕ → Float → Float → Stop
 stop_with id name latitude longitude = record {
-  id = set (set (replicate 32 0) 30 (id / 256)) 31 (id % 256);
-  id_len = 32;
-  name = replicate 64 name;
-  name_len = 64;
-  named = true;
-  parent = 65535;
+  id = record { bytes = set (set (replicate 32 0) 30 (id / 256)) 31 (id % 256); len = 32 };
+  name = Some (record { bytes = replicate 64 name; len = 64 });
+  parent = None;
   location_type = 0;
-  located = true;
-  degrees = record { latitude = latitude; longitude = longitude };
+  degrees = Some (record { latitude = latitude; longitude = longitude });
   members = 0;
 }
 

@@ -1,17 +1,44 @@
 // Changes over plain numbers and lent arrays, for programs in C and Rust to call.
 #![tactic(auto)]
 
-ghost use Rattle.std.specs.Prelude.{◌≡◌, take};
-ghost use Rattle.laws.specs.Bounds.{least};
-ghost use Rattle.transfer.specs.Copied.{rules_of};
+ghost use Rattle.std.specs.Prelude.{◌≡◌, ◌<◌, take};
 ghost use Rattle.transfer.specs.Rows.{change_row};
 ghost use Rattle.places.specs.Places.{places_of};
+ghost use Rattle.changes_c.specs.Flat.{rule_at, rules_of};
 ghost use Rattle.changes_c.specs.Plain.{stop_with, stops_with};
 
 use place::Degrees;
+use places::group::group_places;
+use prefix::first;
+use rules::Rule;
+use std::array;
 use stops::Stop;
+use texts::Text;
+use transfer::Transfers;
 
-// The changes from a stop to each of 128 (`change_row`).
+// The rule at a place: from, to, type, seconds, and 1 if seconds were given, which no row depends on, as none count as 0. C lends 16 bits
+// for a type, of which the low 8 are read; a cast that may lose bits is refused. The bound is that of the places that `from_fn` counts.
+fn rule_at(flat: &[u16; 640], i: usize) -> Rule
+    requires { i < 128 }
+    ensures { result ≡ rule_at flat.now i }
+{
+    let at = i * 5;
+    Rule {
+        from: flat[at],
+        to: flat[at + 1],
+        transfer_type: (flat[at + 2] % 256) as u8,
+        seconds: Some(flat[at + 3]),
+    }
+}
+
+// The rules that C lends, five numbers for each.
+fn rules_of(flat: &[u16; 640]) -> [Rule; 128]
+    ensures { result ≡ rules_of flat.now }
+{
+    array::from_fn(|i| rule_at(flat, i))
+}
+
+// The changes from a stop to each of 128 (`change_row`). C lends plain arrays, and a count beside the rules.
 #[unsafe(no_mangle)]
 pub extern "C" fn changes_row(
     row: &mut [u32; 128],
@@ -22,38 +49,44 @@ pub extern "C" fn changes_row(
     from: u16,
     change: u16,
 )
-    ensures { row.new ≡ change_row (rules_of rules.now (least count 128)) parents.now places.now from change }
+    ensures { row.new ≡ change_row (take count (rules_of rules.now)) parents.now places.now from change }
 {
-    change_row::change_row(row, rules, count, parents, places, from, change);
+    let rules = rules_of(rules);
+    let transfers = Transfers {
+        rules: first(&rules, count),
+        parents,
+        places,
+        change,
+    };
+    change_row::change_row(row, &transfers, from);
 }
 
 // A stop of plain numbers.
 fn stop_with(id: u16, name: u8, latitude: f64, longitude: f64) -> Stop
     ensures { result ≡ stop_with id name latitude longitude }
 {
-    let mut bytes = [0u8; 32];
-    bytes[30] = (id / 256) as u8;
-    bytes[31] = (id % 256) as u8;
-    let text = [name; 64];
+    let [high, low] = id.to_be_bytes();
+    let mut bytes = [0; 32];
+    bytes[30] = high;
+    bytes[31] = low;
     let degrees = Degrees {
         latitude,
         longitude,
     };
     Stop {
-        id: bytes,
-        id_len: 32,
-        name: text,
-        name_len: 64,
-        named: true,
-        parent: 65535,
+        id: Text { bytes, len: 32 },
+        name: Some(Text {
+            bytes: [name; 64],
+            len: 64,
+        }),
+        parent: None,
         location_type: 0,
-        located: true,
-        degrees,
+        degrees: Some(degrees),
         members: 0,
     }
 }
 
-// 128 of them.
+// 128 of them, of the arrays that C lends.
 fn stops_with(
     ids: &[u16; 128],
     names: &[u8; 128],
@@ -62,14 +95,10 @@ fn stops_with(
 ) -> [Stop; 128]
     ensures { result ≡ stops_with ids.now names.now latitudes.now longitudes.now }
 {
-    let mut stops = [stop_with(0, 0, 0.0, 0.0); 128];
-    for (i, stop) in stops.iter_mut().enumerate() {
-        *stop = stop_with(ids[i], names[i], latitudes[i], longitudes[i]);
-    }
-    stops
+    array::from_fn(|k| stop_with(ids[k], names[k], latitudes[k], longitudes[k]))
 }
 
-// The place of each of the first `count` of 128 stops (`group_places`).
+// The place of each of the first `count` of 128 stops (`group_places`), of plain arrays and a count as C lends them.
 #[unsafe(no_mangle)]
 pub extern "C" fn changes_places(
     places: &mut [u16; 128],
@@ -82,6 +111,5 @@ pub extern "C" fn changes_places(
     ensures { places.new ≡ places_of (take count (stops_with ids.now names.now latitudes.now longitudes.now)) }
 {
     let stops = stops_with(ids, names, latitudes, longitudes);
-    let grouped = places::group::group_places(stops, count);
-    *places = grouped;
+    *places = group_places(first(&stops, count));
 }

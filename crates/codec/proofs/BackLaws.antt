@@ -1,6 +1,6 @@
 -- Each kind of record comes back as it was written.
-use Rattle.std.specs.Prelude.{None, Option, Some}
-use mathlib.Core.Path.{◌≡◌, refl, sym, ap, ◌∙◌}
+use Rattle.std.specs.Prelude.{None, Option, Some, option_map}
+use mathlib.Core.Path.{◌≡◌, refl, ap, ◌∙◌}
 use mathlib.Core.Bool.{Bool, true, false, cond}
 use mathlib.Core.List.{List, [], ◌∷◌}
 use Prim.Native.Nat.{ℕ, ◌-◌, ◌<◌}
@@ -19,13 +19,12 @@ use Rattle.place.specs.declared.Degrees.{Degrees}
 use Rattle.settings.specs.declared.Settings.{Settings}
 use Rattle.settings.specs.Settings.{kept_walk, walks_of, canonical_of}
 use Rattle.stops.specs.declared.StopInput.{StopInput}
-use Rattle.stops.specs.Texts.{shown}
 use Rattle.calls.specs.declared.CallInput.{CallInput}
-use Rattle.rules.specs.declared.RuleInput.{RuleInput}
+use Rattle.rules.specs.declared.Rule.{Rule}
 use Rattle.fields.specs.Numbers.{signed_of}
 use Rattle.fields.specs.Second.{second_settings_in, second_settings_filled_of}
 use Rattle.codec.specs.Shapes.{two, four, eight, number, bytes, text, option, both, Value, Fits}
-use Rattle.codec.specs.Kinds.{unsigned_of, call_shape, call_value, call_from, call_body, rule_shape, rule_value, rule_from, rule_body, given, is_given, text_from, degrees_value, degrees_from, stop_shape, stop_value, stop_from, stop_body, DegreesHeld, settings_shape, settings_value, settings_from, settings_body, search_body, SettingsHeld, StopBack, Back}
+use Rattle.codec.specs.Kinds.{unsigned_of, call_shape, call_value, call_from, call_body, rule_shape, rule_value, rule_from, rule_body, degrees_value, degrees_from, stop_shape, stop_value, stop_from, stop_body, DegreesHeld, settings_shape, settings_value, settings_from, settings_body, search_body, SettingsHeld, StopBack, Back}
 use Rattle.codec.proofs.ShapeLaws.{record-trip}
 use Rattle.codec.proofs.KindLaws.{by_shape}
 
@@ -39,37 +38,20 @@ signed_back (negsuc n) h =
     let e : 18446744073709551615 - (18446744073709551615 - n) ≡ n = omega (arith, k) in
     cond-not _ _ (le-ltb (18446744073709551615 - n) 9223372036854775808 (omega (arith, k))) ∙ ap negsuc e
 
-degrees-back : (located : Bool) (d : Degrees) → DegreesHeld located d → degrees_from (given located (degrees_value d)) ≡ d
-degrees-back true d h = λ t. record { latitude = of_bits-to_bits binary64 d.latitude h.fit.latitude t; longitude = of_bits-to_bits binary64 d.longitude h.fit.longitude t }
-degrees-back false d h = sym (h.absent refl)
-
--- ---- optional fields
-
-given_back : {A : Type 0} (x : Bool) (v : A) → is_given (given x v) ≡ x
-given_back true v = refl
-given_back false v = refl
-
-text-back : (x : Bool) (s : List ℕ) → text_from (given x s) ≡ shown x s
-text-back true s = refl
-text-back false s = refl
+degrees-back : (given : Option Degrees) → DegreesHeld given → option_map degrees_from (option_map degrees_value given) ≡ given
+degrees-back (Some d) h = λ t. Some (record { latitude = of_bits-to_bits binary64 d.latitude h.latitude t; longitude = of_bits-to_bits binary64 d.longitude h.longitude t })
+degrees-back None h = refl
 
 -- ---- the kinds
 
 call_back : (i : CallInput) → call_from (call_value i) ≡ i
 call_back i = refl
 
-rule-back : (i : RuleInput) → rule_from (rule_value i) ≡ i
+rule-back : (i : Rule) → rule_from (rule_value i) ≡ i
 rule-back i = refl
 
-stop-back : (id name parent : List ℕ) (i : StopInput) → DegreesHeld i.located i.degrees → stop_from (stop_value id name parent i) ≡ i
-stop-back id name parent i h = λ t. record {
-  named = given_back i.named name t;
-  has_parent = given_back i.has_parent parent t;
-  location_type = i.location_type;
-  located = given_back i.located (degrees_value i.degrees) t;
-  degrees = degrees-back i.located i.degrees h t;
-  members = i.members;
-}
+stop-back : (id : List ℕ) (name parent : Option (List ℕ)) (i : StopInput) → DegreesHeld i.degrees → stop_from (stop_value id name parent i) ≡ i
+stop-back id name parent i h = λ t. record { location_type = i.location_type; degrees = degrees-back i.degrees h t; members = i.members }
 
 -- ---- settings
 
@@ -113,33 +95,33 @@ call_fits i = (tt, (tt, (tt, (tt, (go i.arrival, (go i.departure, (tt, tt)))))))
     go (Some n) = tt
     go None = tt
 
-rule_fits : (i : RuleInput) → Fits rule_shape (rule_value i)
+rule_fits : (i : Rule) → Fits rule_shape (rule_value i)
 rule_fits i = (tt, (tt, (tt, go i.seconds)))
   where
     go : (m : Option ℕ) → Fits (option (number two)) m
     go (Some n) = tt
     go None = tt
 
-stop-fits : (id name parent : List ℕ) (i : StopInput) → Fits stop_shape (stop_value id name parent i)
-stop-fits id name parent i = (tt, (go i.named name, (go i.has_parent parent, (tt, (at i.located, tt)))))
+stop-fits : (id : List ℕ) (name parent : Option (List ℕ)) (i : StopInput) → Fits stop_shape (stop_value id name parent i)
+stop-fits id name parent i = (tt, (go name, (go parent, (tt, (at i.degrees, tt)))))
   where
-    go : (x : Bool) (s : List ℕ) → Fits (option text) (given x s)
-    go true s = tt
-    go false s = tt
+    go : (s : Option (List ℕ)) → Fits (option text) s
+    go (Some s) = tt
+    go None = tt
 
-    at : (x : Bool) → Fits (option (both (number eight) (number eight))) (given x (degrees_value i.degrees))
-    at true = (tt, tt)
-    at false = tt
+    at : (d : Option Degrees) → Fits (option (both (number eight) (number eight))) (option_map degrees_value d)
+    at (Some d) = (tt, tt)
+    at None = tt
 
-stop-record : (id name parent : List ℕ) (i : StopInput) → DegreesHeld i.located i.degrees → StopBack id name parent i (stop_body id name parent i)
+stop-record : (id : List ℕ) (name parent : Option (List ℕ)) (i : StopInput) → DegreesHeld i.degrees → StopBack id name parent i (stop_body id name parent i)
 unfolding stop_body
 stop-record id name parent i h =
     let r = record-trip 2 stop_shape (stop_value id name parent i) (stop-fits id name parent i) in
     record {
       filled = by_shape.stop_filled _ ∙ r.1;
       id_is = ap (λ (v : Value stop_shape). v.0) r.0;
-      name_is = by_shape.stop_name _ ∙ ap (λ (v : Value stop_shape). text_from v.1.0) r.0 ∙ text-back i.named name;
-      parent_is = by_shape.stop_parent _ ∙ ap (λ (v : Value stop_shape). text_from v.1.1.0) r.0 ∙ text-back i.has_parent parent;
+      name_is = by_shape.stop_name _ ∙ ap (λ (v : Value stop_shape). v.1.0) r.0;
+      parent_is = by_shape.stop_parent _ ∙ ap (λ (v : Value stop_shape). v.1.1.0) r.0;
       rest_is = by_shape.stop _ ∙ ap stop_from r.0 ∙ stop-back id name parent i h;
     }
 

@@ -1,5 +1,5 @@
 -- The reader's definitions are the descriptions', kind by kind.
-use Rattle.std.specs.Prelude.{None, Some}
+use Rattle.std.specs.Prelude.{None, Some, option_map}
 use mathlib.Core.Path.{◌≡◌, refl, sym, ap, ◌∙◌}
 use mathlib.Core.Bool.{Bool, true, false, cond, ◌&&◌}
 use mathlib.Core.List.{List, [], ◌∷◌}
@@ -11,11 +11,11 @@ use lib.Seq.{get_or-take, get_or-drop}
 use borrow.Author.Tests.{ltb-true}
 use Rattle.settings.specs.Settings.{kept_walk, walks_of, canonical_of}
 use Rattle.fields.specs.Numbers.{byte_at, u16_at, u32_at, i64_at, f64_at}
-use Rattle.fields.specs.Layout.{has_at, mark_at, text_at, option_text_at, option_end, option_text_end, name_at, parent_at, type_at, position_at, minutes_at, target_walks_at, settings_filled_of, stop_filled_of, call_filled_of, rule_filled_of, search_filled_of}
+use Rattle.fields.specs.Layout.{has_at, mark_at, option_text_at, option_end, option_text_end, name_at, parent_at, type_at, position_at, minutes_at, target_walks_at, settings_filled_of, stop_filled_of, call_filled_of, rule_filled_of, search_filled_of}
 use Rattle.fields.specs.Records.{walks_at, settings_in, degrees_at, stop_in, seconds_at, call_in, min_time_at, rule_in}
 use Rattle.fields.specs.Second.{seconds_place, second_settings_in, second_settings_filled_of}
 use Rattle.codec.specs.Shapes.{two, four, eight, number, bytes, text, option, both, end, read, fills}
-use Rattle.codec.specs.Kinds.{call_shape, call_from, rule_shape, rule_from, is_given, text_from, degrees_from, stop_shape, stop_from, settings_shape_of, settings_from, ByShape}
+use Rattle.codec.specs.Kinds.{call_shape, call_from, rule_shape, rule_from, degrees_from, stop_shape, stop_from, settings_shape_of, settings_from, ByShape}
 
 -- ---- tests in another order
 
@@ -56,17 +56,9 @@ min-time-read : (b : List ℕ) (at : ℕ) → min_time_at b at ≡ read (option 
 unfolding min_time_at
 min-time-read b at = refl
 
-given-read : {A : Type 0} (x : Bool) (v : A) → x ≡ is_given (cond x (Some v) None)
-given-read true v = refl
-given-read false v = refl
-
-text-read : (b : List ℕ) (at : ℕ) → option_text_at b at ≡ text_from (read (option text) b at)
+text-read : (b : List ℕ) (at : ℕ) → option_text_at b at ≡ read (option text) b at
 unfolding option_text_at
-text-read b at = go (has_at b at)
-  where
-    go : (x : Bool) → cond x (text_at b (at + 1)) [] ≡ text_from (cond x (Some (text_at b (at + 1))) None)
-    go true = refl
-    go false = refl
+text-read b at = refl
 
 -- ---- the kinds
 
@@ -96,13 +88,13 @@ rule-filled-is : (b : List ℕ) → rule_filled_of b ≡ fills rule_shape b
 unfolding rule_filled_of option_end
 rule-filled-is b = ap (λ (m : Bool). eqb (option_end b 6 2) (length b) && m) (sym (plain-mark b 6))
 
-degrees-read : (b : List ℕ) (at : ℕ) → degrees_at b at ≡ degrees_from (read (option (both (number eight) (number eight))) b at)
+degrees-read : (b : List ℕ) (at : ℕ) → degrees_at b at ≡ option_map degrees_from (read (option (both (number eight) (number eight))) b at)
 unfolding degrees_at
 degrees-read b at = go (has_at b at)
   where
-    go : (x : Bool) → cond x (record { latitude = f64_at b (at + 1); longitude = f64_at b (at + 9) }) (degrees_from None)
-        ≡ degrees_from (cond x (Some (read (both (number eight) (number eight)) b (at + 1))) None)
-    go true = λ t. record { latitude = f64_at b (at + 1); longitude = f64_at b (plus-nine at t) }
+    go : (x : Bool) → cond x (Some (record { latitude = f64_at b (at + 1); longitude = f64_at b (at + 9) })) None
+        ≡ option_map degrees_from (cond x (Some (read (both (number eight) (number eight)) b (at + 1))) None)
+    go true = λ t. Some (record { latitude = f64_at b (at + 1); longitude = f64_at b (plus-nine at t) })
     go false = refl
 
 degrees-end : (b : List ℕ) (at : ℕ) → option_end b at 16 ≡ end (option (both (number eight) (number eight))) b at
@@ -112,18 +104,15 @@ degrees-end b at = λ t. cond (has_at b at) (plus-sixteen at t) (at + 1)
 stop_is : (b : List ℕ) → stop_in b ≡ stop_from (read stop_shape b 1)
 unfolding stop_in option_end option_text_end
 stop_is b = λ t. record {
-  named = given-read (has_at b (name_at b)) (text_at b (name_at b + 1)) t;
-  has_parent = given-read (has_at b (parent_at b)) (text_at b (parent_at b + 1)) t;
   location_type = byte_at b (type_at b);
-  located = given-read (has_at b (position_at b)) (read (both (number eight) (number eight)) b (position_at b + 1)) t;
   degrees = degrees-read b (position_at b) t;
   members = byte_at b (degrees-end b (position_at b) t);
 }
 
-stop-name-is : (b : List ℕ) → option_text_at b (name_at b) ≡ text_from (read stop_shape b 1).1.0
+stop-name-is : (b : List ℕ) → option_text_at b (name_at b) ≡ (read stop_shape b 1).1.0
 stop-name-is b = text-read b (name_at b)
 
-stop-parent-is : (b : List ℕ) → option_text_at b (parent_at b) ≡ text_from (read stop_shape b 1).1.1.0
+stop-parent-is : (b : List ℕ) → option_text_at b (parent_at b) ≡ (read stop_shape b 1).1.1.0
 unfolding option_text_end
 stop-parent-is b = text-read b (parent_at b)
 

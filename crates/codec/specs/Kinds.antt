@@ -1,5 +1,5 @@
 -- The fields of each kind of record, in document 01's order, and the values that stand in them.
-use Rattle.std.specs.Prelude.{ℕ, ◌*◌, ◌-◌, ◌≤◌, ◌≡◌, Bool, true, false, cond, List, [], ◌∷◌, T, ℤ, pos, negsuc, length, take, get_or, Float, None, Some, Option}
+use Rattle.std.specs.Prelude.{ℕ, ◌*◌, ◌-◌, ◌≤◌, ◌≡◌, Bool, true, false, cond, List, [], ◌∷◌, T, ℤ, pos, negsuc, length, take, get_or, Float, None, Some, Option, option_map}
 use Rattle.std.specs.Float.{binary64}
 use Rattle.std.specs.Float.Ieee.{of_bits, to_bits, fits}
 use Rattle.std.specs.Int.{w64}
@@ -8,9 +8,8 @@ use Rattle.place.specs.declared.Degrees.{Degrees}
 use Rattle.settings.specs.declared.Settings.{Settings}
 use Rattle.settings.specs.Settings.{canonical_of}
 use Rattle.stops.specs.declared.StopInput.{StopInput}
-use Rattle.stops.specs.Texts.{shown}
 use Rattle.calls.specs.declared.CallInput.{CallInput}
-use Rattle.rules.specs.declared.RuleInput.{RuleInput}
+use Rattle.rules.specs.declared.Rule.{Rule}
 use Rattle.fields.specs.Numbers.{byte_at, signed_of}
 use Rattle.fields.specs.Layout.{option_text_at, text_at, name_at, parent_at, settings_filled_of, stop_filled_of, call_filled_of, rule_filled_of, search_filled_of}
 use Rattle.fields.specs.Records.{settings_in, stop_in, call_in, rule_in}
@@ -60,13 +59,13 @@ call_body i = body 3 call_shape (call_value i)
 abbrev pub rule_shape : Field
 rule_shape = both (number two) (both (number two) (both (number one) (option (number two))))
 
-abbrev pub rule_value : RuleInput → Value rule_shape
+abbrev pub rule_value : Rule → Value rule_shape
 rule_value i = (i.from, (i.to, (i.transfer_type, i.seconds)))
 
-abbrev pub rule_from : Value rule_shape → RuleInput
+abbrev pub rule_from : Value rule_shape → Rule
 rule_from v = record { from = v.0; to = v.1.0; transfer_type = v.1.1.0; seconds = v.1.1.1 }
 
-unfoldable pub rule_body : RuleInput → List ℕ
+unfoldable pub rule_body : Rule → List ℕ
 rule_body i = body 4 rule_shape (rule_value i)
 
 -- ---- stop: id, name, parent, location type, position, members
@@ -75,41 +74,19 @@ abbrev pub stop_shape : Field
 stop_shape =
     both text (both (option text) (both (option text) (both (number one) (both (option (both (number eight) (number eight))) (number one)))))
 
--- what stands in an optional field
-abbrev pub given : {A : Type 0} → Bool → A → Option A
-given true x = Some x
-given false x = None
-
-abbrev pub is_given : {A : Type 0} → Option A → Bool
-is_given (Some x) = true
-is_given None = false
-
-abbrev pub text_from : Option (List ℕ) → List ℕ
-text_from (Some x) = x
-text_from None = []
-
 abbrev pub degrees_value : Degrees → ℕ × ℕ
 degrees_value d = (bits_of d.latitude, bits_of d.longitude)
 
-abbrev pub degrees_from : Option (ℕ × ℕ) → Degrees
-degrees_from (Some v) = record { latitude = float_of v.0; longitude = float_of v.1 }
-degrees_from None = record { latitude = float_of 0; longitude = float_of 0 }
+abbrev pub degrees_from : ℕ × ℕ → Degrees
+degrees_from v = record { latitude = float_of v.0; longitude = float_of v.1 }
 
-abbrev pub stop_value : List ℕ → List ℕ → List ℕ → StopInput → Value stop_shape
-stop_value id name parent i =
-    (id, (given i.named name, (given i.has_parent parent, (i.location_type, (given i.located (degrees_value i.degrees), i.members)))))
+abbrev pub stop_value : List ℕ → Option (List ℕ) → Option (List ℕ) → StopInput → Value stop_shape
+stop_value id name parent i = (id, (name, (parent, (i.location_type, (option_map degrees_value i.degrees, i.members)))))
 
 abbrev pub stop_from : Value stop_shape → StopInput
-stop_from v = record {
-  named = is_given v.1.0;
-  has_parent = is_given v.1.1.0;
-  location_type = v.1.1.1.0;
-  located = is_given v.1.1.1.1.0;
-  degrees = degrees_from v.1.1.1.1.0;
-  members = v.1.1.1.1.1;
-}
+stop_from v = record { location_type = v.1.1.1.0; degrees = option_map degrees_from v.1.1.1.1.0; members = v.1.1.1.1.1 }
 
-unfoldable pub stop_body : List ℕ → List ℕ → List ℕ → StopInput → List ℕ
+unfoldable pub stop_body : List ℕ → Option (List ℕ) → Option (List ℕ) → StopInput → List ℕ
 stop_body id name parent i = body 2 stop_shape (stop_value id name parent i)
 
 -- both degrees are f64s, as every float of the program is
@@ -117,10 +94,10 @@ pub record DegreesFit (d : Degrees) : Type 0 where
   pub latitude : T (fits binary64 d.latitude)
   pub longitude : T (fits binary64 d.longitude)
 
--- and they are 0 where no position is given: only then they come back
-pub record DegreesHeld (located : Bool) (d : Degrees) : Type 0 where
-  pub fit : DegreesFit d
-  pub absent : located ≡ false → d ≡ record { latitude = float_of 0; longitude = float_of 0 }
+-- if they are given
+abbrev pub DegreesHeld : Option Degrees → Type 0
+DegreesHeld (Some d) = DegreesFit d
+DegreesHeld None = Unit {0}
 
 -- ---- settings: origins, targets, their walks (origins first), transfer time, max_transfers, now, three epochs
 -- the transfer time is a byte of minutes, or in the second version two bytes of seconds
@@ -189,8 +166,8 @@ pub record ByShape : Type 0 where
   pub rule_filled : (b : List ℕ) → rule_filled_of b ≡ fills rule_shape b
   pub stop : (b : List ℕ) → stop_in b ≡ stop_from (read stop_shape b 1)
   pub stop_id : (b : List ℕ) → text_at b 1 ≡ (read stop_shape b 1).0
-  pub stop_name : (b : List ℕ) → option_text_at b (name_at b) ≡ text_from (read stop_shape b 1).1.0
-  pub stop_parent : (b : List ℕ) → option_text_at b (parent_at b) ≡ text_from (read stop_shape b 1).1.1.0
+  pub stop_name : (b : List ℕ) → option_text_at b (name_at b) ≡ (read stop_shape b 1).1.0
+  pub stop_parent : (b : List ℕ) → option_text_at b (parent_at b) ≡ (read stop_shape b 1).1.1.0
   pub stop_filled : (b : List ℕ) → stop_filled_of b ≡ fills stop_shape b
   -- up to the walks past the counts, which opening leaves out
   pub settings : (b : List ℕ) → canonical_of (settings_in b) ≡ canonical_of (settings_from false (byte_at b 1) (byte_at b 2) (read (settings_shape_of false b) b 1))
@@ -210,17 +187,17 @@ pub record SettingsHeld (s : Settings) : Type 0 where
   pub days : length s.epochs ≡ 3
   pub epochs_fit : (k : ℕ) → SFits w64 (get_or s.epochs k (pos 0))
 
-pub record StopBack (id name parent : List ℕ) (i : StopInput) (b : List ℕ) : Type 0 where
+pub record StopBack (id : List ℕ) (name parent : Option (List ℕ)) (i : StopInput) (b : List ℕ) : Type 0 where
   pub filled : stop_filled_of b ≡ true
   pub id_is : text_at b 1 ≡ id
-  pub name_is : option_text_at b (name_at b) ≡ shown i.named name
-  pub parent_is : option_text_at b (parent_at b) ≡ shown i.has_parent parent
+  pub name_is : option_text_at b (name_at b) ≡ name
+  pub parent_is : option_text_at b (parent_at b) ≡ parent
   pub rest_is : stop_in b ≡ i
 
 pub record Back : Type 0 where
   pub call : (i : CallInput) → (call_filled_of (call_body i) ≡ true) × (call_in (call_body i) ≡ i)
-  pub rule : (i : RuleInput) → (rule_filled_of (rule_body i) ≡ true) × (rule_in (rule_body i) ≡ i)
-  pub stop : (id name parent : List ℕ) (i : StopInput) → DegreesHeld i.located i.degrees → StopBack id name parent i (stop_body id name parent i)
+  pub rule : (i : Rule) → (rule_filled_of (rule_body i) ≡ true) × (rule_in (rule_body i) ≡ i)
+  pub stop : (id : List ℕ) (name parent : Option (List ℕ)) (i : StopInput) → DegreesHeld i.degrees → StopBack id name parent i (stop_body id name parent i)
   pub settings : (s : Settings) → SettingsHeld s
       → (second_settings_filled_of (settings_body s) ≡ true) × (canonical_of (second_settings_in (settings_body s)) ≡ canonical_of s)
   pub search : search_filled_of search_body ≡ true

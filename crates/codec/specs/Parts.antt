@@ -1,12 +1,10 @@
--- What is handed in again of the settings, a stop, a rule and a call that a load holds.
-use Rattle.std.specs.Prelude.{ℕ, Bool, not, cond, List, [], ◌∷◌, eqb, take, None, Option, Some}
+-- What is handed in again of the settings, a stop and a call that a load holds. A rule is held as it is handed in.
+use Rattle.std.specs.Prelude.{ℕ, Bool, cond, List, [], ◌∷◌, Option, Some, option_map}
 use Rattle.settings.specs.declared.Settings.{Settings}
 use Rattle.stops.specs.declared.Stop.{Stop}
 use Rattle.stops.specs.declared.StopInput.{StopInput}
 use Rattle.stops.specs.Stops.{id_of}
 use Rattle.stops.specs.Sound.{stop_at}
-use Rattle.rules.specs.declared.Rule.{Rule}
-use Rattle.rules.specs.declared.RuleInput.{RuleInput}
 use Rattle.calls.specs.declared.Call.{Call}
 use Rattle.calls.specs.declared.CallInput.{CallInput}
 
@@ -26,36 +24,12 @@ at_start s = record {
 
 -- ---- stop
 
-abbrev pub name_of : Stop → List ℕ
-name_of s = take s.name_len s.name
-
-abbrev pub has_parent : Stop → Bool
-has_parent s = not (eqb s.parent 65535)
-
-abbrev pub station_of_stop : Stop → Option ℕ
-station_of_stop s = cond (has_parent s) (Some s.parent) None
-
--- the id of the station
-abbrev pub parent_id_of : List Stop → Stop → List ℕ
-parent_id_of stops s = id_of (stop_at stops s.parent)
+-- the id of the station, if there is one
+abbrev pub parent_id_of : List Stop → Stop → Option (List ℕ)
+parent_id_of stops s = option_map (λ (p : ℕ). id_of (stop_at stops p)) s.parent
 
 unfoldable pub stop_input_of : Stop → StopInput
-stop_input_of s = record {
-  named = s.named;
-  has_parent = has_parent s;
-  location_type = s.location_type;
-  located = s.located;
-  degrees = s.degrees;
-  members = s.members;
-}
-
--- ---- rule: seconds of every type
-
-abbrev pub min_time_of : Bool → ℕ → Option ℕ
-min_time_of timed n = cond timed (Some n) None
-
-unfoldable pub rule_input_of : Rule → RuleInput
-rule_input_of r = record { from = r.from; to = r.to; transfer_type = r.transfer_type; seconds = min_time_of r.timed r.seconds }
+stop_input_of s = record { location_type = s.location_type; degrees = s.degrees; members = s.members }
 
 -- ---- call: times as held
 

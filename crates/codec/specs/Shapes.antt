@@ -1,5 +1,6 @@
 -- Descriptions of fields: the bytes that are written of a value, and what is read from a place of a record.
 use Rattle.std.specs.Prelude.{ℕ, ◌+◌, ◌/◌, ◌%◌, ◌≤◌, ◌≡◌, Bool, true, cond, ◌&&◌, List, [], ◌∷◌, ◌++◌, eqb, length, take, drop, None, Option, Some}
+use Rattle.buffer.specs.Bytes.{two_bytes, four_bytes, eight_bytes}
 use Rattle.fields.specs.Numbers.{byte_at, u16_at, u32_at, u64_at}
 use Rattle.fields.specs.Layout.{text_end, text_at, has_at, mark_at}
 
@@ -36,15 +37,6 @@ Value (option f) = Option (Value f)
 Value (both f g) = Value f × Value g
 
 -- ---- writing
-
-unfoldable pub two_bytes : ℕ → List ℕ
-two_bytes n = n / 256 ∷ n % 256 ∷ []
-
-unfoldable pub four_bytes : ℕ → List ℕ
-four_bytes n = two_bytes (n / 65536) ++ two_bytes (n % 65536)
-
-unfoldable pub eight_bytes : ℕ → List ℕ
-eight_bytes n = four_bytes (n / 4294967296) ++ four_bytes (n % 4294967296)
 
 abbrev pub number_bytes : Size → ℕ → List ℕ
 number_bytes one n = n ∷ []

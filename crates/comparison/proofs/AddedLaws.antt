@@ -10,7 +10,7 @@ use native.Mathlib.Omega.{arith}
 use lib.Dec.{ltb}
 use lib.ListN.{length}
 use borrow.Author.Tests.{ltb-false, le-ltb}
-use Rattle.laws.proofs.Bools.{and-true, and-true-left, and-true-right}
+use Rattle.laws.proofs.Bools.{and-true, and-true-left, and-true-right, of-not}
 use Rattle.refusal.specs.declared.Refusal.TheVariants.{FieldRange, NoRoom}
 use Rattle.refusal.specs.First.{first_answer, is_taken, is_refused, Answer}
 use Rattle.refusal.proofs.FirstLaws.{first-is-answer}
@@ -30,7 +30,7 @@ use Rattle.calls.proofs.FitLaws.{shrinks}
 use Rattle.week.specs.Weeks.{running}
 use Rattle.load.specs.declared.Load.{Load}
 use Rattle.load.specs.declared.Stepped.{Stepped}
-use Rattle.load.specs.Load.{table_of}
+use Rattle.load.specs.Load.{table_of, stopped}
 use Rattle.load.specs.Steps.{is_unknown, is_resting, running_tests, call_spec}
 use Rattle.load.specs.Filling as fill
 use Rattle.load.specs.Filling.{Filling, call}
@@ -42,11 +42,11 @@ use Rattle.comparison.specs.Window.{Seen}
 use Rattle.comparison.specs.Horizon.{Fits, outside, room, full, cut}
 use Rattle.comparison.specs.Causes as causes
 use Rattle.comparison.specs.Causes.{Fitting, Unseen, Brings, window_causes, call_causes, cause, again_causes}
-use Rattle.comparison.proofs.Deciding.{Decides, Matches, not_is, dec-as}
+use Rattle.comparison.proofs.Deciding.{Decides, Matches, dec-as}
 use Rattle.comparison.proofs.OneLaws.{one-fits}
 use Rattle.comparison.proofs.SettingLaws.{Opened}
 use Rattle.comparison.proofs.WeekLaws.{dates_of}
-use Rattle.comparison.proofs.StartLaws.{Start, limit_of, state_at}
+use Rattle.comparison.proofs.StartLaws.{Start, state_at}
 use Rattle.comparison.proofs.BagLaws.{fits-perm}
 use Rattle.comparison.proofs.AsideLaws.{Like, beside_back, like-more, apart, apart-like, week-beside}
 use Rattle.comparison.proofs.TakenLaws.{given}
@@ -66,15 +66,15 @@ fits_low {h = h} (cut v w q r k) = omega (arith, fits_low k, shrinks h r)
 -- outside with the horizon as it was: nothing was cut
 pub fits-unseen : {s : Settings} {is : List CallInput} {i : CallInput} {h m g n : ℕ} {x : Answer} → Fits s is i h m x g n → x ≡ Ok Outside → g ≡ h → (c : Call) → Seen s h i c → ⊥
 fits-unseen (outside f) e q = f
-fits-unseen (room v w l) e q = absurd (let z : ◌≡◌ {A = ℕ} 0 1 = cc in omega arith)
-fits-unseen (full v w l r) e q = absurd (let z : ◌≡◌ {A = ℕ} 0 1 = cc in omega arith)
+fits-unseen (room v w l) e q = absurd (cc)
+fits-unseen (full v w l r) e q = absurd (cc)
 fits-unseen {h = h} (cut v w l r k) e q = absurd (omega (arith, fits_low k, shrinks h r, q))
 
 two-room : (b c : Bool) → Decides (not b && c) (two b c ≡ Err NoRoom)
 unfolding first_answer
-two-room true c = (λ e. absurd (false≢true e), λ e. absurd (let z : ◌≡◌ {A = ℕ} 0 1 = cc in omega arith))
+two-room true c = (λ e. absurd (false≢true e), λ e. absurd (cc))
 two-room false true = (λ e. refl, λ e. refl)
-two-room false false = (λ e. absurd (false≢true e), λ e. absurd (let z : ◌≡◌ {A = ℕ} 0 1 = cc in omega arith))
+two-room false false = (λ e. absurd (false≢true e), λ e. absurd (cc))
 
 two-answered : (b c : Bool) → (not b && c) ≡ false → is_refused (two b c) ≡ false
 unfolding first_answer
@@ -93,11 +93,11 @@ unfolding first_answer
 past-six b1 b2 b3 b4 b5 b6 p q c1 c2 c3 c4 c5 c6 e1 e2 e3 e4 e5 e6 = rw (e1, e2, e3, e4, e5, e6) refl
 
 -- l is the searched load
-module _ (s : Settings) (o : Opened s) (l u : Load) (gs fs : List Filling) (w : Start s u gs) (like : Like gs fs) (few : l.stopped ≡ true → s.max_transfers ≤ 1)
+module _ (s : Settings) (o : Opened s) (l u : Load) (gs fs : List Filling) (w : Start s u gs) (like : Like gs fs) (few : stopped l ≡ true → s.max_transfers ≤ 1)
     (name : List ℕ) (i : CallInput) where
   -- its state
   abbrev T : State
-  T = done (limit_of l) (state_at u fs)
+  T = done l.limit (state_at u fs)
 
   abbrev ta : Option ℕ
   ta = call_time (canonical_of s) i i.arrival
@@ -158,7 +158,7 @@ module _ (s : Settings) (o : Opened s) (l u : Load) (gs fs : List Filling) (w : 
         fore : (outs && not (ltb r.horizon u.table_horizon)) ≡ true → Unseen s T i
         fore e =
             let q : two outs fulls ≡ (Ok Outside) = (two_out outs fulls).0 (and-true-left outs _ e) in
-            let l : u.table_horizon ≤ r.horizon = ltb-false r.horizon u.table_horizon (not_is (ltb r.horizon u.table_horizon) (and-true-right outs _ e)) in
+            let l : u.table_horizon ≤ r.horizon = ltb-false r.horizon u.table_horizon (of-not (ltb r.horizon u.table_horizon) (and-true-right outs _ e)) in
             fits-unseen fitting-so q (omega (arith, l, height-is, fits_low fitting-so))
 
         back_to : Unseen s T i → (outs && not (ltb r.horizon u.table_horizon)) ≡ true
@@ -235,16 +235,16 @@ module _ (s : Settings) (o : Opened s) (l u : Load) (gs fs : List Filling) (w : 
 -- of the searched load itself
 module _ (s : Settings) (o : Opened s) (l : Load) (fs : List Filling) (e : l.searched ≡ true) (w : Start s (unsearched_of l) (apart fs)) where
   -- what it was given is what its unsearched load was, and that a search was taken
-  pub state-done : state_at l fs ≡ done (limit_of l) (state_at (unsearched_of l) fs)
+  pub state-done : state_at l fs ≡ done l.limit (state_at (unsearched_of l) fs)
   unfolding unsearched_of
-  state-done = λ k. record { taken = fs; horizon = l.table_horizon; limits = l.table_limits; searched = e k; stopped = limit_of l; dates = dates_of l.week; closed = l.week.closed }
+  state-done = λ k. record { taken = fs; horizon = l.table_horizon; limits = l.table_limits; searched = e k; stopped = l.limit; dates = dates_of l.week; closed = l.week.closed }
 
-  pub added-match : (l.stopped ≡ true → s.max_transfers ≤ 1) → (name : List ℕ) (i : CallInput) → Matches (add_causes l name i) (call_causes s (state_at l fs) name i)
+  pub added-match : (stopped l ≡ true → s.max_transfers ≤ 1) → (name : List ℕ) (i : CallInput) → Matches (add_causes l name i) (call_causes s (state_at l fs) name i)
   unfolding unsearched_of
   added-match few name i =
       subst (λ (t : State). Matches (add_causes l name i) (call_causes s t name i)) (sym state-done)
-      (subst (λ (b : Bool). Matches ((not (known l.stop_count i), Err FieldRange) ∷ running_tests (running l.week name i.day) ++ time_tests i ++ later_tests b l name i) (call_causes s (done (limit_of l) (state_at (unsearched_of l) fs)) name i)) (sym e)
+      (subst (λ (b : Bool). Matches ((not (known l.stop_count i), Err FieldRange) ∷ running_tests (running l.week name i.day) ++ time_tests i ++ later_tests b l name i) (call_causes s (done l.limit (state_at (unsearched_of l) fs)) name i)) (sym e)
       (subst (λ (x : Settings). Matches ((not (known l.stop_count i), Err FieldRange) ∷ running_tests (running l.week name i.day) ++ time_tests i
       ++ again_tests l (call_time x i i.arrival) (call_time x i i.departure) (reached (table_of l) (call_time x i i.arrival) (call_time x i i.departure)) (call_spec (unsearched_of l) name i).load)
-      (call_causes s (done (limit_of l) (state_at (unsearched_of l) fs)) name i)) (sym w.settings)
+      (call_causes s (done l.limit (state_at (unsearched_of l) fs)) name i)) (sym w.settings)
       (again-front s o l (unsearched_of l) (apart fs) fs w (apart-like fs) few name i)))

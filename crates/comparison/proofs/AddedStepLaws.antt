@@ -20,7 +20,7 @@ use Rattle.week.proofs.SoundLaws.{closed-sound}
 use Rattle.offers.specs.Order.{in_order_of}
 use Rattle.load.specs.declared.Load.{Load}
 use Rattle.load.specs.declared.Stepped.{Stepped}
-use Rattle.load.specs.Load.{with_week}
+use Rattle.load.specs.Load.{with_week, stopped}
 use Rattle.load.specs.Steps.{closed_load, call_spec}
 use Rattle.load.specs.Filling.{Filling, call}
 use Rattle.load.proofs.SoundLaws.{with-week-sound}
@@ -38,7 +38,7 @@ use Rattle.comparison.proofs.NthLaws.{calls-append}
 use Rattle.comparison.proofs.SettingLaws.{Opened}
 use Rattle.comparison.proofs.WeekLaws.{WeekHeld, dates_of}
 use Rattle.comparison.proofs.TakenLaws.{week-closed}
-use Rattle.comparison.proofs.StartLaws.{Start, limit_of, state_at}
+use Rattle.comparison.proofs.StartLaws.{Start, state_at}
 use Rattle.comparison.proofs.BagLaws.{fits-perm}
 use Rattle.comparison.proofs.AsideLaws.{beside_back, beside-more, like-more, apart, apart-calls, apart-like, week-beside}
 use Rattle.comparison.proofs.ComesLaws.{awake-so, rests-so, Came, Comes, came, rested, back, comes, fill_start}
@@ -47,7 +47,7 @@ use Rattle.comparison.proofs.SearchedLaws.{apart-again, searched-start, Leaves, 
 use Rattle.comparison.proofs.AddedLaws.{fits-unseen, state-done}
 
 module _ (s : Settings) (o : Opened s) (l : Load) (fs : List Filling) (d : l.searched ≡ true) (kept : Kept l) (w : Start s (unsearched_of l) (apart fs))
-    (days : (j : CallInput) → Memᴰ j (calls_in fs) → j.day ≤ 2) (few : l.stopped ≡ true → s.max_transfers ≤ 1) (name : List ℕ) (i : CallInput) where
+    (days : (j : CallInput) → Memᴰ j (calls_in fs) → j.day ≤ 2) (few : stopped l ≡ true → s.max_transfers ≤ 1) (name : List ℕ) (i : CallInput) where
   abbrev u : Load
   u = unsearched_of l
 
@@ -58,11 +58,11 @@ module _ (s : Settings) (o : Opened s) (l : Load) (fs : List Filling) (d : l.sea
   x = call name i
 
   abbrev T : State
-  T = done (limit_of l) (state_at u fs)
+  T = done l.limit (state_at u fs)
 
   -- searched again
   abbrev once : Load → Stepped
-  once n = researched l.stopped l.limit n
+  once n = researched l.limit n
 
   -- the week holds what was taken, in the order taken too
   week-so : WeekHeld u.week fs
@@ -95,22 +95,22 @@ module _ (s : Settings) (o : Opened s) (l : Load) (fs : List Filling) (d : l.sea
   stays r = same-leaves s l fs (filling x) (Err r) l (stays-so s l fs (filling x) r d w)
 
   refused-so : (n : Load) → n.searched ≡ false → is_taken (once n).answer ≡ false → LeftBy (record { answer = (once n).answer; load = l })
-  refused-so n new t = untaken-refused l.stopped l.limit n new (λ a. LeftBy (record { answer = a; load = l })) stays t
+  refused-so n new t = untaken-refused l.limit n new (λ a. LeftBy (record { answer = a; load = l })) stays t
 
   -- n is searched again
   module _ (n : Load) (t : is_taken (once n).answer ≡ true) where
     found_at : (hs : List Filling) → dates_of n.week ≡ dates_of u.week → n.week.closed ≡ true
-        → state_at (once n).load hs ≡ shut (done (limit_of (once n).load) (up_to (keeping T hs) n.table_horizon n.table_limits))
+        → state_at (once n).load hs ≡ shut (done ((once n).load.limit) (up_to (keeping T hs) n.table_horizon n.table_limits))
     found_at hs e c =
-        found-state l.stopped l.limit n t hs
-        ∙ (λ j. record { taken = hs; horizon = n.table_horizon; limits = n.table_limits; searched = true; stopped = limit_of (once n).load; dates = e j; closed = c j })
+        found-state l.limit n t hs
+        ∙ (λ j. record { taken = hs; horizon = n.table_horizon; limits = n.table_limits; searched = true; stopped = (once n).load.limit; dates = e j; closed = c j })
 
   entered : (n : Load) → Came s u gs name i (Ok Taken) n → Start s n (gs ++ x ∷ []) → is_taken (once n).answer ≡ true → LeftBy (record { answer = Ok Taken; load = (once n).load })
   entered n c v t = record {
     after = from-done (Ok Taken) _ (subst (After s T (filling x) (Ok Taken)) (sym (found_at n t (fs ++ x ∷ []) c.dates c.closed))
-        (a_call (fits-here c) (again-so s n (gs ++ x ∷ []) (fs ++ x ∷ []) v o (like-more gs fs (x ∷ []) (apart-like fs)) l.stopped l.limit few t (state_at u fs))));
-    searched = found-searched l.stopped l.limit n t;
-    start = searched-start s n (gs ++ x ∷ []) (fs ++ x ∷ []) v (beside-more gs fs (x ∷ []) (apart-like fs).beside) new-days same l.stopped l.limit t;
+        (a_call (fits-here c) (again-so s n (gs ++ x ∷ []) (fs ++ x ∷ []) v o (like-more gs fs (x ∷ []) (apart-like fs)) (state_at u fs) l.limit few t)));
+    searched = found-searched l.limit n t;
+    start = searched-start s n (gs ++ x ∷ []) (fs ++ x ∷ []) v (beside-more gs fs (x ∷ []) (apart-like fs).beside) new-days same l.limit t;
   }
     where
       new-days : (j : CallInput) → Memᴰ j (calls_in (fs ++ x ∷ [])) → j.day ≤ 2
@@ -126,9 +126,9 @@ module _ (s : Settings) (o : Opened s) (l : Load) (fs : List Filling) (d : l.sea
   cut-so : (n : Load) → Came s u gs name i (Ok Outside) n → Start s n gs → is_taken (once n).answer ≡ true → LeftBy (record { answer = Ok Outside; load = (once n).load })
   cut-so n c v t = same-leaves s l fs (filling x) (Ok Outside) (once n).load (record {
     after = from-done (Ok Outside) _ (subst (After s T (filling x) (Ok Outside)) (sym (found_at n t fs c.dates c.closed))
-        (outside (awake c) (fits-here c) (again-so s n gs fs v o (apart-like fs) l.stopped l.limit few t (state_at u fs))));
-    searched = found-searched l.stopped l.limit n t;
-    start = searched-start s n gs fs v (apart-like fs).beside days (apart-again n.settings n.table_horizon fs) l.stopped l.limit t;
+        (outside (awake c) (fits-here c) (again-so s n gs fs v o (apart-like fs) (state_at u fs) l.limit few t)));
+    searched = found-searched l.limit n t;
+    start = searched-start s n gs fs v (apart-like fs).beside days (apart-again n.settings n.table_horizon fs) l.limit t;
   })
 
   -- outside with nothing cut: the load stays, its services closed
@@ -138,14 +138,14 @@ module _ (s : Settings) (o : Opened s) (l : Load) (fs : List Filling) (d : l.sea
 
   week-at : (v : Week) → dates_of v ≡ dates_of u.week → v.closed ≡ true → state_at (with_week l v) fs ≡ shut T
   unfolding unsearched_of
-  week-at v e c = λ j. record { taken = fs; horizon = l.table_horizon; limits = l.table_limits; searched = d j; stopped = limit_of l; dates = e j; closed = c j }
+  week-at v e c = λ j. record { taken = fs; horizon = l.table_horizon; limits = l.table_limits; searched = d j; stopped = l.limit; dates = e j; closed = c j }
 
   -- and is still the search of its own table, within its limit if it has one
   own-again : Again s T T
   own-again =
       let q = kept.own d in
       let t : is_taken (once u).answer ≡ true = ap (λ (r : Stepped). is_taken r.answer) q in
-      subst (λ (r : Stepped). Again s T (done (limit_of r.load) T)) q (again-so s u gs fs w o (apart-like fs) l.stopped l.limit few t (state_at u fs))
+      subst (λ (r : Stepped). Again s T (done (r.load.limit) T)) q (again-so s u gs fs w o (apart-like fs) (state_at u fs) l.limit few t)
 
   uncut-so : (n : Load) → Came s u gs name i (Ok Outside) n → Start s n gs → n.table_horizon ≡ l.table_horizon → LeftBy (record { answer = Ok Outside; load = with_week l n.week })
   uncut-so n c v e = same-leaves s l fs (filling x) (Ok Outside) (with_week l n.week) (record {

@@ -28,10 +28,9 @@ use Rattle.search.specs.Timetable.{timetable_of}
 use Rattle.comparison.specs.Taken.{StopGiven, stops_in, calls_in}
 use Rattle.comparison.specs.Window.{Seen}
 use Rattle.comparison.specs.Admitted.{Feed, Member, Leg, IsRide, Between, Direct, Changing, Through, Admits}
-use Rattle.comparison.specs.Feeds.{feed_from}
 use Rattle.comparison.proofs.NthLaws.{nth-below, nth-one}
 use Rattle.comparison.proofs.WindowLaws.{seen-shown, window-seen}
-use Rattle.comparison.proofs.StartLaws.{Start}
+use Rattle.comparison.proofs.StartLaws.{Start, feed_from}
 use Rattle.comparison.proofs.SettingLaws.{Opened, walk_kept, digit_set, set-digit, upper}
 use Rattle.comparison.proofs.JoinLaws.{joins-in, joins-out}
 

@@ -5,7 +5,6 @@ use mathlib.Core.Logic.{◌⊎◌, inl, inr}
 use mathlib.Core.Bool.{Bool, true, false, cond}
 use mathlib.Core.List.Memᴰ
 use mathlib.Core.List.{List, [], ◌∷◌, ◌++◌, Memᴰ}
-use native.Mathlib.Omega.{arith}
 use Rattle.laws.specs.Lists.{anyb}
 use Rattle.refusal.specs.First.{is_taken}
 use Rattle.settings.specs.declared.Settings.{Settings}
@@ -53,13 +52,13 @@ call-in (x ∷ fs) name i m = go x (Memᴰ.cases_cons m) (call-in fs name i)
     go : (x : Filling) → (call name i ≡ x) ⊎ Memᴰ (call name i) fs → (Memᴰ (call name i) fs → Memᴰ i (calls_in fs)) → Memᴰ i (calls_in (x ∷ fs))
     go (call n j) (inl e) ih = Memᴰ.head (ap (input_in i) e)
     go (call n j) (inr k) ih = Memᴰ.tail (ih k)
-    go (stop id n p j) (inl e) ih = absurd (let z : ◌≡◌ {A = ℕ} 0 1 = cc in omega arith)
+    go (stop id n p j) (inl e) ih = absurd (cc)
     go (stop id n p j) (inr k) ih = ih k
-    go (rule j) (inl e) ih = absurd (let z : ◌≡◌ {A = ℕ} 0 1 = cc in omega arith)
+    go (rule j) (inl e) ih = absurd (cc)
     go (rule j) (inr k) ih = ih k
-    go (service n a b c) (inl e) ih = absurd (let z : ◌≡◌ {A = ℕ} 0 1 = cc in omega arith)
+    go (service n a b c) (inl e) ih = absurd (cc)
     go (service n a b c) (inr k) ih = ih k
-    go (exception n a b) (inl e) ih = absurd (let z : ◌≡◌ {A = ℕ} 0 1 = cc in omega arith)
+    go (exception n a b) (inl e) ih = absurd (cc)
     go (exception n a b) (inr k) ih = ih k
 
 -- what is left was there

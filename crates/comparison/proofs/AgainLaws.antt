@@ -16,7 +16,6 @@ use Rattle.refusal.specs.First as tests
 use Rattle.refusal.specs.First.{hit, miss, answer_number, Answer}
 use Rattle.settings.specs.declared.Settings.{Settings}
 use Rattle.calls.specs.declared.CallInput.{CallInput}
-use Rattle.calls.proofs.FitLaws.{shrinks}
 use Rattle.withdrawal.specs.declared.CallKey.{CallKey}
 use Rattle.withdrawal.specs.Removal.{key_of}
 use Rattle.load.specs.declared.Load.{Load}
@@ -53,17 +52,10 @@ use Rattle.comparison.proofs.DemandLaws.{in_order, whole, ends_so}
 
 -- a call that is taken is in the table
 fits-there : {s : Settings} {is : List CallInput} {i : CallInput} {h m g n : ℕ} {x : Answer} → Fits s is i h m x g n → x ≡ Ok Taken → InTable s g i
-fits-there (outside f) e = absurd (let z : ◌≡◌ {A = ℕ} 0 1 = cc in omega arith)
+fits-there (outside f) e = absurd (cc)
 fits-there (room {c = c} v w q) e = (c, v)
-fits-there (full v w q r) e = absurd (let z : ◌≡◌ {A = ℕ} 0 1 = cc in omega arith)
+fits-there (full v w q r) e = absurd (cc)
 fits-there (cut v w q r k) e = fits-there k e
-
--- where the horizon stays, so does the mark
-fits-mark : {s : Settings} {is : List CallInput} {i : CallInput} {h m g n : ℕ} {x : Answer} → Fits s is i h m x g n → g ≡ h → n ≡ m
-fits-mark (outside f) e = refl
-fits-mark (room v w q) e = refl
-fits-mark (full v w q r) e = refl
-fits-mark {h = h} (cut v w q r k) e = absurd (omega (arith, fits_low k, shrinks h r, e))
 
 -- what a search again leaves as it was
 again-keeps : {A : Type 0} {s : Settings} {t u : State} (f : State → A) → ((k : Option ℕ) (v : State) → f (done k v) ≡ f v) → Again s t u → f u ≡ f t
@@ -168,16 +160,16 @@ never-15 s t name i f = go (first-number (Err AlreadySearched) (causes_of s t (f
     unlisted false = refl
 
     go : (Err AlreadySearched ≡ Ok Taken) ⊎ Memᴰ 15 (numbers_of (causes_of s t (filling (call name i)))) → ⊥
-    go (inl e) = let z : ◌≡◌ {A = ℕ} 0 1 = cc in omega arith
+    go (inl e) = cc
     go (inr m) =
         let k : Memᴰ 15 (numbers t.searched (filling (call name i))) = subst (Memᴰ 15) (in_order s t (filling (call name i))) m in
         true≢false (sym (mem-anyb (eqb 15) k (eq-eqb 15 15 refl)) ∙ unlisted t.searched)
 
 not-24 : (b : Bool) (s : Settings) (t : State) (k : CallKey) → First (Err CallUnknown) (left_causes b s t k) → ⊥
-not-24 false s t k e = let z : ◌≡◌ {A = ℕ} 0 1 = cc in omega arith
-not-24 true s t k (inl (q, e)) = let z : ◌≡◌ {A = ℕ} 0 1 = cc in omega arith
-not-24 true s t k (inr (q, inl (p, e))) = let z : ◌≡◌ {A = ℕ} 0 1 = cc in omega arith
-not-24 true s t k (inr (q, inr (p, e))) = let z : ◌≡◌ {A = ℕ} 0 1 = cc in omega arith
+not-24 false s t k e = cc
+not-24 true s t k (inl (q, e)) = cc
+not-24 true s t k (inr (q, inl (p, e))) = cc
+not-24 true s t k (inr (q, inr (p, e))) = cc
 
 unknown-exactly : (s : Settings) (t : State) (k : CallKey) (a : Answer) → First a (causes_of s t (withdraw k)) → k.trip < 65535 → k.day ≤ 2 → (a ≡ Err CallUnknown) ↔ NoneSuch s t.horizon k (calls_in t.taken)
 unknown-exactly s t k a (inl (inl q, e)) h l = absurd (omega arith)
@@ -189,16 +181,16 @@ unknown-exactly s t k a (inr (q, inr (n, f))) h l = (
 )
 
 not-14 : (a : Answer) {p q c f : Bool} → tests.First a ((p, Err FieldRange) ∷ (q, Err CallUnknown) ∷ (c, Err Neighbours) ∷ (f, Err NoRoom) ∷ []) → c ≡ false → a ≡ Err Neighbours → ⊥
-not-14 _ (hit e) x z = let y : ◌≡◌ {A = ℕ} 0 1 = cc in omega arith
-not-14 _ (miss e (hit g)) x z = let y : ◌≡◌ {A = ℕ} 0 1 = cc in omega arith
+not-14 _ (hit e) x z = cc
+not-14 _ (miss e (hit g)) x z = cc
 not-14 _ (miss e (miss g (hit k))) x z = true≢false (sym k ∙ x)
-not-14 _ (miss e (miss g (miss k (hit j)))) x z = let y : ◌≡◌ {A = ℕ} 0 1 = cc in omega arith
-not-14 _ (miss e (miss g (miss k (miss j tests.none)))) x z = let y : ◌≡◌ {A = ℕ} 0 1 = cc in omega arith
+not-14 _ (miss e (miss g (miss k (hit j)))) x z = cc
+not-14 _ (miss e (miss g (miss k (miss j tests.none)))) x z = cc
 
 plain-14 : (a : Answer) {p q : Bool} → tests.First a ((p, Err FieldRange) ∷ (q, Err CallUnknown) ∷ []) → a ≡ Err Neighbours → ⊥
-plain-14 _ (hit e) z = let y : ◌≡◌ {A = ℕ} 0 1 = cc in omega arith
-plain-14 _ (miss e (hit g)) z = let y : ◌≡◌ {A = ℕ} 0 1 = cc in omega arith
-plain-14 _ (miss e (miss g tests.none)) z = let y : ◌≡◌ {A = ℕ} 0 1 = cc in omega arith
+plain-14 _ (hit e) z = cc
+plain-14 _ (miss e (hit g)) z = cc
+plain-14 _ (miss e (miss g tests.none)) z = cc
 
 never-14 : (o : Opening) (xs : List Step) (k : CallKey) → (stepped (end_of o xs) (withdraw k)).answer ≡ Err Neighbours → ⊥
 never-14 o xs k e = go (end_of o xs).searched refl (step-answered (end_of o xs) (withdraw k)).first

@@ -41,7 +41,7 @@ alike-reads g r r' (inr w) =
     ∙ sym (reads-some g w.j' (omega (arith, w.due, w.same.arrival))) ∙ ap (read_by journey_figures g) (sym w.is')
 
 none-some : (f : Figures) → None ≡ Some f → ⊥
-none-some f e = let z : ◌≡◌ {A = ℕ} 0 1 = cc in omega arith
+none-some f e = cc
 
 some_same : (f f' : Figures) → Some f ≡ Some f' → f ≡ f'
 some_same f f' e = cc

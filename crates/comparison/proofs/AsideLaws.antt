@@ -12,7 +12,7 @@ use Rattle.week.specs.declared.Week.{Week}
 use Rattle.week.specs.Weeks.{service_of}
 use Rattle.settings.specs.declared.Settings.{Settings}
 use Rattle.calls.specs.declared.CallInput.{CallInput}
-use Rattle.rules.specs.declared.RuleInput.{RuleInput}
+use Rattle.rules.specs.declared.Rule.{Rule}
 use Rattle.profile.specs.declared.Journey.{Journey}
 use Rattle.load.specs.Filling.{Filling, stop, call, rule, service, exception}
 use Rattle.steps.proofs.ShownLaws.{raw_earlier, raw_order}
@@ -53,7 +53,7 @@ like-back w = record { beside = beside_back w.beside; calls = Permᴰ.symm w.cal
 pub beside-more : (gs fs xs : List Filling) → Beside gs fs → Beside (gs ++ xs) (fs ++ xs)
 beside-more gs fs xs b = record {
   stops = stops-append gs xs ∙ ap (λ (r : List StopGiven). r ++ stops_in xs) b.stops ∙ sym (stops-append fs xs);
-  rules = rules-append gs xs ∙ ap (λ (r : List RuleInput). r ++ rules_in xs) b.rules ∙ sym (rules-append fs xs);
+  rules = rules-append gs xs ∙ ap (λ (r : List Rule). r ++ rules_in xs) b.rules ∙ sym (rules-append fs xs);
   services = services-append gs xs ∙ ap (λ (r : List ServiceGiven). r ++ services_in xs) b.services ∙ sym (services-append fs xs);
   exceptions = λ n. exceptions-append n gs xs ∙ ap (λ (r : List Exception). r ++ exceptions_of n xs) (b.exceptions n) ∙ sym (exceptions-append n fs xs);
 }
@@ -124,7 +124,7 @@ module _ (is : List CallInput) where
   rules-of [] = no-rules is
   rules-of (stop id name parent i ∷ fs) = rules-of fs
   rules-of (call name i ∷ fs) = rules-of fs
-  rules-of (rule i ∷ fs) = ap {B = List RuleInput} (λ r. i ∷ r) (rules-of fs)
+  rules-of (rule i ∷ fs) = ap {B = List Rule} (λ r. i ∷ r) (rules-of fs)
   rules-of (service name weekdays start end ∷ fs) = rules-of fs
   rules-of (exception name date kind ∷ fs) = rules-of fs
 

@@ -1,12 +1,12 @@
 -- What is stated of the calls taken hangs on which they are, and not on their order.
+use Rattle.steps.proofs.PermLaws.{perm-length}
 use Rattle.refusal.specs.First.{Answer}
-use Prim.Native.Nat.{ℕ, ◌-◌, suc}
-use mathlib.Core.Path.{◌≡◌, refl, sym, ap, subst, ◌∙◌}
+use Prim.Native.Nat.{ℕ}
+use mathlib.Core.Path.{◌≡◌, refl, sym, subst}
 use mathlib.Core.Logic.{inl, inr}
 use mathlib.Core.List.Permᴰ
 use mathlib.Core.List.{List, [], ◌∷◌, Permᴰ}
 use native.Mathlib.Omega.{arith}
-use lib.ListN.{length}
 use Rattle.laws.proofs.Sort.{perm-mem}
 use Rattle.settings.specs.declared.Settings.{Settings}
 use Rattle.calls.specs.declared.CallInput.{CallInput}
@@ -18,12 +18,6 @@ use Rattle.comparison.specs.Horizon.{Fits, outside, room, full, cut}
 use Rattle.comparison.specs.Neighbours.{Clashing}
 use Rattle.comparison.specs.Admitted.{Feed, Change, Joins, Leg, Between, Direct, Changing, Through, Admits}
 use Rattle.comparison.specs.OfferOrder.{Offer, alone, changing, through, Gives, Each, Offered}
-
-perm-length : {A : Type 0} {xs ys : List A} → Permᴰ xs ys → length xs ≡ length ys
-perm-length Permᴰ.nil = refl
-perm-length (Permᴰ.cons e p) = ap suc (perm-length p)
-perm-length (Permᴰ.swap e f) = refl
-perm-length (Permᴰ.trans p q) = perm-length p ∙ perm-length q
 
 -- ---- what is seen
 

@@ -1,5 +1,6 @@
 -- The program's tests of a call decide its causes, where the load holds what was taken.
 use Rattle.std.specs.Option.{unwrap_or}
+use Rattle.laws.proofs.Options.{some-injective}
 use Rattle.refusal.specs.declared.Accepted.TheVariants.{Outside}
 use Rattle.std.specs.Prelude.{None, Option, Some, Err, Ok, is_none}
 use Prim.Native.Nat.{ℕ, ◌≤◌, ◌<◌}
@@ -46,10 +47,7 @@ use Rattle.comparison.proofs.HorizonLaws.{fits, showing}
 -- ---- the fields
 
 given-absent : (v : ℕ) → Some v ≡ None → ⊥
-given-absent v e = let z : ◌≡◌ {A = ℕ} 0 1 = cc in omega arith
-
-given-one : (m n : ℕ) → Some m ≡ Some n → m ≡ n
-given-one m n e = cc
+given-absent v e = cc
 
 dec-absent : (x : Option ℕ) → Decides (is_none x) (x ≡ None)
 dec-absent (Some v) = (λ e. absurd (false≢true e), λ e. absurd (given-absent v e))
@@ -97,7 +95,7 @@ module _ (i : CallInput) where
       go (Some a) (Some d) p q =
           let e : reversed i ≡ ltb d a = λ k. ltb (unwrap_or (q k) 0) (unwrap_or (p k) 0) in (
             λ t. record { a = a; d = d; arrives = p; departs = q; after = ltb-true d a (sym e ∙ t) },
-            λ v. e ∙ lt-ltb d a (omega (arith, v.after, given-one v.a a (sym v.arrives ∙ p), given-one v.d d (sym v.departs ∙ q))),
+            λ v. e ∙ lt-ltb d a (omega (arith, v.after, some-injective v.a a (sym v.arrives ∙ p), some-injective v.d d (sym v.departs ∙ q))),
           )
 
 -- ---- the window and the cuts
@@ -108,14 +106,14 @@ two b c = first_answer ((b, Ok Outside) ∷ (c, Err NoRoom) ∷ [])
 pub two_out : (b c : Bool) → Decides b (two b c ≡ Ok Outside)
 unfolding first_answer
 two_out true c = (λ e. refl, λ e. refl)
-two_out false true = (λ e. absurd (false≢true e), λ e. absurd (let z : ◌≡◌ {A = ℕ} 0 1 = cc in omega arith))
-two_out false false = (λ e. absurd (false≢true e), λ e. absurd (let z : ◌≡◌ {A = ℕ} 0 1 = cc in omega arith))
+two_out false true = (λ e. absurd (false≢true e), λ e. absurd (cc))
+two_out false false = (λ e. absurd (false≢true e), λ e. absurd (cc))
 
 two-full : (b c : Bool) → b ≡ false → Decides c (two b c ≡ Err NoRoom)
 unfolding first_answer
 two-full true c q = absurd (true≢false q)
 two-full false true q = (λ e. refl, λ e. refl)
-two-full false false q = (λ e. absurd (false≢true e), λ e. absurd (let z : ◌≡◌ {A = ℕ} 0 1 = cc in omega arith))
+two-full false false q = (λ e. absurd (false≢true e), λ e. absurd (cc))
 
 -- what every call meets first, 9, 21, not running, an absent time and 10, fails
 pub record Passes (week : Week) (n : ℕ) (name : List ℕ) (i : CallInput) : Type 0 where

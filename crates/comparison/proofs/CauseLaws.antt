@@ -1,24 +1,25 @@
 -- The program's tests of a stop, a rule and an opening decide the causes, where the load holds what was taken.
+use Rattle.std.specs.Option.{unwrap_or}
 use Rattle.std.specs.Prelude.{None, Some, Option, is_some}
 use Prim.Native.Nat.{ℕ, zero, suc, ◌+◌, ◌-◌, ◌≤◌, ◌<◌}
 use mathlib.Core.Path.{◌≡◌, refl, sym, ap, subst, ◌∙◌}
 use mathlib.Core.Logic.{◌⊎◌, inl, inr}
-use mathlib.Core.Bool.{Bool, true, false, not, cond, ◌&&◌, true≢false, false≢true}
+use mathlib.Core.Bool.{Bool, true, false, not, ◌&&◌, true≢false, false≢true, cond}
 use mathlib.Core.List.Memᴰ
-use mathlib.Core.List.{List, [], ◌∷◌, map, Memᴰ}
+use mathlib.Core.List.{List, [], ◌∷◌, Memᴰ}
 use native.Mathlib.Omega.{arith}
 use lib.Dec.{leb, ltb, eqb}
 use lib.IntN.{ℤ, pos, negsuc}
-use lib.ListN.{length, take, get_or, length-map, length-take}
+use lib.ListN.{length, take, get_or, length-take}
 use lib.Seq.{get_or-take}
 use borrow.Author.Tests.{eqb-true, eq-eqb}
 use Rattle.laws.specs.Lists.{anyb}
-use Rattle.laws.proofs.Bools.{not-true, and-true, and-true-left, and-true-right}
+use Rattle.laws.proofs.Bools.{not-true, and-true, and-true-left, and-true-right, of-not}
 use Rattle.laws.proofs.Lists.{anyb-mem, mem-anyb}
-use Rattle.laws.proofs.Maps.{anyb-map}
+use Rattle.laws.proofs.Options.{some-injective, none-ne-some, some-ne-none}
 use Rattle.settings.specs.declared.Settings.{Settings}
 use Rattle.settings.specs.Settings.{over_counts, near, all_near, settings_tests}
-use Rattle.place.specs.Positions.{position_of, is_usable}
+use Rattle.place.specs.Positions.{is_usable}
 use Rattle.stops.specs.declared.Stop.{Stop}
 use Rattle.stops.specs.declared.StopInput.{StopInput}
 use Rattle.stops.specs.Texts.{same_bytes_of}
@@ -27,21 +28,19 @@ use Rattle.stops.specs.Answer.{station_of, id_wrong, is_known, type_wrong, name_
 use Rattle.stops.specs.Sound.{stop_at}
 use Rattle.stops.specs.Taken.{blank_stop}
 use Rattle.rules.specs.declared.Rule.{Rule}
-use Rattle.rules.specs.declared.RuleInput.{RuleInput}
-use Rattle.rules.specs.Rules.{same_pair, type_right_of, rule_tests, rule_of}
+use Rattle.rules.specs.Rules.{same_pair, type_right_of, rule_tests}
 use Rattle.load.specs.declared.Load.{Load}
 use Rattle.calendar.specs.Dates.{is_date}
 use Rattle.calendar.proofs.Dates.{dated}
 use Rattle.services.specs.Wrong.{no_date, dates_wrong}
-use Rattle.week.specs.Weeks.{named}
 use Rattle.load.specs.Steps.{Opening, date_tests, open_tests, station_in}
 use Rattle.load.specs.Filling.{Filling}
 use Rattle.comparison.specs.Taken.{StopGiven, stops_in, rules_in}
 use Rattle.comparison.specs.Admitted.{Nth}
 use Rattle.comparison.specs.Services.{NoDate}
-use Rattle.comparison.specs.Causes.{Beyond, date_causes, opening_causes, Needed, stop_causes, rule_causes}
+use Rattle.comparison.specs.Causes.{Beyond, date_causes, opening_causes, Needed, Orphan, TooLong, stop_causes, rule_causes}
 use Rattle.comparison.proofs.NthLaws.{nth-below, nth-one, bytes_same, same_bytes}
-use Rattle.comparison.proofs.Deciding.{Decides, Matches, not_is, dec-ltb, dec-leb, dec-eqb, dec-not-ltb, dec-not-leb, dec-is, dec-not, dec-or, dec-and, dec-nand, dec-as}
+use Rattle.comparison.proofs.Deciding.{Decides, Matches, dec-ltb, dec-leb, dec-eqb, dec-not-ltb, dec-not-leb, dec-is, dec-none, dec-some, dec-or, dec-and, dec-nand, dec-as}
 use Rattle.stops.proofs.SoundLaws.{found}
 use Rattle.comparison.proofs.StartLaws.{Start, state_at}
 
@@ -80,7 +79,7 @@ dec-clock s =
 -- dates
 pub dec-date : (d : ℕ) → Decides (not (is_date d)) (NoDate d)
 dec-date d = (
-  λ e y m n w. true≢false (sym ((dated d).1 (y, m, n, w)) ∙ not_is (is_date d) e),
+  λ e y m n w. true≢false (sym ((dated d).1 (y, m, n, w)) ∙ of-not (is_date d) e),
   λ f. ap not (not-true (is_date d) (λ e. let (y, m, n, w) = (dated d).0 e in f y m n w)),
 )
 
@@ -185,25 +184,38 @@ module _ (s : Settings) (l : Load) (fs : List Filling) (w : Start s l fs) where
   unfolding is_known
   dec-id id = dec-as (is_some (find_stop (is_it false id) (take n l.stops) 0)) (λ (g, m, e, f). (g, m, e)) (λ (g, m, e). (g, m, e, λ q. absurd (false≢true q))) (dec-known false id)
 
-  dec-parent : (parent : List ℕ) (has : Bool)
-      → Decides (has && not (is_some (station_of l.stops n has parent))) ((has ≡ true) × ((g : StopGiven) → Memᴰ g (stops_in fs) → g.id ≡ parent → g.input.location_type ≡ 1 → ⊥))
+  dec-parent : (parent : Option (List ℕ)) → Decides (is_some parent && not (is_some (station_of l.stops n parent))) (Orphan (stops_in fs) parent)
   unfolding station_of
-  dec-parent parent false = (λ e. absurd (false≢true e), λ (e, f). absurd (false≢true e))
-  dec-parent parent true = (
-    λ e. (refl, λ g m q t. true≢false (sym ((dec-known true parent).1 (g, m, q, λ c. t)) ∙ not_is _ e)),
-    λ (e, f). ap not (not-true _ (λ q. let (g, m, i, t) = (dec-known true parent).0 q in f g m i (t refl))),
+  dec-parent None = (λ e. absurd (false≢true e), λ (p, e, f). absurd (none-ne-some p e))
+  dec-parent (Some id) = (
+    λ e. (id, refl, λ g m q t. true≢false (sym ((dec-known true id).1 (g, m, q, λ c. t)) ∙ of-not _ e)),
+    λ (p, e, f). ap not (not-true _ (λ q. let (g, m, i, t) = (dec-known true id).0 q in f g m (i ∙ some-injective id p e) (t refl))),
   )
 
-  dec-needed : (i : StopInput) → Decides (name_needed i) (Needed i)
+  dec-needed : (parent : Option (List ℕ)) (i : StopInput) → Decides (name_needed parent i) (Needed parent i)
   unfolding name_needed
-  dec-needed i =
-      dec-as (eqb i.location_type 0 && not i.has_parent && is_usable (position_of i.located i.degrees))
+  dec-needed parent i =
+      dec-as (eqb i.location_type 0 && not (is_some parent) && is_usable i.degrees)
       (λ ((a, b), c). record { type_zero = a; no_parent = b; usable = c }) (λ v. ((v.type_zero, v.no_parent), v.usable))
-      (dec-and (eqb i.location_type 0 && not i.has_parent) _ (dec-and (eqb i.location_type 0) (not i.has_parent) (dec-eqb i.location_type 0) (dec-not i.has_parent))
-      (dec-is (is_usable (position_of i.located i.degrees))))
+      (dec-and (eqb i.location_type 0 && not (is_some parent)) _ (dec-and (eqb i.location_type 0) (not (is_some parent)) (dec-eqb i.location_type 0) (dec-none parent))
+      (dec-is (is_usable i.degrees)))
 
-  pub stop-match : (id name parent : List ℕ) (i : StopInput) → Matches (stop_tests l.searched l.stops n (station_in l parent i) id name i) (stop_causes (state_at l fs) id name parent i)
-  unfolding stop_tests id_wrong type_wrong name_wrong
+  dec-name : (name parent : Option (List ℕ)) (id : List ℕ) (i : StopInput)
+      → Decides (name_wrong name (name_needed parent i) id) (TooLong name ⊎ (Needed parent i × (unusable (unwrap_or name id) ≡ true)))
+  unfolding name_wrong
+  dec-name (Some t) parent id i =
+      dec-or (ltb 64 (length t)) _
+      (dec-as (ltb 64 (length t)) (λ h. (t, refl, h)) (λ (u, e, h). subst (λ (x : List ℕ). 64 < length x) (sym (some-injective t u e)) h) (dec-ltb 64 (length t)))
+      (dec-and (name_needed parent i) (unusable t) (dec-needed parent i) (dec-is (unusable t)))
+  dec-name None parent id i =
+      dec-as (name_needed parent i && unusable id) inr only (dec-and (name_needed parent i) (unusable id) (dec-needed parent i) (dec-is (unusable id)))
+    where
+      only : TooLong None ⊎ (Needed parent i × (unusable id ≡ true)) → Needed parent i × (unusable id ≡ true)
+      only (inl (t, e, h)) = absurd (none-ne-some t e)
+      only (inr w) = w
+
+  pub stop-match : (id : List ℕ) (name parent : Option (List ℕ)) (i : StopInput) → Matches (stop_tests l.searched l.stops n (station_in l parent) id name parent i) (stop_causes (state_at l fs) id name parent i)
+  unfolding stop_tests id_wrong type_wrong
   stop-match id name parent i = (
     refl,
     dec-is l.searched,
@@ -215,14 +227,13 @@ module _ (s : Settings) (l : Load) (fs : List Filling) (w : Start s l fs) where
         dec-id id,
         λ c. (
           refl,
-          dec-or (ltb 1 i.location_type) _ (dec-ltb 1 i.location_type) (dec-and (eqb i.location_type 1) i.has_parent (dec-eqb i.location_type 1) (dec-is i.has_parent)),
+          dec-or (ltb 1 i.location_type) _ (dec-ltb 1 i.location_type) (dec-and (eqb i.location_type 1) (is_some parent) (dec-eqb i.location_type 1) (dec-some parent)),
           λ d. (
             refl,
-            dec-parent parent i.has_parent,
+            dec-parent parent,
             λ e. (
               refl,
-              dec-or (i.named && ltb 64 (length name)) _ (dec-and i.named (ltb 64 (length name)) (dec-is i.named) (dec-ltb 64 (length name)))
-                  (dec-and (name_needed i) (unusable (cond i.named name id)) (dec-needed i) (dec-is (unusable (cond i.named name id)))),
+              dec-name name parent id i,
               λ f. (refl, subst (λ (k : ℕ). Decides (leb 128 n) (128 ≤ k)) w.held.stops (dec-leb 128 n), λ g. tt),
             ),
           ),
@@ -233,26 +244,23 @@ module _ (s : Settings) (l : Load) (fs : List Filling) (w : Start s l fs) where
 
   -- ---- rules
 
-  dec-pair : (i : RuleInput) → Decides (anyb (same_pair i.from i.to) (take l.rule_count l.rules)) ((q : RuleInput) × Memᴰ q (rules_in fs) × (q.from ≡ i.from) × (q.to ≡ i.to))
-  dec-pair i = subst (λ (rs : List Rule). Decides (anyb (same_pair i.from i.to) rs) ((q : RuleInput) × Memᴰ q (rules_in fs) × (q.from ≡ i.from) × (q.to ≡ i.to))) (sym w.held.rules) (fore, back)
+  dec-pair : (i : Rule) → Decides (anyb (same_pair i.from i.to) (take l.rule_count l.rules)) ((q : Rule) × Memᴰ q (rules_in fs) × (q.from ≡ i.from) × (q.to ≡ i.to))
+  dec-pair i = subst (λ (rs : List Rule). Decides (anyb (same_pair i.from i.to) rs) ((q : Rule) × Memᴰ q (rules_in fs) × (q.from ≡ i.from) × (q.to ≡ i.to))) (sym w.held.rules) (fore, back)
     where
-      same : anyb (same_pair i.from i.to) (map rule_of (rules_in fs)) ≡ anyb (λ q. eqb q.from i.from && eqb q.to i.to) (rules_in fs)
-      same = anyb-map rule_of (λ q. eqb q.from i.from && eqb q.to i.to) (same_pair i.from i.to) (rules_in fs) (λ q m. refl)
-
-      fore : anyb (same_pair i.from i.to) (map rule_of (rules_in fs)) ≡ true → (q : RuleInput) × Memᴰ q (rules_in fs) × (q.from ≡ i.from) × (q.to ≡ i.to)
+      fore : anyb (same_pair i.from i.to) (rules_in fs) ≡ true → (q : Rule) × Memᴰ q (rules_in fs) × (q.from ≡ i.from) × (q.to ≡ i.to)
       fore e =
-          let (q, m, t) = anyb-mem (λ (q : RuleInput). eqb q.from i.from && eqb q.to i.to) (rules_in fs) (sym same ∙ e) in
+          let (q, m, t) = anyb-mem (same_pair i.from i.to) (rules_in fs) e in
           (q, m, eqb-true q.from i.from (and-true-left _ _ t), eqb-true q.to i.to (and-true-right (eqb q.from i.from) _ t))
 
-      back : (q : RuleInput) × Memᴰ q (rules_in fs) × (q.from ≡ i.from) × (q.to ≡ i.to) → anyb (same_pair i.from i.to) (map rule_of (rules_in fs)) ≡ true
-      back (q, m, a, b) = same ∙ mem-anyb (λ (q : RuleInput). eqb q.from i.from && eqb q.to i.to) m (and-true _ _ (eq-eqb q.from i.from a) (eq-eqb q.to i.to b))
+      back : (q : Rule) × Memᴰ q (rules_in fs) × (q.from ≡ i.from) × (q.to ≡ i.to) → anyb (same_pair i.from i.to) (rules_in fs) ≡ true
+      back (q, m, a, b) = mem-anyb (same_pair i.from i.to) m (and-true _ _ (eq-eqb q.from i.from a) (eq-eqb q.to i.to b))
 
   dec-type : (k : ℕ) (t : Option ℕ) → Decides (not (type_right_of k t)) (3 < k ⊎ ((k ≡ 2) × (t ≡ None)))
   dec-type k (Some v) = dec-as (not (leb k 3)) inl only (dec-not-leb k 3)
     where
       only : 3 < k ⊎ ((k ≡ 2) × (Some v ≡ None)) → 3 < k
       only (inl h) = h
-      only (inr (a, e)) = absurd (let z : ◌≡◌ {A = ℕ} 0 1 = cc in omega arith)
+      only (inr (a, e)) = absurd (some-ne-none v e)
   dec-type k None = dec-as (not (not (eqb k 2) && leb k 3)) turn back (dec-nand (not (eqb k 2)) (leb k 3) (dec-as (not (not (eqb k 2))) (λ e. e) (λ e. e) (twice (eqb k 2) (dec-eqb k 2))) (dec-not-leb k 3))
     where
       twice : (b : Bool) → Decides b (k ≡ 2) → Decides (not (not b)) (k ≡ 2)
@@ -270,9 +278,9 @@ module _ (s : Settings) (l : Load) (fs : List Filling) (w : Start s l fs) where
   rule-count : l.rule_count ≡ length (rules_in fs)
   rule-count =
       let h : length (take l.rule_count l.rules) ≡ l.rule_count = simp length-take (omega (arith, w.sound.rules.few, w.sound.rules.long)) in
-      sym h ∙ ap length w.held.rules ∙ length-map (rules_in fs) rule_of
+      sym h ∙ ap length w.held.rules
 
-  pub rule-match : (i : RuleInput) → Matches (rule_tests l.searched n l.rules l.rule_count i) (rule_causes (state_at l fs) i)
+  pub rule-match : (i : Rule) → Matches (rule_tests l.searched n l.rules l.rule_count i) (rule_causes (state_at l fs) i)
   unfolding rule_tests
   rule-match i = (
     refl,

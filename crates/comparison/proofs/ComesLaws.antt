@@ -32,7 +32,7 @@ use Rattle.comparison.specs.Horizon.{Fits}
 use Rattle.comparison.proofs.SettingLaws.{Opened}
 use Rattle.comparison.proofs.WeekLaws.{WeekHeld, dates_of, dec-resting}
 use Rattle.comparison.proofs.TakenLaws.{given, fill-held}
-use Rattle.comparison.proofs.StartLaws.{Start, limit_of}
+use Rattle.comparison.proofs.StartLaws.{Start}
 use Rattle.comparison.proofs.HorizonLaws.{call_fits, showing}
 use Rattle.comparison.proofs.CallLaws.{day_known}
 
@@ -60,7 +60,7 @@ pub record Came (s : Settings) (l : Load) (fs : List Filling) (name : List ℕ) 
   pub dates : dates_of n.week ≡ dates_of l.week
   pub closed : n.week.closed ≡ true
   pub searched : n.searched ≡ l.searched
-  pub limit : limit_of n ≡ limit_of l
+  pub limit : n.limit ≡ l.limit
 
 pub data Comes (s : Settings) (l : Load) (fs : List Filling) (name : List ℕ) (i : CallInput) : Stepped → Type 0 where
   came : {a : Answer} {n : Load} → Came s l fs name i a n → Comes s l fs name i (record { answer = a; load = n })

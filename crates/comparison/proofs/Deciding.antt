@@ -1,4 +1,5 @@
 -- Tests of the program that decide a proposition, and lists of them.
+use Rattle.std.specs.Prelude.{Option, Some, None, is_some}
 use Prim.Native.Nat.{ℕ, ◌≤◌, ◌<◌}
 use mathlib.Core.Path.{◌≡◌, refl, sym, ap, ◌∙◌}
 use mathlib.Core.Logic.{◌⊎◌, inl, inr, ◌↔◌}
@@ -6,16 +7,13 @@ use mathlib.Core.Bool.{Bool, true, false, not, cond, ◌&&◌, ◌||◌, true≢
 use mathlib.Core.List.{List, [], ◌∷◌}
 use lib.Dec.{leb, ltb, eqb}
 use borrow.Author.Tests.{leb-true, leb-false, le-leb, lt-leb, ltb-true, ltb-false, lt-ltb, le-ltb, eqb-true, eq-eqb}
-use Rattle.laws.proofs.Bools.{or-true-cases, or-true-left, or_true_right, and-true, and-true-left, and-true-right}
+use Rattle.laws.proofs.Options.{some-ne-none}
+use Rattle.laws.proofs.Bools.{or-true-cases, or-true-left, or_true_right, and-true, and-true-left, and-true-right, of-not}
 use Rattle.refusal.specs.First.{first_answer, Answer}
 use Rattle.comparison.specs.Causes.{Cause, First}
 
 abbrev pub Decides : Bool → Type 0 → Type 0
 Decides b P = (b ≡ true) ↔ P
-
-pub not_is : (b : Bool) → not b ≡ true → b ≡ false
-not_is true e = sym e
-not_is false e = refl
 
 pub dec-ltb : (m n : ℕ) → Decides (ltb m n) (m < n)
 dec-ltb m n = (ltb-true m n, lt-ltb m n)
@@ -27,16 +25,21 @@ pub dec-eqb : (m n : ℕ) → Decides (eqb m n) (m ≡ n)
 dec-eqb m n = (eqb-true m n, eq-eqb m n)
 
 pub dec-not-ltb : (m n : ℕ) → Decides (not (ltb m n)) (n ≤ m)
-dec-not-ltb m n = (λ e. ltb-false m n (not_is (ltb m n) e), λ h. ap not (le-ltb m n h))
+dec-not-ltb m n = (λ e. ltb-false m n (of-not (ltb m n) e), λ h. ap not (le-ltb m n h))
 
 pub dec-not-leb : (m n : ℕ) → Decides (not (leb m n)) (n < m)
-dec-not-leb m n = (λ e. leb-false m n (not_is (leb m n) e), λ h. ap not (lt-leb m n h))
+dec-not-leb m n = (λ e. leb-false m n (of-not (leb m n) e), λ h. ap not (lt-leb m n h))
 
 pub dec-is : (b : Bool) → Decides b (b ≡ true)
 dec-is b = (λ e. e, λ e. e)
 
-pub dec-not : (b : Bool) → Decides (not b) (b ≡ false)
-dec-not b = (not_is b, ap not)
+pub dec-none : {A : Type 0} (o : Option A) → Decides (not (is_some o)) (o ≡ None)
+dec-none (Some x) = (λ e. absurd (false≢true e), λ e. absurd (some-ne-none x e))
+dec-none None = (λ e. refl, λ e. refl)
+
+pub dec-some : {A : Type 0} (o : Option A) → Decides (is_some o) (o ≡ None → ⊥)
+dec-some (Some x) = (λ e. some-ne-none x, λ f. refl)
+dec-some None = (λ e. absurd (false≢true e), λ f. absurd (f refl))
 
 module _ {P Q : Type 0} where
   pub dec-or : (a b : Bool) → Decides a P → Decides b Q → Decides (a || b) (P ⊎ Q)

@@ -1,6 +1,6 @@
 -- The three demands are met: demands 2 and 3 follow from what a searched load holds and when best agrees.
 use Rattle.refusal.specs.First.{Answer}
-use Rattle.std.specs.Prelude.{None, Option, Some}
+use Rattle.std.specs.Prelude.{None, Option, Some, is_some}
 use mathlib.Core.Path.{◌≡◌, refl, sym, ap, subst, ◌∙◌}
 use mathlib.Core.Logic.{◌⊎◌, inl, inr, ◌↔◌}
 use mathlib.Core.Bool.{Bool, true, false, cond}
@@ -23,7 +23,7 @@ use Rattle.offers.specs.Admitted as by
 use Rattle.offers.proofs.OfferLaws.{offers-admitted}
 use Rattle.offers.proofs.OrderLaws.{put-in-order}
 use Rattle.load.specs.declared.Load.{Load}
-use Rattle.load.specs.Load.{table_of}
+use Rattle.load.specs.Load.{table_of, stopped}
 use Rattle.load.specs.Steps.{Opening, open_tests, open_answer, opened, open_spec_of}
 use Rattle.load.specs.Filling.{Filling, stop, call, rule, service, exception}
 use Rattle.load.specs.Sound.{Opens, Sound}
@@ -53,7 +53,7 @@ use Rattle.comparison.specs.OfferOrder.{Offered}
 use Rattle.comparison.specs.Events.{Within}
 use Rattle.comparison.specs.Falls.{Falls}
 use Rattle.comparison.specs.Causes.{First, numbers_of, date_causes, opening_causes, window_causes, call_front, left_causes, causes_of}
-use Rattle.comparison.specs.Runs.{Runs, end, Admitted, Finished}
+use Rattle.comparison.specs.Runs.{Runs, Admitted, Finished}
 use Rattle.comparison.specs.Demands.{answers_from, LaterOf, Queried, answer, calls, Fills, ListOf, Lists, ListsWithin, Demand1, Demand2, Second, Alike, MatchedBy, Demand3}
 use Rattle.comparison.proofs.OrderLaws.{covers-in, covers_out}
 use Rattle.comparison.proofs.AlikeLaws.{alike-reads, reads-alike, second-in, in-second, earlier-is}
@@ -63,7 +63,7 @@ use Rattle.comparison.proofs.Deciding.{first_matches}
 use Rattle.comparison.proofs.OneLaws.{one-runs}
 use Rattle.comparison.proofs.SettingLaws.{opens}
 use Rattle.comparison.proofs.CauseLaws.{opening-match}
-use Rattle.comparison.proofs.StartLaws.{Start, limit_of, limit_is, not-limited, state_at}
+use Rattle.comparison.proofs.StartLaws.{Start, state_at}
 use Rattle.comparison.proofs.BagLaws.{shown-perm}
 use Rattle.comparison.proofs.AsideLaws.{like-back, apart, apart-like, admits-like, offered-like}
 use Rattle.comparison.proofs.AdmittedLaws.{admits}
@@ -156,9 +156,9 @@ same-few : (l : Load) → l.settings.max_transfers ≤ 1 → (unsearched_of l).s
 unfolding unsearched_of
 same-few l h = h
 
-unfinished-so : (l : Load) → Kept l → l.stopped ≡ true → finished_within l.limit (timetable_of (unsearched_of l)) ≡ false
+unfinished-so : (l : Load) → Kept l → (n : ℕ) → l.limit ≡ Some n → finished_within n (timetable_of (unsearched_of l)) ≡ false
 unfolding finishes_in
-unfinished-so l k e = own-unfinished l k.sound (k.own (k.sound.stopped_search e)) e
+unfinished-so l k n e = own-unfinished l k.sound (k.own (k.sound.stopped_search (ap is_some e))) n e
 
 -- the searched load's own search is of what was taken
 module _ (s : Opening) (o : Opens s) (xs : List Step) (d : (end_of s xs).searched ≡ true) where
@@ -186,23 +186,23 @@ module _ (s : Opening) (o : Opens s) (xs : List Step) (d : (end_of s xs).searche
         λ a. f.1 (admits-like s.settings (state_at u gs) gs (apart gs) (like-back (apart-like gs)) j (subst (λ (G : Feed). Admits G j) (sym same-feeds) a)),
       )
 
-  own-so : (end_of s xs).stopped ≡ false → OwnFound (end_of s xs) (own_offers (end_of s xs))
+  own-so : (end_of s xs).limit ≡ None → OwnFound (end_of s xs) (own_offers (end_of s xs))
   own-so e = own-found (end_of s xs) (whole s o xs).stands.kept d e
 
-  offered-so : (end_of s xs).stopped ≡ false → Offered (feed_of s.settings (ending s o xs)) (own_offers (end_of s xs))
+  offered-so : (end_of s xs).limit ≡ None → Offered (feed_of s.settings (ending s o xs)) (own_offers (end_of s xs))
   offered-so e =
       subst (λ (G : Feed). Offered G (own_offers l)) same-feeds
       (offered-like s.settings (state_at u gs) (apart gs) gs (own_offers l) (apart-like gs) (offered-is s.settings u (apart gs) start (opens s o) (own-so e).clear))
 
-  -- of a stopped one
-  within-so : (e : (end_of s xs).stopped ≡ true) → Within (feed_of s.settings (ending s o xs)) (end_of s xs).limit (own_within (end_of s xs)) (end_of s xs).limit false
-  within-so e =
+  -- of one that was stopped at the limit n
+  within-so : (n : ℕ) → (end_of s xs).limit ≡ Some n → Within (feed_of s.settings (ending s o xs)) n (own_within n (end_of s xs)) n false
+  within-so n e =
       let k = (whole s o xs).stands.kept in
-      let w = within-here s.settings u (apart gs) start (opens s o) l.limit (stopped-found l k e).clear (same-few l (k.sound.stopped_change e)) in
-      let v = subst (λ (b : Bool). Within (feed_of s.settings (state_at u (apart gs))) l.limit (own_within l) (joins_within l.limit (timetable_of u)) b) (unfinished-so l k e) w in
-      stopped-count (feed_of s.settings (ending s o xs)) l.limit (own_within l) (joins_within l.limit (timetable_of u))
-      (subst (λ (G : Feed). Within G l.limit (own_within l) (joins_within l.limit (timetable_of u)) false) same-feeds
-      (within-like s.settings (state_at u gs) (apart gs) gs l.limit (own_within l) (joins_within l.limit (timetable_of u)) false (apart-like gs) v))
+      let w = within-here s.settings u (apart gs) start (opens s o) n (stopped-found l k n e).clear (same-few l (k.sound.stopped_change (ap is_some e))) in
+      let v = subst (λ (b : Bool). Within (feed_of s.settings (state_at u (apart gs))) n (own_within n l) (joins_within n (timetable_of u)) b) (unfinished-so l k n e) w in
+      stopped-count (feed_of s.settings (ending s o xs)) n (own_within n l) (joins_within n (timetable_of u))
+      (subst (λ (G : Feed). Within G n (own_within n l) (joins_within n (timetable_of u)) false) same-feeds
+      (within-like s.settings (state_at u gs) (apart gs) gs n (own_within n l) (joins_within n (timetable_of u)) false (apart-like gs) v))
 
   ordered-so : Ordered s.settings (end_of s xs).table_horizon (calls_in (whole s o xs).taken) (calls s xs)
   unfolding unsearched_of
@@ -254,9 +254,9 @@ module _ (s : Opening) (o : Opens s) (xs : List Step) where
     best = λ z. subst (BestAt (kept_of (end_of s xs)) (end_of s xs).horizon z) (sym (best-asks (end_of s xs) (handed-sound s xs o).1 d z)) (best-at (kept_of (end_of s xs)) (end_of s xs).horizon z);
   }
 
-  lists : (end_of s xs).searched ≡ true → (end_of s xs).stopped ≡ false → Lists s xs (ending s o xs)
+  lists : (end_of s xs).searched ≡ true → (end_of s xs).limit ≡ None → Lists s xs (ending s o xs)
   lists d f =
-      let w = searched-holds s xs o d f in
+      let w = searched-holds s xs o d (ap is_some f) in
       let e = own-so s o xs d f in
       record {
         offers = own_offers (end_of s xs);
@@ -268,21 +268,16 @@ module _ (s : Opening) (o : Opens s) (xs : List Step) where
         complete = λ j a l. let (k, b, e') = w.complete j ((same-admitted s xs o j).1 a) l in (k, b, covers-in k j e');
       }
 
-  lists-within : (n : ℕ) → limit_of (end_of s xs) ≡ Some n → ListsWithin s xs (ending s o xs) n
+  lists-within : (n : ℕ) → (end_of s xs).limit ≡ Some n → ListsWithin s xs (ending s o xs) n
   lists-within n e =
-      let (f, q) = limit_is (end_of s xs) n e in
       let k = (whole s o xs).stands.kept in
-      let d = k.sound.stopped_search f in
-      record {
-        offers = own_within (end_of s xs);
-        offered = subst (λ (x : ℕ). Within (feed_of s.settings (ending s o xs)) x (own_within (end_of s xs)) x false) q (within-so s o xs d f);
-        list = list_of d (own_within (end_of s xs)) (stopped-found (end_of s xs) k f);
-      }
+      let d = k.sound.stopped_search (ap is_some e) in
+      record { offers = own_within n (end_of s xs); offered = within-so s o xs d n e; list = list_of d (own_within n (end_of s xs)) (stopped-found (end_of s xs) k n e) }
 
 pub demand-2 : Demand2
 demand-2 s xs rs v o w =
     subst (λ (t : State). (t.searched ≡ false → Fills s xs t) × (t.searched ≡ true → t.stopped ≡ None → Lists s xs t) × ((n : ℕ) → t.stopped ≡ Some n → ListsWithin s xs t n)) (ends_so s o xs rs v w)
-    (fills s o xs, λ d e. lists s o xs d (not-limited (end_of s xs) e), lists-within s o xs)
+    (fills s o xs, lists s o xs, lists-within s o xs)
 
 -- ---- 3
 
@@ -294,7 +289,7 @@ matched g s s' xs xs' o o' = (
 )
 
 at-earlier : (s s' : Opening) (xs xs' : List Step) (g : ℕ) → g ≡ min (end_of s xs).horizon (end_of s' xs').horizon → s.settings.now ≡ s'.settings.now → Opens s → Opens s'
-    → (end_of s xs).stopped ≡ false → (end_of s' xs').stopped ≡ false → ((z : ℤ) → Second z → Alike g (answer s xs z) (answer s' xs' z)) ↔ (MatchedBy g s xs s' xs' × MatchedBy g s' xs' s xs)
+    → stopped (end_of s xs) ≡ false → stopped (end_of s' xs') ≡ false → ((z : ℤ) → Second z → Alike g (answer s xs z) (answer s' xs' z)) ↔ (MatchedBy g s xs s' xs' × MatchedBy g s' xs' s xs)
 at-earlier s s' xs xs' g e n o o' f f' = (
   λ f. let (a, b) = whole.0 (λ z i. alike-reads g (answer s xs z) (answer s' xs' z) (f z (in-second z i))) in ((matched g s s' xs xs' o o').0 a, (matched g s' s xs' xs o' o).0 b),
   λ (a, b) z i. reads-alike g (answer s xs z) (answer s' xs' z) (whole.1 ((matched g s s' xs xs' o o').1 a, (matched g s' s xs' xs o' o).1 b) z (second-in z i)),
@@ -305,8 +300,8 @@ at-earlier s s' xs xs' g e n o o' f f' = (
     whole = subst (λ (k : ℕ). ((z : ℤ) → I64 z → read_by journey_figures k (answer s xs z) ≡ read_by journey_figures k (answer s' xs' z)) ↔ (CoveredBy k (by-load.Admitted s xs) (by-load.Admitted s' xs') × CoveredBy k (by-load.Admitted s' xs') (by-load.Admitted s xs))) (sym e) (best-agrees s s' xs xs' n o o' f f')
 
 -- no stopped search, by what was handed in and by the load
-pub finished-load : (s : Opening) (xs : List Step) → Opens s → Finished s xs → (end_of s xs).stopped ≡ false
-finished-load s xs o f = not-limited (end_of s xs) (ap (λ (t : State). t.stopped) (ends_so s o xs f.answers f.end f.runs) ∙ f.finished)
+pub finished-load : (s : Opening) (xs : List Step) → Opens s → Finished s xs → stopped (end_of s xs) ≡ false
+finished-load s xs o f = ap (λ (t : State). is_some t.stopped) (ends_so s o xs f.answers f.end f.runs) ∙ ap is_some f.finished
 
 pub demand-3 : Demand3
 demand-3 s s' xs xs' g n o o' f f' e = at-earlier s s' xs xs' g (earlier-is g _ _ e) n o o' (finished-load s xs o f) (finished-load s' xs' o' f')

@@ -1,10 +1,11 @@
 -- Demand 3 with windows as horizons: what a group shows is its load's list cut at the window.
 use mathlib.Core.Path.{◌≡◌, refl, sym, ap, subst, ◌∙◌}
 use mathlib.Core.Logic.{◌↔◌}
-use mathlib.Core.Bool.{Bool, true, false}
+use mathlib.Core.Bool.{true}
 use mathlib.Core.List.{List, Memᴰ}
 use Prim.Native.Nat.{ℕ, ◌≤◌}
 use lib.IntN.{ℤ}
+use Rattle.std.specs.Prelude.{Option, Some, None}
 use Rattle.laws.proofs.Sort.{sort-mem}
 use Rattle.settings.specs.declared.Settings.{Settings}
 use Rattle.settings.specs.Settings.{canonical_of}
@@ -50,16 +51,16 @@ module _ (gs : List Group) (n : ℕ) (s : Opening) (xs : List Step) (o : Opens s
 
   -- all offers that its list comes from, or those before the stop
   listed : (k : Journey) → Memᴰ k (kept_of (end_of s xs)) → (k.arrival ≤ (end_of s xs).horizon) × (k.leave ≤ k.arrival)
-  listed k m = go (end_of s xs).stopped refl
+  listed k m = go (end_of s xs).limit refl
     where
       by : (os : List Journey) → OwnFound (end_of s xs) os → (Memᴰ k os → k.leave ≤ k.arrival) → (k.arrival ≤ (end_of s xs).horizon) × (k.leave ≤ k.arrival)
       by os w f =
           let (i, h) = after-mem (covᶠ journey_figures) (dueᶠ journey_figures) (end_of s xs).horizon _ os (sort-mem (sooner journey_figures) (front (covᶠ journey_figures) (dueᶠ journey_figures) (end_of s xs).horizon os) (subst (Memᴰ k) w.unbeaten m)) in
           (h, f i)
 
-      go : (b : Bool) → (end_of s xs).stopped ≡ b → (k.arrival ≤ (end_of s xs).horizon) × (k.leave ≤ k.arrival)
-      go true e = by (own_within (end_of s xs)) (stopped-found (end_of s xs) (end_kept s xs) e) (within-ahead (end_of s xs) (end_kept s xs) e k)
-      go false e = by (own_offers (end_of s xs)) (own-found (end_of s xs) (end_kept s xs) searched e) (own-ahead (end_of s xs) (end_kept s xs) (own-found (end_of s xs) (end_kept s xs) searched e).clear k)
+      go : (limit : Option ℕ) → (end_of s xs).limit ≡ limit → (k.arrival ≤ (end_of s xs).horizon) × (k.leave ≤ k.arrival)
+      go (Some n) e = by (own_within n (end_of s xs)) (stopped-found (end_of s xs) (end_kept s xs) n e) (within-ahead (end_of s xs) (end_kept s xs) n e k)
+      go None e = by (own_offers (end_of s xs)) (own-found (end_of s xs) (end_kept s xs) searched e) (own-ahead (end_of s xs) (end_kept s xs) (own-found (end_of s xs) (end_kept s xs) searched e).clear k)
 
   due : (k : Journey) → Memᴰ k (kept_of (end_of s xs)) → k.arrival ≤ (end_of s xs).horizon
   due k m = (listed k m).0

@@ -8,7 +8,7 @@ use mathlib.Core.List.{List, [], ◌∷◌, ◌++◌, Memᴰ}
 use lib.Dec.{eqb, ltb, leb}
 use borrow.Author.Tests.{eqb-true, eq-eqb}
 use Rattle.laws.specs.Lists.{anyb}
-use Rattle.laws.proofs.Bools.{and-true, and-true-left, and-true-right, not-true}
+use Rattle.laws.proofs.Bools.{and-true, and-true-left, and-true-right, not-true, of-not}
 use Rattle.laws.proofs.Lists.{anyb-mem, anyb-not}
 use Rattle.settings.specs.declared.Settings.{Settings}
 use Rattle.settings.specs.Settings.{canonical_of}
@@ -24,7 +24,7 @@ use Rattle.comparison.specs.Withdrawal.{HasKey, InTable, NoneSuch, Withdrawn}
 use Rattle.comparison.proofs.NthLaws.{calls-append}
 use Rattle.comparison.proofs.WindowLaws.{seen-shown, window-seen}
 use Rattle.comparison.proofs.AdmittedLaws.{window_same}
-use Rattle.comparison.proofs.Deciding.{Decides, not_is, dec-not-ltb, dec-not-leb, dec-nand}
+use Rattle.comparison.proofs.Deciding.{Decides, dec-not-ltb, dec-not-leb, dec-nand}
 use Rattle.comparison.proofs.AfterLaws.{named_filling, call-in}
 use Rattle.comparison.proofs.SettingLaws.{Opened}
 
@@ -105,7 +105,7 @@ module _ (s : Settings) (o : Opened s) (h : ℕ) (k : CallKey) where
 
   pub dec-none : (is : List CallInput) → ((j : CallInput) → Memᴰ j is → j.day ≤ 2) → Decides (not (anyb (named_in z h k) is)) (NoneSuch s h k is)
   dec-none is days = (
-    λ e i m q t. true≢false (sym ((dec-such i (days i m)).1 (q, t)) ∙ anyb-not (named_in z h k) (not_is (anyb (named_in z h k) is) e) m),
+    λ e i m q t. true≢false (sym ((dec-such i (days i m)).1 (q, t)) ∙ anyb-not (named_in z h k) (of-not (anyb (named_in z h k) is) e) m),
     λ f. ap not (not-true (anyb (named_in z h k) is) (λ e. let (i, m, q) = anyb-mem (named_in z h k) is e in let (a, b) = (dec-such i (days i m)).0 q in f i m a b)),
   )
 

@@ -1,7 +1,7 @@
 -- A call fits as it is stated here: the program's table shows the calls taken, and its cuts are those of the relation.
 use Rattle.refusal.specs.declared.Accepted.TheVariants.{Taken, Outside}
 use Rattle.std.specs.Prelude.{None, Option, Some, Err, Ok}
-use Prim.Native.Nat.{ℕ, ◌-◌, ◌≤◌}
+use Prim.Native.Nat.{ℕ, ◌≤◌}
 use mathlib.Core.Path.{◌≡◌, refl, sym, ap, subst, ◌∙◌}
 use mathlib.Core.Bool.{Bool, false, cond, true≢false}
 use mathlib.Core.List.{List, [], ◌∷◌, ◌++◌, Memᴰ}
@@ -40,7 +40,7 @@ use Rattle.comparison.proofs.AdmittedLaws.{window_same}
 
 module _ (s : Settings) (o : Opened s) (h : ℕ) where
   unseen : (i : CallInput) → i.day ≤ 2 → window s h i ≡ None → (c : Call) → Seen s h i c → ⊥
-  unseen i d e c v = let q : None ≡ Some c = sym e ∙ seen-shown s h i (o.clock i.day d) c v in let z : ◌≡◌ {A = ℕ} 0 1 = cc in omega arith
+  unseen i d e c v = let q : None ≡ Some c = sym e ∙ seen-shown s h i (o.clock i.day d) c v in cc
 
   shown-is : (is : List CallInput) → ((i : CallInput) → Memᴰ i is → i.day ≤ 2) → Shown s h is (windowed s h is)
   shown-is [] f = empty

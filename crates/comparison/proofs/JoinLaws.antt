@@ -1,22 +1,21 @@
 -- In the load that the search was handed, parents, sides, changes and joins are those stated here.
+use Rattle.std.specs.Option.{unwrap_or}
 use Rattle.std.specs.Prelude.{None, Option, Some}
 use Prim.Native.Nat.{ℕ, ◌+◌, ◌≤◌, ◌<◌}
 use mathlib.Core.Path.{◌≡◌, refl, sym, ap, subst, ◌∙◌}
 use mathlib.Core.Logic.{◌⊎◌, inl, inr, ◌↔◌}
 use mathlib.Core.Bool.{Bool, true, false, not, cond, ◌&&◌, ◌||◌, true≢false, false≢true}
-use mathlib.Core.List.{List, map, Memᴰ}
+use mathlib.Core.List.{List, Memᴰ}
 use native.Mathlib.Omega.{arith}
 use lib.Dec.{eqb, ltb}
-use lib.ListN.{get_or, take, length, length-map, length-take, get_or-map}
-use lib.Seq.{get_or-take}
+use lib.ListN.{get_or}
 use borrow.Author.Tests.{leb-true, le-leb, eqb-true, eqb-false, eq-eqb, ne_eqb, lt-ltb, not-true}
 use Rattle.laws.proofs.Bools.{and-true, and-true-left, and-true-right, or-true-cases, or-true-left, or_true_right, cond-by}
+use Rattle.laws.proofs.Options.{some-injective, none-ne-some}
 use Rattle.settings.specs.declared.Settings.{Settings}
 use Rattle.settings.specs.Settings.{canonical_of}
 use Rattle.calls.specs.declared.Call.{Call}
 use Rattle.rules.specs.declared.Rule.{Rule}
-use Rattle.rules.specs.declared.RuleInput.{RuleInput}
-use Rattle.rules.specs.Rules.{rule_of, blank_rule}
 use Rattle.rules.specs.Sound.{rule_at}
 use Rattle.stops.specs.Sound.{stop_at}
 use Rattle.transfer.specs.declared.Ends.{Ends}
@@ -24,17 +23,16 @@ use Rattle.transfer.specs.Choice.{side, chosen}
 use Rattle.transfer.specs.Changes.{ends_of_of, near, change_of, transfer_of, joins_by, join_of}
 use Rattle.transfer.specs.Copied.{parents_of}
 use Rattle.transfer.proofs.Claims.{parent-read, pair-once}
-use Rattle.transfer.proofs.AnyOrder.{mem-get_d}
+use Rattle.transfer.proofs.AnyOrder.{place_of}
 use Rattle.load.specs.declared.Load.{Load}
 use Rattle.load.specs.Filling.{Filling}
 use Rattle.offers.specs.Offers.{ride_of}
 use Rattle.search.specs.Timetable.{change_in, one_run, joins_in}
 use Rattle.comparison.specs.Taken.{StopGiven, stops_in, rules_in}
 use Rattle.comparison.specs.Admitted.{Nth, Feed, Parent, Side, Change, Joins}
-use Rattle.comparison.specs.Feeds.{feed_from}
 use Rattle.comparison.proofs.NthLaws.{nth-one}
-use Rattle.comparison.proofs.TakenLaws.{HeldAs}
-use Rattle.comparison.proofs.StartLaws.{Start}
+use Rattle.comparison.proofs.TakenLaws.{ParentHeld, HeldAs}
+use Rattle.comparison.proofs.StartLaws.{Start, feed_from}
 use Rattle.comparison.proofs.PlaceLaws.{place_in, one-id, given_below, place-in, place_out}
 use Rattle.comparison.proofs.RuleLaws.{Taken, Near, change-in, change-out}
 
@@ -47,102 +45,98 @@ module _ (s : Settings) (p : Load) (fs : List Filling) (w : Start s p fs) where
 
   -- ---- parents
 
-  parent_in : (x n : ℕ) → x < p.stop_count → n < 128 → (stop_at p.stops x).parent ≡ n → Parent (stops_in fs) x n
-  parent_in x n h k e = go (w.held.each x h)
+  parent_in : (x n : ℕ) → x < p.stop_count → (stop_at p.stops x).parent ≡ Some n → Parent (stops_in fs) x n
+  parent_in x n h e = go (w.held.each x h)
     where
       go : HeldAs (stop_at p.stops x) (stops_in fs) x → Parent (stops_in fs) x n
       go v = two v.parent
         where
-          two : ((v.given.input.has_parent ≡ false) × ((stop_at p.stops x).parent ≡ 65535))
-              ⊎ ((v.given.input.has_parent ≡ true) × ((q : StopGiven) × Nth (stops_in fs) (stop_at p.stops x).parent q × ((stop_at p.stops x).parent < x) × (q.id ≡ v.given.parent) × (q.input.location_type ≡ 1)))
-              → Parent (stops_in fs) x n
-          two (inl (a, b)) = absurd (omega arith)
-          two (inr (a, (q, m, b, i, t))) = record {
+          two : ParentHeld (stop_at p.stops x).parent (stops_in fs) x v.given.parent → Parent (stops_in fs) x n
+          two (inl (a, b)) = absurd (none-ne-some n (sym b ∙ e))
+          two (inr (y, q, b, m, l, i, t)) = record {
             child = v.given;
             station = q;
             at_child = v.at;
-            at_station = subst (λ (j : ℕ). Nth (stops_in fs) j q) e m;
-            named = a;
-            same_id = i;
+            at_station = subst (λ (j : ℕ). Nth (stops_in fs) j q) (some-injective y n (sym b ∙ e)) m;
+            named = i;
             type_one = t;
           }
 
   below : (x : ℕ) (g : StopGiven) → Nth (stops_in fs) x g → x < p.stop_count
   below = given_below s p fs w
 
-  parent-out : (x n : ℕ) → Parent (stops_in fs) x n → (stop_at p.stops x).parent ≡ n
+  parent-out : (x n : ℕ) → Parent (stops_in fs) x n → (stop_at p.stops x).parent ≡ Some n
   parent-out x n c = go (w.held.each x (below x c.child c.at_child))
     where
-      go : HeldAs (stop_at p.stops x) (stops_in fs) x → (stop_at p.stops x).parent ≡ n
+      go : HeldAs (stop_at p.stops x) (stops_in fs) x → (stop_at p.stops x).parent ≡ Some n
       go v = two v.parent
         where
           same : v.given ≡ c.child
           same = nth-one (stops_in fs) x v.given c.child v.at c.at_child
 
-          two : ((v.given.input.has_parent ≡ false) × ((stop_at p.stops x).parent ≡ 65535))
-              ⊎ ((v.given.input.has_parent ≡ true) × ((q : StopGiven) × Nth (stops_in fs) (stop_at p.stops x).parent q × ((stop_at p.stops x).parent < x) × (q.id ≡ v.given.parent) × (q.input.location_type ≡ 1)))
-              → (stop_at p.stops x).parent ≡ n
-          two (inl (a, b)) = absurd (true≢false (sym c.named ∙ sym (ap (λ (g : StopGiven). g.input.has_parent) same) ∙ a))
-          two (inr (a, (q, m, b, i, t))) =
-              let y : ℕ = (stop_at p.stops x).parent in
+          two : ParentHeld (stop_at p.stops x).parent (stops_in fs) x v.given.parent → (stop_at p.stops x).parent ≡ Some n
+          two (inl (a, b)) = absurd (none-ne-some c.station.id (sym a ∙ ap (λ (g : StopGiven). g.parent) same ∙ c.named))
+          two (inr (y, q, b, m, l, i, t)) =
               let hy : y < p.stop_count = below y q m in
               let hn : n < p.stop_count = below n c.station c.at_station in
               let u = w.held.each y hy in
               let z = w.held.each n hn in
-              one-id s p fs w y n hy hn
-              (u.id ∙ ap (λ (g : StopGiven). g.id) (nth-one (stops_in fs) y u.given q u.at m) ∙ i ∙ ap (λ (g : StopGiven). g.parent) same
-              ∙ sym c.same_id ∙ ap (λ (g : StopGiven). g.id) (nth-one (stops_in fs) n c.station z.given c.at_station z.at) ∙ sym z.id)
+              let k : q.id ≡ c.station.id = some-injective q.id c.station.id (sym i ∙ ap (λ (g : StopGiven). g.parent) same ∙ c.named) in
+              b ∙ ap Some (one-id s p fs w y n hy hn
+              (u.id ∙ ap (λ (g : StopGiven). g.id) (nth-one (stops_in fs) y u.given q u.at m) ∙ k
+              ∙ ap (λ (g : StopGiven). g.id) (nth-one (stops_in fs) n c.station z.given c.at_station z.at) ∙ sym z.id))
 
   -- ---- sides
 
-  read : (x : ℕ) → x < p.stop_count → get_or (parents_of p.stops) x 65535 ≡ (stop_at p.stops x).parent
+  -- the program reads 65535 where there is no parent
+  read : (x : ℕ) → x < p.stop_count → get_or (parents_of p.stops) x 65535 ≡ unwrap_or (stop_at p.stops x).parent 65535
   read x h = parent-read p.stops x (omega (arith, few))
+
+  is-some : (o : Option ℕ) → (unwrap_or o 65535 ≡ 65535 → ⊥) → o ≡ Some (unwrap_or o 65535)
+  is-some (Some n) f = refl
+  is-some None f = absurd (f refl)
+
+  read-in : (x : ℕ) → x < p.stop_count → (get_or (parents_of p.stops) x 65535 ≡ 65535 → ⊥) → Parent (stops_in fs) x (get_or (parents_of p.stops) x 65535)
+  read-in x h f =
+      parent_in x (get_or (parents_of p.stops) x 65535) h (is-some (stop_at p.stops x).parent (λ q. f (read x h ∙ q)) ∙ ap Some (sym (read x h)))
+
+  read-out : (x n : ℕ) → x < p.stop_count → Parent (stops_in fs) x n → get_or (parents_of p.stops) x 65535 ≡ n
+  read-out x n h c = read x h ∙ ap (λ (o : Option ℕ). unwrap_or o 65535) (parent-out x n c)
 
   side-is : (n x : ℕ) → x < p.stop_count → n < 128 → (side n x (get_or (parents_of p.stops) x 65535) ≡ true) ↔ Side F n x
   side-is n x h k = (λ e. fore (or-true-cases (eqb n x) _ e), back)
     where
       fore : (eqb n x ≡ true) ⊎ (eqb n (get_or (parents_of p.stops) x 65535) ≡ true) → Side F n x
       fore (inl e) = inl (eqb-true n x e)
-      fore (inr e) = inr (parent_in x n h k (sym (read x h) ∙ sym (eqb-true n _ e)))
+      fore (inr e) = let q = eqb-true n _ e in inr (subst (Parent (stops_in fs) x) (sym q) (read-in x h (λ z. omega arith)))
 
       back : Side F n x → side n x (get_or (parents_of p.stops) x 65535) ≡ true
       back (inl e) = or-true-left _ _ (eq-eqb n x e)
-      back (inr c) = or_true_right (eqb n x) _ (eq-eqb n _ (sym (parent-out x n c) ∙ sym (read x h)))
+      back (inr c) = or_true_right (eqb n x) _ (eq-eqb n _ (sym (read-out x n h c)))
 
   -- ---- rules
 
-  abbrev blank : RuleInput
-  blank = record { from = 0; to = 0; transfer_type = 0; seconds = None }
-
-  -- a rule that was taken stands at a place of the load, and at the same place of those handed in
-  placed : (r : RuleInput) → Memᴰ r (rules_in fs) → (k : ℕ) × (k < p.rule_count) × (rule_at p.rules k ≡ rule_of r) × (get_or (rules_in fs) k blank ≡ r)
-  unfolding rule_at
-  placed r m =
-      let (k, h, e) = mem-get_d blank m in
-      let c : length (take p.rule_count p.rules) ≡ p.rule_count = simp length-take (omega (arith, w.sound.rules.few, w.sound.rules.long)) in
-      let n : length (take p.rule_count p.rules) ≡ length (rules_in fs) = ap length w.held.rules ∙ length-map (rules_in fs) rule_of in
-      let l : k < p.rule_count = omega (arith, c, n) in
-      let q : get_or p.rules k blank_rule ≡ rule_of r =
-      sym (get_or-take p.rule_count p.rules k blank_rule l) ∙ ap (λ (x : List Rule). get_or x k blank_rule) w.held.rules ∙ get_or-map rule_of (rules_in fs) k blank ∙ ap rule_of e in
-      (k, l, q, e)
+  -- a rule that was taken stands at a place of the load
+  placed : (r : Rule) → Memᴰ r (rules_in fs) → (k : ℕ) × (k < p.rule_count) × (rule_at p.rules k ≡ r)
+  placed r m = place_of p.stop_count p.rules p.rule_count w.sound.rules r (subst (Memᴰ r) (sym w.held.rules) m)
 
   -- it names stops that are
-  rule-known : (r : RuleInput) → Memᴰ r (rules_in fs) → (r.from < 128) × (r.to < 128)
+  rule-known : (r : Rule) → Memᴰ r (rules_in fs) → (r.from < 128) × (r.to < 128)
   rule-known r m =
-      let (k, l, q, e) = placed r m in
+      let (k, l, q) = placed r m in
       (omega (arith, w.sound.rules.from_known k l, ap (λ (x : Rule). x.from) q, few), omega (arith, w.sound.rules.to_known k l, ap (λ (x : Rule). x.to) q, few))
 
   -- its type is one of 0 to 3, and no other is for its pair
   known : Taken (rules_in fs)
   known = record {
-    types = λ r m. let (k, l, q, e) = placed r m in omega (arith, w.sound.rules.types k l, ap (λ (x : Rule). x.transfer_type) q);
+    types = λ r m. let (k, l, q) = placed r m in omega (arith, w.sound.rules.types k l, ap (λ (x : Rule). x.transfer_type) q);
     alone = λ a b m n f t.
-        let (j, hj, qj, ej) = placed a m in
-        let (k, hk, qk, ek) = placed b n in
+        let (j, hj, qj) = placed a m in
+        let (k, hk, qk) = placed b n in
         let same : j ≡ k =
         pair-once p.stop_count p.rules p.rule_count w.sound.rules j k hj hk
         (ap (λ (x : Rule). x.from) qj ∙ f ∙ sym (ap (λ (x : Rule). x.from) qk)) (ap (λ (x : Rule). x.to) qj ∙ t ∙ sym (ap (λ (x : Rule). x.to) qk)) in
-        sym ej ∙ ap (λ (i : ℕ). get_or (rules_in fs) i blank) same ∙ ek;
+        sym qj ∙ ap (rule_at p.rules) same ∙ qk;
   }
 
   -- ---- changes
@@ -151,10 +145,10 @@ module _ (s : Settings) (p : Load) (fs : List Filling) (w : Start s p fs) where
     abbrev e : Ends
     e = record { from = x; from_parent = get_or (parents_of p.stops) x 65535; to = y; to_parent = get_or (parents_of p.stops) y 65535 }
 
-    fores : (r : RuleInput) → Memᴰ r (rules_in fs) → (side r.from x (get_or (parents_of p.stops) x 65535) ≡ true) ↔ Side F r.from x
+    fores : (r : Rule) → Memᴰ r (rules_in fs) → (side r.from x (get_or (parents_of p.stops) x 65535) ≡ true) ↔ Side F r.from x
     fores r m = side-is r.from x hx (rule-known r m).0
 
-    rears : (r : RuleInput) → Memᴰ r (rules_in fs) → (side r.to y (get_or (parents_of p.stops) y 65535) ≡ true) ↔ Side F r.to y
+    rears : (r : Rule) → Memᴰ r (rules_in fs) → (side r.to y (get_or (parents_of p.stops) y 65535) ≡ true) ↔ Side F r.to y
     rears r m = side-is r.to y hy (rule-known r m).1
 
     abbrev close : Bool
@@ -173,12 +167,7 @@ module _ (s : Settings) (p : Load) (fs : List Filling) (w : Start s p fs) where
         parents q =
             let a : fp ≡ 65535 → ⊥ = eqb-false fp 65535 (not-true (eqb fp 65535) (and-true-left _ _ q)) in
             let b : fp ≡ tp = eqb-true fp tp (and-true-right (not (eqb fp 65535)) _ q) in
-            let k : fp < 128 = small (w.sound.stops.parents x hx) a in
-            (fp, parent_in x fp hx k (sym (read x hx)), parent_in y fp hy k (sym (read y hy) ∙ sym b))
-          where
-            small : ((stop_at p.stops x).parent ≡ 65535) ⊎ (((stop_at p.stops x).parent < p.stop_count) × ((stop_at p.stops (stop_at p.stops x).parent).location_type ≡ 1)) → (fp ≡ 65535 → ⊥) → fp < 128
-            small (inl z) a = absurd (a (read x hx ∙ z))
-            small (inr (z, t)) a = omega (arith, read x hx, few)
+            (fp, read-in x hx a, subst (Parent (stops_in fs) y) (sym b) (read-in y hy (λ z. a (b ∙ z))))
 
         two : ((not (eqb fp 65535) && eqb fp tp) ≡ true) ⊎ ((not (eqb (place_in p x) 65535) && eqb (place_in p x) (place_in p y)) ≡ true) → Near F e known fores rears
         two (inl q) = inr (inl (parents q))
@@ -191,8 +180,8 @@ module _ (s : Settings) (p : Load) (fs : List Filling) (w : Start s p fs) where
         back : Near F e known fores rears → close ≡ true
         back (inl q) = or-true-left _ _ (eq-eqb x y q)
         back (inr (inl (n, c, d))) =
-            let a : fp ≡ n = read x hx ∙ parent-out x n c in
-            let b : tp ≡ n = read y hy ∙ parent-out y n d in
+            let a : fp ≡ n = read-out x n hx c in
+            let b : tp ≡ n = read-out y n hy d in
             let l : n < p.stop_count = below n c.station c.at_station in
             or_true_right (eqb x y) _ (or-true-left _ _ (and-true _ _ (ap not (ne_eqb fp 65535 (λ z. omega (arith, few)))) (eq-eqb fp tp (a ∙ sym b))))
         back (inr (inr o)) =
@@ -204,7 +193,7 @@ module _ (s : Settings) (p : Load) (fs : List Filling) (w : Start s p fs) where
     unfolding canonical_of
     change = ap (λ (z : Settings). z.transfer_seconds) w.settings
 
-    change-is : change_in p x y ≡ change_of (chosen e (map rule_of (rules_in fs))) close s.transfer_seconds
+    change-is : change_in p x y ≡ change_of (chosen e (rules_in fs)) close s.transfer_seconds
     unfolding transfer_of ends_of_of
     change-is = λ k. change_of (chosen e (w.held.rules k)) close (change k)
 

@@ -14,7 +14,7 @@ use Rattle.laws.specs.Sort.{insert_by, sort}
 use Rattle.laws.proofs.Bools.{test, not-true as is_false}
 use Rattle.laws.proofs.Lists.{anyb-not, anyb-none}
 use Rattle.laws.proofs.Sort.{sort-mem, mem-sort}
-use Rattle.transfer.proofs.AnyOrder.{mem-get_d}
+use Rattle.laws.proofs.Lists.{mem-get_d}
 use Rattle.profile.specs.declared.Journey.{Journey}
 use Rattle.profile.specs.Figures.{covᶠ, dueᶠ}
 use Rattle.profile.specs.Front.{beats, counts, after, front}

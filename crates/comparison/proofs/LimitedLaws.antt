@@ -1,6 +1,6 @@
 -- What request 12 claims beside the demands.
 use Rattle.refusal.specs.declared.Accepted.TheVariants.{Taken}
-use Rattle.std.specs.Prelude.{None, Option, Some, Ok}
+use Rattle.std.specs.Prelude.{None, Option, Some, is_some, Ok}
 use Prim.Native.Nat.{ℕ, ◌+◌, ◌-◌, ◌≤◌, min}
 use native.Mathlib.Omega.{arith}
 use mathlib.Core.Path.{◌≡◌, refl, sym, ap, subst, ◌∙◌}
@@ -22,6 +22,7 @@ use Rattle.limited.specs.Margin.{earliest, margin_of, margin_within, answer_at0}
 use Rattle.limited.proofs.LimitLaws.{count-within, finished-within, larger-never-later}
 use Rattle.limited.proofs.MarginLaws.{answer-after-earliest, within-margin}
 use Rattle.load.specs.declared.Load.{Load}
+use Rattle.load.specs.Load.{stopped}
 use Rattle.load.specs.Steps.{Opening}
 use Rattle.load.specs.Sound.{Opens, Sound}
 use Rattle.best.specs.Best.{answer_of, best_spec, kept_of}
@@ -76,8 +77,8 @@ full o xs n a f =
     let l = end_of o xs in
     sym (finished-is-search l n (taken-within l n (ap is_taken a)).one (sym (within-taken l n a).says ∙ f)) ∙ (λ i. record { answer = a i; load = (within_spec l n).load })
 
-stops : (o : Opening) (xs : List Step) (n : ℕ) → (limited_by o xs n).answer ≡ Ok Taken → (limited_by o xs n).finished ≡ false → ((limited_by o xs n).load.stopped ≡ true) × ((limited_by o xs n).load.limit ≡ n)
-stops o xs n a f = let k = within-taken (end_of o xs) n a in (k.stops.1 f, k.holds ∙ cond-not _ _ (sym k.says ∙ f))
+stops : (o : Opening) (xs : List Step) (n : ℕ) → (limited_by o xs n).answer ≡ Ok Taken → (limited_by o xs n).finished ≡ false → (limited_by o xs n).load.limit ≡ Some n
+stops o xs n a f = let k = within-taken (end_of o xs) n a in k.holds ∙ cond-not _ _ (sym k.says ∙ f)
 
 -- a stopped load tested as many joins as its limit
 tested-limit : (n : ℕ) (l : Load) → finishes_in l n ≡ false → joins_within n (timetable_of l) ≡ n
@@ -88,11 +89,11 @@ tested-limit n l e = count-within n (timetable_of l) ∙ least (leb (all_joins (
     least true q = absurd (true≢false (sym ((finished-within n (timetable_of l)).1 (leb-true (all_joins (timetable_of l)) n q)) ∙ e))
     least false q = omega (arith, leb-false (all_joins (timetable_of l)) n q)
 
-afresh : (o : Opening) (xs : List Step) → (end_of o xs).stopped ≡ true
-    → within_spec (unsearched_of (end_of o xs)) (end_of o xs).limit ≡ record { answer = Ok Taken; load = end_of o xs; joins = (end_of o xs).limit; finished = false }
-afresh o xs e =
-    let k = own-stopped (end_of o xs) (end_kept o xs) e in
-    k.is ∙ (λ i. record { answer = Ok Taken; load = end_of o xs; joins = tested-limit (end_of o xs).limit (end_of o xs) k.unfinished i; finished = false })
+afresh : (o : Opening) (xs : List Step) (n : ℕ) → (end_of o xs).limit ≡ Some n
+    → within_spec (unsearched_of (end_of o xs)) n ≡ record { answer = Ok Taken; load = end_of o xs; joins = n; finished = false }
+afresh o xs n e =
+    let k = own-stopped (end_of o xs) (end_kept o xs) n e in
+    k.is ∙ (λ i. record { answer = Ok Taken; load = end_of o xs; joins = tested-limit n (end_of o xs) k.unfinished i; finished = false })
 
 -- ---- second 0
 
@@ -107,11 +108,11 @@ module _ (l : Load) (n : ℕ) (s : Sound l) (t : (within_spec l n).answer ≡ Ok
   load_is : within_found l n w.kept w.to w.mark ≡ (within_spec l n).load
   load_is = ap (λ (r : Limited). r.load) (sym w.is)
 
-  kept-is : (b : Bool) → kept_of (cond b (with_journeys l w.kept w.to w.mark) (with_found l w.kept w.to w.mark true n)) ≡ w.kept
-  kept-is true = found-kept l w.kept w.to w.mark false 0
-  kept-is false = found-kept l w.kept w.to w.mark true n
+  kept-is : (b : Bool) → kept_of (cond b (with_journeys l w.kept w.to w.mark) (with_found l w.kept w.to w.mark (Some n))) ≡ w.kept
+  kept-is true = found-kept l w.kept w.to w.mark None
+  kept-is false = found-kept l w.kept w.to w.mark (Some n)
 
-  to_is : (b : Bool) → (cond b (with_journeys l w.kept w.to w.mark) (with_found l w.kept w.to w.mark true n)).horizon ≡ w.to
+  to_is : (b : Bool) → (cond b (with_journeys l w.kept w.to w.mark) (with_found l w.kept w.to w.mark (Some n))).horizon ≡ w.to
   to_is true = refl
   to_is false = refl
 
@@ -142,9 +143,9 @@ earliest-end o w xs d m v =
     earliest-like o.settings (state_at (unsearched_of (end_of o xs)) gs) (apart gs) gs m (apart-like gs)
     (earliest-in o.settings (unsearched_of (end_of o xs)) (apart gs) ((whole o w xs).stands.done d) (opens o w) m v)
 
-margin-found : (l : Load) (j : Journey) → l.stopped ≡ true → at_zero_of l ≡ Some j → margin_spec l ≡ Some (j.arrival - earliest (timetable_of l))
+margin-found : (l : Load) (j : Journey) (n : ℕ) → l.limit ≡ Some n → at_zero_of l ≡ Some j → margin_spec l ≡ Some (j.arrival - earliest (timetable_of l))
 unfolding margin_spec margin_from
-margin-found l j e z = cond-by _ _ e ∙ go (best_spec l (pos 0)) z
+margin-found l j n e z = cond-by _ _ (ap is_some e) ∙ go (best_spec l (pos 0)) z
   where
     go : (f : Option Journey) → answer_of f ≡ Some j → margin_from (timetable_of l) f ≡ Some (j.arrival - earliest (timetable_of l))
     go (Some k) q = ap (λ (i : Journey). Some (i.arrival - earliest (timetable_of l))) (some-injective k j q)
@@ -152,19 +153,19 @@ margin-found l j e z = cond-by _ _ e ∙ go (best_spec l (pos 0)) z
 
 no_margin : (l : Load) → at_zero_of l ≡ None → margin_spec l ≡ None
 unfolding margin_spec margin_from
-no_margin l z = go l.stopped (best_spec l (pos 0)) z
+no_margin l z = go (stopped l) (best_spec l (pos 0)) z
   where
     go : (b : Bool) (f : Option Journey) → answer_of f ≡ None → cond b (margin_from (timetable_of l) f) None ≡ None
     go true (Some k) q = absurd (none-ne-some k (sym q))
     go true None q = refl
     go false f q = refl
 
-no_margin_finished : (l : Load) → l.stopped ≡ false → margin_spec l ≡ None
+no_margin_finished : (l : Load) → l.limit ≡ None → margin_spec l ≡ None
 unfolding margin_spec
-no_margin_finished l e = cond-not _ _ e
+no_margin_finished l e = cond-not _ _ (ap is_some e)
 
 -- the load is the search of its own table within its limit
-module _ (l : Load) (k : Kept l) (e : l.stopped ≡ true) (j : Journey) (z : at_zero_of l ≡ Some j) where
+module _ (l : Load) (k : Kept l) (n : ℕ) (e : l.limit ≡ Some n) (j : Journey) (z : at_zero_of l ≡ Some j) where
   abbrev u : Load
   u = unsearched_of l
 
@@ -172,20 +173,20 @@ module _ (l : Load) (k : Kept l) (e : l.stopped ≡ true) (j : Journey) (z : at_
   unfolding timetable_of unsearched_of
   same-table = refl
 
-  zero-own : answer_at0 (outcome_within u l.limit) ≡ Some j
-  zero-own = ap answer_at0 (outcome-is l k e) ∙ sym (at_zero l k.sound (k.sound.stopped_search e)) ∙ z
+  zero-own : answer_at0 (outcome_within u n) ≡ Some j
+  zero-own = ap answer_at0 (outcome-is l k n e) ∙ sym (at_zero l k.sound (k.sound.stopped_search (ap is_some e))) ∙ z
 
   after : limited.Earliest (timetable_of u) (earliest (timetable_of u)) × (earliest (timetable_of u) ≤ j.arrival)
   unfolding outcome_within
-  after = answer-after-earliest l.limit (timetable_of u) u.table_horizon u.table_limits j zero-own
+  after = answer-after-earliest n (timetable_of u) u.table_horizon u.table_limits j zero-own
 
-  margin-own : margin_within l.limit (timetable_of u) u.table_horizon u.table_limits ≡ Some (j.arrival - earliest (timetable_of u))
+  margin-own : margin_within n (timetable_of u) u.table_horizon u.table_limits ≡ Some (j.arrival - earliest (timetable_of u))
   unfolding margin_within outcome_within finishes_in
-  margin-own = cond-not _ _ (own-unfinished l k.sound (k.own (k.sound.stopped_search e)) e) ∙ ap (margin_of (timetable_of u)) zero-own
+  margin-own = cond-not _ _ (own-unfinished l k.sound (k.own (k.sound.stopped_search (ap is_some e))) n e) ∙ ap (margin_of (timetable_of u)) zero-own
 
   few : (timetable_of u).max_transfers ≤ 1
   unfolding timetable_of unsearched_of
-  few = k.sound.stopped_change e
+  few = k.sound.stopped_change (ap is_some e)
 
   -- where the full search is accepted
   finished-answer : (search_spec u).answer ≡ Ok Taken → (w : NoLater (search_spec u).load j) × (j.arrival ≤ w.j'.arrival + (j.arrival - earliest (timetable_of u)))
@@ -193,7 +194,7 @@ module _ (l : Load) (k : Kept l) (e : l.stopped ≡ true) (j : Journey) (z : at_
   finished-answer t =
       let f = taken-searches u (ap is_taken t) in
       let s = search-sound u (unsearched-sound l k.sound) in
-      let (i, j', a, b, c, d) = within-margin l.limit (timetable_of u) u.table_horizon u.table_limits (j.arrival - earliest (timetable_of u)) (kept_of (search_spec u).load) (search_spec u).load.horizon (search_spec u).load.limits
+      let (i, j', a, b, c, d) = within-margin n (timetable_of u) u.table_horizon u.table_limits (j.arrival - earliest (timetable_of u)) (kept_of (search_spec u).load) (search_spec u).load.horizon (search_spec u).load.limits
       few margin-own f.finds.is in
       let q : i ≡ j = some-injective i j (sym a ∙ zero-own) in (
         record { j' = j'; there = at_zero (search_spec u).load s f.searched ∙ b; no_later = subst (λ (x : Journey). j'.arrival ≤ x.arrival) q c },
@@ -201,19 +202,19 @@ module _ (l : Load) (k : Kept l) (e : l.stopped ≡ true) (j : Journey) (z : at_
       )
 
 margin : (o : Opening) (xs : List Step) (rs : List Answer) (v : State) (j : Journey) → Opens o → Runs o.settings (fresh o.dates) xs rs v
-    → (end_of o xs).stopped ≡ true → at_zero_of (end_of o xs) ≡ Some j → MarginOf (feed_of o.settings v) (end_of o xs) j
-margin o xs rs v j w run e z =
+    → (n : ℕ) → (end_of o xs).limit ≡ Some n → at_zero_of (end_of o xs) ≡ Some j → MarginOf (feed_of o.settings v) (end_of o xs) j
+margin o xs rs v j w run n e z =
     let l = end_of o xs in
     let k = end_kept o xs in
     let gs = (whole o w xs).taken in
-    let d = k.sound.stopped_search e in
+    let d = k.sound.stopped_search (ap is_some e) in
     record {
       earliest = earliest (timetable_of (unsearched_of l));
       is_earliest = subst (λ (t : State). Earliest (feed_of o.settings t) (earliest (timetable_of (unsearched_of l)))) (ends_so o w xs rs v run)
-          (earliest-end o w xs d (earliest (timetable_of (unsearched_of l))) (after l k e j z).0);
-      no_earlier = (after l k e j z).1;
-      margin = margin-found l j e z ∙ ap (λ (t : Timetable). Some (j.arrival - earliest t)) (sym (same-table l k e j z));
-      finished = finished-answer l k e j z;
+          (earliest-end o w xs d (earliest (timetable_of (unsearched_of l))) (after l k n e j z).0);
+      no_earlier = (after l k n e j z).1;
+      margin = margin-found l j n e z ∙ ap (λ (t : Timetable). Some (j.arrival - earliest t)) (sym (same-table l k n e j z));
+      finished = finished-answer l k n e j z;
     }
 
 pub limits : Limits

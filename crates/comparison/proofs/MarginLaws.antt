@@ -15,9 +15,9 @@ use Rattle.search.specs.Timetable.{timetable_of}
 use Rattle.comparison.specs.Taken.{calls_in, State, keeping}
 use Rattle.comparison.specs.Admitted.{Feed}
 use Rattle.comparison.specs.Events.{Reaches, Earliest}
-use Rattle.comparison.specs.Feeds.{feed_of, feed_from}
+use Rattle.comparison.specs.Feeds.{feed_of}
 use Rattle.comparison.proofs.SettingLaws.{Opened}
-use Rattle.comparison.proofs.StartLaws.{Start, state_at, same-feed}
+use Rattle.comparison.proofs.StartLaws.{Start, state_at, same-feed, feed_from}
 use Rattle.comparison.proofs.BagLaws.{handing, leg-perm}
 use Rattle.comparison.proofs.AsideLaws.{Like, feed-beside}
 use Rattle.comparison.proofs.AdmittedLaws.{known, leg-in, leg-out, ends-in, ends-out, target_walk}

@@ -8,6 +8,7 @@ use lib.ListN.{length, get_or}
 use mathlib.Core.Logic.{◌⊎◌, inl, inr}
 use mathlib.Core.Bool.{true, false, false≢true}
 use native.Mathlib.Omega.{arith}
+use Rattle.laws.proofs.Options.{some-injective}
 use Rattle.time.proofs.Times.{marked}
 use Rattle.calls.specs.declared.Call.{Call}
 use Rattle.calls.specs.Marked.{started, marked_call}
@@ -36,9 +37,6 @@ more-rides : (w v : ℕ) → NoLarger 1320 2 w 1320 1 v → ⊥
 more-rides w v (inl l) = omega arith
 more-rides w v (inr (e, inl l)) = omega arith
 more-rides w v (inr (e, inr (q, l))) = omega arith
-
-given-same : (m n : ℕ) → Some m ≡ Some n → m ≡ n
-given-same m n e = cc
 
 joins : JoinsAt 1180
 joins = record {
@@ -119,7 +117,7 @@ gone-so : (c : Call) → Seen started 21600 (marked_call 990 999) c → ⊥
 gone-so c w = go w.d w.departs w.not_gone
   where
     go : (d : ℕ) → Some 999 ≡ Some d → NotBelow (time started 0 d) → ⊥
-    go d e n = subst (λ (k : ℕ). NotBelow (time started 0 k)) (sym (given-same 999 d e)) n
+    go d e n = subst (λ (k : ℕ). NotBelow (time started 0 k)) (sym (some-injective 999 d e)) n
 
 pub starred : Starred
 starred = record {

@@ -15,7 +15,7 @@ use Rattle.profile.proofs.FiguresLaws.{lexb-lt, lexb-same}
 use Rattle.offers.specs.Order.{earlier, in_order_of, clash, some_next_of, clashes}
 use Rattle.offers.proofs.OrderLaws.{put-in-order, clashes-any-order}
 use Rattle.comparison.specs.Window.{Shown}
-use Rattle.comparison.specs.Neighbours.{CallBefore, InOrder, Ordered, Clashing}
+use Rattle.comparison.specs.Neighbours.{CallBefore, InOrder, Clashing}
 use Rattle.comparison.proofs.WindowLaws.{one-shown}
 use Rattle.comparison.proofs.Deciding.{Decides, dec-and, dec-or, dec-eqb, dec-ltb}
 use Rattle.comparison.proofs.OfferLaws.{call-before}

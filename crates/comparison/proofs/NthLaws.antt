@@ -2,7 +2,7 @@
 use mathlib.Core.Path.{◌≡◌, refl, sym, ap, ap₂, ◌∙◌}
 use mathlib.Core.Bool.{true, false≢true}
 use mathlib.Core.List.{List, [], ◌∷◌, ◌++◌}
-use Prim.Native.Nat.{ℕ, zero, suc, ◌+◌, ◌<◌}
+use Prim.Native.Nat.{ℕ, zero, suc, ◌<◌}
 use native.Mathlib.Omega.{arith}
 use lib.Dec.{eqb}
 use lib.ListN.{length}
@@ -10,7 +10,7 @@ use borrow.Author.Tests.{eqb-true, eq-eqb}
 use Rattle.laws.proofs.Bools.{and-true, and-true-left, and-true-right}
 use Rattle.stops.specs.Texts.{same_bytes_of}
 use Rattle.calls.specs.declared.CallInput.{CallInput}
-use Rattle.rules.specs.declared.RuleInput.{RuleInput}
+use Rattle.rules.specs.declared.Rule.{Rule}
 use Rattle.load.specs.Filling.{Filling, stop, call, rule, service, exception}
 use Rattle.comparison.specs.Taken.{StopGiven, ServiceGiven, stops_in, calls_in, rules_in, services_in}
 use Rattle.comparison.specs.Admitted.{Nth}
@@ -61,7 +61,7 @@ pub rules-append : (fs gs : List Filling) → rules_in (fs ++ gs) ≡ rules_in f
 rules-append [] gs = refl
 rules-append (stop id name parent i ∷ fs) gs = rules-append fs gs
 rules-append (call name i ∷ fs) gs = rules-append fs gs
-rules-append (rule i ∷ fs) gs = ap {B = List RuleInput} (λ r. i ∷ r) (rules-append fs gs)
+rules-append (rule i ∷ fs) gs = ap {B = List Rule} (λ r. i ∷ r) (rules-append fs gs)
 rules-append (service name weekdays start end ∷ fs) gs = rules-append fs gs
 rules-append (exception name date kind ∷ fs) gs = rules-append fs gs
 

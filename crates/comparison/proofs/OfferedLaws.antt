@@ -24,10 +24,10 @@ use Rattle.search.specs.Timetable.{timetable_of}
 use Rattle.comparison.specs.Admitted.{Feed, Between, IsRide}
 use Rattle.comparison.specs.Neighbours.{CallBefore}
 use Rattle.comparison.specs.OfferOrder.{Offer, alone, changing, through, Before, Ascending, Gives, Each, Offered}
-use Rattle.comparison.specs.Feeds.{feed_of, feed_from}
+use Rattle.comparison.specs.Feeds.{feed_of}
 use Rattle.comparison.proofs.Pairs.{Pairs, one-pairs}
 use Rattle.comparison.proofs.SettingLaws.{Opened}
-use Rattle.comparison.proofs.StartLaws.{Start, state_at, same-feed}
+use Rattle.comparison.proofs.StartLaws.{Start, state_at, same-feed, feed_from}
 use Rattle.comparison.proofs.AdmittedLaws.{ride-is, direct-in, change-in, three-in, direct-out, change-out, three-out}
 use Rattle.comparison.proofs.OfferLaws.{key_by, keys, to_j, pairs-offers, same-offers, ascends, rises}
 

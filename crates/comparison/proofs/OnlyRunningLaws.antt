@@ -21,7 +21,7 @@ use Rattle.steps.proofs.ShownLaws.{raw_earlier}
 use Rattle.comparison.specs.Taken.{calls_in, State, fresh}
 use Rattle.comparison.specs.Services.{Running}
 use Rattle.comparison.specs.Runs.{Again, in_full, within, After, sent_back, a_stop, a_rule, a_call, resting, outside, a_service, an_exception, a_withdrawal, a_search, a_limited, Runs, end, step}
-use Rattle.comparison.specs.Demands.{answers_from, calls, OnlyRunning}
+use Rattle.comparison.specs.Demands.{answers_from, OnlyRunning}
 use Rattle.comparison.proofs.WeekLaws.{WeekHeld, dates_of, runs_by}
 use Rattle.comparison.proofs.AfterLaws.{call-in}
 use Rattle.comparison.proofs.RunningLaws.{CallsRun}

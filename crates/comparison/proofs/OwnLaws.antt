@@ -2,10 +2,10 @@
 use Prim.Native.Nat.{ℕ, ◌≤◌}
 use mathlib.Core.Path.{◌≡◌, refl, sym, ap, subst, ◌∙◌}
 use mathlib.Core.Logic.{◌↔◌}
-use mathlib.Core.Bool.{true, false}
+use mathlib.Core.Bool.{true}
 use mathlib.Core.List.Permᴰ
 use mathlib.Core.List.{List, [], Memᴰ}
-use native.Mathlib.Omega.{arith}
+use Rattle.std.specs.Prelude.{is_some, None, Some}
 use Rattle.laws.proofs.Bools.{cond-not}
 use Rattle.laws.proofs.Sort.{sort-perm}
 use Rattle.refusal.specs.First.{is_taken}
@@ -51,12 +51,12 @@ pub record OwnFound (l : Load) (os : List Journey) : Type 0 where
   pub unbeaten : kept_of l ≡ ordered journey_figures (front (covᶠ journey_figures) (dueᶠ journey_figures) l.horizon os)
   pub fell : fall (covᶠ journey_figures) (dueᶠ journey_figures) 64 3600 l.table_horizon l.table_limits [] os ≡ up_to l.horizon l.limits
 
--- the offers of the load's own search, in full and within its limit
+-- the offers of the load's own search, in full and within the limit n
 abbrev pub own_offers : Load → List Journey
 own_offers l = offers (timetable_of (unsearched_of l))
 
-abbrev pub own_within : Load → List Journey
-own_within l = offers_within l.limit (timetable_of (unsearched_of l))
+abbrev pub own_within : ℕ → Load → List Journey
+own_within n l = offers_within n (timetable_of (unsearched_of l))
 
 -- by where the offers lead
 record Led (os ks : List Journey) (e : Ends) (h m : ℕ) : Type 0 where
@@ -69,7 +69,7 @@ led os ks (up_to h' m') h m q =
     let em : m' ≡ m = cc in
     let ek : ordered journey_figures (front (covᶠ journey_figures) (dueᶠ journey_figures) h' os) ≡ ks = cc in
     record { at = λ j. up_to (eh j) (em j); list = sym ek ∙ ap (λ (g : ℕ). ordered journey_figures (front (covᶠ journey_figures) (dueᶠ journey_figures) g os)) eh }
-led os ks never h m q = absurd (let z : ◌≡◌ {A = ℕ} 0 1 = cc in omega arith)
+led os ks never h m q = absurd (cc)
 
 led-found : (l : Load) (os : List Journey) → Clear (timetable_of (unsearched_of l))
     → ends_by_of os (fall (covᶠ journey_figures) (dueᶠ journey_figures) 64 3600 l.table_horizon l.table_limits [] os) ≡ found (kept_of l) l.horizon l.limits → OwnFound l os
@@ -77,7 +77,7 @@ led-found l os clear e =
     let v = led os (kept_of l) (fall (covᶠ journey_figures) (dueᶠ journey_figures) 64 3600 l.table_horizon l.table_limits [] os) l.horizon l.limits e in
     record { clear = clear; unbeaten = v.list; fell = v.at }
 
-pub own-found : (l : Load) → Kept l → l.searched ≡ true → l.stopped ≡ false → OwnFound l (own_offers l)
+pub own-found : (l : Load) → Kept l → l.searched ≡ true → l.limit ≡ None → OwnFound l (own_offers l)
 unfolding unsearched_of
 own-found l k d b =
     let own = own-finished l k d b in
@@ -86,26 +86,25 @@ own-found l k d b =
     let clear = (search-found (timetable_of (unsearched_of l)) _ _ _ _ _ f.is).0 in
     led-found l (own_offers l) clear (sym (cond-not _ _ clear) ∙ sym (search-by-offers (timetable_of (unsearched_of l)) l.table_horizon l.table_limits) ∙ f.is)
 
--- of a stopped load
-module _ (l : Load) (k : Kept l) (e : l.stopped ≡ true) where
-  w : FoundIn (unsearched_of l) l.limit
-  w = taken-within (unsearched_of l) l.limit (ap (λ (r : Limited). is_taken r.answer) (own-stopped l k e).is)
+-- of a load that was stopped at the limit n
+module _ (l : Load) (k : Kept l) (n : ℕ) (e : l.limit ≡ Some n) where
+  w : FoundIn (unsearched_of l) n
+  w = taken-within (unsearched_of l) n (ap (λ (r : Limited). is_taken r.answer) (own-stopped l k n e).is)
 
-  load_is : with_found (unsearched_of l) w.kept w.to w.mark true l.limit ≡ l
-  load_is =
-      sym (ap (λ (r : Limited). r.load) w.is ∙ cond-not _ _ (own-unfinished l k.sound (k.own (k.sound.stopped_search e)) e)) ∙ ap (λ (r : Limited). r.load) (own-stopped l k e).is
+  load_is : with_found (unsearched_of l) w.kept w.to w.mark (Some n) ≡ l
+  load_is = sym (ap (λ (r : Limited). r.load) w.is ∙ cond-not _ _ (own-unfinished l k.sound (k.own (k.sound.stopped_search (ap is_some e))) n e)) ∙ ap (λ (r : Limited). r.load) (own-stopped l k n e).is
 
-  pub outcome-is : outcome_within (unsearched_of l) l.limit ≡ found (kept_of l) l.horizon l.limits
+  pub outcome-is : outcome_within (unsearched_of l) n ≡ found (kept_of l) l.horizon l.limits
   outcome-is =
       w.outcome
-      ∙ (λ i. found (sym (found-kept (unsearched_of l) w.kept w.to w.mark true l.limit) i) w.to w.mark)
+      ∙ (λ i. found (sym (found-kept (unsearched_of l) w.kept w.to w.mark (Some n)) i) w.to w.mark)
       ∙ (λ i. found (kept_of (load_is i)) (load_is i).horizon (load_is i).limits)
 
-  pub stopped-found : OwnFound l (own_within l)
+  pub stopped-found : OwnFound l (own_within n l)
   unfolding unsearched_of outcome_within
   stopped-found =
-      let clear : Clear (timetable_of (unsearched_of l)) = within-clear (unsearched_of l) l.limit w.kept w.to w.mark w.outcome in
-      led-found l (own_within l) clear (sym (cond-not _ _ clear) ∙ sym (within-by-offers l.limit (timetable_of (unsearched_of l)) l.table_horizon l.table_limits) ∙ outcome-is)
+      let clear : Clear (timetable_of (unsearched_of l)) = within-clear (unsearched_of l) n w.kept w.to w.mark w.outcome in
+      led-found l (own_within n l) clear (sym (cond-not _ _ clear) ∙ sym (within-by-offers n (timetable_of (unsearched_of l)) l.table_horizon l.table_limits) ∙ outcome-is)
 
 own-reads : (l : Load) → timetable_of (unsearched_of l) ≡ timetable_of l
 unfolding unsearched_of timetable_of
@@ -130,7 +129,7 @@ reads-few : (l : Load) → l.settings.max_transfers ≤ 1 → (timetable_of (uns
 unfolding unsearched_of timetable_of
 reads-few l h = h
 
-pub within-ahead : (l : Load) → Kept l → l.stopped ≡ true → (j : Journey) → Memᴰ j (own_within l) → j.leave ≤ j.arrival
-within-ahead l k e j m =
-    let t = timetable_of (unsearched_of l) in
-    own-ahead l k (stopped-found l k e).clear j (subst (Memᴰ j) (sym (offers-up-to-one (timetable_of (unsearched_of l)) (reads-few l (k.sound.stopped_change e)))) (within-offer l.limit (timetable_of (unsearched_of l)) m))
+pub within-ahead : (l : Load) → Kept l → (n : ℕ) → l.limit ≡ Some n → (j : Journey) → Memᴰ j (own_within n l) → j.leave ≤ j.arrival
+within-ahead l k n e j m =
+    own-ahead l k (stopped-found l k n e).clear j
+    (subst (Memᴰ j) (sym (offers-up-to-one (timetable_of (unsearched_of l)) (reads-few l (k.sound.stopped_change (ap is_some e))))) (within-offer n (timetable_of (unsearched_of l)) m))

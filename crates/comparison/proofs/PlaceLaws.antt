@@ -1,14 +1,14 @@
 -- In the load that the search was handed, the stops of one place are those stated here.
+use Rattle.std.specs.Prelude.{Some}
 use Prim.Native.Nat.{ℕ, ◌≤◌, ◌<◌}
 use mathlib.Core.Path.{◌≡◌, refl, sym, ap, ap₂, subst, ◌∙◌}
 use mathlib.Core.Logic.{◌⊎◌, inl, inr}
-use mathlib.Core.Bool.{Bool, true, false, not, true≢false, false≢true}
+use mathlib.Core.Bool.{Bool, true, false, true≢false, false≢true}
 use mathlib.Core.List.{List, [], ◌∷◌}
 use native.Mathlib.Omega.{arith}
-use lib.Dec.{eqb}
 use lib.ListN.{length, get_or, take, length-take}
 use lib.Seq.{get_or-take}
-use borrow.Author.Tests.{eqb-true, eq-eqb, ne_eqb}
+use borrow.Author.Tests.{eqb-true, eq-eqb}
 use Rattle.laws.specs.Order.{by_first_of, less_bytes}
 use Rattle.laws.proofs.Order.{tri, by_first-less, by_first-more, by_first-same}
 use Rattle.settings.specs.declared.Settings.{Settings}
@@ -19,7 +19,7 @@ use Rattle.stops.specs.Texts.{same_bytes_of}
 use Rattle.stops.specs.Stops.{id_of}
 use Rattle.stops.specs.Taken.{blank_stop}
 use Rattle.stops.specs.Sound.{stop_at}
-use Rattle.places.specs.Keys.{stop_key, key_at}
+use Rattle.places.specs.Keys.{parent_id, stop_key, key_at}
 use Rattle.places.specs.Places.{has_key, same_place, id_less, places_of}
 use Rattle.places.specs.Promises.{place_at, PlaceRight, PlacesRight, Distinct}
 use Rattle.places.proofs.Claims.{strict-ids, same_self, every-place, no-key-no-place}
@@ -31,7 +31,7 @@ use Rattle.comparison.specs.Admitted.{Nth}
 use Rattle.comparison.specs.Places.{Key, Keyed, Matches, BytesBefore, IdBefore, Found, Placed, joins, alone, OnePlace}
 use Rattle.comparison.proofs.NthLaws.{nth-below, nth-one, same_bytes}
 use Rattle.comparison.proofs.KeyLaws.{key_one, given_key, given-key, held-key}
-use Rattle.comparison.proofs.TakenLaws.{HeldAs}
+use Rattle.comparison.proofs.TakenLaws.{ParentHeld, HeldAs}
 use Rattle.comparison.proofs.StartLaws.{Start}
 
 -- the place of a stop, as the stops that a load holds are grouped
@@ -115,32 +115,23 @@ module _ (s : Settings) (p : Load) (fs : List Filling) (w : Start s p fs) where
     st = stop_at p.stops k
 
     -- the parent that is held is the one named
-    has-parent : not (eqb st.parent 65535) ≡ v.given.input.has_parent
-    has-parent = go v.parent
+    parent-held : parent_id hs st.parent ≡ v.given.parent
+    parent-held = go v.parent
       where
-        go : ((v.given.input.has_parent ≡ false) × (st.parent ≡ 65535))
-            ⊎ ((v.given.input.has_parent ≡ true) × ((q : StopGiven) × Nth gs st.parent q × (st.parent < k) × (q.id ≡ v.given.parent) × (q.input.location_type ≡ 1)))
-            → not (eqb st.parent 65535) ≡ v.given.input.has_parent
-        go (inl (a, b)) = ap not (eq-eqb st.parent 65535 b) ∙ sym a
-        go (inr (a, (q, m, b, i, t))) = ap not (ne_eqb st.parent 65535 (λ z. omega (arith, few))) ∙ sym a
-
-    parent-id : v.given.input.has_parent ≡ true → id_of (stop_at hs st.parent) ≡ v.given.parent
-    parent-id e = go v.parent
-      where
-        go : ((v.given.input.has_parent ≡ false) × (st.parent ≡ 65535))
-            ⊎ ((v.given.input.has_parent ≡ true) × ((q : StopGiven) × Nth gs st.parent q × (st.parent < k) × (q.id ≡ v.given.parent) × (q.input.location_type ≡ 1)))
-            → id_of (stop_at hs st.parent) ≡ v.given.parent
-        go (inl (a, b)) = absurd (true≢false (sym e ∙ a))
-        go (inr (a, (q, m, b, i, t))) =
-            let l : st.parent < n = omega arith in
-            ap id_of (held_at st.parent l) ∙ (w.held.each st.parent l).id
-            ∙ ap (λ (g : StopGiven). g.id) (nth-one gs st.parent (w.held.each st.parent l).given q (w.held.each st.parent l).at m) ∙ i
+        go : ParentHeld st.parent gs k v.given.parent → parent_id hs st.parent ≡ v.given.parent
+        go (inl (a, b)) = ap (parent_id hs) b ∙ sym a
+        go (inr (m, q, b, here, l, i, t)) =
+            let below : m < n = omega arith in
+            let u = w.held.each m below in
+            ap (parent_id hs) b
+            ∙ ap Some (ap id_of (held_at m below) ∙ u.id ∙ ap (λ (g : StopGiven). g.id) (nth-one gs m u.given q u.at here))
+            ∙ sym i
 
     key-held : v.given.input.location_type ≡ 0 → key_at hs k ≡ given_key v.given
     unfolding key_at
     key-held z =
-        ap (λ (x : Stop). stop_key x (id_of (stop_at hs x.parent))) (held_at k h)
-        ∙ held-key st (id_of (stop_at hs st.parent)) v.given v.key v.id v.kind z has-parent parent-id
+        ap (λ (x : Stop). stop_key x (parent_id hs x.parent)) (held_at k h)
+        ∙ held-key st (parent_id hs st.parent) v.given v.key v.id v.kind z parent-held
 
     type-held : (stop_at hs k).location_type ≡ v.given.input.location_type
     type-held = ap (λ (x : Stop). x.location_type) (held_at k h) ∙ v.kind

@@ -1,4 +1,5 @@
 -- Each step of a list is answered for the first of its causes, and the load holds what its answers say was taken.
+use Rattle.steps.proofs.HeldLaws.{opened_new}
 use Rattle.refusal.specs.declared.Accepted.TheVariants.{Taken, Outside}
 use Rattle.std.specs.Prelude.{None, Option, Some, Err, Ok}
 use mathlib.Core.Path.{◌≡◌, refl, sym, ap, subst, ◌∙◌}
@@ -8,7 +9,6 @@ use mathlib.Core.List.Memᴰ
 use mathlib.Core.List.Permᴰ
 use mathlib.Core.List.{List, [], ◌∷◌, ◌++◌, append-nil, Memᴰ}
 use Prim.Native.Nat.{ℕ, ◌+◌, ◌≤◌}
-use native.Mathlib.Omega.{arith}
 use lib.ListN.{set}
 use Rattle.refusal.specs.declared.Refusal.TheVariants.{AlreadySearched}
 use Rattle.refusal.specs.First.{first_answer, is_taken, is_refused, Answer}
@@ -18,13 +18,13 @@ use Rattle.stops.specs.declared.StopInput.{StopInput}
 use Rattle.stops.specs.Answer.{stop_tests}
 use Rattle.stops.specs.Taken.{stop_of}
 use Rattle.calls.specs.declared.CallInput.{CallInput}
-use Rattle.rules.specs.declared.RuleInput.{RuleInput}
-use Rattle.rules.specs.Rules.{rule_tests, rule_of}
+use Rattle.rules.specs.declared.Rule.{Rule}
+use Rattle.rules.specs.Rules.{rule_tests}
 use Rattle.withdrawal.specs.declared.CallKey.{CallKey}
 use Rattle.withdrawal.specs.Removal.{without_last}
 use Rattle.load.specs.declared.Load.{Load}
 use Rattle.load.specs.declared.Stepped.{Stepped}
-use Rattle.load.specs.Load.{empty_of, with_stops, with_rules, with_week}
+use Rattle.load.specs.Load.{empty_of, with_stops, with_rules, with_week, stopped}
 use Rattle.load.specs.Steps.{Opening, opened, station_in, stop_answer, stop_spec, closed_load, call_spec, rule_answer, rule_spec, service_spec, exception_spec}
 use Rattle.load.specs.Filling.{Filling, stop, call, rule, service, exception, filled}
 use Rattle.load.specs.Sound.{Opens}
@@ -54,7 +54,7 @@ use Rattle.comparison.proofs.SettingLaws.{Opened, opens}
 use Rattle.comparison.proofs.WeekLaws.{dates_of}
 use Rattle.comparison.proofs.AfterLaws.{named_filling, taken_after}
 use Rattle.comparison.proofs.RunningLaws.{CallsRun, step-runs}
-use Rattle.comparison.proofs.StartLaws.{Start, opened-fresh, opened-start, limit_of, no_limit, state_at}
+use Rattle.comparison.proofs.StartLaws.{Start, opened-start, no_limit, state_at}
 use Rattle.comparison.proofs.AsideLaws.{apart, apart-like}
 use Rattle.comparison.proofs.CauseLaws.{stop-match, rule-match}
 use Rattle.comparison.proofs.ServiceLaws.{service-match, exception-match}
@@ -75,18 +75,18 @@ Refuse (t ∷ ts) = (is_refused t.1 ≡ true) × Refuse ts
 
 never-outside : (ts : List (Bool × Answer)) → Refuse ts → first_answer ts ≡ Ok Outside → ⊥
 unfolding first_answer
-never-outside [] w e = let z : ◌≡◌ {A = ℕ} 0 1 = cc in omega arith
+never-outside [] w e = cc
 never-outside (t ∷ ts) w e = go t.0 e (never-outside ts w.1)
   where
     go : (b : Bool) → cond b t.1 (first_answer ts) ≡ Ok Outside → (first_answer ts ≡ Ok Outside → ⊥) → ⊥
     go true q ih = true≢false (sym w.0 ∙ ap is_refused q)
     go false q ih = ih q
 
-stop-outside : (l : Load) (id name parent : List ℕ) (i : StopInput) → stop_answer l id name parent i ≡ Ok Outside → ⊥
+stop-outside : (l : Load) (id : List ℕ) (name parent : Option (List ℕ)) (i : StopInput) → stop_answer l id name parent i ≡ Ok Outside → ⊥
 unfolding stop_tests
 stop-outside l id name parent i e = never-outside _ (refl, (refl, (refl, (refl, (refl, (refl, (refl, tt))))))) e
 
-rule-outside : (l : Load) (i : RuleInput) → rule_answer l i ≡ Ok Outside → ⊥
+rule-outside : (l : Load) (i : Rule) → rule_answer l i ≡ Ok Outside → ⊥
 unfolding rule_tests
 rule-outside l i e = never-outside _ (refl, (refl, (refl, (refl, (refl, tt))))) e
 
@@ -138,14 +138,14 @@ module _ (s : Settings) (o : Opened s) (l : Load) (fs : List Filling) (w : Start
   same x a m v = subst (λ (gs : List Filling). After s t x a (state_at m gs)) (sym (append-nil fs)) v
 
   -- an unsearched load has no limit
-  unlimited : limit_of l ≡ None
+  unlimited : l.limit ≡ None
   unlimited = no_limit l w.sound w.fresh
 
   call-after : (name : List ℕ) (i : CallInput) (r : Stepped) → Comes s l fs name i r → After s t (filling (call name i)) r.answer (state_at r.load (fs ++ cond (is_taken r.answer) (call name i ∷ []) []))
   call-after name i _ (came {a = a} {n = n} c) = go a c
     where
       -- an answered call closes the services
-      at : (a : Answer) (gs : List Filling) → Came s l fs name i a n → state_at n gs ≡ record { taken = gs; horizon = n.table_horizon; limits = n.table_limits; searched = l.searched; stopped = limit_of l; dates = dates_of l.week; closed = true }
+      at : (a : Answer) (gs : List Filling) → Came s l fs name i a n → state_at n gs ≡ record { taken = gs; horizon = n.table_horizon; limits = n.table_limits; searched = l.searched; stopped = l.limit; dates = dates_of l.week; closed = true }
       at a gs v = λ k. record { taken = gs; horizon = n.table_horizon; limits = n.table_limits; searched = v.searched k; stopped = v.limit k; dates = v.dates k; closed = v.closed k }
 
       go : (a : Answer) → Came s l fs name i a n → After s (state_at l fs) (filling (call name i)) a (state_at n (fs ++ cond (is_taken a) (call name i ∷ []) []))
@@ -161,14 +161,14 @@ module _ (s : Settings) (o : Opened s) (l : Load) (fs : List Filling) (w : Start
   fill-after (stop id name parent i) = go (stop_answer l id name parent i) refl
     where
       go : (a : Answer) → stop_answer l id name parent i ≡ a → After s (state_at l fs) (filling (stop id name parent i)) a
-          (state_at (cond (is_taken a) (with_stops l (set l.stops l.stop_count (stop_of id name (station_in l parent i) i)) (l.stop_count + 1)) l) (fs ++ cond (is_taken a) (stop id name parent i ∷ []) []))
+          (state_at (cond (is_taken a) (with_stops l (set l.stops l.stop_count (stop_of id name (station_in l parent) i)) (l.stop_count + 1)) l) (fs ++ cond (is_taken a) (stop id name parent i ∷ []) []))
       go (Ok Taken) e = a_stop
       go (Ok Outside) e = absurd (stop-outside l id name parent i e)
       go (Err r) e = same (filling (stop id name parent i)) (Err r) l sent_back
   fill-after (rule i) = go (rule_answer l i) refl
     where
       go : (a : Answer) → rule_answer l i ≡ a → After s (state_at l fs) (filling (rule i)) a
-          (state_at (cond (is_taken a) (with_rules l (set l.rules l.rule_count (rule_of i)) (l.rule_count + 1)) l) (fs ++ cond (is_taken a) (rule i ∷ []) []))
+          (state_at (cond (is_taken a) (with_rules l (set l.rules l.rule_count i) (l.rule_count + 1)) l) (fs ++ cond (is_taken a) (rule i ∷ []) []))
       go (Ok Taken) e = a_rule
       go (Ok Outside) e = absurd (rule-outside l i e)
       go (Err r) e = same (filling (rule i)) (Err r) l sent_back
@@ -243,7 +243,7 @@ module _ (s : Settings) (o : Opened s) (l : Load) (fs : List Filling) (v : Stand
   w = v.done e
 
   -- a stopped load has at most one change
-  few : l.stopped ≡ true → s.max_transfers ≤ 1
+  few : stopped l ≡ true → s.max_transfers ≤ 1
   few = few-changes s l fs w v.kept.sound
 
   days : (j : CallInput) → Memᴰ j (calls_in fs) → j.day ≤ 2
@@ -262,14 +262,14 @@ module _ (s : Settings) (o : Opened s) (l : Load) (fs : List Filling) (v : Stand
       (same-leaves s l fs (filling x) (Err AlreadySearched) l (stays-so s l fs (filling x) AlreadySearched e w))))
 
   done-step : (x : Step) → Stepping s l fs x
-  done-step (filling (stop id name parent i)) = back_step (stop id name parent i) (inl (e, refl)) refl (answered-15 l (stop id name parent i) e (λ n j q. let z : ◌≡◌ {A = ℕ} 0 1 = cc in omega arith))
+  done-step (filling (stop id name parent i)) = back_step (stop id name parent i) (inl (e, refl)) refl (answered-15 l (stop id name parent i) e (λ n j q. cc))
   done-step (filling (call name i)) =
       left_step (filling (call name i)) (by-matches s l fs (filling (call name i)) (added-match s o l fs e w few name i)) (added-leaves s o l fs e v.kept w days few name i)
-  done-step (filling (rule i)) = back_step (rule i) (inl (e, refl)) refl (answered-15 l (rule i) e (λ n j q. let z : ◌≡◌ {A = ℕ} 0 1 = cc in omega arith))
+  done-step (filling (rule i)) = back_step (rule i) (inl (e, refl)) refl (answered-15 l (rule i) e (λ n j q. cc))
   done-step (filling (service name weekdays start to)) =
-      back_step (service name weekdays start to) (inl (inl e, refl)) refl (answered-15 l (service name weekdays start to) e (λ n j q. let z : ◌≡◌ {A = ℕ} 0 1 = cc in omega arith))
+      back_step (service name weekdays start to) (inl (inl e, refl)) refl (answered-15 l (service name weekdays start to) e (λ n j q. cc))
   done-step (filling (exception name date kind)) =
-      back_step (exception name date kind) (inl (inl e, refl)) refl (answered-15 l (exception name date kind) e (λ n j q. let z : ◌≡◌ {A = ℕ} 0 1 = cc in omega arith))
+      back_step (exception name date kind) (inl (inl e, refl)) refl (answered-15 l (exception name date kind) e (λ n j q. cc))
   done-step (withdraw k) = left_step (withdraw k) (by-matches s l fs (withdraw k) (withdrawn-match s o l fs e v.kept w days few k)) (withdrawn-leaves-so s o l fs e v.kept w days few k)
   done-step search =
       let a : (search_spec l).answer ≡ Err AlreadySearched = first_holds (step-answered l search).first e in
@@ -309,7 +309,7 @@ walked o w xs = walk o.settings (opens o w) xs (opened o) [] (record {
   kept = end_kept o [];
   runs = λ d name i m. absurd (Memᴰ.not-nil m);
   new = λ e. opened-start o w;
-  done = λ e. absurd (true≢false (sym e ∙ opened-fresh o));
+  done = λ e. absurd (true≢false (sym e ∙ opened_new o));
 })
 
 pub opened-state : (o : Opening) → state_at (opened o) [] ≡ fresh o.dates

@@ -7,7 +7,6 @@ use mathlib.Core.Logic.{◌⊎◌, inl, inr}
 use mathlib.Core.Bool.{Bool, true, false, cond, true≢false}
 use mathlib.Core.List.Memᴰ
 use mathlib.Core.List.{List, [], ◌∷◌, ◌++◌, append-nil, Memᴰ}
-use native.Mathlib.Omega.{arith}
 use Rattle.refusal.specs.First.{is_taken, is_refused}
 use Rattle.refusal.proofs.FirstLaws.{taken_is}
 use Rattle.calls.specs.declared.CallInput.{CallInput}
@@ -70,15 +69,15 @@ pub step-runs : (l : Load) (x : Step) (fs : List Filling) → CallsRun l fs → 
 unfolding service_spec exception_spec
 step-runs l (filling (stop id nm parent j)) fs w d name i m =
     let e = stop-week l id nm parent j in
-    subst (Goes name i) (sym e) (w (ap (λ (v : Week). v.dated) (sym e) ∙ d) name i (none-new (stop id nm parent j) (is_taken (filled l (stop id nm parent j)).answer) fs name i (λ q. let z : ◌≡◌ {A = ℕ} 0 1 = cc in omega arith) m))
+    subst (Goes name i) (sym e) (w (ap (λ (v : Week). v.dated) (sym e) ∙ d) name i (none-new (stop id nm parent j) (is_taken (filled l (stop id nm parent j)).answer) fs name i (λ q. cc) m))
 step-runs l (filling (rule j)) fs w d name i m =
     let e = rule-week l j in
-    subst (Goes name i) (sym e) (w (ap (λ (v : Week). v.dated) (sym e) ∙ d) name i (none-new (rule j) (is_taken (filled l (rule j)).answer) fs name i (λ q. let z : ◌≡◌ {A = ℕ} 0 1 = cc in omega arith) m))
+    subst (Goes name i) (sym e) (w (ap (λ (v : Week). v.dated) (sym e) ∙ d) name i (none-new (rule j) (is_taken (filled l (rule j)).answer) fs name i (λ q. cc) m))
 step-runs l (filling (service nm weekdays start end)) fs w d name i m =
-    let old = w (sym (step-dated l (filling (service nm weekdays start end))) ∙ d) name i (none-new (service nm weekdays start end) (is_taken (filled l (service nm weekdays start end)).answer) fs name i (λ q. let z : ◌≡◌ {A = ℕ} 0 1 = cc in omega arith) m) in
+    let old = w (sym (step-dated l (filling (service nm weekdays start end))) ∙ d) name i (none-new (service nm weekdays start end) (is_taken (filled l (service nm weekdays start end)).answer) fs name i (λ q. cc) m) in
     subst (Goes name i) (sym (ap (λ (r : WeekStepped). r.week) ((closed-stays l.week old.0).service l.searched nm weekdays start end))) old
 step-runs l (filling (exception nm date kind)) fs w d name i m =
-    let old = w (sym (step-dated l (filling (exception nm date kind))) ∙ d) name i (none-new (exception nm date kind) (is_taken (filled l (exception nm date kind)).answer) fs name i (λ q. let z : ◌≡◌ {A = ℕ} 0 1 = cc in omega arith) m) in
+    let old = w (sym (step-dated l (filling (exception nm date kind))) ∙ d) name i (none-new (exception nm date kind) (is_taken (filled l (exception nm date kind)).answer) fs name i (λ q. cc) m) in
     subst (Goes name i) (sym (ap (λ (r : WeekStepped). r.week) ((closed-stays l.week old.0).exception l.searched nm date kind))) old
 step-runs l (filling (call nm j)) fs w d name i m = go (is_taken (add_spec_of l nm j).answer) refl m
   where

@@ -21,7 +21,7 @@ use Rattle.services.specs.Promises as promises
 use Rattle.services.proofs.Digits.{digit-past}
 use Rattle.services.proofs.Marks.{folded, runs-when}
 use Rattle.stops.specs.Texts.{same_bytes_of}
-use Rattle.stops.proofs.Texts.{held-read}
+use Rattle.texts.proofs.Laws.{read-whole}
 use Rattle.week.specs.Weeks.{service_of, name_of, named}
 use Rattle.load.specs.Filling.{Filling, stop, call, rule, service, exception}
 use Rattle.comparison.specs.Taken.{ServiceGiven}
@@ -63,7 +63,7 @@ name-kept dates s (x ∷ xs) = name-kept dates (excepted_of s (days_on dates x.d
 
 new-name : (name : List ℕ) (weekdays start end : ℕ) → length name ≤ 32 → name_of (service_of name weekdays start end) ≡ name
 unfolding service_of
-new-name name weekdays start end h = held-read 32 name h
+new-name name weekdays start end h = read-whole 32 name h (omega arith)
 
 pub held-name : (dates : List ℕ) (fs : List Filling) (g : ServiceGiven) → length g.name ≤ 32 → name_of (held_service dates fs g) ≡ g.name
 unfolding held_service
@@ -144,10 +144,10 @@ module _ (n : List ℕ) (date kind : ℕ) where
 
   pub there : (fs : List Filling) → Memᴰ one fs → anyb (is_so date kind) (exceptions_of n fs) ≡ true
   there [] m = absurd (Memᴰ.not-nil m)
-  there (stop id name parent i ∷ fs) m = there fs (here _ fs (λ e. let z : ◌≡◌ {A = ℕ} 0 1 = cc in omega arith) m)
-  there (call name i ∷ fs) m = there fs (here _ fs (λ e. let z : ◌≡◌ {A = ℕ} 0 1 = cc in omega arith) m)
-  there (rule i ∷ fs) m = there fs (here _ fs (λ e. let z : ◌≡◌ {A = ℕ} 0 1 = cc in omega arith) m)
-  there (service name weekdays start end ∷ fs) m = there fs (here _ fs (λ e. let z : ◌≡◌ {A = ℕ} 0 1 = cc in omega arith) m)
+  there (stop id name parent i ∷ fs) m = there fs (here _ fs (λ e. cc) m)
+  there (call name i ∷ fs) m = there fs (here _ fs (λ e. cc) m)
+  there (rule i ∷ fs) m = there fs (here _ fs (λ e. cc) m)
+  there (service name weekdays start end ∷ fs) m = there fs (here _ fs (λ e. cc) m)
   there (exception name d k ∷ fs) m = go (same_bytes_of n name) refl (Memᴰ.cases_cons m) (there fs)
     where
       go : (b : Bool) → same_bytes_of n name ≡ b → (one ≡ exception name d k) ⊎ Memᴰ one fs → (Memᴰ one fs → anyb (is_so date kind) (exceptions_of n fs) ≡ true)

@@ -1,6 +1,6 @@
 -- A search of a load that is not searched, in full or within a limit: what it leaves holds what was taken.
 use Rattle.refusal.specs.declared.Accepted.TheVariants.{Taken}
-use Rattle.std.specs.Prelude.{None, Option, Err, Ok}
+use Rattle.std.specs.Prelude.{None, Option, Some, Err, Ok}
 use Prim.Native.Nat.{ℕ, ◌≤◌}
 use mathlib.Core.Path.{◌≡◌, refl, sym, ap, subst, ◌∙◌}
 use mathlib.Core.Bool.{Bool, true, false, true≢false}
@@ -27,7 +27,7 @@ use Rattle.comparison.specs.Feeds.{feed_of}
 use Rattle.comparison.specs.Events.{Within}
 use Rattle.comparison.specs.Runs.{After, sent_back, a_search, a_limited}
 use Rattle.comparison.proofs.SettingLaws.{Opened}
-use Rattle.comparison.proofs.StartLaws.{Start, limit_of, state_at}
+use Rattle.comparison.proofs.StartLaws.{Start, state_at}
 use Rattle.comparison.proofs.AsideLaws.{beside_same, apart}
 use Rattle.comparison.proofs.SearchingLaws.{within-here, untaken-refused, found-searched, found-state, limit-within, limit-full, limited-to}
 use Rattle.comparison.proofs.SearchedLaws.{searched-start}
@@ -50,26 +50,26 @@ module _ (s : Settings) (o : Opened s) (l : Load) (fs : List Filling) (w : Start
   back x r = record { after = sent_back; new = λ d. w; done = λ d. absurd (true≢false (sym d ∙ w.fresh)) }
 
   -- taken
-  taken : (x : Step) (b : Bool) (n : ℕ) (e : is_taken (researched b n l).answer ≡ true) → After s t x (Ok Taken) (done (limit_of (researched b n l).load) t) → Found x (researched b n l)
-  taken x b n e v = record {
-    after = subst (λ (r : Stepped). After s t x r.answer (state_at (researched b n l).load fs)) (sym (taken-researched b n l e).is) (subst (After s t x (Ok Taken)) (sym (found-state b n l e fs)) v);
-    new = λ d. absurd (true≢false (sym (found-searched b n l e) ∙ d));
-    done = λ d. searched-start s l fs fs w (beside_same fs) w.held.days refl b n e;
+  taken : (x : Step) (limit : Option ℕ) (e : is_taken (researched limit l).answer ≡ true) → After s t x (Ok Taken) (done (researched limit l).load.limit t) → Found x (researched limit l)
+  taken x limit e v = record {
+    after = subst (λ (r : Stepped). After s t x r.answer (state_at (researched limit l).load fs)) (sym (taken-researched limit l e).is) (subst (After s t x (Ok Taken)) (sym (found-state limit l e fs)) v);
+    new = λ d. absurd (true≢false (sym (found-searched limit l e) ∙ d));
+    done = λ d. searched-start s l fs fs w (beside_same fs) w.held.days refl limit e;
   }
 
   pub search-so : Searching s l fs search (search_spec l).answer (search_spec l).load
-  search-so = subst (Found search) (researched-full false 0 l refl) (go (is_taken (researched false 0 l).answer) refl)
+  search-so = subst (Found search) (researched-full l) (go (is_taken (researched None l).answer) refl)
     where
-      none_so : is_taken (researched false 0 l).answer ≡ true → limit_of (researched false 0 l).load ≡ None
+      none_so : is_taken (researched None l).answer ≡ true → (researched None l).load.limit ≡ None
       none_so e =
-          let q = researched-full false 0 l refl in
-          ap (λ (r : Stepped). limit_of r.load) q ∙ limit-full l (sym (ap (λ (r : Stepped). is_taken r.answer) q) ∙ e)
+          let q = researched-full l in
+          ap (λ (r : Stepped). r.load.limit) q ∙ limit-full l (sym (ap (λ (r : Stepped). is_taken r.answer) q) ∙ e)
 
-      go : (b : Bool) → is_taken (researched false 0 l).answer ≡ b → Found search (researched false 0 l)
-      go true e = taken search false 0 e (subst (λ (k : Option ℕ). After s t search (Ok Taken) (done k t)) (sym (none_so e)) a_search)
+      go : (b : Bool) → is_taken (researched None l).answer ≡ b → Found search (researched None l)
+      go true e = taken search None e (subst (λ (k : Option ℕ). After s t search (Ok Taken) (done k t)) (sym (none_so e)) a_search)
       go false e =
-          subst (λ (m : Load). Searching s l fs search (researched false 0 l).answer m) (sym (untaken-researched false 0 l e))
-          (untaken-refused false 0 l w.fresh (λ a. Searching s l fs search a l) (back search) e)
+          subst (λ (m : Load). Searching s l fs search (researched None l).answer m) (sym (untaken-researched None l e))
+          (untaken-refused None l w.fresh (λ a. Searching s l fs search a l) (back search) e)
 
   module _ (n : ℕ) where
     module _ (e : is_taken (within_spec l n).answer ≡ true) where
@@ -82,17 +82,17 @@ module _ (s : Settings) (o : Opened s) (l : Load) (fs : List Filling) (w : Start
       pub limited-here : Within (feed_of s (state_at l fs)) n (offers_within n (timetable_of l)) (joins_within n (timetable_of l)) (finished_within n (timetable_of l))
       limited-here = within-here s l fs w o n clear few
 
-      is : researched true n l ≡ step_of (within_spec l n)
-      is = researched-within true n l refl few
+      is : researched (Some n) l ≡ step_of (within_spec l n)
+      is = researched-within n l few
 
-      limited-after : After s t (limited n) (Ok Taken) (done (limit_of (researched true n l).load) t)
+      limited-after : After s t (limited n) (Ok Taken) (done (researched (Some n) l).load.limit t)
       unfolding finishes_in
       limited-after =
-          subst (After s t (limited n) (Ok Taken)) (limited-to n t (finished_within n (timetable_of l)) (limit_of (researched true n l).load) (ap (λ (r : Stepped). limit_of r.load) is ∙ limit-within n l e))
+          subst (After s t (limited n) (Ok Taken)) (limited-to n t (finished_within n (timetable_of l)) (researched (Some n) l).load.limit (ap (λ (r : Stepped). r.load.limit) is ∙ limit-within n l e))
           (a_limited limited-here)
 
       limited-found : Found (limited n) (step_of (within_spec l n))
-      limited-found = subst (Found (limited n)) is (taken (limited n) true n (ap (λ (r : Stepped). is_taken r.answer) is ∙ e) limited-after)
+      limited-found = subst (Found (limited n)) is (taken (limited n) (Some n) (ap (λ (r : Stepped). is_taken r.answer) is ∙ e) limited-after)
 
     pub limited-so : Searching s l fs (limited n) (within_spec l n).answer (within_spec l n).load
     limited-so = go (is_taken (within_spec l n).answer) refl

@@ -1,9 +1,9 @@
 -- A search that is taken: its unsearched load holds what was taken, with the calls in order. And what a step on a searched load must leave.
-use Rattle.std.specs.Prelude.{Err}
+use Rattle.std.specs.Prelude.{Err, Option}
 use Prim.Native.Nat.{ℕ, ◌≤◌}
 use mathlib.Core.Path.{◌≡◌, refl, sym, ap, subst, ◌∙◌}
-use mathlib.Core.Bool.{Bool, true}
-use mathlib.Core.List.{List, [], ◌++◌, map, append-nil, Memᴰ}
+use mathlib.Core.Bool.{true}
+use mathlib.Core.List.{List, [], ◌++◌, append-nil, Memᴰ}
 use lib.ListN.{length}
 use Rattle.laws.proofs.Sort.{sort-mem}
 use Rattle.refusal.specs.declared.Refusal.{Refusal}
@@ -12,13 +12,13 @@ use Rattle.settings.specs.declared.Settings.{Settings}
 use Rattle.settings.specs.Settings.{canonical_of}
 use Rattle.calls.specs.declared.CallInput.{CallInput}
 use Rattle.calls.specs.Shown.{windowed}
-use Rattle.rules.specs.Rules.{rule_of}
 use Rattle.stops.specs.Sound.{stop_at}
 use Rattle.profile.specs.declared.Journey.{Journey}
 use Rattle.offers.specs.Order.{in_order_of}
 use Rattle.offers.proofs.OrderLaws.{sorted_front}
 use Rattle.load.specs.declared.Load.{Load}
 use Rattle.load.specs.declared.Stepped.{Stepped}
+use Rattle.load.specs.Load.{stopped}
 use Rattle.load.specs.Filling.{Filling}
 use Rattle.load.specs.Sound.{Sound}
 use Rattle.search.specs.Search.{with_found}
@@ -51,15 +51,15 @@ module _ (s : Settings) (p : Load) (gs fs : List Filling) (w : Start s p gs) (b 
   both : Beside (apart fs) gs
   both = beside-on (apart-like fs).beside (beside_back b)
 
-  start-so : (ks : List Journey) (h m : ℕ) (stop : Bool) (n : ℕ) → Sound (with_found p ks h m stop n) → Start s (unsearched_of (with_found p ks h m stop n)) (apart fs)
+  start-so : (ks : List Journey) (h m : ℕ) (limit : Option ℕ) → Sound (with_found p ks h m limit) → Start s (unsearched_of (with_found p ks h m limit)) (apart fs)
   unfolding unsearched_of
-  start-so ks h m stop n v = record {
-    sound = unsearched-sound (with_found p ks h m stop n) v;
+  start-so ks h m limit v = record {
+    sound = unsearched-sound (with_found p ks h m limit) v;
     settings = w.settings;
     held = record {
       calls = sorted_front p.call_count p.calls ∙ ap in_order_of w.held.calls ∙ same ∙ sym (shown-apart p.settings p.table_horizon fs);
       days = apart-days fs days;
-      rules = w.held.rules ∙ ap (map rule_of) (sym both.rules);
+      rules = w.held.rules ∙ sym both.rules;
       stops = w.held.stops ∙ ap length (sym both.stops);
       each = λ k q. subst (λ (ss : List StopGiven). HeldAs (stop_at p.stops k) ss k) (sym both.stops) (w.held.each k q);
       week = week-beside p.week (apart fs) gs both w.held.week;
@@ -67,14 +67,14 @@ module _ (s : Settings) (p : Load) (gs fs : List Filling) (w : Start s p gs) (b 
     fresh = refl;
   }
 
-  pub searched-start : (limited : Bool) (n : ℕ) → is_taken (researched limited n p).answer ≡ true → Start s (unsearched_of (researched limited n p).load) (apart fs)
-  searched-start limited n t =
-      let f = taken-researched limited n p t in
-      let is : (researched limited n p).load ≡ with_found p f.kept f.to f.mark f.stop f.at = ap (λ (r : Stepped). r.load) f.is in
-      subst (λ (m : Load). Start s (unsearched_of m) (apart fs)) (sym is) (start-so f.kept f.to f.mark f.stop f.at (subst Sound is (researched-sound limited n p w.sound)))
+  pub searched-start : (limit : Option ℕ) → is_taken (researched limit p).answer ≡ true → Start s (unsearched_of (researched limit p).load) (apart fs)
+  searched-start limit t =
+      let f = taken-researched limit p t in
+      let is : (researched limit p).load ≡ with_found p f.kept f.to f.mark f.limit = ap (λ (r : Stepped). r.load) f.is in
+      subst (λ (m : Load). Start s (unsearched_of m) (apart fs)) (sym is) (start-so f.kept f.to f.mark f.limit (subst Sound is (researched-sound limit p w.sound)))
 
 -- a stopped load has at most one change, so what was handed in says so
-pub few-changes : (s : Settings) (l : Load) (fs : List Filling) → Start s (unsearched_of l) (apart fs) → Sound l → l.stopped ≡ true → s.max_transfers ≤ 1
+pub few-changes : (s : Settings) (l : Load) (fs : List Filling) → Start s (unsearched_of l) (apart fs) → Sound l → stopped l ≡ true → s.max_transfers ≤ 1
 unfolding unsearched_of canonical_of
 few-changes s l fs w v e = subst (λ (k : ℕ). k ≤ 1) (ap (λ (z : Settings). z.max_transfers) w.settings) (v.stopped_change e)
 

@@ -1,5 +1,5 @@
 -- The program's tests of a search, and of the search again, decide its causes, where the load holds what was taken; and what it leaves.
-use Rattle.std.specs.Prelude.{None, Option, Some, Err}
+use Rattle.std.specs.Prelude.{None, Option, Some, Err, is_some}
 use Prim.Native.Nat.{ℕ, ◌≤◌, ◌<◌}
 use mathlib.Core.Path.{◌≡◌, refl, sym, ap, subst, ◌∙◌}
 use mathlib.Core.Bool.{Bool, true, false, cond, true≢false, false≢true}
@@ -25,7 +25,7 @@ use Rattle.offers.specs.Admitted.{Clear}
 use Rattle.limited.specs.Limited.{offers_within, joins_within, finished_within}
 use Rattle.load.specs.declared.Load.{Load}
 use Rattle.load.specs.declared.Stepped.{Stepped}
-use Rattle.load.specs.Load.{table_of}
+use Rattle.load.specs.Load.{table_of, stopped}
 use Rattle.load.specs.Filling.{Filling}
 use Rattle.search.specs.Timetable.{timetable_of}
 use Rattle.search.specs.Search as search
@@ -47,7 +47,7 @@ use Rattle.comparison.specs.Runs.{Again, in_full, within}
 use Rattle.comparison.proofs.Deciding.{Decides, Matches, dec-is, dec-ltb, dec-as}
 use Rattle.comparison.proofs.SettingLaws.{Opened}
 use Rattle.comparison.proofs.WeekLaws.{dates_of}
-use Rattle.comparison.proofs.StartLaws.{Start, limit_of, state_at}
+use Rattle.comparison.proofs.StartLaws.{Start, state_at}
 use Rattle.comparison.proofs.FallLaws.{end_of, fall-falls, one-fall}
 use Rattle.comparison.proofs.HorizonLaws.{table-shown, showing}
 use Rattle.comparison.proofs.NeighbourLaws.{dec-clashing}
@@ -58,7 +58,7 @@ use Rattle.comparison.proofs.WithinLaws.{one-within, within-like}
 use Rattle.comparison.proofs.StatedLaws.{within-is}
 
 dec-never : (e : Ends) → Decides (is_never e) (end_of e ≡ below)
-dec-never (up_to h m) = (λ e. absurd (false≢true e), λ e. absurd (let z : ◌≡◌ {A = ℕ} 0 1 = cc in omega arith))
+dec-never (up_to h m) = (λ e. absurd (false≢true e), λ e. absurd (cc))
 dec-never never = (λ e. refl, λ e. refl)
 
 -- by where these offers lead
@@ -157,16 +157,16 @@ module _ (s : Settings) (m : Load) (gs fs : List Filling) (w : Start s m gs) (o 
     falls = x.falls;
   }
 
-  few-of : {b : Bool} → (b ≡ true → s.max_transfers ≤ 1) → b ≡ true → m.settings.max_transfers ≤ 1
-  few-of few e = subst (λ (k : ℕ). k ≤ 1) (sym (same-changes s m gs w o)) (few e)
+  few-of : s.max_transfers ≤ 1 → m.settings.max_transfers ≤ 1
+  few-of few = subst (λ (k : ℕ). k ≤ 1) (sym (same-changes s m gs w o)) few
 
-  dec-again : (b : Bool) (n : ℕ) → (b ≡ true → s.max_transfers ≤ 1) → Clear (timetable_of m) → Decides (falls_again b n m) (SinksAs (cond b (Some n) None) s v)
-  dec-again false n few c = dec-as (would_fall m) sinks_in sinks-out (dec-sinks s m gs w o c)
-  dec-again true n few c =
-      subst (λ (x : Bool). Decides (cond x (would_fall_within m n) (would_fall m)) (SinksWithin s v n)) (sym (le-leb m.settings.max_transfers 1 (few-of few refl)))
-      (dec-as (would_fall_within m n) (within_in n) (within-out n) (dec-sinks-within s m gs w o n c (few-of few refl)))
+  dec-again : (limit : Option ℕ) → (is_some limit ≡ true → s.max_transfers ≤ 1) → Clear (timetable_of m) → Decides (falls_again limit m) (SinksAs limit s v)
+  dec-again None few c = dec-as (would_fall m) sinks_in sinks-out (dec-sinks s m gs w o c)
+  dec-again (Some n) few c =
+      subst (λ (x : Bool). Decides (cond x (would_fall_within m n) (would_fall m)) (SinksWithin s v n)) (sym (le-leb m.settings.max_transfers 1 (few-of (few refl))))
+      (dec-as (would_fall_within m n) (within_in n) (within-out n) (dec-sinks-within s m gs w o n c (few-of (few refl))))
 
-  pub again-match : (l : Load) → t.stopped ≡ limit_of l → (l.stopped ≡ true → s.max_transfers ≤ 1)
+  pub again-match : (l : Load) → t.stopped ≡ l.limit → (stopped l ≡ true → s.max_transfers ≤ 1)
       → (B : State → Type 0) → B v → ((u : State) → B u → u ≡ v) → (ts : List (Bool × Answer)) (cs : List Cause) → Matches ts cs → Matches (search_tests l m ++ ts) (again_causes s B ++ cs)
   again-match l q few B there only ts cs rest = (
     refl,
@@ -174,51 +174,51 @@ module _ (s : Settings) (m : Load) (gs fs : List Filling) (w : Start s m gs) (o 
         (dec-as (clashes (sorted (timetable_of m))) (clashing-perm s m.table_horizon like.calls) (clashing-perm s m.table_horizon (Permᴰ.symm like.calls)) (dec-neighbours s m gs w o)),
     λ c. (
       refl,
-      brought (falls_again l.stopped l.limit m) B (λ u. SinksAs u.stopped s u) v there only
-          (subst (λ (x : Option ℕ). Decides (falls_again l.stopped l.limit m) (SinksAs x s v)) (sym q) (dec-again l.stopped l.limit few c)),
+      brought (falls_again l.limit m) B (λ u. SinksAs u.stopped s u) v there only
+          (subst (λ (x : Option ℕ). Decides (falls_again l.limit m) (SinksAs x s v)) (sym q) (dec-again l.limit few c)),
       λ e. rest,
     ),
   )
 
 -- ---- a search again is taken or sent back: what holds of every refusal holds of one that is not taken
 
-pub untaken-refused : (b : Bool) (n : ℕ) (m : Load) → m.searched ≡ false → (P : Answer → Type 0) → ((r : Refusal) → P (Err r)) → is_taken (researched b n m).answer ≡ false
-    → P (researched b n m).answer
-untaken-refused b n m new P f t = go (researched b n m).answer (research-first b n m new) t
+pub untaken-refused : (limit : Option ℕ) (m : Load) → m.searched ≡ false → (P : Answer → Type 0) → ((r : Refusal) → P (Err r)) → is_taken (researched limit m).answer ≡ false
+    → P (researched limit m).answer
+untaken-refused limit m new P f t = go (researched limit m).answer (research-first limit m new) t
   where
-    go : (a : Answer) → tests.First a ((clashes (sorted (timetable_of m)), Err Neighbours) ∷ (falls_again b n m, Err NoRoom) ∷ []) → is_taken a ≡ false → P a
+    go : (a : Answer) → tests.First a ((clashes (sorted (timetable_of m)), Err Neighbours) ∷ (falls_again limit m, Err NoRoom) ∷ []) → is_taken a ≡ false → P a
     go _ (hit e) q = f Neighbours
     go _ (miss e (hit g)) q = f NoRoom
     go _ (miss e (miss g tests.none)) q = absurd (true≢false q)
 
 -- ---- what an accepted one leaves: the table's horizon and mark and the services as they were, and the limit where it stopped
 
-module _ (b : Bool) (n : ℕ) (m : Load) (t : is_taken (researched b n m).answer ≡ true) where
-  pub found-searched : (researched b n m).load.searched ≡ true
-  found-searched = ap (λ (r : Stepped). r.load.searched) (taken-researched b n m t).is
+module _ (limit : Option ℕ) (m : Load) (t : is_taken (researched limit m).answer ≡ true) where
+  pub found-searched : (researched limit m).load.searched ≡ true
+  found-searched = ap (λ (r : Stepped). r.load.searched) (taken-researched limit m t).is
 
-  pub found-state : (hs : List Filling) → state_at (researched b n m).load hs
-      ≡ done (limit_of (researched b n m).load) (record { taken = hs; horizon = m.table_horizon; limits = m.table_limits; searched = true; stopped = None; dates = dates_of m.week; closed = m.week.closed })
+  pub found-state : (hs : List Filling) → state_at (researched limit m).load hs
+      ≡ done ((researched limit m).load.limit) (record { taken = hs; horizon = m.table_horizon; limits = m.table_limits; searched = true; stopped = None; dates = dates_of m.week; closed = m.week.closed })
   found-state hs =
-      let q = (taken-researched b n m t).is in
+      let q = (taken-researched limit m t).is in
       λ j. record {
         taken = hs;
         horizon = (q j).load.table_horizon;
         limits = (q j).load.table_limits;
         searched = (q j).load.searched;
-        stopped = limit_of (researched b n m).load;
+        stopped = (researched limit m).load.limit;
         dates = dates_of (q j).load.week;
         closed = (q j).load.week.closed;
       }
 
 -- a search within the limit n
-pub limit-within : (n : ℕ) (m : Load) → is_taken (within_spec m n).answer ≡ true → limit_of (within_spec m n).load ≡ cond (finishes_in m n) None (Some n)
-limit-within n m t = ap (λ (w : Limited). limit_of w.load) (taken-within m n t).is ∙ go (finishes_in m n) refl
+pub limit-within : (n : ℕ) (m : Load) → is_taken (within_spec m n).answer ≡ true → (within_spec m n).load.limit ≡ cond (finishes_in m n) None (Some n)
+limit-within n m t = ap (λ (w : Limited). w.load.limit) (taken-within m n t).is ∙ go (finishes_in m n) refl
   where
     f : FoundIn m n
     f = taken-within m n t
 
-    go : (c : Bool) → finishes_in m n ≡ c → limit_of (cond (finishes_in m n) (with_journeys m f.kept f.to f.mark) (with_found m f.kept f.to f.mark true n)) ≡ cond c None (Some n)
+    go : (c : Bool) → finishes_in m n ≡ c → (cond (finishes_in m n) (with_journeys m f.kept f.to f.mark) (with_found m f.kept f.to f.mark (Some n))).limit ≡ cond c None (Some n)
     go true e = rw e refl
     go false e = rw e refl
 
@@ -226,37 +226,31 @@ pub limited-to : (n : ℕ) (t : State) (f : Bool) (k : Option ℕ) → k ≡ con
 limited-to n t true k e = λ j. done (sym e j) t
 limited-to n t false k e = λ j. done (sym e j) t
 
-pub limit-full : (m : Load) → is_taken (search_spec m).answer ≡ true → limit_of (search_spec m).load ≡ None
-limit-full m t = ap (λ (r : Stepped). limit_of r.load) (taken-found m t).is
+pub limit-full : (m : Load) → is_taken (search_spec m).answer ≡ true → (search_spec m).load.limit ≡ None
+limit-full m t = ap (λ (r : Stepped). r.load.limit) (taken-found m t).is
 
 -- the search of m again is the one stated of what it brings
-module _ (s : Settings) (m : Load) (gs fs : List Filling) (w : Start s m gs) (o : Opened s) (like : Like gs fs) (b : Bool) (n : ℕ) (few : b ≡ true → s.max_transfers ≤ 1)
-    (t : is_taken (researched b n m).answer ≡ true) (x : State) where
+module _ (s : Settings) (m : Load) (gs fs : List Filling) (w : Start s m gs) (o : Opened s) (like : Like gs fs) (x : State) where
   abbrev X : State
   X = cut_to (keeping x fs) m.table_horizon m.table_limits
 
-  few-here : b ≡ true → m.settings.max_transfers ≤ 1
-  few-here e = subst (λ (k : ℕ). k ≤ 1) (sym (same-changes s m gs w o)) (few e)
-
-  again-within : b ≡ true → Again s (done (Some n) X) (done (limit_of (researched b n m).load) X)
+  again-within : (n : ℕ) → m.settings.max_transfers ≤ 1 → is_taken (researched (Some n) m).answer ≡ true → Again s (done (Some n) X) (done (researched (Some n) m).load.limit X)
   unfolding finishes_in
-  again-within e =
-      let q = researched-within b n m e (few-here e) in
-      let v = within-here s m gs w o n (taken-researched b n m t).clear (few-here e) in
+  again-within n few t =
+      let q = researched-within n m few in
+      let v = within-here s m gs w o n (taken-researched (Some n) m t).clear few in
       let u : Again s (done (Some n) X) (limited_to n (finished_within n (timetable_of m)) (done (Some n) X)) =
       within refl (within-like s X gs fs n (offers_within n (timetable_of m)) (joins_within n (timetable_of m)) (finished_within n (timetable_of m)) like v) in
-      subst (Again s (done (Some n) X)) (limited-to n (done (Some n) X) (finished_within n (timetable_of m)) (limit_of (researched b n m).load)
-      (ap (λ (r : Stepped). limit_of r.load) q ∙ limit-within n m (sym (ap (λ (r : Stepped). is_taken r.answer) q) ∙ t))) u
+      subst (Again s (done (Some n) X)) (limited-to n (done (Some n) X) (finished_within n (timetable_of m)) (researched (Some n) m).load.limit
+      (ap (λ (r : Stepped). r.load.limit) q ∙ limit-within n m (sym (ap (λ (r : Stepped). is_taken r.answer) q) ∙ t))) u
 
-  again-full : b ≡ false → Again s (done None X) (done (limit_of (researched b n m).load) X)
-  again-full e =
-      let q = researched-full b n m e in
-      let k : limit_of (researched b n m).load ≡ None = ap (λ (r : Stepped). limit_of r.load) q ∙ limit-full m (sym (ap (λ (r : Stepped). is_taken r.answer) q) ∙ t) in
+  again-full : is_taken (researched None m).answer ≡ true → Again s (done None X) (done (researched None m).load.limit X)
+  again-full t =
+      let q = researched-full m in
+      let k : (researched None m).load.limit ≡ None = ap (λ (r : Stepped). r.load.limit) q ∙ limit-full m (sym (ap (λ (r : Stepped). is_taken r.answer) q) ∙ t) in
       subst (λ (y : Option ℕ). Again s (done None X) (done y X)) (sym k) (in_full refl)
 
-  pub again-so : Again s (done (cond b (Some n) None) X) (done (limit_of (researched b n m).load) X)
-  again-so = go b refl
-    where
-      go : (c : Bool) → b ≡ c → Again s (done (cond c (Some n) None) X) (done (limit_of (researched b n m).load) X)
-      go true e = again-within e
-      go false e = again-full e
+  pub again-so : (limit : Option ℕ) → (is_some limit ≡ true → s.max_transfers ≤ 1) → is_taken (researched limit m).answer ≡ true
+      → Again s (done limit X) (done (researched limit m).load.limit X)
+  again-so (Some n) few t = again-within n (subst (λ (k : ℕ). k ≤ 1) (sym (same-changes s m gs w o)) (few refl)) t
+  again-so None few t = again-full t

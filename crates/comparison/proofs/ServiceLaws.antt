@@ -1,5 +1,5 @@
 -- The program's tests of a service and an exception decide the causes, where the load holds what was taken.
-use Prim.Native.Nat.{ℕ, ◌-◌, ◌≤◌}
+use Prim.Native.Nat.{ℕ, ◌≤◌}
 use mathlib.Core.Path.{◌≡◌, refl, sym, ap, subst, ◌∙◌}
 use mathlib.Core.Logic.{◌⊎◌, inl, inr}
 use mathlib.Core.Bool.{true, not, ◌||◌, true≢false}
@@ -9,7 +9,7 @@ use lib.Dec.{leb, ltb, eqb}
 use lib.ListN.{length, take, length-map, length-take}
 use borrow.Author.Tests.{eqb-true, eq-eqb}
 use Rattle.laws.specs.Lists.{anyb}
-use Rattle.laws.proofs.Bools.{not-true, or-true-cases, or-true-left, or_true_right}
+use Rattle.laws.proofs.Bools.{not-true, or-true-cases, or-true-left, or_true_right, of-not}
 use Rattle.settings.specs.declared.Settings.{Settings}
 use Rattle.stops.specs.Answer.{id_wrong}
 use Rattle.load.specs.declared.Load.{Load}
@@ -20,7 +20,7 @@ use Rattle.load.specs.Filling.{Filling}
 use Rattle.comparison.specs.Taken.{services_in}
 use Rattle.comparison.specs.Services.{Named}
 use Rattle.comparison.specs.Causes.{Late, service_causes, exception_causes}
-use Rattle.comparison.proofs.Deciding.{Decides, Matches, not_is, dec-ltb, dec-leb, dec-eqb, dec-is, dec-or}
+use Rattle.comparison.proofs.Deciding.{Decides, Matches, dec-ltb, dec-leb, dec-eqb, dec-is, dec-or}
 use Rattle.comparison.proofs.WeekLaws.{dec-named}
 use Rattle.comparison.proofs.StartLaws.{Start, state_at}
 use Rattle.comparison.proofs.CauseLaws.{dec-date}
@@ -57,7 +57,7 @@ module _ (s : Settings) (l : Load) (fs : List Filling) (w : Start s l fs) where
 
   dec-kind : (kind : ℕ) → Decides (not (eqb kind 1 || eqb kind 2)) ((kind ≡ 1 → ⊥) × (kind ≡ 2 → ⊥))
   dec-kind kind = (
-    λ e. let f = not_is (eqb kind 1 || eqb kind 2) e in (
+    λ e. let f = of-not (eqb kind 1 || eqb kind 2) e in (
       λ q. true≢false (sym (or-true-left (eqb kind 1) (eqb kind 2) (eq-eqb kind 1 q)) ∙ f),
       λ q. true≢false (sym (or_true_right (eqb kind 1) (eqb kind 2) (eq-eqb kind 2 q)) ∙ f),
     ),
@@ -72,7 +72,7 @@ module _ (s : Settings) (l : Load) (fs : List Filling) (w : Start s l fs) where
   dec-unnamed name =
       let d = dec-named w.held.week name in
       let b = anyb (named name) (take l.week.service_count l.week.services) in
-      (λ e x. true≢false (sym (d.1 x) ∙ not_is b e), λ f. ap not (not-true b (λ e. f (d.0 e))))
+      (λ e x. true≢false (sym (d.1 x) ∙ of-not b e), λ f. ap not (not-true b (λ e. f (d.0 e))))
 
   pub exception-match : (name : List ℕ) (date kind : ℕ)
       → Matches (exception_tests l.searched l.week.closed l.week.services l.week.service_count name date kind) (exception_causes (state_at l fs) name date kind)

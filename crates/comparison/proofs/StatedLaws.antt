@@ -1,5 +1,5 @@
 -- What was taken gives the program's events: its joins, its offers, and where a limit stops them.
-use Prim.Native.Nat.{ℕ, zero, suc, ◌+◌, ◌*◌, ◌≤◌}
+use Prim.Native.Nat.{ℕ, zero, suc, ◌*◌, ◌≤◌}
 use native.Mathlib.Omega.{arith}
 use mathlib.Core.Path.{◌≡◌, refl, sym, ap, subst, ◌∙◌}
 use mathlib.Core.Logic.{◌⊎◌, inl, inr}
@@ -26,9 +26,9 @@ use Rattle.search.specs.Timetable.{timetable_of}
 use Rattle.comparison.specs.Admitted.{Feed}
 use Rattle.comparison.specs.OfferOrder.{Offer, Each}
 use Rattle.comparison.specs.Events.{Event, join, offer, Join, Comes, Stops, Within}
-use Rattle.comparison.specs.Feeds.{feed_of, feed_from}
+use Rattle.comparison.specs.Feeds.{feed_of}
 use Rattle.comparison.proofs.SettingLaws.{Opened}
-use Rattle.comparison.proofs.StartLaws.{Start, state_at, same-feed}
+use Rattle.comparison.proofs.StartLaws.{Start, state_at, same-feed, feed_from}
 use Rattle.comparison.proofs.AdmittedLaws.{known, leg-in, leg-out, starts-in, starts-out, origin_walk, transfers}
 use Rattle.comparison.proofs.OfferLaws.{by_alone, by_changing, to_j, keys, few-keys}
 use Rattle.comparison.proofs.OfferedLaws.{p, KeyOf, key_in, key-mem, gives, given, each-gives}

@@ -1,5 +1,4 @@
 -- The load that the accepted search is handed holds what was taken, and nothing else.
-use Rattle.std.specs.Option.{unwrap_or}
 use Rattle.refusal.specs.declared.Accepted.TheVariants.{Taken, Outside}
 use Rattle.std.specs.Prelude.{None, Some, Option, Err, Ok, is_some}
 use Prim.Native.Nat.{ℕ, ◌+◌, ◌-◌, ◌≤◌, ◌<◌}
@@ -7,32 +6,29 @@ use mathlib.Core.Path.{◌≡◌, refl, sym, ap, subst, ◌∙◌}
 use mathlib.Core.Logic.{◌⊎◌, inl, inr}
 use mathlib.Core.Bool.{Bool, true, false, not, cond, ◌&&◌, true≢false, false≢true}
 use mathlib.Core.List.Memᴰ
-use mathlib.Core.List.{List, [], ◌∷◌, ◌++◌, map, map-append, append_assoc, append-nil, Memᴰ}
+use mathlib.Core.List.{List, [], ◌∷◌, ◌++◌, append-nil, Memᴰ}
 use native.Mathlib.Omega.{arith}
 use native.Mathlib.Numerals.{add-one}
 use lib.Dec.{leb, ltb, eqb}
 use lib.ListN.{length, take, get_or, set, length-append, length-take}
 use lib.Seq.{take-suc-set, get_or-set_same, get_or-set_other, get_or-take}
 use borrow.Author.Tests.{eqb-true, leb-true}
+use Rattle.std.proofs.lemmas.Bool.{not-false}
 use Rattle.laws.proofs.Bools.{and-true-left, and-true-right}
+use Rattle.laws.proofs.Options.{none-ne-some}
 use Rattle.laws.proofs.Slots.{below-cases}
 use Rattle.refusal.specs.declared.Refusal.TheVariants.{AlreadySearched, FieldRange, TimesReversed}
 use Rattle.refusal.specs.First.{first_answer, is_taken, is_refused, Answer}
 use Rattle.refusal.proofs.FirstLaws.{taken_is, answer-is-first, first_taken}
 use Rattle.settings.specs.declared.Settings.{Settings}
 use Rattle.calls.specs.declared.CallInput.{CallInput}
-use Rattle.calls.specs.declared.Call.{Call}
 use Rattle.calls.specs.declared.Table.{Table}
 use Rattle.calls.specs.declared.Fitted.{Fitted}
-use Rattle.calls.specs.Windows.{seen}
-use Rattle.calls.specs.Calls.{known, un_timed, reversed, call_tests, call_time, window, call_fit, ended, goes_on_of, call_on}
-use Rattle.calls.specs.Shown.{shown, windowed, table_calls, Shows, taken_of}
-use Rattle.calls.proofs.Fits.{Ends, stands, enters, turned, ends}
-use Rattle.calls.proofs.SoundLaws.{call-tests-fail, passed}
-use Rattle.calls.proofs.ShownLaws.{step-shows, window-seen, window-absent}
+use Rattle.calls.specs.Calls.{known, un_timed, reversed, call_tests, goes_on_of, call_on}
+use Rattle.calls.specs.Shown.{windowed, table_calls, Shows, taken_of}
+use Rattle.calls.proofs.SoundLaws.{call-tests-fail}
+use Rattle.calls.proofs.ShownLaws.{step-shows}
 use Rattle.rules.specs.declared.Rule.{Rule}
-use Rattle.rules.specs.declared.RuleInput.{RuleInput}
-use Rattle.rules.specs.Rules.{rule_of}
 use Rattle.rules.proofs.SoundLaws as rules
 use Rattle.stops.specs.declared.Stop.{Stop}
 use Rattle.stops.specs.declared.StopInput.{StopInput}
@@ -43,7 +39,7 @@ use Rattle.stops.specs.Taken.{stop_of, blank_stop}
 use Rattle.stops.specs.Sound.{stop_at}
 use Rattle.stops.proofs.SoundLaws.{found, id-kept, name-kept, needed-usable}
 use Rattle.stops.proofs.Laws as stops
-use Rattle.stops.proofs.Laws.{id-short, position-held}
+use Rattle.stops.proofs.Laws.{id-short}
 use Rattle.load.specs.declared.Load.{Load}
 use Rattle.load.specs.declared.Stepped.{Stepped}
 use Rattle.load.specs.Load.{empty_of, table_of, with_table, with_stops, with_rules, with_week}
@@ -62,17 +58,7 @@ use Rattle.comparison.proofs.KeyLaws.{KeyHeld}
 use Rattle.comparison.proofs.WeekLaws.{WeekHeld}
 use Rattle.comparison.proofs.WeekStepLaws.{opened-week, week-more, week-service, week-exception}
 
--- ---- an outside call is outside up to the horizon that it leaves
-
-ends-out : (a d : Option ℕ) (i : CallInput) (f : Fitted) → Ends (λ t. Unit {0}) a d i f → f.answer ≡ Ok Outside → seen f.table.horizon a d i ≡ None
-ends-out a d i _ (stands t p e) q = e
-ends-out a d i _ (enters t c p e h) q = let z : ◌≡◌ {A = ℕ} 0 1 = cc in absurd (omega arith)
-ends-out a d i _ (turned t c p e h m) q = let z : ◌≡◌ {A = ℕ} 0 1 = cc in absurd (omega arith)
-
-fit-out : (t : Table) (a d : Option ℕ) (i : CallInput) (f : Fitted) → Ends (λ t. Unit {0}) a d i f → (ended t f).answer ≡ Ok Outside → seen (ended t f).table.horizon a d i ≡ None
-fit-out t a d i f w e =
-    let r : is_refused f.answer ≡ false = ap is_refused e in
-    subst (λ (b : Bool). seen (cond b t f.table).horizon a d i ≡ None) (sym r) (ends-out a d i f w e)
+-- ---- a call that is taken, and one that is outside
 
 -- the tests answer outside only where a time is absent
 pub tests-untimed : (b : Bool) (n : ℕ) (i : CallInput) → first_answer (call_tests b n i) ≡ Ok Outside → un_timed i ≡ true
@@ -80,25 +66,11 @@ unfolding call_tests first_answer
 tests-untimed b n i e = go b (not (known n i)) (un_timed i) (reversed i) e
   where
     go : (b1 b2 b3 b4 : Bool) → cond b1 (Err AlreadySearched) (cond b2 (Err FieldRange) (cond b3 (Ok Outside) (cond b4 (Err TimesReversed) (Ok Taken)))) ≡ Ok Outside → b3 ≡ true
-    go true b2 b3 b4 q = let z : ◌≡◌ {A = ℕ} 0 1 = cc in absurd (omega arith)
-    go false true b3 b4 q = let z : ◌≡◌ {A = ℕ} 0 1 = cc in absurd (omega arith)
+    go true b2 b3 b4 q = absurd (cc)
+    go false true b3 b4 q = absurd (cc)
     go false false true b4 q = refl
-    go false false false true q = let z : ◌≡◌ {A = ℕ} 0 1 = cc in absurd (omega arith)
-    go false false false false q = let z : ◌≡◌ {A = ℕ} 0 1 = cc in absurd (omega arith)
-
-tests-out : (s : Settings) (h : ℕ) (b : Bool) (n : ℕ) (i : CallInput) → first_answer (call_tests b n i) ≡ Ok Outside → window s h i ≡ None
-tests-out s h b n i e = window-absent s h i (tests-untimed b n i e)
-
-outside-out : (s : Settings) (b : Bool) (n : ℕ) (t : Table) (i : CallInput) → (call_on s b n t i).answer ≡ Ok Outside → window s (call_on s b n t i).table.horizon i ≡ None
-unfolding call_on call_fit
-outside-out s b n t i = go (first_answer (call_tests b n i)) refl
-  where
-    go : (a : Answer) → first_answer (call_tests b n i) ≡ a → (goes_on_of s t i a).answer ≡ Ok Outside → window s (goes_on_of s t i a).table.horizon i ≡ None
-    go (Err w) e q = let z : ◌≡◌ {A = ℕ} 0 1 = cc in absurd (omega arith)
-    go (Ok Outside) e q = tests-out s t.horizon b n i e
-    go (Ok Taken) e q =
-        let w = ends (λ t. Unit {0}) (call_time s i i.arrival) (call_time s i i.departure) i (λ t' c p v f l. tt) t tt in
-        window-seen s _ i (passed b n i e).present ∙ fit-out t (call_time s i i.arrival) (call_time s i i.departure) i _ w q
+    go false false false true q = absurd (cc)
+    go false false false false q = absurd (cc)
 
 -- a taken call has a day of 0 to 2
 day-true : (a b c d e : Bool) → (a && b && c && d && e) ≡ true → c ≡ true
@@ -106,10 +78,6 @@ day-true true true true d e q = refl
 day-true true true false d e q = absurd (false≢true q)
 day-true true false c d e q = absurd (false≢true q)
 day-true false b c d e q = absurd (false≢true q)
-
-not-false : (b : Bool) → not b ≡ false → b ≡ true
-not-false true e = refl
-not-false false e = sym e
 
 pub tests-day : (b : Bool) (n : ℕ) (i : CallInput) → first_answer (call_tests b n i) ≡ Ok Taken → i.day ≤ 2
 unfolding call_tests known
@@ -120,24 +88,19 @@ unfolding call_on
 taken-day s b n t i = go (first_answer (call_tests b n i)) refl
   where
     go : (a : Answer) → first_answer (call_tests b n i) ≡ a → (goes_on_of s t i a).answer ≡ Ok Taken → i.day ≤ 2
-    go (Err w) e q = let z : ◌≡◌ {A = ℕ} 0 1 = cc in absurd (omega arith)
-    go (Ok Outside) e q = let z : ◌≡◌ {A = ℕ} 0 1 = cc in absurd (omega arith)
+    go (Err w) e q = absurd (cc)
+    go (Ok Outside) e q = absurd (cc)
     go (Ok Taken) e q = tests-day b n i e
-
--- ---- the window over a list
-
-windowed-append : (s : Settings) (h : ℕ) (xs ys : List CallInput) → windowed s h (xs ++ ys) ≡ windowed s h xs ++ windowed s h ys
-windowed-append s h [] ys = refl
-windowed-append s h (x ∷ xs) ys =
-    ap (λ (r : List Call). shown (window s h x) ++ r) (windowed-append s h xs ys) ∙ sym (append_assoc (shown (window s h x)) (windowed s h xs) (windowed s h ys))
-
-windowed-out : (s : Settings) (h : ℕ) (xs : List CallInput) (i : CallInput) → window s h i ≡ None → windowed s h (xs ++ i ∷ []) ≡ windowed s h xs
-windowed-out s h xs i e =
-    windowed-append s h xs (i ∷ []) ∙ ap (λ (r : List Call). windowed s h xs ++ r) (append-nil (shown (window s h i)) ∙ ap shown e) ∙ append-nil (windowed s h xs)
 
 -- ---- what a load holds of what was given
 
--- the k-th stop is held as it was given; a parent, if one was named, by the number of the station that has its id
+-- no parent was named, or the number held is that of a station in front of the k-th stop that has its id
+abbrev pub ParentHeld : Option ℕ → List StopGiven → ℕ → Option (List ℕ) → Type 0
+ParentHeld held ss k parent =
+    ((parent ≡ None) × (held ≡ None))
+    ⊎ ((n : ℕ) × (p : StopGiven) × (held ≡ Some n) × Nth ss n p × (n < k) × (parent ≡ Some p.id) × (p.input.location_type ≡ 1))
+
+-- the k-th stop is held as it was given
 pub record HeldAs (st : Stop) (ss : List StopGiven) (k : ℕ) : Type 0 where
   pub given : StopGiven
   pub at : Nth ss k given
@@ -145,13 +108,12 @@ pub record HeldAs (st : Stop) (ss : List StopGiven) (k : ℕ) : Type 0 where
   pub kind : st.location_type ≡ given.input.location_type
   pub members : st.members ≡ given.input.members
   pub key : KeyHeld st given
-  pub parent : ((given.input.has_parent ≡ false) × (st.parent ≡ 65535))
-      ⊎ ((given.input.has_parent ≡ true) × ((p : StopGiven) × Nth ss st.parent p × (st.parent < k) × (p.id ≡ given.parent) × (p.input.location_type ≡ 1)))
+  pub parent : ParentHeld st.parent ss k given.parent
 
 pub record Held (l : Load) (fs : List Filling) : Type 0 where
   pub calls : table_calls (table_of l) ≡ windowed l.settings l.table_horizon (calls_in fs)
   pub days : (i : CallInput) → Memᴰ i (calls_in fs) → i.day ≤ 2
-  pub rules : take l.rule_count l.rules ≡ map rule_of (rules_in fs)
+  pub rules : take l.rule_count l.rules ≡ rules_in fs
   pub stops : l.stop_count ≡ length (stops_in fs)
   pub each : (k : ℕ) → k < l.stop_count → HeldAs (stop_at l.stops k) (stops_in fs) k
   pub week : WeekHeld l.week fs
@@ -175,6 +137,10 @@ pub week-closed : (w : Week) (fs : List Filling) → WeekHeld w fs → WeekHeld 
 week-closed w fs v = record { services = v.services; short = v.short; apart = v.apart; orphan = v.orphan; three = v.three }
 
 -- more stops keep one
+parent-more : (held : Option ℕ) (ss ts : List StopGiven) (k : ℕ) (parent : Option (List ℕ)) → ParentHeld held ss k parent → ParentHeld held (ss ++ ts) k parent
+parent-more held ss ts k parent (inl q) = inl q
+parent-more held ss ts k parent (inr (n, p, h, m, b, e, t)) = inr (n, p, h, nth-more ss ts n p m, b, e, t)
+
 held_more : (st : Stop) (ss ts : List StopGiven) (k : ℕ) → HeldAs st ss k → HeldAs st (ss ++ ts) k
 held_more st ss ts k w = record {
   given = w.given;
@@ -183,15 +149,8 @@ held_more st ss ts k w = record {
   kind = w.kind;
   members = w.members;
   key = w.key;
-  parent = go w.parent;
+  parent = parent-more st.parent ss ts k w.given.parent w.parent;
 }
-  where
-    go : ((w.given.input.has_parent ≡ false) × (st.parent ≡ 65535))
-        ⊎ ((w.given.input.has_parent ≡ true) × ((p : StopGiven) × Nth ss st.parent p × (st.parent < k) × (p.id ≡ w.given.parent) × (p.input.location_type ≡ 1)))
-        → ((w.given.input.has_parent ≡ false) × (st.parent ≡ 65535))
-        ⊎ ((w.given.input.has_parent ≡ true) × ((p : StopGiven) × Nth (ss ++ ts) st.parent p × (st.parent < k) × (p.id ≡ w.given.parent) × (p.input.location_type ≡ 1)))
-    go (inl q) = inl q
-    go (inr (h, (p, n, b, e, t))) = inr (h, (p, nth-more ss ts st.parent p n, b, e, t))
 
 -- ---- a stop
 
@@ -209,22 +168,22 @@ module _ (stops : List Stop) (n : ℕ) (ss : List StopGiven) (long : n ≤ lengt
       let g : get_or (take n stops) (m - 0) blank_stop ≡ get_or stops m blank_stop = ap (λ (j : ℕ). get_or (take n stops) j blank_stop) z ∙ get_or-take n stops m blank_stop h in
       (h, sym (ap (is_it true parent) g) ∙ f.2)
 
-  station-held : (has : Bool) (parent : List ℕ) (f : Option ℕ) → station_of stops n has parent ≡ f → (has && not (is_some f)) ≡ false
-      → ((has ≡ false) × (unwrap_or f 65535 ≡ 65535)) ⊎ ((has ≡ true) × ((p : StopGiven) × Nth ss (unwrap_or f 65535) p × (unwrap_or f 65535 < n) × (p.id ≡ parent) × (p.input.location_type ≡ 1)))
+  station-held : (parent : Option (List ℕ)) (f : Option ℕ) → station_of stops n parent ≡ f → (is_some parent && not (is_some f)) ≡ false → ParentHeld f ss n parent
   unfolding station_of
-  station-held false parent None e t = inl (refl, refl)
-  station-held false parent (Some m) e t = let z : ◌≡◌ {A = ℕ} 0 1 = cc in absurd (omega arith)
-  station-held true parent None e t = absurd (true≢false t)
-  station-held true parent (Some m) e t =
-      let (h, q) = station-at parent m e in
+  station-held None None e t = inl (refl, refl)
+  station-held None (Some m) e t = absurd (none-ne-some m e)
+  station-held (Some id) None e t = absurd (true≢false t)
+  station-held (Some id) (Some m) e t =
+      let (h, q) = station-at id m e in
       let w = each m h in
       let k : eqb (stop_at stops m).location_type 1 ≡ true = and-true-left _ _ q in
-      let b : same_bytes_of (id_of (stop_at stops m)) parent ≡ true = and-true-right (eqb (stop_at stops m).location_type 1) _ q in
-      inr (refl, (w.given, w.at, h, sym w.id ∙ bytes_same _ _ b, sym w.kind ∙ eqb-true _ 1 k))
+      let b : same_bytes_of (id_of (stop_at stops m)) id ≡ true = and-true-right (eqb (stop_at stops m).location_type 1) _ q in
+      inr (m, w.given, refl, w.at, h, ap Some (sym (sym w.id ∙ bytes_same _ _ b)), sym w.kind ∙ eqb-true _ 1 k)
 
-parent-found : (b : Bool) (ss : List Stop) (n : ℕ) (f : Option ℕ) (id name : List ℕ) (i : StopInput) → first_answer (stop_tests b ss n f id name i) ≡ Ok Taken → (i.has_parent && not (is_some f)) ≡ false
+parent-found : (b : Bool) (ss : List Stop) (n : ℕ) (f : Option ℕ) (id : List ℕ) (name parent : Option (List ℕ)) (i : StopInput)
+    → first_answer (stop_tests b ss n f id name parent i) ≡ Ok Taken → (is_some parent && not (is_some f)) ≡ false
 unfolding stop_tests
-parent-found b ss n f id name i e = (first_taken _ _ refl (answer-is-first (stop_tests b ss n f id name i)) e).1.1.1.1.0
+parent-found b ss n f id name parent i e = (first_taken _ _ refl (answer-is-first (stop_tests b ss n f id name parent i)) e).1.1.1.1.0
 
 snoc-length : {A : Type 0} (l : List A) (x : A) → length (l ++ x ∷ []) ≡ length l + 1
 snoc-length l x = length-append l (x ∷ [])
@@ -234,7 +193,7 @@ module _ (l : Load) (fs : List Filling) (sound : Sound l) (w : Held l fs) where
   pub held_same : Held l (fs ++ [])
   held_same = subst (Held l) (sym (append-nil fs)) w
 
-  module _ (id name parent : List ℕ) (i : StopInput) (e : stop_answer l id name parent i ≡ Ok Taken) where
+  module _ (id : List ℕ) (name parent : Option (List ℕ)) (i : StopInput) (e : stop_answer l id name parent i ≡ Ok Taken) where
     abbrev n : ℕ
     n = l.stop_count
 
@@ -242,13 +201,13 @@ module _ (l : Load) (fs : List Filling) (sound : Sound l) (w : Held l fs) where
     new = record { id = id; name = name; parent = parent; input = i }
 
     abbrev st : Stop
-    st = stop_of id name (station_in l parent i) i
+    st = stop_of id name (station_in l parent) i
 
     abbrev gs : List Filling
     gs = fs ++ stop id name parent i ∷ []
 
     room : n < length l.stops
-    room = omega (arith, (stops.passed l.searched l.stops n (station_in l parent i) id name i e).room, sound.stops.long)
+    room = omega (arith, (stops.passed l.searched l.stops n (station_in l parent) id name parent i e).room, sound.stops.long)
 
     stops-new : stops_in gs ≡ stops_in fs ++ new ∷ []
     stops-new = stops-append fs (stop id name parent i ∷ [])
@@ -269,14 +228,10 @@ module _ (l : Load) (fs : List Filling) (sound : Sound l) (w : Held l fs) where
       id = id-kept l.searched l.stops n id name parent i e;
       kind = refl;
       members = refl;
-      key = record { named = refl; name = name-kept l.searched l.stops n id name parent i e; position = position-held i.located i.degrees; needed = needed-usable l.searched l.stops n id name parent i e };
-      parent = more (station-held l.stops n (stops_in fs) (omega (arith, room)) w.each i.has_parent parent (station_in l parent i) refl (parent-found l.searched l.stops n (station_in l parent i) id name i e));
+      key = record { name = name-kept l.searched l.stops n id name parent i e; position = refl; needed = needed-usable l.searched l.stops n id name parent i e };
+      parent = parent-more (station_in l parent) (stops_in fs) (new ∷ []) n parent
+          (station-held l.stops n (stops_in fs) (omega (arith, room)) w.each parent (station_in l parent) refl (parent-found l.searched l.stops n (station_in l parent) id name parent i e));
     }
-      where
-        more : ((i.has_parent ≡ false) × (unwrap_or (station_in l parent i) 65535 ≡ 65535)) ⊎ ((i.has_parent ≡ true) × ((p : StopGiven) × Nth (stops_in fs) (unwrap_or (station_in l parent i) 65535) p × (unwrap_or (station_in l parent i) 65535 < n) × (p.id ≡ parent) × (p.input.location_type ≡ 1)))
-            → ((i.has_parent ≡ false) × (unwrap_or (station_in l parent i) 65535 ≡ 65535)) ⊎ ((i.has_parent ≡ true) × ((p : StopGiven) × Nth (stops_in fs ++ new ∷ []) (unwrap_or (station_in l parent i) 65535) p × (unwrap_or (station_in l parent i) 65535 < n) × (p.id ≡ parent) × (p.input.location_type ≡ 1)))
-        more (inl q) = inl q
-        more (inr (h, (p, m, b, q, t))) = inr (h, (p, nth-more (stops_in fs) (new ∷ []) (unwrap_or (station_in l parent i) 65535) p m, b, q, t))
 
     every : (k : ℕ) → k < n + 1 → HeldAs (stop_at (set l.stops n st) k) (stops_in fs ++ new ∷ []) k
     every k h = below-cases (λ j. HeldAs (stop_at (set l.stops n st) j) (stops_in fs ++ new ∷ []) j) n k h
@@ -293,7 +248,7 @@ module _ (l : Load) (fs : List Filling) (sound : Sound l) (w : Held l fs) where
     stop-held = record {
       calls = w.calls ∙ ap (windowed l.settings l.table_horizon) (sym calls-new);
       days = λ j m. w.days j (subst (Memᴰ j) calls-new m);
-      rules = w.rules ∙ ap (map rule_of) (sym rules-new);
+      rules = w.rules ∙ sym rules-new;
       stops = ap (λ (k : ℕ). k + 1) w.stops ∙ sym (snoc-length (stops_in fs) new) ∙ ap length (sym stops-new);
       each = λ k h. subst (λ (ss : List StopGiven). HeldAs (stop_at (set l.stops n st) k) ss k) (sym stops-new) (every k h);
       week = week-more l.week fs (stop id name parent i) refl (λ m. refl) w.week;
@@ -301,7 +256,7 @@ module _ (l : Load) (fs : List Filling) (sound : Sound l) (w : Held l fs) where
 
   -- ---- a rule
 
-  module _ (i : RuleInput) (e : rule_answer l i ≡ Ok Taken) where
+  module _ (i : Rule) (e : rule_answer l i ≡ Ok Taken) where
     abbrev rs : List Filling
     rs = fs ++ rule i ∷ []
 
@@ -314,15 +269,14 @@ module _ (l : Load) (fs : List Filling) (sound : Sound l) (w : Held l fs) where
     rule-stops : stops_in rs ≡ stops_in fs
     rule-stops = stops-append fs (rule i ∷ []) ∙ append-nil (stops_in fs)
 
-    one_more : take (l.rule_count + 1) (set l.rules l.rule_count (rule_of i)) ≡ map rule_of (rules_in rs)
+    one_more : take (l.rule_count + 1) (set l.rules l.rule_count i) ≡ rules_in rs
     one_more =
-        ap (λ (k : ℕ). take k (set l.rules l.rule_count (rule_of i))) (add-one l.rule_count)
-        ∙ take-suc-set l.rules l.rule_count (rule_of i) rule-room
-        ∙ ap (λ (r : List Rule). r ++ rule_of i ∷ []) w.rules
-        ∙ sym (map-append rule_of (rules_in fs) (i ∷ []))
-        ∙ ap (map rule_of) (sym (rules-append fs (rule i ∷ [])))
+        ap (λ (k : ℕ). take k (set l.rules l.rule_count i)) (add-one l.rule_count)
+        ∙ take-suc-set l.rules l.rule_count i rule-room
+        ∙ ap (λ (r : List Rule). r ++ i ∷ []) w.rules
+        ∙ sym (rules-append fs (rule i ∷ []))
 
-    rule-held : Held (with_rules l (set l.rules l.rule_count (rule_of i)) (l.rule_count + 1)) rs
+    rule-held : Held (with_rules l (set l.rules l.rule_count i) (l.rule_count + 1)) rs
     rule-held = record {
       calls = w.calls ∙ ap (windowed l.settings l.table_horizon) (sym rule-calls);
       days = λ j m. w.days j (subst (Memᴰ j) rule-calls m);
@@ -358,7 +312,7 @@ module _ (l : Load) (fs : List Filling) (sound : Sound l) (w : Held l fs) where
     call-held e = record {
       calls = step ∙ ap (λ (b : Bool). windowed l.settings fit.table.horizon (calls_in fs ++ cond b (i ∷ []) [])) (ap is_taken e) ∙ ap (windowed l.settings fit.table.horizon) (sym call-calls);
       days = λ j m. day j (Memᴰ.append_cases (calls_in fs) (subst (Memᴰ j) call-calls m));
-      rules = w.rules ∙ ap (map rule_of) (sym call-rules);
+      rules = w.rules ∙ sym call-rules;
       stops = w.stops ∙ ap length (sym call-stops);
       each = λ k h. subst (λ (ss : List StopGiven). HeldAs (stop_at l.stops k) ss k) (sym call-stops) (w.each k h);
       week = week-more l.week fs (call name i) refl (λ m. refl) w.week;
@@ -388,7 +342,7 @@ module _ (l : Load) (fs : List Filling) (sound : Sound l) (w : Held l fs) where
     beside-calls = calls-append fs (x ∷ []) ∙ ap (λ (r : List CallInput). calls_in fs ++ r) no_call ∙ append-nil (calls_in fs)
 
     beside-rules : rules_in (fs ++ x ∷ []) ≡ rules_in fs
-    beside-rules = rules-append fs (x ∷ []) ∙ ap (λ (r : List RuleInput). rules_in fs ++ r) no_rule ∙ append-nil (rules_in fs)
+    beside-rules = rules-append fs (x ∷ []) ∙ ap (λ (r : List Rule). rules_in fs ++ r) no_rule ∙ append-nil (rules_in fs)
 
     beside-stops : stops_in (fs ++ x ∷ []) ≡ stops_in fs
     beside-stops = stops-append fs (x ∷ []) ∙ ap (λ (r : List StopGiven). stops_in fs ++ r) no_stop ∙ append-nil (stops_in fs)
@@ -397,7 +351,7 @@ module _ (l : Load) (fs : List Filling) (sound : Sound l) (w : Held l fs) where
     beside-held v h = record {
       calls = w.calls ∙ ap (windowed l.settings l.table_horizon) (sym beside-calls);
       days = λ j m. w.days j (subst (Memᴰ j) beside-calls m);
-      rules = w.rules ∙ ap (map rule_of) (sym beside-rules);
+      rules = w.rules ∙ sym beside-rules;
       stops = w.stops ∙ ap length (sym beside-stops);
       each = λ k h. subst (λ (ss : List StopGiven). HeldAs (stop_at l.stops k) ss k) (sym beside-stops) (w.each k h);
       week = h;
@@ -413,12 +367,12 @@ unfolding stop_spec plain_call rule_spec service_spec service_on exception_spec 
 fill-held l (stop id name parent i) fs sound w = go (is_taken (stop_answer l id name parent i)) refl
   where
     go : (b : Bool) → is_taken (stop_answer l id name parent i) ≡ b
-        → Held (cond b (with_stops l (set l.stops l.stop_count (stop_of id name (station_in l parent i) i)) (l.stop_count + 1)) l) (fs ++ cond b (stop id name parent i ∷ []) [])
+        → Held (cond b (with_stops l (set l.stops l.stop_count (stop_of id name (station_in l parent) i)) (l.stop_count + 1)) l) (fs ++ cond b (stop id name parent i ∷ []) [])
     go true e = stop-held l fs sound w id name parent i (taken_is _ e)
     go false e = held_same l fs sound w
 fill-held l (rule i) fs sound w = go (is_taken (rule_answer l i)) refl
   where
-    go : (b : Bool) → is_taken (rule_answer l i) ≡ b → Held (cond b (with_rules l (set l.rules l.rule_count (rule_of i)) (l.rule_count + 1)) l) (fs ++ cond b (rule i ∷ []) [])
+    go : (b : Bool) → is_taken (rule_answer l i) ≡ b → Held (cond b (with_rules l (set l.rules l.rule_count i) (l.rule_count + 1)) l) (fs ++ cond b (rule i ∷ []) [])
     go true e = rule-held l fs sound w i (taken_is _ e)
     go false e = held_same l fs sound w
 fill-held l (call name i) fs sound w = by _ (called l name i)

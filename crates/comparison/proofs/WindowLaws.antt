@@ -5,12 +5,12 @@ use mathlib.Core.Logic.{◌⊎◌, inl, inr, ◌↔◌}
 use mathlib.Core.Bool.{Bool, true, false, not, cond, ◌&&◌, ◌||◌, true≢false, false≢true}
 use mathlib.Core.List.{List, ◌∷◌}
 use Prim.Native.Nat.{ℕ, ◌≤◌, ◌<◌}
-use native.Mathlib.Omega.{arith}
 use lib.Dec.{leb, eqb}
 use lib.IntN.{ℤ, pos, negsuc}
 use lib.ListN.{get_or}
 use borrow.Author.Tests.{leb-true, leb-false, le-leb, lt-leb, ltb-false, le-ltb, eqb-true, eq-eqb, ne_eqb}
-use Rattle.laws.proofs.Bools.{and-true, and-true-left, and-true-right, or-true-cases, or-true-left, or_true_right, cond-by, cond-not}
+use Rattle.laws.proofs.Options.{some-injective}
+use Rattle.laws.proofs.Bools.{and-true, and-true-left, and-true-right, or-true-cases, or-true-left, or_true_right, cond-by, cond-not, of-not}
 use Rattle.settings.specs.declared.Settings.{Settings}
 use Rattle.settings.specs.Settings.{near}
 use Rattle.calls.specs.declared.CallInput.{CallInput}
@@ -60,13 +60,9 @@ held-is h (pos n) v (inr (l, e)) = e ∙ sym (cond-not n h (lt-leb n h l))
 
 -- ---- a mark
 
-not-one : (b : Bool) → not b ≡ true → b ≡ false
-not-one true e = sym e
-not-one false e = refl
-
 is-may : (h : ℕ) (z : ℤ) (kind : ℕ) → May h z kind (allowed (within h (time_of z)) kind)
 is-may h z kind = (
-  λ e. (within_in h z (and-true-left _ (not (eqb kind 1)) e), λ q. true≢false (sym (eq-eqb kind 1 q) ∙ not-one (eqb kind 1) (and-true-right (within h (time_of z)) _ e))),
+  λ e. (within_in h z (and-true-left _ (not (eqb kind 1)) e), λ q. true≢false (sym (eq-eqb kind 1 q) ∙ of-not (eqb kind 1) (and-true-right (within h (time_of z)) _ e))),
   λ (i, n). and-true _ _ (in_within h z i) (ap not (ne_eqb kind 1 n)),
 )
 
@@ -151,8 +147,8 @@ module _ (s : Settings) (h : ℕ) (i : CallInput) where
     shown-seen c w = go (is_none zd) refl (after h za) refl (sym window-is ∙ w)
       where
         go : (x : Bool) → is_none zd ≡ x → (y : Bool) → after h za ≡ y → cond (x || y) None (Some (seen_call h za zd i)) ≡ Some c → Seen s h i c
-        go true p y q v = absurd (let z : ◌≡◌ {A = ℕ} 0 1 = cc in omega arith)
-        go false p true q v = absurd (let z : ◌≡◌ {A = ℕ} 0 1 = cc in omega arith)
+        go true p y q v = absurd (cc)
+        go false p true q v = absurd (cc)
         go false p false q v = let e : seen_call h za zd i ≡ c = cc in subst (Seen s h i) e (call-seen p q)
 
     -- two calls that are seen so are one
@@ -188,7 +184,7 @@ module _ (s : Settings) (h : ℕ) (i : CallInput) where
 
   -- the window shows nothing where a time is absent or the clock far
   out-in : (c : Call) → None ≡ Some c → ⊥
-  out-in c e = let z : ◌≡◌ {A = ℕ} 0 1 = cc in omega arith
+  out-in c e = cc
 
   far-out : (near (get_or s.epochs i.day (pos 0)) && near s.now) ≡ false → window s h i ≡ None
   unfolding window seen time_after
@@ -218,8 +214,8 @@ module _ (s : Settings) (h : ℕ) (i : CallInput) where
 -- a call is seen in one way, and the calls of a list too
 pub one_seen : (s : Settings) (h : ℕ) (i : CallInput) (c c' : Call) → Seen s h i c → Seen s h i c' → c ≡ c'
 one_seen s h i c c' w w' =
-    let qa : w'.a ≡ w.a = given-one w'.a w.a (sym w'.arrives ∙ w.arrives) in
-    let qd : w'.d ≡ w.d = given-one w'.d w.d (sym w'.departs ∙ w.departs) in
+    let qa : w'.a ≡ w.a = some-injective w'.a w.a (sym w'.arrives ∙ w.arrives) in
+    let qd : w'.d ≡ w.d = some-injective w'.d w.d (sym w'.departs ∙ w.departs) in
     let za : ℤ = time s i.day w.a in
     let zd : ℤ = time s i.day w.d in
     let arr : c.arrival ≡ c'.arrival = held-is h za c.arrival w.arrival ∙ sym (held-is h za c'.arrival (subst (λ (n : ℕ). Held h (time s i.day n) c'.arrival) qa w'.arrival)) in
@@ -240,9 +236,6 @@ one_seen s h i c c' w w' =
       board_request = bra k;
       alight_request = ala k;
     }
-  where
-    given-one : (m n : ℕ) → Some m ≡ Some n → m ≡ n
-    given-one m n e = cc
 
 pub one-shown : (s : Settings) (h : ℕ) (is : List CallInput) (cs ds : List Call) → Shown s h is cs → Shown s h is ds → cs ≡ ds
 one-shown s h _ _ _ empty empty = refl

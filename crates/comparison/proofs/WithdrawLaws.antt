@@ -1,11 +1,12 @@
 -- A withdrawal: the program's tests decide its causes, and what it leaves holds what is left.
+use Rattle.std.proofs.lemmas.Bool.{not-false}
 use Rattle.refusal.specs.declared.Accepted.TheVariants.{Taken}
 use Rattle.std.specs.Prelude.{Ok}
 use Prim.Native.Nat.{ℕ, ◌≤◌}
 use mathlib.Core.Path.{◌≡◌, refl, sym, ap, subst, ◌∙◌}
 use mathlib.Core.Bool.{Bool, true, false, not, cond, true≢false}
 use mathlib.Core.List.Permᴰ
-use mathlib.Core.List.{List, [], ◌++◌, map, Memᴰ}
+use mathlib.Core.List.{List, [], ◌++◌, Memᴰ}
 use lib.ListN.{length}
 use Rattle.laws.specs.Lists.{anyb}
 use Rattle.laws.proofs.Sort.{perm-mem}
@@ -15,12 +16,11 @@ use Rattle.settings.specs.Settings.{canonical_of}
 use Rattle.calls.specs.declared.CallInput.{CallInput}
 use Rattle.calls.specs.declared.Call.{Call}
 use Rattle.calls.specs.Shown.{windowed, table_calls}
-use Rattle.rules.specs.Rules.{rule_of}
 use Rattle.stops.specs.Sound.{stop_at}
 use Rattle.offers.specs.Order.{in_order_of, clashes}
 use Rattle.load.specs.declared.Load.{Load}
 use Rattle.load.specs.declared.Stepped.{Stepped}
-use Rattle.load.specs.Load.{table_of, with_table}
+use Rattle.load.specs.Load.{table_of, with_table, stopped}
 use Rattle.load.specs.Filling.{Filling}
 use Rattle.load.specs.Sound.{Sound}
 use Rattle.withdrawal.specs.declared.CallKey.{CallKey}
@@ -44,17 +44,13 @@ use Rattle.comparison.proofs.Deciding.{Decides, Matches, dec-as}
 use Rattle.comparison.proofs.SettingLaws.{Opened}
 use Rattle.comparison.proofs.TakenLaws.{HeldAs}
 use Rattle.comparison.proofs.WeekLaws.{dates_of}
-use Rattle.comparison.proofs.StartLaws.{Start, limit_of, no_limit, state_at}
+use Rattle.comparison.proofs.StartLaws.{Start, no_limit, state_at}
 use Rattle.comparison.proofs.AfterLaws.{named_filling, without-mem}
 use Rattle.comparison.proofs.GoneLaws.{dec-key, any-calls, calls-without, dec-none, gone-is, one-withdrawn}
 use Rattle.comparison.proofs.AsideLaws.{Beside, beside-on, beside_back, beside-less, apart, apart-like, week-beside}
 use Rattle.comparison.proofs.SearchingLaws.{again-match, untaken-refused, found-searched, found-state, again-so}
 use Rattle.comparison.proofs.SearchedLaws.{shown-apart, apart-again, apart-days, searched-start, Leaves, stays-so}
 use Rattle.comparison.proofs.AddedLaws.{state-done}
-
-is-not : (b : Bool) → not b ≡ false → b ≡ true
-is-not true e = refl
-is-not false e = absurd (true≢false e)
 
 abbrev Days : List CallInput → Type 0
 Days is = (j : CallInput) → Memᴰ j is → j.day ≤ 2
@@ -79,7 +75,7 @@ left-start s l k gs hs w known there b days e = record {
   held = record {
     calls = (withdrawn-leaves (table_of l) k w.sound.table there).calls ∙ e;
     days = days;
-    rules = w.held.rules ∙ ap (map rule_of) (sym b.rules);
+    rules = w.held.rules ∙ sym b.rules;
     stops = w.held.stops ∙ ap length (sym b.stops);
     each = λ j q. subst (λ (ss : List StopGiven). HeldAs (stop_at l.stops j) ss j) (sym b.stops) (w.held.each j q);
     week = week-beside l.week hs gs b w.held.week;
@@ -104,7 +100,7 @@ module _ (s : Settings) (o : Opened s) (l : Load) (fs : List Filling) (w : Start
   withdraw-match = go l.searched refl
     where
       go : (b : Bool) → l.searched ≡ b
-          → Matches (cond b (withdraw_tests (unsearched_of l) k ++ search_tests l (taken_out (unsearched_of l) k).load) (withdraw_tests l k)) (withdraw_causes s (record { taken = fs; horizon = h; limits = l.table_limits; searched = b; stopped = limit_of l; dates = dates_of l.week; closed = l.week.closed }) k)
+          → Matches (cond b (withdraw_tests (unsearched_of l) k ++ search_tests l (taken_out (unsearched_of l) k).load) (withdraw_tests l k)) (withdraw_causes s (record { taken = fs; horizon = h; limits = l.table_limits; searched = b; stopped = l.limit; dates = dates_of l.week; closed = l.week.closed }) k)
       go true e = absurd (true≢false (sym e ∙ w.fresh))
       go false e = (refl, dec-key k, λ p. (refl, dec-24, λ q. tt))
 
@@ -141,20 +137,20 @@ module _ (s : Settings) (o : Opened s) (l : Load) (fs : List Filling) (w : Start
 -- ---- on a searched load
 
 module _ (s : Settings) (o : Opened s) (l : Load) (fs : List Filling) (d : l.searched ≡ true) (kept : Kept l) (w : Start s (unsearched_of l) (apart fs))
-    (days : Days (calls_in fs)) (few : l.stopped ≡ true → s.max_transfers ≤ 1) (k : CallKey) where
+    (days : Days (calls_in fs)) (few : stopped l ≡ true → s.max_transfers ≤ 1) (k : CallKey) where
   abbrev u : Load
   u = unsearched_of l
 
   -- searched again
   abbrev once : Load → Stepped
-  once n = researched l.stopped l.limit n
+  once n = researched l.limit n
 
   abbrev seen : List Call
   seen = windowed u.settings u.table_horizon (calls_in fs)
 
   -- the state of the searched load
   abbrev T : State
-  T = done (limit_of l) (state_at u fs)
+  T = done l.limit (state_at u fs)
 
   calls-so : table_calls (table_of u) ≡ in_order_of seen
   calls-so = w.held.calls ∙ shown-apart u.settings u.table_horizon fs
@@ -208,13 +204,13 @@ module _ (s : Settings) (o : Opened s) (l : Load) (fs : List Filling) (d : l.sea
     rest-searched : is_taken (once (out_of u k)).answer ≡ true → Leaves s l fs (withdraw k) (Ok Taken) (once (out_of u k)).load rest
     unfolding withdrawn
     rest-searched t =
-        let at : state_at (once (out_of u k)).load rest ≡ done (limit_of (once (out_of u k)).load) (keeping T rest) = found-state l.stopped l.limit (out_of u k) t rest in
+        let at : state_at (once (out_of u k)).load rest ≡ done ((once (out_of u k)).load.limit) (keeping T rest) = found-state l.limit (out_of u k) t rest in
         record {
           after = subst (λ (x : State). After s x (withdraw k) (Ok Taken) (state_at (once (out_of u k)).load rest)) (sym (state-done s o l fs d w))
               (subst (After s T (withdraw k) (Ok Taken)) (sym at) (a_withdrawal gone-again
-              (again-so s (out_of u k) (apart rest) rest rest-start o (apart-like rest) l.stopped l.limit few t (state_at u fs))));
-          searched = found-searched l.stopped l.limit (out_of u k) t;
-          start = searched-start s (out_of u k) (apart rest) rest rest-start (apart-like rest).beside rest-days (apart-again u.settings u.table_horizon rest) l.stopped l.limit t;
+              (again-so s (out_of u k) (apart rest) rest rest-start o (apart-like rest) (state_at u fs) l.limit few t)));
+          searched = found-searched l.limit (out_of u k) t;
+          start = searched-start s (out_of u k) (apart rest) rest rest-start (apart-like rest).beside rest-days (apart-again u.settings u.table_horizon rest) l.limit t;
         }
 
   withdraw-front : Matches (withdraw_tests u k ++ search_tests l (taken_out u k).load) (withdraw_causes s T k)
@@ -222,8 +218,8 @@ module _ (s : Settings) (o : Opened s) (l : Load) (fs : List Filling) (d : l.sea
     where
       go : not (key_known k) ≡ false → not (anyb (has_key k) (table_calls (table_of u))) ≡ false → Matches (search_tests l (taken_out u k).load) (again_causes s (Withdrawn s T k))
       go e f =
-          let known = is-not (key_known k) e in
-          let there = is-not (anyb (has_key k) (table_calls (table_of u))) f in
+          let known = not-false (key_known k) e in
+          let there = not-false (anyb (has_key k) (table_calls (table_of u))) f in
           subst (λ (r : Stepped). Matches (search_tests l r.load) (again_causes s (Withdrawn s T k))) (sym (there-goes u k known there)) (rest-again known there)
 
   pub withdrawn-match : Matches (tests.withdraw_causes l k) (withdraw_causes s (state_at l fs) k)
@@ -235,7 +231,7 @@ module _ (s : Settings) (o : Opened s) (l : Load) (fs : List Filling) (d : l.sea
   LeftBy r = Leaves s l fs (withdraw k) r.answer r.load (cond (is_taken r.answer) (without_last (named_filling u.settings u.table_horizon k) fs) fs)
 
   refused-so : (n : Load) → n.searched ≡ false → is_taken (once n).answer ≡ false → LeftBy (record { answer = (once n).answer; load = l })
-  refused-so n new t = untaken-refused l.stopped l.limit n new (λ a. LeftBy (record { answer = a; load = l })) (λ r. stays-so s l fs (withdraw k) r d w) t
+  refused-so n new t = untaken-refused l.limit n new (λ a. LeftBy (record { answer = a; load = l })) (λ r. stays-so s l fs (withdraw k) r d w) t
 
   withdrawn-again : LeftBy (again l (taken_out u k))
   unfolding again

@@ -23,7 +23,6 @@ use Rattle.comparison.proofs.Pairs.{Pairs, one-pairs}
 use Rattle.comparison.proofs.BagLaws.{handing, leg-perm, gives-perm, each-perm}
 use Rattle.comparison.proofs.AsideLaws.{Like, feed-beside}
 use Rattle.comparison.proofs.OfferedLaws.{by_call, by_number, before-asym, each-one}
-use Rattle.comparison.proofs.EventLaws.{in_turn}
 
 -- ---- lists of events
 
@@ -45,7 +44,7 @@ in-offers [] x m = absurd (Memᴰ.not-nil m)
 in-offers (join b o a c d ∷ es) x m = go (Memᴰ.cases_cons m) (in-offers es x)
   where
     go : (offer x ≡ join b o a c d) ⊎ Memᴰ (offer x) es → (Memᴰ (offer x) es → Memᴰ x (offers_in es)) → Memᴰ x (offers_in es)
-    go (inl e) ih = absurd (let z : ◌≡◌ {A = ℕ} 0 1 = cc in omega arith)
+    go (inl e) ih = absurd (cc)
     go (inr n) ih = ih n
 in-offers (offer y ∷ es) x m = go (Memᴰ.cases_cons m) (in-offers es x)
   where
@@ -184,7 +183,7 @@ pub stopped-count : (F : Feed) (n : ℕ) (os : List Journey) (k : ℕ) → Withi
 stopped-count F n os k w = record { events = w.events; listed = w.listed; front = w.front; stops = w.stops; offered = w.offered; count = go false refl w.stops }
   where
     go : (f : Bool) → f ≡ false → Stops n w.events w.front f → joins_in w.front ≡ n
-    go _ q (finished e h) = absurd (let z : ◌≡◌ {A = ℕ} 0 1 = cc in omega arith)
+    go _ q (finished e h) = absurd (cc)
     go _ q (stopped b o a c d rest e h) = h
 
 ascending-in : (es : List Event) → InTurn es → Ascending (offers_in es)
@@ -194,7 +193,7 @@ ascending-in (offer x ∷ es) w = (λ y m. w.0 (offer y) (offer-in es y m), asce
 
 all-front : (n : ℕ) (es front : List Event) (f : Bool) → f ≡ true → Stops n es front f → front ≡ es
 all-front n es front _ q (finished e h) = e
-all-front n es front _ q (stopped b o a c d rest e h) = absurd (let z : ◌≡◌ {A = ℕ} 0 1 = cc in omega arith)
+all-front n es front _ q (stopped b o a c d rest e h) = absurd (cc)
 
 pub all_offered : (F : Feed) (n : ℕ) (os : List Journey) (k : ℕ) → Within F n os k true → Offered F os
 all_offered F n os k w =

@@ -5,14 +5,13 @@ use Prim.Native.Nat.{ℕ}
 use mathlib.Core.Path.{◌≡◌, refl, ap, subst}
 use mathlib.Core.Bool.{true, false}
 use mathlib.Core.List.{List, [], ◌∷◌, map, Memᴰ}
-use native.Mathlib.Omega.{arith}
 use lib.ListN.{get_or}
 use Rattle.refusal.specs.First.{first_answer, Answer}
 use Rattle.settings.specs.Settings.{over_counts, near, all_near, settings_tests, walks_of, canonical_of}
 use Rattle.stops.specs.Answer.{station_of, id_wrong, is_known, type_wrong, name_needed, name_wrong, stop_tests}
 use Rattle.stops.specs.Sound.{stop_at}
 use Rattle.stops.specs.Taken.{stop_of}
-use Rattle.stops.specs.Texts.{held_text}
+use Rattle.texts.specs.Texts.{held}
 use Rattle.calls.specs.Calls.{known, call_tests, call_fit, call_on}
 use Rattle.calls.specs.Tables.{cut, fitted}
 use Rattle.calls.specs.Windows.{time_after, seen_call, seen}
@@ -21,7 +20,7 @@ use Rattle.services.specs.Wrong.{dates_wrong, span_wrong, exception_wrong}
 use Rattle.services.specs.Exceptions.{mark, joined_on, excepted_of}
 use Rattle.services.specs.Runs.{by_week, runs_by_of, runs_of}
 use Rattle.week.specs.Weeks.{undated_week, dated_week, service_of, service_tests, service_on, exception_tests, exception_on, running}
-use Rattle.load.specs.Load.{empty_of}
+use Rattle.load.specs.Load.{empty_of, stopped}
 use Rattle.laws.specs.Tables.{table}
 use Rattle.rules.specs.Rules.{rule_tests}
 use Rattle.transfer.specs.Copied.{parents_of}
@@ -57,7 +56,7 @@ use Rattle.comparison.specs.Taken.{fresh}
 use Rattle.comparison.specs.Runs.{Runs, Admitted, Finished}
 use Rattle.comparison.specs.Demands.{answers_from}
 use Rattle.comparison.specs.Witness.{settings_with, some_settings, some_opening, some_dates, one_trip, added_trip, withdrawn_trip, two_trips, three_trips, limited_trips, limited_less, dated_trip, kept_by, kept_figures, StoppedAt, Met}
-use Rattle.comparison.proofs.StartLaws.{limit_of}
+use Rattle.comparison.proofs.StartLaws.{}
 use Rattle.comparison.proofs.DemandLaws.{ending, run, same-admitted}
 
 -- what the program answers
@@ -65,7 +64,7 @@ pub record Computed : Type 0 where
   pub opens : Opens some_opening
   pub answers : answers_from (opened some_opening) (one_trip 600 1200) ≡ Ok Taken ∷ Ok Taken ∷ Ok Taken ∷ Ok Taken ∷ Ok Taken ∷ []
   pub searched : (end_of some_opening (one_trip 600 1200)).searched ≡ true
-  pub finished : (end_of some_opening (one_trip 600 1200)).stopped ≡ false
+  pub finished : stopped (end_of some_opening (one_trip 600 1200)) ≡ false
 
 pub record Kept : Type 0 where
   pub one-trip : kept_figures (one_trip 600 1200) ≡ figures_of 300 1320 1 5 ∷ []
@@ -75,23 +74,23 @@ pub record Kept : Type 0 where
   pub past_horizon : kept_figures (one_trip 600 21481) ≡ []
 
 pub computed : Computed
-unfolding first_answer over_counts near all_near settings_tests walks_of canonical_of station_of id_wrong is_known type_wrong name_needed name_wrong stop_tests stop_at stop_of held_text known call_tests call_fit call_on cut fitted time_after seen_call seen open_answer empty_of undated_week stop_spec plain_call call_spec add_spec_of lexb clash rides first_rides joined_rides network_of offers search_of timetable_of outcome_of search_spec onward pass routes
+unfolding first_answer over_counts near all_near settings_tests walks_of canonical_of station_of id_wrong is_known type_wrong name_needed name_wrong stop_tests stop_at stop_of held known call_tests call_fit call_on cut fitted time_after seen_call seen open_answer empty_of undated_week stop_spec plain_call call_spec add_spec_of lexb clash rides first_rides joined_rides network_of offers search_of timetable_of outcome_of search_spec onward pass routes
 computed = record { opens = (refl, tt); answers = refl; searched = refl; finished = refl }
 
 record Changed : Type 0 where
-  finished : (end_of (undated (settings_with 1)) (two_trips 1240)).stopped ≡ false
+  finished : stopped (end_of (undated (settings_with 1)) (two_trips 1240)) ≡ false
   opens : Opens (undated (settings_with 1))
   searched : (end_of (undated (settings_with 1)) (two_trips 1240)).searched ≡ true
   kept : kept_by (undated (settings_with 1)) (two_trips 1240) ≡ figures_of 300 1620 2 5 ∷ []
   missed : kept_by (undated (settings_with 1)) (two_trips 1239) ≡ []
 
 changed : Changed
-unfolding first_answer over_counts near all_near settings_tests walks_of canonical_of station_of id_wrong is_known type_wrong name_needed name_wrong stop_tests stop_at stop_of held_text known call_tests call_fit call_on cut fitted time_after seen_call seen open_answer empty_of undated_week stop_spec plain_call call_spec add_spec_of rule_tests rule_spec table parents_of ends_of_of transfer_of lexb clash rides first_rides joined_rides network_of offers search_of timetable_of outcome_of search_spec onward pass routes
+unfolding first_answer over_counts near all_near settings_tests walks_of canonical_of station_of id_wrong is_known type_wrong name_needed name_wrong stop_tests stop_at stop_of held known call_tests call_fit call_on cut fitted time_after seen_call seen open_answer empty_of undated_week stop_spec plain_call call_spec add_spec_of rule_tests rule_spec table parents_of ends_of_of transfer_of lexb clash rides first_rides joined_rides network_of offers search_of timetable_of outcome_of search_spec onward pass routes
 changed = record { finished = refl; opens = (refl, tt); searched = refl; kept = refl; missed = refl }
 
 -- by two changes
 record Through : Type 0 where
-  finished : (end_of (undated (settings_with 2)) (three_trips 1740)).stopped ≡ false
+  finished : stopped (end_of (undated (settings_with 2)) (three_trips 1740)) ≡ false
   opens : Opens (undated (settings_with 2))
   searched : (end_of (undated (settings_with 2)) (three_trips 1740)).searched ≡ true
   kept : kept_by (undated (settings_with 2)) (three_trips 1740) ≡ figures_of 300 2120 3 5 ∷ []
@@ -99,64 +98,64 @@ record Through : Type 0 where
   one_change : kept_by (undated (settings_with 1)) (three_trips 1740) ≡ []
 
 through : Through
-unfolding first_answer over_counts near all_near settings_tests walks_of canonical_of station_of id_wrong is_known type_wrong name_needed name_wrong stop_tests stop_at stop_of held_text known call_tests call_fit call_on cut fitted time_after seen_call seen open_answer empty_of undated_week stop_spec plain_call call_spec add_spec_of rule_tests rule_spec table parents_of ends_of_of transfer_of lexb clash rides first_rides joined_rides network_of offers search_of timetable_of outcome_of search_spec onward pass routes
+unfolding first_answer over_counts near all_near settings_tests walks_of canonical_of station_of id_wrong is_known type_wrong name_needed name_wrong stop_tests stop_at stop_of held known call_tests call_fit call_on cut fitted time_after seen_call seen open_answer empty_of undated_week stop_spec plain_call call_spec add_spec_of rule_tests rule_spec table parents_of ends_of_of transfer_of lexb clash rides first_rides joined_rides network_of offers search_of timetable_of outcome_of search_spec onward pass routes
 through = record { finished = refl; opens = (refl, tt); searched = refl; kept = refl; missed = refl; one_change = refl }
 
 -- with dates
 record Dated : Type 0 where
-  finished : (end_of some_dates (dated_trip 20230109)).stopped ≡ false
+  finished : stopped (end_of some_dates (dated_trip 20230109)) ≡ false
   opens : Opens some_dates
   searched : (end_of some_dates (dated_trip 20230109)).searched ≡ true
   kept : kept_by some_dates (dated_trip 20230109) ≡ figures_of 300 1320 1 5 ∷ []
   removed : kept_by some_dates (dated_trip 20230102) ≡ []
 
 in-dates : Dated
-unfolding first_answer over_counts near all_near settings_tests walks_of canonical_of station_of id_wrong is_known type_wrong name_needed name_wrong stop_tests stop_at stop_of held_text known call_tests call_fit call_on cut fitted time_after seen_call seen open_answer empty_of dated_week dates_wrong year_of month_of day_of is_leap months month_days is_date year_days months_days day_number weekday_of span_wrong exception_wrong service_of service_tests service_on exception_tests mark joined_on excepted_of exception_on by_week runs_by_of runs_of running service_spec exception_spec stop_spec plain_call gate_answer dated_call call_spec add_spec_of lexb clash rides first_rides joined_rides network_of offers search_of timetable_of outcome_of search_spec onward pass routes
+unfolding first_answer over_counts near all_near settings_tests walks_of canonical_of station_of id_wrong is_known type_wrong name_needed name_wrong stop_tests stop_at stop_of held known call_tests call_fit call_on cut fitted time_after seen_call seen open_answer empty_of dated_week dates_wrong year_of month_of day_of is_leap months month_days is_date year_days months_days day_number weekday_of span_wrong exception_wrong service_of service_tests service_on exception_tests mark joined_on excepted_of exception_on by_week runs_by_of runs_of running service_spec exception_spec stop_spec plain_call gate_answer dated_call call_spec add_spec_of lexb clash rides first_rides joined_rides network_of offers search_of timetable_of outcome_of search_spec onward pass routes
 in-dates = record { finished = refl; opens = (refl, refl); searched = refl; kept = refl; removed = refl }
 
 -- after the search
 record Later : Type 0 where
   adding : (end_of some_opening added_trip).searched ≡ true
-  added : (end_of some_opening added_trip).stopped ≡ false
-  taken : (end_of some_opening withdrawn_trip).stopped ≡ false
+  added : stopped (end_of some_opening added_trip) ≡ false
+  taken : stopped (end_of some_opening withdrawn_trip) ≡ false
   more : kept_figures added_trip ≡ figures_of 400 1220 1 5 ∷ []
   taking : (end_of some_opening withdrawn_trip).searched ≡ true
   less : kept_figures withdrawn_trip ≡ figures_of 300 1320 1 5 ∷ []
 
 later : Later
-unfolding first_answer over_counts near all_near settings_tests walks_of canonical_of station_of id_wrong is_known type_wrong name_needed name_wrong stop_tests stop_at stop_of held_text known call_tests call_fit call_on cut fitted time_after seen_call seen open_answer empty_of undated_week stop_spec plain_call call_spec add_spec_of lexb clash rides first_rides joined_rides network_of offers search_of timetable_of outcome_of search_spec added_to researched again unsearched_of has_key key_known withdrawn taken_out withdraw_spec onward routes pass
+unfolding first_answer over_counts near all_near settings_tests walks_of canonical_of station_of id_wrong is_known type_wrong name_needed name_wrong stop_tests stop_at stop_of held known call_tests call_fit call_on cut fitted time_after seen_call seen open_answer empty_of undated_week stop_spec plain_call call_spec add_spec_of lexb clash rides first_rides joined_rides network_of offers search_of timetable_of outcome_of search_spec added_to researched again unsearched_of has_key key_known withdrawn taken_out withdraw_spec onward routes pass
 later = record { adding = refl; added = refl; taken = refl; more = refl; taking = refl; less = refl }
 
 -- within a limit
 record Limited : Type 0 where
   none-tested : kept_by (undated (settings_with 1)) (limited_trips 0) ≡ figures_of 300 1320 1 5 ∷ []
   two_tested : kept_by (undated (settings_with 1)) (limited_trips 2) ≡ figures_of 400 1220 1 5 ∷ []
-  three : limit_of (end_of (undated (settings_with 1)) (limited_trips 3)) ≡ Some 3
-  four : limit_of (end_of (undated (settings_with 1)) (limited_trips 4)) ≡ None
-  less : limit_of (end_of (undated (settings_with 1)) (limited_less 0)) ≡ Some 0
-  one_left : limit_of (end_of (undated (settings_with 1)) (limited_less 1)) ≡ None
+  three : (end_of (undated (settings_with 1)) (limited_trips 3)).limit ≡ Some 3
+  four : (end_of (undated (settings_with 1)) (limited_trips 4)).limit ≡ None
+  less : (end_of (undated (settings_with 1)) (limited_less 0)).limit ≡ Some 0
+  one_left : (end_of (undated (settings_with 1)) (limited_less 1)).limit ≡ None
 
 within-limits : Limited
-unfolding first_answer over_counts near all_near settings_tests walks_of canonical_of station_of id_wrong is_known type_wrong name_needed name_wrong stop_tests stop_at stop_of held_text known call_tests call_fit call_on cut fitted time_after seen_call seen open_answer empty_of undated_week stop_spec plain_call call_spec add_spec_of lexb clash rides first_rides joined_rides network_of offers search_of timetable_of outcome_of search_spec added_to researched again unsearched_of has_key key_known withdrawn taken_out withdraw_spec onward routes pass rule_tests rule_spec table parents_of ends_of_of transfer_of directs join_events change_events events events_of offers_within joins_within finished_within search_within outcome_within finishes_in within_spec
+unfolding first_answer over_counts near all_near settings_tests walks_of canonical_of station_of id_wrong is_known type_wrong name_needed name_wrong stop_tests stop_at stop_of held known call_tests call_fit call_on cut fitted time_after seen_call seen open_answer empty_of undated_week stop_spec plain_call call_spec add_spec_of lexb clash rides first_rides joined_rides network_of offers search_of timetable_of outcome_of search_spec added_to researched again unsearched_of has_key key_known withdrawn taken_out withdraw_spec onward routes pass rule_tests rule_spec table parents_of ends_of_of transfer_of directs join_events change_events events events_of offers_within joins_within finished_within search_within outcome_within finishes_in within_spec
 within-limits = record { none-tested = refl; two_tested = refl; three = refl; four = refl; less = refl; one_left = refl }
 
 -- what the load says was taken
-stopped-at : (o : Opening) (w : Opens o) (xs : List Step) (n : ℕ) → limit_of (end_of o xs) ≡ Some n → StoppedAt o xs n
+stopped-at : (o : Opening) (w : Opens o) (xs : List Step) (n : ℕ) → (end_of o xs).limit ≡ Some n → StoppedAt o xs n
 stopped-at o w xs n e = record { answers = answers_from (opened o) xs; end = ending o w xs; runs = run o w xs; limit = e }
 
-finished-so : (o : Opening) (w : Opens o) (xs : List Step) → limit_of (end_of o xs) ≡ None → Finished o xs
+finished-so : (o : Opening) (w : Opens o) (xs : List Step) → (end_of o xs).limit ≡ None → Finished o xs
 finished-so o w xs e = record { answers = answers_from (opened o) xs; end = ending o w xs; runs = run o w xs; finished = e }
 
 pub kept : Kept
-unfolding first_answer over_counts near all_near settings_tests walks_of canonical_of station_of id_wrong is_known type_wrong name_needed name_wrong stop_tests stop_at stop_of held_text known call_tests call_fit call_on cut fitted time_after seen_call seen open_answer empty_of undated_week stop_spec plain_call call_spec add_spec_of lexb clash rides first_rides joined_rides network_of offers search_of timetable_of outcome_of search_spec onward pass routes
+unfolding first_answer over_counts near all_near settings_tests walks_of canonical_of station_of id_wrong is_known type_wrong name_needed name_wrong stop_tests stop_at stop_of held known call_tests call_fit call_on cut fitted time_after seen_call seen open_answer empty_of undated_week stop_spec plain_call call_spec add_spec_of lexb clash rides first_rides joined_rides network_of offers search_of timetable_of outcome_of search_spec onward pass routes
 kept = record { one-trip = refl; at_zero = refl; not_boarded = refl; at_horizon = refl; past_horizon = refl }
 
 -- a list of one by its figures
 one-of : (ks : List Journey) (f : Figures) → map journey_figures ks ≡ f ∷ [] → (j : Journey) × Memᴰ j ks × (journey_figures j ≡ f)
-one-of [] f e = absurd (let z : ◌≡◌ {A = ℕ} 0 1 = cc in omega arith)
+one-of [] f e = absurd (cc)
 one-of (k ∷ ks) f e = (k, Memᴰ.head refl, ap (λ (l : List Figures). get_or l 0 f) e)
 
-one_kept : (s : Opening) (xs : List Step) → (o : Opens s) → (end_of s xs).searched ≡ true → (end_of s xs).stopped ≡ false → (j : Journey) → Memᴰ j (kept_of (end_of s xs)) → Admitted s xs j
+one_kept : (s : Opening) (xs : List Step) → (o : Opens s) → (end_of s xs).searched ≡ true → stopped (end_of s xs) ≡ false → (j : Journey) → Memᴰ j (kept_of (end_of s xs)) → Admitted s xs j
 one_kept s xs o d f j m =
     let w = searched-holds s xs o d f in
     let n = after-mem (covᶠ journey_figures) (dueᶠ journey_figures) (end_of s xs).horizon [] (offers_of s xs) (sort-mem (sooner journey_figures) (front (covᶠ journey_figures) (dueᶠ journey_figures) (end_of s xs).horizon (offers_of s xs)) (subst (Memᴰ j) w.unbeaten m)) in

@@ -6,7 +6,7 @@ use mathlib.Core.List.{List, [], ◌∷◌, Memᴰ}
 use Rattle.settings.specs.declared.Settings.{Settings}
 use Rattle.calls.specs.declared.CallInput.{CallInput}
 use Rattle.calls.specs.declared.Call.{Call}
-use Rattle.rules.specs.declared.RuleInput.{RuleInput}
+use Rattle.rules.specs.declared.Rule.{Rule}
 use Rattle.profile.specs.declared.Ride.{Ride}
 use Rattle.profile.specs.declared.Journey.{Journey}
 use Rattle.profile.specs.Journeys.{no_ride}
@@ -23,7 +23,7 @@ Nth (y ∷ l) (suc n) x = Nth l n x
 pub record Feed : Type 1 where
   pub settings : Settings
   pub stops : List StopGiven
-  pub rules : List RuleInput
+  pub rules : List Rule
   pub calls : List CallInput
   pub horizon : ℕ
   pub Place : ℕ → ℕ → Type 0
@@ -36,8 +36,7 @@ pub record Parent (ss : List StopGiven) (x p : ℕ) : Type 0 where
   pub station : StopGiven
   pub at_child : Nth ss x child
   pub at_station : Nth ss p station
-  pub named : child.input.has_parent ≡ true
-  pub same_id : station.id ≡ child.parent
+  pub named : child.parent ≡ Some station.id
   pub type_one : station.input.location_type ≡ 1
 
 -- "membership byte (bits 0 to 3 origins, bits 4 to 7 targets; bits past the counts are ignored)"
@@ -52,21 +51,21 @@ pub record Member (ss : List StopGiven) (x bit : ℕ) : Type 0 where
 abbrev pub Side : Feed → ℕ → ℕ → Type 0
 Side F n x = (n ≡ x) ⊎ Parent F.stops x n
 
-abbrev pub Applies : Feed → ℕ → ℕ → RuleInput → Type 0
+abbrev pub Applies : Feed → ℕ → ℕ → Rule → Type 0
 Applies F x y r = Side F r.from x × Side F r.to y
 
 -- request 06: of two half-exact rules "the one exact on the from side wins, whichever came last. Full exactness still comes first"
-pub data Rank (x y : ℕ) (r : RuleInput) : ℕ → Type 0 where
+pub data Rank (x y : ℕ) (r : Rule) : ℕ → Type 0 where
   both : r.from ≡ x → r.to ≡ y → Rank x y r 3
   fore : r.from ≡ x → (r.to ≡ y → ⊥) → Rank x y r 2
   rear : (r.from ≡ x → ⊥) → r.to ≡ y → Rank x y r 1
   neither : (r.from ≡ x → ⊥) → (r.to ≡ y → ⊥) → Rank x y r 0
 
 -- r was taken and applies, and every other rule that does has a lower rank, in whatever order they were taken
-pub record Chosen (F : Feed) (x y : ℕ) (r : RuleInput) : Type 0 where
+pub record Chosen (F : Feed) (x y : ℕ) (r : Rule) : Type 0 where
   pub taken : Memᴰ r F.rules
   pub applies : Applies F x y r
-  pub highest : (q : RuleInput) (m n : ℕ) → Memᴰ q F.rules → Applies F x y q → (q ≡ r → ⊥) → Rank x y q m → Rank x y r n → m < n
+  pub highest : (q : Rule) (m n : ℕ) → Memᴰ q F.rules → Applies F x y q → (q ≡ r → ⊥) → Rank x y q m → Rank x y r n → m < n
 
 -- "optional seconds (absent counts as 0)"
 abbrev pub Seconds : Option ℕ → ℕ → Type 0
@@ -78,20 +77,20 @@ Larger a b n = ((a ≤ b) × (n ≡ b)) ⊎ ((b ≤ a) × (n ≡ a))
 
 -- what a rule gives, by its type; `change` is the setting `transfer_seconds` (request 05). "Types 0 and 1 now give" that "whatever the seconds
 -- say" (request 02), type 2 gives max(seconds, that); "type 3 forbids", so it has no case
-pub data Gives (change : ℕ) (r : RuleInput) (n : ℕ) : Type 0 where
+pub data Gives (change : ℕ) (r : Rule) (n : ℕ) : Type 0 where
   type_zero : r.transfer_type ≡ 0 → n ≡ change → Gives change r n
   type_one : r.transfer_type ≡ 1 → n ≡ change → Gives change r n
   type_two : r.transfer_type ≡ 2 → (given : ℕ) → Seconds r.seconds given → Larger given change n → Gives change r n
 
 -- a change from x to y takes n seconds by a rule
 pub record ByRule (F : Feed) (x y n : ℕ) : Type 0 where
-  pub by : RuleInput
+  pub by : Rule
   pub chosen : Chosen F x y by
   pub gives : Gives F.settings.transfer_seconds by n
 
 -- "With no rule, same stop, same parent or same place gives" the change time; "else none"
 pub record ByNearness (F : Feed) (x y n : ℕ) : Type 0 where
-  pub no_rule : (q : RuleInput) → Memᴰ q F.rules → Applies F x y q → ⊥
+  pub no_rule : (q : Rule) → Memᴰ q F.rules → Applies F x y q → ⊥
   pub near : (x ≡ y) ⊎ (((p : ℕ) × Parent F.stops x p × Parent F.stops y p) ⊎ F.Place x y)
   pub takes : n ≡ F.settings.transfer_seconds
 

@@ -2,7 +2,7 @@
 -- RULES 10.
 use Rattle.refusal.specs.First.{Answer}
 use Rattle.refusal.specs.declared.Accepted.TheVariants.{Taken}
-use Rattle.std.specs.Prelude.{◌≡◌, ◌↔◌, true, false, List, [], ◌∷◌, ℕ, ◌≤◌, ◌<◌, Err, Ok}
+use Rattle.std.specs.Prelude.{◌≡◌, ◌↔◌, true, List, [], ◌∷◌, ℕ, ◌≤◌, ◌<◌, None, Err, Ok}
 use Rattle.refusal.specs.declared.Refusal.TheVariants.{Neighbours, AlreadySearched, CallUnknown}
 use Rattle.settings.specs.declared.Settings.{Settings}
 use Rattle.calls.specs.declared.CallInput.{CallInput}
@@ -38,7 +38,8 @@ pub record Withdrawals : Type 0 where
   pub never_wider : (s : Settings) (t v : State) (xs : List Step) (rs : List Answer) → Runs s t xs rs v → v.horizon ≤ t.horizon
   -- "The list is each time the one a fresh search of the remaining load gives": of the load gone back to the table, its horizon and its mark;
   -- `Limits` says it of a stopped load
-  pub afresh : (o : Opening) (xs : List Step) → (end_of o xs).searched ≡ true → (end_of o xs).stopped ≡ false → search_spec (unsearched_of (end_of o xs)) ≡ record { answer = Ok Taken; load = end_of o xs }
+  pub afresh : (o : Opening) (xs : List Step) → (end_of o xs).searched ≡ true → (end_of o xs).limit ≡ None
+      → search_spec (unsearched_of (end_of o xs)) ≡ record { answer = Ok Taken; load = end_of o xs }
   -- "15 no longer meets a call"
   pub no_15 : (s : Settings) (t : State) (name : List ℕ) (i : CallInput) → First (Err AlreadySearched) (causes_of s t (filling (call name i))) → ⊥
   -- 24 exactly if the table has no such call

@@ -4,8 +4,9 @@
 -- longer meets a call"; withdrawal 9, 24; on a searched load then, of both, 14 and 11 of the search again. With request 12: limited search 15, 1,
 -- 14, 11.
 -- RULES 16.
+use Rattle.std.specs.Option.{unwrap_or}
 use Rattle.refusal.specs.declared.Accepted.TheVariants.{Taken, Outside}
-use Rattle.std.specs.Prelude.{◌≡◌, ◌⊎◌, Bool, true, false, cond, ℕ, ◌≤◌, ◌<◌, ℤ, pos, negsuc, length, get_or, None, Some, Option, Err, Ok}
+use Rattle.std.specs.Prelude.{◌≡◌, ◌⊎◌, Bool, true, false, ℕ, ◌≤◌, ◌<◌, ℤ, pos, negsuc, length, get_or, None, Some, Option, Err, Ok}
 use mathlib.Core.List.{List, [], ◌∷◌, ◌++◌, Memᴰ}
 use Rattle.refusal.specs.declared.Refusal.TheVariants.{SettingsRange, ClockRange}
 use Rattle.refusal.specs.declared.Refusal.TheVariants.{IdLength, StopsFull, IdTaken, LocationType, ParentUnknown, NameUnusable}
@@ -13,13 +14,13 @@ use Rattle.refusal.specs.declared.Refusal.TheVariants.{FieldRange, TimesReversed
 use Rattle.refusal.specs.declared.Refusal.TheVariants.{DateWrong, ServiceUnknown, ServicesFull, CallUnknown}
 use Rattle.refusal.specs.First.{answer_number, Answer}
 use Rattle.settings.specs.declared.Settings.{Settings}
-use Rattle.place.specs.Positions.{position_of, is_usable}
+use Rattle.place.specs.Positions.{is_usable}
 use Rattle.stops.specs.declared.StopInput.{StopInput}
 use Rattle.stops.specs.Answer.{unusable}
 use Rattle.calls.specs.declared.CallInput.{CallInput}
 use Rattle.calls.specs.declared.Call.{Call}
 use Rattle.withdrawal.specs.declared.CallKey.{CallKey}
-use Rattle.rules.specs.declared.RuleInput.{RuleInput}
+use Rattle.rules.specs.declared.Rule.{Rule}
 use Rattle.profile.specs.declared.Journey.{Journey}
 use Rattle.load.specs.Steps.{Opening}
 use Rattle.load.specs.Filling.{stop, call, rule, service, exception}
@@ -77,21 +78,29 @@ opening_causes o =
 -- ---- stop
 
 -- "needed name (type 0, no parent, usable position; the id where no name)"
-pub record Needed (i : StopInput) : Type 0 where
+pub record Needed (parent : Option (List ℕ)) (i : StopInput) : Type 0 where
   pub type_zero : i.location_type ≡ 0
-  pub no_parent : i.has_parent ≡ false
-  pub usable : is_usable (position_of i.located i.degrees) ≡ true
+  pub no_parent : parent ≡ None
+  pub usable : is_usable i.degrees ≡ true
 
-abbrev pub stop_causes : State → List ℕ → List ℕ → List ℕ → StopInput → List Cause
+-- the parent's id is given, and is not that of a station taken
+abbrev pub Orphan : List StopGiven → Option (List ℕ) → Type 0
+Orphan stops parent =
+    (p : List ℕ) × (parent ≡ Some p) × ((g : StopGiven) → Memᴰ g stops → g.id ≡ p → g.input.location_type ≡ 1 → ⊥)
+
+-- over 64 bytes
+abbrev pub TooLong : Option (List ℕ) → Type 0
+TooLong name = (t : List ℕ) × (name ≡ Some t) × (64 < length t)
+
+abbrev pub stop_causes : State → List ℕ → Option (List ℕ) → Option (List ℕ) → StopInput → List Cause
 stop_causes t id name parent i =
     let stops = stops_in t.taken in
     cause (t.searched ≡ true) (Err AlreadySearched)
     ∷ cause (length id ≡ 0 ⊎ 32 < length id) (Err IdLength)
     ∷ cause ((g : StopGiven) × Memᴰ g stops × (g.id ≡ id)) (Err IdTaken)
-    ∷ cause (1 < i.location_type ⊎ ((i.location_type ≡ 1) × (i.has_parent ≡ true))) (Err LocationType)
-    ∷ cause ((i.has_parent ≡ true) × ((g : StopGiven) → Memᴰ g stops → g.id ≡ parent → g.input.location_type ≡ 1 → ⊥))
-    (Err ParentUnknown)
-    ∷ cause (((i.named ≡ true) × (64 < length name)) ⊎ (Needed i × (unusable (cond i.named name id) ≡ true))) (Err NameUnusable)
+    ∷ cause (1 < i.location_type ⊎ ((i.location_type ≡ 1) × (parent ≡ None → ⊥))) (Err LocationType)
+    ∷ cause (Orphan stops parent) (Err ParentUnknown)
+    ∷ cause (TooLong name ⊎ (Needed parent i × (unusable (unwrap_or name id) ≡ true))) (Err NameUnusable)
     ∷ cause (128 ≤ length stops) (Err StopsFull)
     ∷ []
 
@@ -203,13 +212,13 @@ withdraw_causes s t k =
 
 -- ---- rule
 
-abbrev pub rule_causes : State → RuleInput → List Cause
-rule_causes t i =
+abbrev pub rule_causes : State → Rule → List Cause
+rule_causes t r =
     let stops = length (stops_in t.taken) in
     cause (t.searched ≡ true) (Err AlreadySearched)
-    ∷ cause (stops ≤ i.from ⊎ stops ≤ i.to) (Err FieldRange)
-    ∷ cause (3 < i.transfer_type ⊎ ((i.transfer_type ≡ 2) × (i.seconds ≡ None))) (Err RuleType)
-    ∷ cause ((q : RuleInput) × Memᴰ q (rules_in t.taken) × (q.from ≡ i.from) × (q.to ≡ i.to)) (Err PairTaken)
+    ∷ cause (stops ≤ r.from ⊎ stops ≤ r.to) (Err FieldRange)
+    ∷ cause (3 < r.transfer_type ⊎ ((r.transfer_type ≡ 2) × (r.seconds ≡ None))) (Err RuleType)
+    ∷ cause ((q : Rule) × Memᴰ q (rules_in t.taken) × (q.from ≡ r.from) × (q.to ≡ r.to)) (Err PairTaken)
     ∷ cause (128 ≤ length (rules_in t.taken)) (Err NoRoom)
     ∷ []
 
@@ -240,7 +249,7 @@ exception_causes t name date kind =
 abbrev pub causes_of : Settings → State → Step → List Cause
 causes_of s t (filling (stop id name parent i)) = stop_causes t id name parent i
 causes_of s t (filling (call name i)) = call_causes s t name i
-causes_of s t (filling (rule i)) = rule_causes t i
+causes_of s t (filling (rule r)) = rule_causes t r
 causes_of s t (filling (service name weekdays start end)) = service_causes t name start end
 causes_of s t (filling (exception name date kind)) = exception_causes t name date kind
 causes_of s t (withdraw k) = withdraw_causes s t k

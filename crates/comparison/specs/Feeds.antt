@@ -1,9 +1,6 @@
 -- What was taken, as a `Feed`: what a search is given.
 -- RULES 8.
-use Rattle.std.specs.Prelude.{true, List, None}
 use Rattle.settings.specs.declared.Settings.{Settings}
-use Rattle.load.specs.declared.Load.{Load}
-use Rattle.load.specs.Filling.{Filling}
 use Rattle.comparison.specs.Taken.{stops_in, calls_in, rules_in, State}
 use Rattle.comparison.specs.Admitted.{Feed}
 use Rattle.comparison.specs.Places.{OnePlace}
@@ -18,7 +15,3 @@ feed_of s t = record {
   horizon = t.horizon;
   Place = OnePlace (stops_in t.taken);
 }
-
--- the same with the horizon of a load's table, for the proofs
-abbrev pub feed_from : Settings → Load → List Filling → Feed
-feed_from s l fs = feed_of s (record { taken = fs; horizon = l.table_horizon; limits = l.table_limits; searched = l.searched; stopped = None; dates = None; closed = true })

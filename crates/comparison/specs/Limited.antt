@@ -46,7 +46,8 @@ pub record MarginOf (F : Feed) (l : Load) (j : Journey) : Type 0 where
   pub is_earliest : Earliest F earliest
   pub no_earlier : earliest ≤ j.arrival
   pub margin : margin_spec l ≡ Some (j.arrival - earliest)
-  pub finished : (search_spec (unsearched_of l)).answer ≡ Ok Taken → (w : NoLater (search_spec (unsearched_of l)).load j) × (j.arrival ≤ w.j'.arrival + (j.arrival - earliest))
+  pub finished : (search_spec (unsearched_of l)).answer ≡ Ok Taken
+      → (w : NoLater (search_spec (unsearched_of l)).load j) × (j.arrival ≤ w.j'.arrival + (j.arrival - earliest))
 
 pub record Limits : Type 0 where
   -- "the result carries the number of joins tested .. It says finished when no untested join is left, and stopped otherwise": by what was handed in
@@ -63,15 +64,15 @@ pub record Limits : Type 0 where
   pub full : (o : Opening) (xs : List Step) (n : ℕ) → (limited_by o xs n).answer ≡ Ok Taken → (limited_by o xs n).finished ≡ true
       → search_spec (end_of o xs) ≡ record { answer = Ok Taken; load = (limited_by o xs n).load }
   pub stops : (o : Opening) (xs : List Step) (n : ℕ) → (limited_by o xs n).answer ≡ Ok Taken → (limited_by o xs n).finished ≡ false
-      → ((limited_by o xs n).load.stopped ≡ true) × ((limited_by o xs n).load.limit ≡ n)
+      → (limited_by o xs n).load.limit ≡ Some n
   -- a stopped load is each time the search of the remaining load within its limit, and no finished one
-  pub afresh : (o : Opening) (xs : List Step) → (end_of o xs).stopped ≡ true
-      → within_spec (unsearched_of (end_of o xs)) (end_of o xs).limit ≡ record { answer = Ok Taken; load = end_of o xs; joins = (end_of o xs).limit; finished = false }
+  pub afresh : (o : Opening) (xs : List Step) (n : ℕ) → (end_of o xs).limit ≡ Some n
+      → within_spec (unsearched_of (end_of o xs)) n ≡ record { answer = Ok Taken; load = end_of o xs; joins = n; finished = false }
   pub margin : (o : Opening) (xs : List Step) (rs : List Answer) (v : State) (j : Journey) → Opens o → Runs o.settings (fresh o.dates) xs rs v
-      → (end_of o xs).stopped ≡ true → at_zero_of (end_of o xs) ≡ Some j → MarginOf (feed_of o.settings v) (end_of o xs) j
+      → (n : ℕ) → (end_of o xs).limit ≡ Some n → at_zero_of (end_of o xs) ≡ Some j → MarginOf (feed_of o.settings v) (end_of o xs) j
   -- "With nothing found yet there is no margin"; nor has any other load one
   pub no_margin : (l : Load) → at_zero_of l ≡ None → margin_spec l ≡ None
-  pub no_margin_finished : (l : Load) → l.stopped ≡ false → margin_spec l ≡ None
+  pub no_margin_finished : (l : Load) → l.limit ≡ None → margin_spec l ≡ None
   -- "Where neither run is refused, a larger limit never turns an answer for second 0 into none or into a later arrival"
   pub larger : (o : Opening) (xs : List Step) (n m : ℕ) (j : Journey) → n ≤ m → (limited_by o xs n).answer ≡ Ok Taken → (limited_by o xs m).answer ≡ Ok Taken
       → at_zero_of (limited_by o xs n).load ≡ Some j → NoLater (limited_by o xs m).load j

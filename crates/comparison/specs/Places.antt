@@ -1,10 +1,11 @@
 -- Which stops are of one place, as a relation over the stops handed in and taken: their ids, names, parents' ids and positions, and no stored record.
 -- Cited are 01's own formulas: the hash, the bytes of a name that it is taken of, microdegrees, and the test of two keys.
 -- RULES 7.
-use Rattle.std.specs.Prelude.{◌≡◌, ◌⊎◌, true, false, List, [], ◌∷◌, ℕ, ◌<◌, pos}
+use Rattle.std.specs.Prelude.{◌≡◌, ◌⊎◌, true, List, [], ◌∷◌, ℕ, ◌<◌, pos, None, Some}
 use Rattle.key.specs.Hash.{key_of}
 use Rattle.key.specs.Utf8.{utf8, points}
 use Rattle.key.specs.Name.{normalized}
+use Rattle.place.specs.declared.Degrees.{Degrees}
 use Rattle.place.specs.declared.PlaceKey.{PlaceKey}
 use Rattle.place.specs.Keys.{tag_p, tag_n, tag_i}
 use Rattle.place.specs.Near.{same_keys}
@@ -14,21 +15,21 @@ use Rattle.comparison.specs.Admitted.{Nth}
 
 -- ---- keys
 
--- a usable position is given
-pub record Located (g : StopGiven) : Type 0 where
-  pub given : g.input.located ≡ true
-  pub usable : usable_degrees g.input.degrees.latitude g.input.degrees.longitude ≡ true
+-- a usable position is given, at d
+pub record Located (g : StopGiven) (d : Degrees) : Type 0 where
+  pub given : g.input.degrees ≡ Some d
+  pub usable : usable_degrees d.latitude d.longitude ≡ true
 
 -- the text that is hashed as the name: "the id where no name"
 abbrev pub Called : StopGiven → List ℕ → Type 0
-Called g t = ((g.input.named ≡ true) × (t ≡ g.name)) ⊎ ((g.input.named ≡ false) × (t ≡ g.id))
+Called g t = (g.name ≡ Some t) ⊎ ((g.name ≡ None) × (t ≡ g.id))
 
 -- "parent's id hash; else, with a usable position, name hash (the id where no name) and microdegrees; else id hash"
 pub data Key (g : StopGiven) : PlaceKey → Type 0 where
-  by_parent : g.input.has_parent ≡ true → Key g (record { tag = tag_p; hash = key_of g.parent; lat = pos 0; lon = pos 0 })
-  by_name : {t : List ℕ} → g.input.has_parent ≡ false → Located g → Called g t
-      → Key g (record { tag = tag_n; hash = key_of (utf8 (normalized (points t))); lat = micro g.input.degrees.latitude; lon = micro g.input.degrees.longitude })
-  by_id : g.input.has_parent ≡ false → (Located g → ⊥) → Key g (record { tag = tag_i; hash = key_of g.id; lat = pos 0; lon = pos 0 })
+  by_parent : {p : List ℕ} → g.parent ≡ Some p → Key g (record { tag = tag_p; hash = key_of p; lat = pos 0; lon = pos 0 })
+  by_name : {t : List ℕ} {d : Degrees} → g.parent ≡ None → Located g d → Called g t
+      → Key g (record { tag = tag_n; hash = key_of (utf8 (normalized (points t))); lat = micro d.latitude; lon = micro d.longitude })
+  by_id : g.parent ≡ None → ((d : Degrees) → Located g d → ⊥) → Key g (record { tag = tag_i; hash = key_of g.id; lat = pos 0; lon = pos 0 })
 
 -- "Only stops of type 0 have a place key": a is that of the k-th stop
 pub record Keyed (ss : List StopGiven) (k : ℕ) (a : PlaceKey) : Type 0 where

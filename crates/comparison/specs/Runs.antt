@@ -3,13 +3,13 @@
 -- RULES 1.2, 10, 11.3, 15.1.
 use Rattle.refusal.specs.First.{Answer}
 use Rattle.refusal.specs.declared.Accepted.TheVariants.{Taken, Outside}
-use Rattle.std.specs.Prelude.{◌≡◌, Bool, true, List, [], ◌∷◌, ℕ, None, Some, Err, Ok}
+use Rattle.std.specs.Prelude.{◌≡◌, Bool, true, List, [], ◌∷◌, ℕ, None, Some, Option, Err, Ok}
 use Rattle.refusal.specs.declared.Refusal.{Refusal}
 use Rattle.settings.specs.declared.Settings.{Settings}
 use Rattle.stops.specs.declared.StopInput.{StopInput}
 use Rattle.calls.specs.declared.CallInput.{CallInput}
 use Rattle.withdrawal.specs.declared.CallKey.{CallKey}
-use Rattle.rules.specs.declared.RuleInput.{RuleInput}
+use Rattle.rules.specs.declared.Rule.{Rule}
 use Rattle.profile.specs.declared.Journey.{Journey}
 use Rattle.load.specs.Steps.{Opening}
 use Rattle.load.specs.Filling.{stop, call, rule, service, exception}
@@ -26,14 +26,16 @@ use Rattle.comparison.specs.Causes.{First, causes_of}
 -- t stands taken, and is searched again where it was searched: "within the same limit" if it was stopped, which may then finish, else in full
 pub data Again (s : Settings) (t : State) : State → Type 0 where
   in_full : t.stopped ≡ None → Again s t t
-  within : {n tested : ℕ} {os : List Journey} {finishes : Bool} → t.stopped ≡ Some n → Within (feed_of s t) n os tested finishes → Again s t (limited_to n finishes t)
+  within : {n tested : ℕ} {os : List Journey} {finishes : Bool} → t.stopped ≡ Some n → Within (feed_of s t) n os tested finishes
+      → Again s t (limited_to n finishes t)
 
 -- where t was taken, a step that is answered so leaves this taken. A call and a withdrawal leave the same before a search and after it, but
 -- for a limit: the search again of a searched load takes nothing more
 pub data After (s : Settings) (t : State) : Step → Answer → State → Type 0 where
   sent_back : {x : Step} {r : Refusal} → After s t x (Err r) t
-  a_stop : {id name parent : List ℕ} {i : StopInput} → After s t (filling (stop id name parent i)) (Ok Taken) (more t (stop id name parent i))
-  a_rule : {i : RuleInput} → After s t (filling (rule i)) (Ok Taken) (more t (rule i))
+  a_stop : {id : List ℕ} {name parent : Option (List ℕ)} {i : StopInput}
+      → After s t (filling (stop id name parent i)) (Ok Taken) (more t (stop id name parent i))
+  a_rule : {r : Rule} → After s t (filling (rule r)) (Ok Taken) (more t (rule r))
   -- an answered call closes the services; a cut that it made stays, also where it is outside after it
   a_call : {name : List ℕ} {i : CallInput} {h m : ℕ} {u : State} → Fits s (calls_in t.taken) i t.horizon t.limits (Ok Taken) h m
       → Again s (up_to (more t (call name i)) h m) u → After s t (filling (call name i)) (Ok Taken) (shut u)
@@ -45,7 +47,8 @@ pub data After (s : Settings) (t : State) : Step → Answer → State → Type 0
   an_exception : {name : List ℕ} {date kind : ℕ} → After s t (filling (exception name date kind)) (Ok Taken) (more t (exception name date kind))
   a_withdrawal : {k : CallKey} {u v : State} → Withdrawn s t k u → Again s u v → After s t (withdraw k) (Ok Taken) v
   a_search : After s t search (Ok Taken) (done None t)
-  a_limited : {n tested : ℕ} {os : List Journey} {finishes : Bool} → Within (feed_of s t) n os tested finishes → After s t (limited n) (Ok Taken) (limited_to n finishes t)
+  a_limited : {n tested : ℕ} {os : List Journey} {finishes : Bool} → Within (feed_of s t) n os tested finishes
+      → After s t (limited n) (Ok Taken) (limited_to n finishes t)
 
 -- the steps, handed in where t was taken, are answered so and leave v taken
 pub data Runs (s : Settings) : State → List Step → List Answer → State → Type 0 where

@@ -3,14 +3,14 @@
 use Rattle.std.specs.Prelude.{Bool, true, false, List, [], ◌∷◌, ◌++◌, ℕ, None, Option, Some}
 use Rattle.stops.specs.declared.StopInput.{StopInput}
 use Rattle.calls.specs.declared.CallInput.{CallInput}
-use Rattle.rules.specs.declared.RuleInput.{RuleInput}
+use Rattle.rules.specs.declared.Rule.{Rule}
 use Rattle.load.specs.Filling.{Filling, stop, call, rule, service, exception}
 
--- a stop as it was handed in: its texts and the rest
+-- a stop as it was handed in: its id, its name and its parent's id, where there are any, and the rest
 pub record StopGiven : Type 0 where
   pub id : List ℕ
-  pub name : List ℕ
-  pub parent : List ℕ
+  pub name : Option (List ℕ)
+  pub parent : Option (List ℕ)
   pub input : StopInput
 
 -- a service as it was handed in
@@ -37,11 +37,11 @@ calls_in (rule i ∷ xs) = calls_in xs
 calls_in (service name weekdays start end ∷ xs) = calls_in xs
 calls_in (exception name date kind ∷ xs) = calls_in xs
 
-abbrev pub rules_in : List Filling → List RuleInput
+abbrev pub rules_in : List Filling → List Rule
 rules_in [] = []
 rules_in (stop id name parent i ∷ xs) = rules_in xs
 rules_in (call name i ∷ xs) = rules_in xs
-rules_in (rule i ∷ xs) = i ∷ rules_in xs
+rules_in (rule r ∷ xs) = r ∷ rules_in xs
 rules_in (service name weekdays start end ∷ xs) = rules_in xs
 rules_in (exception name date kind ∷ xs) = rules_in xs
 

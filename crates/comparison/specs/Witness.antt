@@ -3,9 +3,7 @@
 -- RULES 15.
 use Rattle.refusal.specs.First.{Answer}
 use Rattle.refusal.specs.declared.Accepted.TheVariants.{Taken}
-use Rattle.std.specs.Prelude.{◌≡◌, true, false, List, [], ◌∷◌, ◌++◌, map, ℕ, pos, None, Some, Ok}
-use Rattle.std.specs.Float.{binary64}
-use Rattle.std.specs.Float.Ieee.{of_bits}
+use Rattle.std.specs.Prelude.{◌≡◌, true, List, [], ◌∷◌, ◌++◌, map, ℕ, pos, None, Some, Ok}
 use Rattle.settings.specs.declared.Settings.{Settings}
 use Rattle.stops.specs.declared.StopInput.{StopInput}
 use Rattle.calls.specs.declared.CallInput.{CallInput}
@@ -43,14 +41,7 @@ some_opening = undated some_settings
 
 -- a stop with these members, no name, no parent and no position
 abbrev pub some_stop : ℕ → StopInput
-some_stop m = record {
-  named = false;
-  has_parent = false;
-  location_type = 0;
-  located = false;
-  degrees = record { latitude = of_bits binary64 0; longitude = of_bits binary64 0 };
-  members = m;
-}
+some_stop m = record { location_type = 0; degrees = None; members = m }
 
 -- a call of a trip at a stop and time
 abbrev pub call_of : ℕ → ℕ → ℕ → ℕ → CallInput
@@ -68,8 +59,8 @@ call_of trip seq at time = record {
 -- stops of the origin and of the target, trip 1 that departs and arrives so, a search
 abbrev pub one_trip : ℕ → ℕ → List Step
 one_trip departs arrives =
-    filling (stop (65 ∷ []) [] [] (some_stop 1))
-    ∷ filling (stop (66 ∷ []) [] [] (some_stop 16))
+    filling (stop (65 ∷ []) None None (some_stop 1))
+    ∷ filling (stop (66 ∷ []) None None (some_stop 16))
     ∷ filling (call [] (call_of 1 1 0 departs))
     ∷ filling (call [] (call_of 1 2 1 arrives))
     ∷ search
@@ -87,10 +78,10 @@ withdrawn_trip = added_trip ++ withdraw (record { trip = 2; day = 0; sequence = 
 -- which departs so and arrives at 1500
 abbrev pub two_trips : ℕ → List Step
 two_trips departs =
-    filling (stop (65 ∷ []) [] [] (some_stop 1))
-    ∷ filling (stop (66 ∷ []) [] [] (some_stop 0))
-    ∷ filling (stop (67 ∷ []) [] [] (some_stop 0))
-    ∷ filling (stop (68 ∷ []) [] [] (some_stop 16))
+    filling (stop (65 ∷ []) None None (some_stop 1))
+    ∷ filling (stop (66 ∷ []) None None (some_stop 0))
+    ∷ filling (stop (67 ∷ []) None None (some_stop 0))
+    ∷ filling (stop (68 ∷ []) None None (some_stop 16))
     ∷ filling (rule (record { from = 1; to = 2; transfer_type = 2; seconds = Some 240 }))
     ∷ filling (call [] (call_of 1 1 0 600))
     ∷ filling (call [] (call_of 1 2 1 1000))
@@ -104,10 +95,10 @@ two_trips departs =
 -- changes that no journey here needs
 abbrev pub three_trips : ℕ → List Step
 three_trips departs =
-    filling (stop (65 ∷ []) [] [] (some_stop 1))
-    ∷ filling (stop (66 ∷ []) [] [] (some_stop 0))
-    ∷ filling (stop (67 ∷ []) [] [] (some_stop 0))
-    ∷ filling (stop (68 ∷ []) [] [] (some_stop 16))
+    filling (stop (65 ∷ []) None None (some_stop 1))
+    ∷ filling (stop (66 ∷ []) None None (some_stop 0))
+    ∷ filling (stop (67 ∷ []) None None (some_stop 0))
+    ∷ filling (stop (68 ∷ []) None None (some_stop 16))
     ∷ filling (rule (record { from = 1; to = 1; transfer_type = 2; seconds = Some 240 }))
     ∷ filling (rule (record { from = 2; to = 2; transfer_type = 2; seconds = Some 240 }))
     ∷ filling (rule (record { from = 1; to = 2; transfer_type = 3; seconds = Some 0 }))
@@ -124,8 +115,8 @@ three_trips departs =
 -- request 12: trips 1 and 2 of `added_trip`, in a search within a limit: two first rides and two rides, so four joins; a rule forbids the change
 abbrev pub limited_trips : ℕ → List Step
 limited_trips n =
-    filling (stop (65 ∷ []) [] [] (some_stop 1))
-    ∷ filling (stop (66 ∷ []) [] [] (some_stop 16))
+    filling (stop (65 ∷ []) None None (some_stop 1))
+    ∷ filling (stop (66 ∷ []) None None (some_stop 16))
     ∷ filling (rule (record { from = 1; to = 0; transfer_type = 3; seconds = None }))
     ∷ filling (call [] (call_of 1 1 0 600))
     ∷ filling (call [] (call_of 1 2 1 1200))
@@ -150,8 +141,8 @@ abbrev pub dated_trip : ℕ → List Step
 dated_trip removed =
     filling (service mondays 1 20230101 20231231)
     ∷ filling (exception mondays removed 2)
-    ∷ filling (stop (65 ∷ []) [] [] (some_stop 1))
-    ∷ filling (stop (66 ∷ []) [] [] (some_stop 16))
+    ∷ filling (stop (65 ∷ []) None None (some_stop 1))
+    ∷ filling (stop (66 ∷ []) None None (some_stop 16))
     ∷ filling (call mondays (call_of 1 1 0 600))
     ∷ filling (call mondays (call_of 1 2 1 1200))
     ∷ search

@@ -1,5 +1,5 @@
 -- What is asked of a change. "`join`: trip or day differs, and arrival + transfer seconds is at most departure."
-use Rattle.std.specs.Prelude.{Bool, true, false, not, ◌&&◌, List, [], ◌∷◌, ℕ, ◌+◌, ◌-◌, eqb, ltb, leb, None, Option, Some}
+use Rattle.std.specs.Prelude.{Bool, false, not, ◌&&◌, List, [], ◌∷◌, ℕ, ◌+◌, ◌-◌, eqb, ltb, leb, None, Option, Some, is_none, unwrap_or}
 use Rattle.calls.specs.declared.Call.{Call}
 use Rattle.withdrawal.specs.Removal.{last_of}
 use Rattle.rules.specs.declared.Rule.{Rule}
@@ -24,22 +24,14 @@ abbrev pub number_in : List Rule → Option Rule → ℕ
 number_in rs (Some r) = last_of (same_pair r.from r.to) rs - 1
 number_in rs None = 0
 
-abbrev pub is_never : Option ℕ → Bool
-is_never (Some s) = false
-is_never None = true
-
-abbrev pub needed : Option ℕ → ℕ
-needed (Some s) = s
-needed None = 0
-
 -- change i, from the ride that boards at b and alights at a to one that boards at c, by the rule that holds, of that number, and the change
 abbrev pub pair_tests : ℕ → Option Rule → ℕ → Option ℕ → Call → Call → Call → List (Bool × Cause)
 pair_tests i rule number change b a c =
     (same_run b c, SameRun i)
     ∷ (not (in_reach a.stop c.stop), NoChange i)
     ∷ (forbids rule, Forbidden i number)
-    ∷ (is_never change, NoChange i)
-    ∷ (not (leb (a.arrival + needed change) c.departure), TooShort i (needed change) a.arrival c.departure)
+    ∷ (is_none change, NoChange i)
+    ∷ (not (leb (a.arrival + unwrap_or change 0) c.departure), TooShort i (unwrap_or change 0) a.arrival c.departure)
     ∷ []
 
 -- by the rules taken, and each stop's parent and place

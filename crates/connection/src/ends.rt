@@ -1,31 +1,22 @@
 // What is asked of the ends: the first stop is of the origin, the last of the target, and there is time to walk to the first.
 ghost use Rattle.std.specs.Prelude.{◌≡◌, get_or};
 ghost use Rattle.stops.specs.Sound.{stop_at};
-ghost use Rattle.connection.specs.Tests.{first_then_of};
+ghost use Rattle.connection.specs.Tests.{first_of};
 ghost use Rattle.connection.specs.Ends.{low_digit, is_member_of, end_tests, count_tests};
 
-use crate::tests::{unless, when};
-use crate::{Cause, Told};
+use crate::tests::first_of;
+use crate::{Cause, Connection};
+use calls::Call;
 use feed::can_walk;
+use settings::Settings;
 use stops::Stop;
 
 // One of the four lowest digits of a byte.
+#[tactic(auto, unfolding(crate::specs::Ends::low_digit))]
 fn low_digit(k: u8, m: u8) -> bool
     ensures { result ≡ low_digit k m }
 {
-    if k == 0 {
-        return m % 2 == 1;
-    }
-    if k == 1 {
-        return m / 2 % 2 == 1;
-    }
-    if k == 2 {
-        return m / 2 / 2 % 2 == 1;
-    }
-    if k == 3 {
-        return m / 2 / 2 / 2 % 2 == 1;
-    }
-    false
+    k < 4 && (m >> k) % 2 == 1
 }
 
 #[tactic(auto, unfolding(crate::specs::Ends::is_member_of))]
@@ -35,58 +26,54 @@ pub fn is_member(count: u8, k: u8, m: u8) -> bool
     k < count && low_digit(k, m)
 }
 
-// The membership byte of a stop, 0 past the last.
-pub fn members_at(stops: [Stop; 128], k: u16) -> u8
-    ensures { result ≡ (stop_at stops k).members }
+// The membership byte of the stop of a number, 0 past the last.
+#[tactic(auto, unfolding(stops::specs::Sound::stop_at))]
+pub fn members_at(stops: &[Stop], k: u16) -> u8
+    ensures { result ≡ (stop_at stops.now k).members }
 {
-    let i = k as usize;
-    if i < 128 {
-        let stop = stops[i];
-        return stop.members;
+    match stops.get(usize::from(k)) {
+        Some(stop) => stop.members,
+        None => 0,
     }
-    0
 }
 
-pub fn walk_at(walks: [u8; 4], k: u8) -> u8
-    ensures { result ≡ get_or walks k 0 }
+// The minutes of the walk of a number, 0 past the last.
+pub fn walk_at(walks: &[u8], k: u8) -> u8
+    ensures { result ≡ get_or walks.now k 0 }
 {
-    let i = k as usize;
-    if i < 4 {
-        return walks[i];
-    }
-    0
+    walks.get(usize::from(k)).copied().unwrap_or(0)
 }
 
-// `from` and `to` are the membership bytes of the first stop and the last, `walk` the origin's minutes.
-pub fn ends_told(
-    origins: u8,
-    targets: u8,
-    origin: u8,
-    target: u8,
-    from: u8,
-    to: u8,
-    walk: u8,
-    departure: u16,
-    rest: Told,
-) -> Told
-    ensures { result ≡ first_then_of (end_tests origins targets origin target from to walk departure) rest }
+// Of the calls where the first ride boards and the last alights.
+pub fn ends_cause(
+    settings: Settings,
+    stops: &[Stop],
+    connection: &Connection,
+    start: &Call,
+    end: &Call,
+) -> Option<Cause>
+    ensures { result ≡ first_of (end_tests settings.origins settings.targets connection.now.origin connection.now.target
+        (stop_at stops.now start.now.stop).members (stop_at stops.now end.now.stop).members
+        (get_or settings.origin_walks connection.now.origin 0) start.now.departure) }
 {
-    let walked = can_walk(walk as u16, departure);
-    let seconds = walk as u32 * 60;
-    let starts = unless(walked, Cause::TooEarly(seconds, departure), rest);
-    let reached = is_member(targets, target, to / 16);
-    let ends = unless(reached, Cause::NotTarget, starts);
-    let left = is_member(origins, origin, from);
-    unless(left, Cause::NotOrigin, ends)
+    let from = members_at(stops, start.stop);
+    let to = members_at(stops, end.stop) / 16;
+    let walk = walk_at(&settings.origin_walks, connection.origin);
+    let seconds = u32::from(walk) * 60;
+    let left = is_member(settings.origins, connection.origin, from);
+    let reached = is_member(settings.targets, connection.target, to);
+    let in_time = can_walk(u16::from(walk), start.departure);
+    first_of(&[
+        (!left, Cause::NotOrigin),
+        (!reached, Cause::NotTarget),
+        (!in_time, Cause::TooEarly(seconds, start.departure)),
+    ])
 }
 
 // `most` changes may be made.
-pub fn count_told(n: u8, most: u8, rest: Told) -> Told
-    ensures { result ≡ first_then_of (count_tests n most) rest }
+pub fn count_cause(n: u8, most: u8) -> Option<Cause>
+    ensures { result ≡ first_of (count_tests n most) }
 {
-    when(
-        most as u16 + 1 < n as u16,
-        Cause::TooManyChanges(most),
-        rest,
-    )
+    let too_many = u16::from(most) + 1 < u16::from(n);
+    first_of(&[(too_many, Cause::TooManyChanges(most))])
 }

@@ -1,58 +1,62 @@
 // The calls that legs name, among the calls of a load.
-ghost use Rattle.std.specs.Prelude.{◌≡◌, take};
-ghost use Rattle.connection.specs.Find.{find_in, find_leg, way_of};
+ghost use Rattle.std.specs.Prelude.{◌≡◌};
+ghost use Rattle.connection.specs.Find.{key_of, boards, alights, find_in, find_leg, way_of};
 
-use crate::{FoundCall, FoundLeg, Leg, Way};
+use crate::{FoundLeg, Leg, Way};
 use calls::{Call, blank_call};
-use prefix::first;
 use withdrawal::{CallKey, last_of};
 
-// The last of the first `count` calls with the key; of a searched load there is one at most.
-pub fn find(calls: [Call; 512], count: usize, key: CallKey) -> FoundCall
-    ensures { result ≡ find_in (take count calls) key }
-{
-    let held = first(&calls, count);
-    let Some(at) = last_of(held, key) else {
-        let none = blank_call();
-        return FoundCall {
-            there: false,
-            call: none,
-        };
-    };
-    let call = held[at];
-    FoundCall { there: true, call }
+impl Leg {
+    // What its call of a sequence is found by.
+    fn key(self, sequence: u32) -> CallKey
+        ensures { result ≡ key_of self sequence }
+    {
+        CallKey {
+            trip: self.trip,
+            day: self.day,
+            sequence,
+        }
+    }
 }
 
-pub fn find_leg(calls: [Call; 512], count: usize, leg: Leg) -> FoundLeg
-    ensures { result ≡ find_leg (take count calls) leg }
-{
-    let from = CallKey {
-        trip: leg.trip,
-        day: leg.day,
-        sequence: leg.board,
-    };
-    let to = CallKey {
-        trip: leg.trip,
-        day: leg.day,
-        sequence: leg.alight,
-    };
-    let board = find(calls, count, from);
-    let alight = find(calls, count, to);
-    FoundLeg { board, alight }
+impl FoundLeg {
+    // Where it boards, and where it alights: the blank call where none was found, which is a cause that comes before all that reads it.
+    pub fn boards(&self) -> Call
+        ensures { result ≡ boards self.now }
+    {
+        self.board.unwrap_or(blank_call())
+    }
+
+    pub fn alights(&self) -> Call
+        ensures { result ≡ alights self.now }
+    {
+        self.alight.unwrap_or(blank_call())
+    }
 }
 
-pub fn way_of(calls: [Call; 512], count: usize, legs: [Leg; 3]) -> Way
-    ensures { result ≡ way_of (take count calls) legs }
+// The last of the calls with the key; of a searched load there is one at most.
+pub fn find(calls: &[Call], key: CallKey) -> Option<Call>
+    ensures { result ≡ find_in calls.now key }
 {
-    let one = legs[0];
-    let two = legs[1];
-    let three = legs[2];
-    let first = find_leg(calls, count, one);
-    let second = find_leg(calls, count, two);
-    let third = find_leg(calls, count, three);
+    let at = last_of(calls, key)?;
+    Some(calls[at])
+}
+
+pub fn find_leg(calls: &[Call], leg: Leg) -> FoundLeg
+    ensures { result ≡ find_leg calls.now leg }
+{
+    FoundLeg {
+        board: find(calls, leg.key(leg.board)),
+        alight: find(calls, leg.key(leg.alight)),
+    }
+}
+
+pub fn way_of(calls: &[Call], legs: [Leg; 3]) -> Way
+    ensures { result ≡ way_of calls.now legs }
+{
     Way {
-        first,
-        second,
-        third,
+        first: find_leg(calls, legs[0]),
+        second: find_leg(calls, legs[1]),
+        third: find_leg(calls, legs[2]),
     }
 }

@@ -1,10 +1,10 @@
 // What is asked of the rides: how many there are, and leg by leg.
 ghost use Rattle.std.specs.Prelude.{◌≡◌};
-ghost use Rattle.connection.specs.Tests.{first_then_of, asking};
+ghost use Rattle.connection.specs.Tests.{first_of, asking};
 ghost use Rattle.connection.specs.Legs.{ride_right, ride_tests, leg_tests, legs_tests};
 
-use crate::tests::{unless, when};
-use crate::{Cause, FoundLeg, Leg, Told, Way};
+use crate::tests::first_of;
+use crate::{Cause, FoundLeg, Leg, Way};
 
 #[tactic(auto, unfolding(crate::specs::Legs::ride_right))]
 fn ride_right(n: u8) -> bool
@@ -13,38 +13,33 @@ fn ride_right(n: u8) -> bool
     1 <= n && n <= 3
 }
 
-pub fn rides_told(n: u8, rest: Told) -> Told
-    ensures { result ≡ first_then_of (ride_tests n) rest }
+pub fn rides_cause(n: u8) -> Option<Cause>
+    ensures { result ≡ first_of (ride_tests n) }
 {
-    unless(ride_right(n), Cause::RideCount(n), rest)
+    first_of(&[(!ride_right(n), Cause::RideCount(n))])
 }
 
 // Of a leg, if it is asked.
-pub fn leg_told(asked: bool, i: u8, leg: Leg, found: FoundLeg, rest: Told) -> Told
-    ensures { result ≡ first_then_of (asking asked (leg_tests i leg found)) rest }
+pub fn leg_cause(asked: bool, i: u8, leg: Leg, found: &FoundLeg) -> Option<Cause>
+    ensures { result ≡ first_of (asking asked (leg_tests i leg found.now)) }
 {
-    if asked {
-        let from = found.board;
-        let to = found.alight;
-        let later = when(leg.alight <= leg.board, Cause::NotLater(i), rest);
-        let alights = unless(to.call.alight, Cause::AlightingBarred(i), later);
-        let boards = unless(from.call.board, Cause::BoardingBarred(i), alights);
-        let ends = unless(to.there, Cause::NoCall(i, leg.alight), boards);
-        return unless(from.there, Cause::NoCall(i, leg.board), ends);
+    if !asked {
+        return None;
     }
-    rest
+    first_of(&[
+        (found.board.is_none(), Cause::NoCall(i, leg.board)),
+        (found.alight.is_none(), Cause::NoCall(i, leg.alight)),
+        (!found.boards().board, Cause::BoardingBarred(i)),
+        (!found.alights().alight, Cause::AlightingBarred(i)),
+        (leg.alight <= leg.board, Cause::NotLater(i)),
+    ])
 }
 
-pub fn legs_told(n: u8, legs: [Leg; 3], way: Way, rest: Told) -> Told
-    ensures { result ≡ first_then_of (legs_tests n legs way) rest }
+// Of the first n legs, the first of them always.
+pub fn legs_cause(n: u8, legs: [Leg; 3], way: &Way) -> Option<Cause>
+    ensures { result ≡ first_of (legs_tests n legs way.now) }
 {
-    let one = legs[0];
-    let two = legs[1];
-    let three = legs[2];
-    let first = way.first;
-    let second = way.second;
-    let third = way.third;
-    let last = leg_told(3 <= n, 2, three, third, rest);
-    let middle = leg_told(2 <= n, 1, two, second, last);
-    leg_told(true, 0, one, first, middle)
+    leg_cause(true, 0, legs[0], &way.first)
+        .or(leg_cause(2 <= n, 1, legs[1], &way.second))
+        .or(leg_cause(3 <= n, 2, legs[2], &way.third))
 }

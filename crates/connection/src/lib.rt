@@ -56,29 +56,15 @@ pub enum Cause {
     TooShort(u8, u16, u16, u16),
 }
 
-// A cause, or none.
+// The calls that a leg names, where there are such.
 #[derive(Clone, Copy, Debug, PartialEq, Eq)]
-pub enum Told {
-    Because(Cause),
-    Free,
-}
-
-// A call that was looked for; the blank one where there is none.
-#[derive(Clone, Copy)]
-pub struct FoundCall {
-    pub there: bool,
-    pub call: Call,
-}
-
-// The calls that a leg names.
-#[derive(Clone, Copy)]
 pub struct FoundLeg {
-    pub board: FoundCall,
-    pub alight: FoundCall,
+    pub board: Option<Call>,
+    pub alight: Option<Call>,
 }
 
 // Those of three legs.
-#[derive(Clone, Copy)]
+#[derive(Clone, Copy, Debug, PartialEq, Eq)]
 pub struct Way {
     pub first: FoundLeg,
     pub second: FoundLeg,

@@ -1,25 +1,13 @@
-// One test more in front of what is told.
-ghost use Rattle.std.specs.Prelude.{◌≡◌, cond, not};
-ghost use Rattle.connection.specs.declared.Told.TheVariants.{Because};
+// Tests, each with its cause.
+ghost use Rattle.std.specs.Prelude.{◌≡◌};
+ghost use Rattle.connection.specs.Tests.{first_of};
 
-use crate::{Cause, Told};
+use crate::Cause;
 
-// The cause if the test holds, else the rest.
-pub fn when(holds: bool, cause: Cause, rest: Told) -> Told
-    ensures { result ≡ cond holds (Because cause) rest }
+// The cause of the first test that holds.
+pub fn first_of(tests: &[(bool, Cause)]) -> Option<Cause>
+    ensures { result ≡ first_of tests.now }
 {
-    if holds {
-        return Told::Because(cause);
-    }
-    rest
-}
-
-// The cause if the test doesn't hold.
-pub fn unless(holds: bool, cause: Cause, rest: Told) -> Told
-    ensures { result ≡ cond (not holds) (Because cause) rest }
-{
-    if holds {
-        return rest;
-    }
-    Told::Because(cause)
+    let test = tests.iter().find(|test| test.0)?;
+    Some(test.1)
 }

@@ -6,8 +6,9 @@ ghost use Rattle.display.specs.Display.{refused_display, display_of, part_of};
 ghost use Rattle.display.specs.Queries.{best_of_group, next_of_group};
 
 use crate::part::{Part, count_in, no_part, part_in};
-use best::{after, first_leaving, front};
+use best::{after, first_leaving};
 use groups::{Group, group_at, turned_away};
+use prefix::first;
 use profile::Journey;
 use refusal::{Accepted, Answer, Refusal};
 use shares::shares;
@@ -71,7 +72,7 @@ pub fn best_of_group(group: Group, part: Part, second: i64) -> Option<Journey>
     ensures { result ≡ best_of_group group part second }
 {
     if part.shows {
-        let shown = front(&group.journeys, part.count);
+        let shown = first(&group.journeys, part.count);
         return first_leaving(shown, part.window, second);
     }
     None

@@ -3,8 +3,8 @@ ghost use Rattle.std.specs.Prelude.{◌≡◌, length};
 ghost use Rattle.groups.specs.Groups.{list_of};
 ghost use Rattle.display.specs.Parts.{no_part, refused_part, count_in, window_of, falls_below, shown_by, part_for, part_in};
 
-use best::front;
 use groups::Group;
+use prefix::first;
 use profile::Journey;
 use refusal::{Accepted, Answer, Refusal};
 
@@ -18,7 +18,7 @@ pub struct Part {
     pub count: usize,
 }
 
-// The part of a group that isn't given.
+// The part of a group that isn't given. No `Default`: an answer has none.
 pub fn no_part() -> Part
     ensures { result ≡ no_part }
 {
@@ -45,7 +45,7 @@ fn refused_part() -> Part
 fn listed(group: &Group) -> &[Journey]
     ensures { result.now ≡ list_of group.entry.now }
 {
-    front(&group.journeys, group.count)
+    first(&group.journeys, group.count)
 }
 
 // How long the list of a group is: 0 where it isn't given.

@@ -1,26 +1,30 @@
 // The records of displays: a load is set aside for a group, a display is dealt, its groups are asked.
-use crate::printed::{found, refused};
+use crate::printed::found;
 use crate::record_fields::{Fields, Malformed};
 use display::{Display, best_of_group, deal, next_of_group, part_of};
 use groups::{Group, group_at, group_of, no_group};
 use load::Load;
+use stdio::load_lines::refused;
 use stdio::out::Out;
 
-// Up to four groups; an array and a count, as `deal` takes them.
-#[derive(Clone, Copy)]
+// Up to four groups: an array and a count, since there is no heap.
+#[derive(Clone, Copy, Debug, PartialEq, Eq)]
 struct Groups {
     groups: [Group; 4],
     count: usize,
 }
 
-impl Groups {
-    fn none() -> Self {
+// None. Not derived: a `Group` has no default, but a blank one by a function with a contract.
+impl Default for Groups {
+    fn default() -> Self {
         Groups {
             groups: [no_group(); 4],
             count: 0,
         }
     }
+}
 
+impl Groups {
     // A fifth can't be added.
     fn add(&mut self, group: Group) -> Result<(), Malformed> {
         if self.count >= 4 {
@@ -46,24 +50,26 @@ impl Groups {
 }
 
 // The groups set aside for the next display, and the last display with its groups.
-#[derive(Clone, Copy)]
+#[derive(Clone, Copy, Debug, PartialEq, Eq)]
 pub struct Board {
     aside: Groups,
     shown: Groups,
     display: Display,
 }
 
-impl Board {
-    // Nothing set aside, and an empty display.
-    pub fn empty() -> Self {
-        let none = Groups::none();
+// Nothing set aside, and an empty display. Not derived, since an empty display is dealt.
+impl Default for Board {
+    fn default() -> Self {
+        let none = Groups::default();
         Board {
             aside: none,
             shown: none,
             display: none.deal(),
         }
     }
+}
 
+impl Board {
     pub fn set_aside(
         &mut self,
         out: &mut Out,
@@ -81,7 +87,7 @@ impl Board {
     pub fn deal(&mut self, out: &mut Out, fields: Fields<'_>) -> Result<(), Malformed> {
         fields.end()?;
         self.shown = self.aside;
-        self.aside = Groups::none();
+        self.aside = Groups::default();
         self.display = self.shown.deal();
         match self.display.answer {
             Ok(_) => line(out, self.display),

@@ -23,6 +23,7 @@ pub enum Kind {
     GroupNext,
 }
 
+// No derive makes a kind of a number; the numbers are those of docs/STEPS.md.
 impl TryFrom<u8> for Kind {
     type Error = Malformed;
 

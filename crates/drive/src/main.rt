@@ -19,47 +19,41 @@ use std::io::Stdin;
 use stdio::input;
 use stdio::out::Out;
 
-// As long as the longest file. A function of its own: the proof of `main` can't hold an array of that length.
-fn buffer() -> [u8; 1048576] {
-    [0; 1048576]
-}
+// As long as the longest file.
+const MOST: usize = 1048576;
 
-// The whole input as one step file. If it fills the buffer, it may be longer.
-fn one(stdin: Stdin, out: &mut Out, buf: &mut [u8], got: usize) {
-    let size = input::rest(stdin, buf, got);
-    if size < buf.len() {
-        run::file(out, &buf[..size]);
-    } else {
-        writeln!(out, "{Malformed}");
+// The whole input as one step file. If it fills the buffer, it may be longer: so the buffer is handed on with the size, and not its part.
+fn one(out: &mut Out, buf: &[u8], size: usize) {
+    match buf.split_at_checked(size) {
+        Some((file, [_, ..])) => run::file(out, file),
+        _ => writeln!(out, "{Malformed}"),
     }
     out.flush();
 }
 
-// The files of a batch; `got` bytes of the first one's length are in the buffer.
-fn batch(stdin: Stdin, out: &mut Out, buf: &mut [u8], got: usize) {
-    let mut got = got;
-    for _ in 0..u64::MAX {
-        if got < 4 {
-            return;
-        }
-        let Some(size) = input::body(stdin, buf) else {
-            return;
-        };
-        run::file(out, &buf[..size]);
-        out.end_file();
-        got = input::head(stdin, buf);
+fn batched(out: &mut Out, file: &[u8]) {
+    run::file(out, file);
+    out.end_file();
+}
+
+// The files of a batch; the first one's length is in the buffer.
+fn batch(stdin: Stdin, out: &mut Out, buf: &mut [u8]) {
+    if let Some(size) = input::body(stdin, buf) {
+        batched(out, &buf[..size]);
+        input::each_file(stdin, buf, |file| batched(out, file));
     }
 }
 
 fn main(rt: HostRuntime) {
     let stdin = rt.stdin();
     let mut out = Out::new(rt.stdout());
-    let mut bytes = buffer();
+    let mut bytes = input::zeros::<MOST>();
     let buf: &mut [u8] = &mut bytes;
     let got = input::head(stdin, buf);
     if 0 < got && buf.first() == Some(&83) {
-        one(stdin, &mut out, buf, got);
-    } else {
-        batch(stdin, &mut out, buf, got);
+        let size = input::rest(stdin, buf, got);
+        one(&mut out, buf, size);
+    } else if got == 4 {
+        batch(stdin, &mut out, buf);
     }
 }

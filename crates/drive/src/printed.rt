@@ -1,7 +1,7 @@
 // The lines that records have in common: what a step was answered, and the journey of a query.
 use profile::Journey;
-use refusal::{Accepted, Answer, Refusal};
-use stdio::load_lines::Figures;
+use refusal::{Accepted, Answer};
+use stdio::load_lines::{Figures, refused};
 use stdio::out::Out;
 
 // The line of an answer; `taken` is the word where the step was taken.
@@ -11,10 +11,6 @@ pub fn told(out: &mut Out, answer: Answer, taken: &str) {
         Ok(Accepted::Outside) => writeln!(out, "outside"),
         Err(r) => refused(out, r),
     }
-}
-
-pub fn refused(out: &mut Out, r: Refusal) {
-    writeln!(out, "refused {}", u8::from(r));
 }
 
 pub fn found(out: &mut Out, journey: Option<Journey>) {

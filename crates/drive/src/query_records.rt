@@ -1,10 +1,10 @@
 // Best and next after of the open load, and searches of it within a limit on joins (request 12).
-use crate::printed::{found, refused};
+use crate::printed::found;
 use crate::record_fields::{Fields, Malformed};
 use load::Load;
 use margin::margin_of;
 use search::{Limited, search_within};
-use stdio::load_lines::Figures;
+use stdio::load_lines::{Figures, refused};
 use stdio::out::Out;
 
 // Best at the second; at second 0 with the margin that a stopped load has.

@@ -15,7 +15,7 @@ impl fmt::Display for Malformed {
 impl Error for Malformed {}
 
 // What is left to read.
-#[derive(Clone, Copy)]
+#[derive(Clone, Copy, Debug, PartialEq, Eq)]
 pub struct Fields<'a> {
     rest: &'a [u8],
 }

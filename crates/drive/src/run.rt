@@ -11,12 +11,13 @@ use crate::{call_records, query_records, settings_records, week_records, write_r
 use file::Reader;
 use file::record::record;
 use load::{Load, Stepped};
+use prefix::first;
 use refusal::{Answer, Refusal};
 use stdio::load_lines::{horizon, journeys, table};
 use stdio::out::Out;
 
 // The records of a file behind its first byte, each without its length.
-#[derive(Drop)]
+#[derive(Debug, Drop, PartialEq, Eq)]
 struct Records<'a> {
     rest: &'a [u8],
 }
@@ -52,20 +53,13 @@ fn split(bytes: &[u8]) -> Option<(&[u8], &[u8])>
 }
 
 // The open load, if there is one, and what is set aside and shown.
-#[derive(Drop)]
+#[derive(Debug, Default, Drop, PartialEq)]
 struct State {
     load: Option<Load>,
     board: Board,
 }
 
 impl State {
-    fn new() -> Self {
-        State {
-            load: None,
-            board: Board::empty(),
-        }
-    }
-
     // The open load, which a record needs.
     fn load(&self) -> Result<Load, Malformed> {
         self.load.ok_or(Malformed)
@@ -93,7 +87,7 @@ impl State {
         Ok(())
     }
 
-    // The record, without its length.
+    // The record, without its length. A match, as each kind has arguments and a line of its own.
     fn record(&mut self, out: &mut Out, b: &[u8]) -> Result<(), Malformed> {
         let (kind, fields) = b.split_first().ok_or(Malformed)?;
         let fields = Fields::new(fields);
@@ -151,20 +145,20 @@ fn is_malformed(answer: Answer) -> bool {
 
 // A load at the end.
 fn load_lines(out: &mut Out, load: Load) {
-    table(out, load.calls, load.call_count);
-    journeys(out, &load.journeys[..load.journey_count.min(64)]);
+    table(out, &load.calls, load.call_count);
+    journeys(out, first(&load.journeys, load.journey_count));
     horizon(out, load.horizon, load.limits);
     writeln!(
         out,
         "searched {} stopped {}",
         u8::from(load.searched),
-        u8::from(load.stopped)
+        u8::from(load.limit.is_some())
     );
 }
 
 // The records after the first byte, up to one that is malformed; then the load.
 fn run(out: &mut Out, bytes: &[u8]) -> Result<(), Malformed> {
-    let mut state = State::new();
+    let mut state = State::default();
     for record in (Records { rest: bytes }) {
         state.record(out, record?)?;
     }

@@ -1,8 +1,8 @@
 // A load written into a buffer of so much room: how long the file is, and its hash; or the refusal.
-use crate::printed::refused;
 use crate::record_fields::{Fields, Malformed};
 use key::key;
 use load::Load;
+use stdio::load_lines::refused;
 use stdio::out::Out;
 
 // More than any file of a load has.
@@ -12,10 +12,9 @@ pub fn write(out: &mut Out, load: Load, mut fields: Fields<'_>) -> Result<(), Ma
     let room = fields.u32()? as usize;
     fields.end()?;
     let mut buf = [0u8; MOST];
-    let wrote = writer::write(load, &mut buf[..room.min(MOST)]);
-    match wrote.answer {
-        Ok(_) => {
-            let file = &buf[..wrote.length.min(MOST)];
+    match writer::write(load, &mut buf[..room.min(MOST)]) {
+        Ok(size) => {
+            let file = &buf[..size.min(MOST)];
             writeln!(out, "written {} {:016x}", file.len(), key(file));
         }
         Err(r) => refused(out, r),

@@ -1,4 +1,5 @@
-// The lent arrays of a search, feed and changes: what is read of them about a stop or a pair of stops, and the tests and sums on what is read.
+// The lent arrays of a search, feed and changes: what is read of them about a stop or a pair of stops, and the tests and sums on what is
+// read.
 #![tactic(auto)]
 
 ghost use Rattle.std.specs.Prelude.{◌≡◌, ◌*◌, min, leb};

@@ -6,11 +6,12 @@ use Prim.Native.Nat.{ℕ, zero, suc, ◌+◌, ◌*◌, ◌/◌, ◌%◌, ◌^◌
 use native.Mathlib.Nat.{mod-lt, min-le_right}
 use native.Mathlib.Omega.{arith}
 use lib.Dec.{eqb}
-use lib.ListN.{length, get_or, set}
+use lib.ListN.{length, get_or, set, get_or-eq_default}
 use Rattle.laws.specs.Arrays.{puts}
 use Rattle.settings.specs.declared.Settings.{Settings}
 use Rattle.stops.specs.declared.Stop.{Stop}
 use Rattle.stops.specs.Sound.{stop_at}
+use Rattle.stops.specs.Taken.{blank_stop}
 use Rattle.calls.specs.declared.Call.{Call}
 use Rattle.calls.specs.Tables.{blank_call}
 use Rattle.laws.specs.Regions.{Region, Blocks}
@@ -67,8 +68,13 @@ module _ (calls : List Call) (stops : List Stop) (s : Settings) (l₀ l₁ l₂ 
     (cs : Blocks 6 (λ i k. get_or (six_of (get_or calls i blank_call)) k 0) 512 l₀ l₁)
     (ms : Region (λ k. masked_of s.origins s.targets (stop_at stops k).members) 3072 128 l₁ l₂)
     (os : Region (λ k. get_or s.origin_walks k 0) 3200 4 l₂ l₃)
-    (ts : Region (λ k. get_or s.target_walks k 0) 3204 4 l₃ l₄)
+    (ts : Region (λ k. get_or s.target_walks k 0) 3204 4 l₃ l₄) (few : length stops ≡ 128)
   where
+    -- past the end stands a blank stop
+    past-end : (k : ℕ) → 128 ≤ k → (stop_at stops k).members ≡ 0
+    unfolding stop_at
+    past-end k h = ap (λ (x : Stop). x.members) (get_or-eq_default stops blank_stop (omega arith))
+
     number : (i k : ℕ) → i < 512 → k < 6 → get_or l₄ (i * 6 + k) 0 ≡ get_or (six_of (get_or calls i blank_call)) k 0
     number i k h b =
         ts.low (i * 6 + k) (omega arith) ∙ os.low (i * 6 + k) (omega arith) ∙ ms.low (i * 6 + k) (omega arith) ∙ cs.here i k h b
@@ -88,6 +94,7 @@ module _ (calls : List Call) (stops : List Stop) (s : Settings) (l₀ l₁ l₂ 
       alight = λ i h. ap (λ (x : ℕ). eqb (x / 2 % 2) 1) (number i 5 h (omega arith)) ∙ alight-flag (get_or calls i blank_call).board (get_or calls i blank_call).alight;
       origins = λ k h. ap (λ (x : ℕ). x % 16) (member k h) ∙ (masked s.origins s.targets (stop_at stops k).members).0;
       targets = λ k h. ap (λ (x : ℕ). x / 16 % 16) (member k h) ∙ (masked s.origins s.targets (stop_at stops k).members).1;
+      past = past-end;
       origin_walk = λ o h. ts.low (3200 + o) (omega arith) ∙ os.here o h;
       target_walk = λ x h. ts.here x h;
     }

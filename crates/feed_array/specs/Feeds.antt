@@ -1,6 +1,6 @@
 -- The feed: six numbers for each of 512 calls (trip, day, stop, arrival, departure, flags), then from 3072 the membership byte of each of 128 stops,
 -- masked to the counts of origins and targets, from 3200 the walks of 4 origins and from 3204 those of 4 targets.
-use Rattle.std.specs.Prelude.{◌≡◌, Bool, true, false, cond, List, [], ◌∷◌, ℕ, ◌+◌, ◌*◌, ◌/◌, ◌%◌, ◌^◌, min, ◌<◌, eqb, ltb, get_or}
+use Rattle.std.specs.Prelude.{◌≡◌, Bool, true, false, cond, List, [], ◌∷◌, ℕ, ◌+◌, ◌*◌, ◌/◌, ◌%◌, ◌^◌, min, ◌<◌, ◌≤◌, eqb, ltb, get_or}
 use Rattle.settings.specs.declared.Settings.{Settings}
 use Rattle.stops.specs.declared.Stop.{Stop}
 use Rattle.stops.specs.Sound.{stop_at}
@@ -27,7 +27,7 @@ six_of c = c.trip ∷ c.day ∷ stop_number c.stop ∷ c.arrival ∷ c.departure
 unfoldable pub masked_of : ℕ → ℕ → ℕ → ℕ
 masked_of origins targets members = members % 2 ^ min origins 4 + members / 16 % 2 ^ min targets 4 * 16
 
--- the feed holds these calls, the members of these stops and the walks
+-- the feed holds these calls, the members of these stops, of which none past the 128th has any, and the walks
 pub record Feeds (f : List ℕ) (calls : List Call) (stops : List Stop) (s : Settings) : Type 0 where
   pub trip : (i : ℕ) → i < 512 → get_or f (i * 6) 0 ≡ (get_or calls i blank_call).trip
   pub day : (i : ℕ) → i < 512 → get_or f (i * 6 + 1) 0 ≡ (get_or calls i blank_call).day
@@ -38,5 +38,6 @@ pub record Feeds (f : List ℕ) (calls : List Call) (stops : List Stop) (s : Set
   pub alight : (i : ℕ) → i < 512 → eqb (get_or f (i * 6 + 5) 0 / 2 % 2) 1 ≡ (get_or calls i blank_call).alight
   pub origins : (k : ℕ) → k < 128 → get_or f (3072 + k) 0 % 16 ≡ (stop_at stops k).members % 2 ^ min s.origins 4
   pub targets : (k : ℕ) → k < 128 → get_or f (3072 + k) 0 / 16 % 16 ≡ (stop_at stops k).members / 16 % 2 ^ min s.targets 4
+  pub past : (k : ℕ) → 128 ≤ k → (stop_at stops k).members ≡ 0
   pub origin_walk : (o : ℕ) → o < 4 → get_or f (3200 + o) 0 ≡ get_or s.origin_walks o 0
   pub target_walk : (x : ℕ) → x < 4 → get_or f (3204 + x) 0 ≡ get_or s.target_walks x 0

@@ -33,7 +33,7 @@ fn flags_of(board: bool, alight: bool) -> u16
     board as u16 + alight as u16 * 2
 }
 
-// The six numbers of a call.
+// The six numbers of a call. The array is lent whole with a place in it: what is proved of a feed speaks of places in the whole.
 fn put_call(feed: &mut Feed, i: usize, call: Call)
     requires { i < 512 }
     ensures { Region (λ k. get_or (six_of call) k 0) (i * 6) 6 feed.old feed.new }
@@ -50,27 +50,26 @@ fn put_call(feed: &mut Feed, i: usize, call: Call)
 }
 
 // Every call.
-fn put_calls(feed: &mut Feed, calls: [Call; 512])
-    ensures { Blocks 6 (λ i k. get_or (six_of (get_or calls i blank_call)) k 0) 512 feed.old feed.new }
+fn put_calls(feed: &mut Feed, calls: &[Call; 512])
+    ensures { Blocks 6 (λ i k. get_or (six_of (get_or calls.now i blank_call)) k 0) 512 feed.old feed.new }
 {
     for i in 0..CALLS {
         put_call(feed, i, calls[i]);
     }
 }
 
-// Two to the count, which is at most 4.
+// Two to the count, which is at most 4. That it is above 0 is told for the division.
 fn power_of(count: u8) -> u8
-    ensures { (result ≡ 2 ^ min count 4) × (0 < result) × (result ≤ 16) }
+    ensures { (result ≡ 2 ^ min count 4) × (0 < result) }
 {
     1 << count.min(4)
 }
 
 // The lowest digits, as many as the count says, at most 4.
 fn digits_of(count: u8, members: u8) -> u8
-    ensures { (result ≡ members % 2 ^ min count 4) × (result < 16) }
+    ensures { result ≡ members % 2 ^ min count 4 }
 {
-    let power = power_of(count);
-    members % power
+    members % power_of(count)
 }
 
 // The membership byte with the digits past the counts left out.
@@ -83,15 +82,15 @@ fn masked_of(members: u8, origins: u8, targets: u8) -> u16
 }
 
 // The members of every stop.
-fn put_members(feed: &mut Feed, stops: [Stop; 128], origins: u8, targets: u8)
-    ensures { Region (λ k. masked_of origins targets (stop_at stops k).members) 3072 128 feed.old feed.new }
+fn put_members(feed: &mut Feed, stops: &[Stop; 128], origins: u8, targets: u8)
+    ensures { Region (λ k. masked_of origins targets (stop_at stops.now k).members) 3072 128 feed.old feed.new }
 {
     for k in 0..STOPS {
         feed[MEMBERS + k] = masked_of(stops[k].members, origins, targets);
     }
 }
 
-// Four walks from a place on.
+// Four walks from a place on; lent whole, as in `put_call`.
 fn put_walks(feed: &mut Feed, at: usize, walks: [u8; 4])
     requires { at ≤ 3204 }
     ensures { Region (λ k. get_or walks k 0) at 4 feed.old feed.new }
@@ -102,8 +101,8 @@ fn put_walks(feed: &mut Feed, at: usize, walks: [u8; 4])
 }
 
 // What a search reads of a load.
-pub fn feed_of(calls: [Call; 512], stops: [Stop; 128], settings: Settings) -> Feed
-    ensures { Feeds result calls stops settings }
+pub fn feed_of(calls: &[Call; 512], stops: &[Stop; 128], settings: Settings) -> Feed
+    ensures { Feeds result calls.now stops.now settings }
 {
     let mut feed = [0; FEED_SIZE];
     put_calls(&mut feed, calls);

@@ -1,6 +1,6 @@
 -- Where the fields of a record stand. Its kind byte is at 0, and the fields follow it in document 01's order.
 -- Each field begins where the one before it ends; a record is filled if the last one ends where the record does.
-use Rattle.std.specs.Prelude.{ℕ, ◌+◌, Bool, cond, ◌&&◌, List, [], eqb, leb, length, take, drop}
+use Rattle.std.specs.Prelude.{ℕ, ◌+◌, Bool, cond, ◌&&◌, List, eqb, leb, length, take, drop, None, Option, Some}
 use Rattle.fields.specs.Numbers.{byte_at}
 
 -- ---- a text: its length byte, then its bytes
@@ -27,12 +27,8 @@ option_end b at size = cond (has_at b at) (at + 1 + size) (at + 1)
 unfoldable pub option_text_end : List ℕ → ℕ → ℕ
 option_text_end b at = cond (has_at b at) (text_end b (at + 1)) (at + 1)
 
--- where its bytes start: after its byte and its length
-abbrev pub option_text_from : List ℕ → ℕ → ℕ
-option_text_from b at = cond (has_at b at) (at + 2) (at + 1)
-
-unfoldable pub option_text_at : List ℕ → ℕ → List ℕ
-option_text_at b at = cond (has_at b at) (text_at b (at + 1)) []
+unfoldable pub option_text_at : List ℕ → ℕ → Option (List ℕ)
+option_text_at b at = cond (has_at b at) (Some (text_at b (at + 1))) None
 
 -- ---- settings: origins, targets, their walks (origins first), transfer_minutes, max_transfers, now, three epochs
 

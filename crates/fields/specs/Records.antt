@@ -1,14 +1,12 @@
 -- What a filled record hands in.
 use Rattle.std.specs.Prelude.{ℕ, ◌+◌, ◌*◌, cond, List, [], ◌∷◌, None, Option, Some}
-use Rattle.std.specs.Float.{binary64}
-use Rattle.std.specs.Float.Ieee.{of_bits}
 use Rattle.place.specs.declared.Degrees.{Degrees}
 use Rattle.settings.specs.declared.Settings.{Settings}
 use Rattle.stops.specs.declared.StopInput.{StopInput}
 use Rattle.calls.specs.declared.CallInput.{CallInput}
-use Rattle.rules.specs.declared.RuleInput.{RuleInput}
+use Rattle.rules.specs.declared.Rule.{Rule}
 use Rattle.fields.specs.Numbers.{byte_at, u16_at, u32_at, i64_at, f64_at}
-use Rattle.fields.specs.Layout.{has_at, name_at, parent_at, type_at, position_at, members_at, target_walks_at, minutes_at, departure_at, pickup_at}
+use Rattle.fields.specs.Layout.{has_at, type_at, position_at, members_at, target_walks_at, minutes_at, departure_at, pickup_at}
 
 -- four bytes; those past the count are not walks, and opening leaves them out
 unfoldable pub walks_at : List ℕ → ℕ → List ℕ
@@ -27,19 +25,14 @@ settings_in b = record {
   epochs = i64_at b (minutes_at b + 10) ∷ i64_at b (minutes_at b + 18) ∷ i64_at b (minutes_at b + 26) ∷ [];
 }
 
--- latitude, then longitude; 0 where no position is given
-unfoldable pub degrees_at : List ℕ → ℕ → Degrees
-degrees_at b at = cond (has_at b at)
-    (record { latitude = f64_at b (at + 1); longitude = f64_at b (at + 9) })
-    (record { latitude = of_bits binary64 0; longitude = of_bits binary64 0 })
+-- latitude, then longitude
+unfoldable pub degrees_at : List ℕ → ℕ → Option Degrees
+degrees_at b at = cond (has_at b at) (Some (record { latitude = f64_at b (at + 1); longitude = f64_at b (at + 9) })) None
 
 -- beside the texts: id at 1, name at `name_at`, parent's id at `parent_at`
 unfoldable pub stop_in : List ℕ → StopInput
 stop_in b = record {
-  named = has_at b (name_at b);
-  has_parent = has_at b (parent_at b);
   location_type = byte_at b (type_at b);
-  located = has_at b (position_at b);
   degrees = degrees_at b (position_at b);
   members = byte_at b (members_at b);
 }
@@ -62,5 +55,5 @@ call_in b = record {
 unfoldable pub min_time_at : List ℕ → ℕ → Option ℕ
 min_time_at b at = cond (has_at b at) (Some (u16_at b (at + 1))) None
 
-unfoldable pub rule_in : List ℕ → RuleInput
+unfoldable pub rule_in : List ℕ → Rule
 rule_in b = record { from = u16_at b 1; to = u16_at b 3; transfer_type = byte_at b 5; seconds = min_time_at b 6 }

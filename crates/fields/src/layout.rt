@@ -1,5 +1,5 @@
 // Where the fields of a record stand, and whether they fill it. Fields are read by their places and not in order, so the bytes and a place
-// stay two parameters: a cursor would be made anew for each field.
+// stay two parameters: a cursor would be made anew for each field. Bounds of places are clauses of their own: sums of places must fit.
 ghost use Rattle.std.specs.Prelude.{◌≡◌, ◌+◌, ◌≤◌};
 ghost use Rattle.fields.specs.Numbers.{byte_at, u16_at};
 ghost use Rattle.fields.specs.Layout.{

@@ -1,5 +1,5 @@
 // Big-endian numbers of a record. A byte past the record's end reads as 0.
-// A number is read only near a record's start, so the places of its bytes fit.
+// A number is read only near a record's start, so the places of its bytes fit. The bytes and a place stay two parameters, as in `layout`.
 ghost use Rattle.std.specs.Prelude.{◌≡◌, ◌≤◌};
 ghost use Rattle.std.specs.Float.{binary64};
 ghost use Rattle.std.specs.Float.Ieee.{nan_bits};

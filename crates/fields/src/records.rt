@@ -1,17 +1,16 @@
-// What a filled record hands in.
+// What a filled record hands in. The bytes and a place stay two parameters, as in `layout`; a place stands near the start.
 ghost use Rattle.std.specs.Prelude.{◌≡◌, ◌≤◌, ◌*◌, cond};
 ghost use Rattle.fields.specs.Numbers.{byte_at, u16_at};
 ghost use Rattle.fields.specs.Records.{walks_at, degrees_at, stop_in, seconds_at, call_in, rule_in};
 ghost use Rattle.fields.specs.Second.{settings_by};
 
 use crate::layout::{
-    departure_at, has_at, members_at, minutes_at, name_at, parent_at, pickup_at, target_walks_at,
-    type_at,
+    departure_at, has_at, members_at, minutes_at, pickup_at, target_walks_at, type_at,
 };
 use crate::numbers::{byte_at, f64_at, i64_at, u16_at, u32_at};
 use calls::CallInput;
 use place::Degrees;
-use rules::RuleInput;
+use rules::Rule;
 use settings::Settings;
 use stops::StopInput;
 
@@ -64,23 +63,16 @@ pub fn settings_by(second: bool, b: &[u8]) -> Settings
     }
 }
 
-// A position's two floats, 0 where none is given.
+// A position's two floats.
 #[tactic(auto, unfolding(crate::specs::Records::degrees_at))]
-fn degrees_at(b: &[u8], at: usize) -> Degrees
+fn degrees_at(b: &[u8], at: usize) -> Option<Degrees>
     requires { at ≤ 1024 }
     ensures { result ≡ degrees_at b.now at }
 {
-    if has_at(b, at) {
-        Degrees {
-            latitude: f64_at(b, at + 1),
-            longitude: f64_at(b, at + 9),
-        }
-    } else {
-        Degrees {
-            latitude: 0.0,
-            longitude: 0.0,
-        }
-    }
+    has_at(b, at).then_some(Degrees {
+        latitude: f64_at(b, at + 1),
+        longitude: f64_at(b, at + 9),
+    })
 }
 
 #[tactic(auto, unfolding(crate::specs::Records::stop_in))]
@@ -89,10 +81,7 @@ pub fn stop_in(b: &[u8]) -> StopInput
 {
     let kind = type_at(b);
     StopInput {
-        named: has_at(b, name_at(b)),
-        has_parent: has_at(b, parent_at(b)),
         location_type: byte_at(b, kind),
-        located: has_at(b, kind + 1),
         degrees: degrees_at(b, kind + 1),
         members: byte_at(b, members_at(b)),
     }
@@ -124,10 +113,10 @@ pub fn call_in(b: &[u8]) -> CallInput
 }
 
 #[tactic(auto, unfolding(crate::specs::Records::rule_in, crate::specs::Records::min_time_at))]
-pub fn rule_in(b: &[u8]) -> RuleInput
+pub fn rule_in(b: &[u8]) -> Rule
     ensures { result ≡ rule_in b.now }
 {
-    RuleInput {
+    Rule {
         from: u16_at(b, 1),
         to: u16_at(b, 3),
         transfer_type: byte_at(b, 5),

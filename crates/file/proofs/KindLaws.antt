@@ -8,7 +8,7 @@ use lib.Dec.{eqb}
 use Rattle.refusal.specs.First.{is_refused}
 use Rattle.settings.specs.declared.Settings.{Settings}
 use Rattle.calls.specs.declared.CallInput.{CallInput}
-use Rattle.rules.specs.declared.RuleInput.{RuleInput}
+use Rattle.rules.specs.declared.Rule.{Rule}
 use Rattle.load.specs.declared.Stepped.{Stepped}
 use Rattle.fields.specs.Numbers.{byte_at}
 use Rattle.fields.specs.Layout.{text_at, option_text_at, name_at, parent_at, stop_filled_of, call_filled_of, rule_filled_of, search_filled_of}
@@ -52,7 +52,7 @@ module _ (r : Reader) (b : List ℕ) where
   pub stepped-before : {s : Stepped} → r.opened ≡ true → byte_at b 0 ≡ 3 → s ≡ call_spec r.load [] (call_in b) → is_refused s.answer ≡ false → s ≡ stepped_by r b
   stepped-before o k e f = stepped-call o k refl (e ∙ sym (call-before r.load [] (call_in b) (ap (λ (t : Stepped). is_refused t.answer) (sym e) ∙ f)))
 
-  pub stepped-rule : {s : Stepped} {i : RuleInput} → r.opened ≡ true → byte_at b 0 ≡ 4 → i ≡ rule_in b → s ≡ rule_spec r.load i → s ≡ stepped_by r b
+  pub stepped-rule : {s : Stepped} {i : Rule} → r.opened ≡ true → byte_at b 0 ≡ 4 → i ≡ rule_in b → s ≡ rule_spec r.load i → s ≡ stepped_by r b
   unfolding stepped_by step_in
   stepped-rule o k q e = e ∙ rw (o, k, q) refl
 

@@ -6,3 +6,4 @@ pub mod AnsweredLaws
 pub mod HandedLaws
 pub mod ListedLaws
 pub mod MinutesLaws
+pub mod WholeLaws

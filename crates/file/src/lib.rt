@@ -1,14 +1,16 @@
 // A load file (requests 01 and 13, versions 1 and 2): the definitions of what is read of one, and its records, tested and taken one by one.
 #![tactic(auto)]
 
+pub mod framed;
 pub mod record;
-pub mod texts;
+pub mod stop_texts;
 
 use load::Load;
 use refusal::Answer;
 
 // The load so far; before the settings are taken, the empty load of blank settings, and whether the file is of version 2.
-#[derive(Clone, Copy)]
+// A flag and no enum: programs show the load in either state, and `second` counts only in the first.
+#[derive(Clone, Copy, Debug, PartialEq)]
 pub struct Reader {
     pub opened: bool,
     pub second: bool,
@@ -16,14 +18,15 @@ pub struct Reader {
 }
 
 // What a record is answered, and the reader after it: the reader given, where the record is refused.
-#[derive(Clone, Copy)]
+// As with `Stepped`, the load goes on beside its answer, also where that refuses.
+#[derive(Clone, Copy, Debug, PartialEq)]
 pub struct Took {
     pub answer: Answer,
     pub reader: Reader,
 }
 
-// What is answered to bytes, how many of them whole records took, and the reader after those.
-#[derive(Clone, Copy)]
+// What is answered to bytes, how many of them whole records took, and the reader after those: by value beside the answer, as in `Took`.
+#[derive(Clone, Copy, Debug, PartialEq)]
 pub struct Fed {
     pub answer: Answer,
     pub used: usize,

@@ -7,7 +7,7 @@ ghost use Rattle.load.specs.Steps.{stop_spec};
 ghost use Rattle.again.specs.Again.{add_spec_of};
 ghost use Rattle.file.specs.Record.{kind_right, filled, record_tests, stepped_by, record_spec};
 
-use crate::texts::{id_text, name_text, parent_text};
+use crate::stop_texts::{id_text, name_text, parent_text};
 use crate::{Reader, Took};
 use again::add;
 use calls::CallInput;
@@ -73,7 +73,7 @@ fn call_record(load: Load, input: CallInput) -> Stepped
     add(load, &[], input)
 }
 
-// A record is handed to the load, or opens it.
+// A record is handed to the load, or opens it. The match stays: each kind hands in something else.
 #[tactic(auto, unfolding(crate::specs::Record::stepped_by, crate::specs::Record::step_in, steps::specs::Steps::stepped))]
 fn stepped_by(reader: Reader, b: &[u8]) -> Stepped
     ensures { result ≡ stepped_by reader b.now }
@@ -99,20 +99,18 @@ pub fn record(reader: Reader, b: &[u8]) -> Took
         return Took { answer, reader };
     }
     let s = stepped_by(reader, b);
-    let told = s.answer;
-    if is_refused(told) {
+    if is_refused(s.answer) {
         return Took {
-            answer: told,
+            answer: s.answer,
             reader,
         };
     }
-    let load = s.load;
     Took {
-        answer: told,
+        answer: s.answer,
         reader: Reader {
             opened: true,
             second: false,
-            load,
+            load: s.load,
         },
     }
 }

@@ -9,7 +9,8 @@ ghost use Rattle.groups.specs.Refused.{is_wrong, twice, turned_away};
 use load::Load;
 use profile::{Journey, no_journey};
 
-// What a display reads of a load, which is given for the group of a number. Its list stands by value, as in the load: no heap.
+// What a display reads of a load, which is given for the group of a number. Its list stands by value, as in the load: no heap. `searched`
+// is one of the fields that are read, and says of no other whether it holds.
 #[derive(Clone, Copy, Debug, PartialEq, Eq)]
 pub struct Group {
     pub number: u8,
@@ -20,7 +21,7 @@ pub struct Group {
     pub journeys: [Journey; 64],
 }
 
-// The blank group, which stands where there is none.
+// The blank group, which stands where there is none. No `Default`: an array of 64 has none.
 pub fn no_group() -> Group
     ensures { result ≡ no_group }
 {
@@ -34,7 +35,7 @@ pub fn no_group() -> Group
     }
 }
 
-// A load, given for the group of a number.
+// A load, given for the group of a number. By its fields, as most of a load is not read.
 pub fn group_of(number: u8, load: Load) -> Group
     ensures { result ≡ group_of number load }
 {
@@ -74,7 +75,8 @@ fn lowest_start(given: &[Group]) -> i64
 fn is_wrong(group: &Group, low: i64) -> bool
     ensures { result ≡ is_wrong low group.entry.now }
 {
-    3 < group.number || !group.searched || group.now != low
+    let above = 3 < group.number;
+    above || !group.searched || group.now != low
 }
 
 fn any_wrong(given: &[Group], low: i64) -> bool
@@ -89,7 +91,7 @@ fn has_number(given: &[Group], number: u8) -> bool
     given.iter().any(|group| group.number == number)
 }
 
-// Whether a group is given twice.
+// Whether a group is given twice. A `while`, as each group is asked beside those behind it: a chain over the slice yields it alone.
 fn given_twice(given: &[Group]) -> bool
     ensures { result ≡ twice given.now }
 {

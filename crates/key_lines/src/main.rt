@@ -2,18 +2,16 @@
 // the refusal. A read or a write that fails is told on standard error; after a failed read nothing is printed.
 #![tactic(auto)]
 
-use parts::{print, read_input, tell_unread};
+use parts::{print, read_input};
 
 // As long as the longest list with its rides.
 const MOST: usize = 16384;
 
-// The main of `show` with another buffer: a bound on a closure can't name its length.
+// As in `show`, with another buffer: the two can't share a function that takes `ride_lines`, as a bound on it can't name the length.
 fn main(rt: HostRuntime) {
-    let Ok(t) = read_input(rt.stdin()) else {
-        tell_unread(rt.stderr());
-        return;
-    };
-    let mut out = [0; MOST];
-    let n = lines::ride_lines(&mut out, t.answer, t.reader.load);
-    print(rt.stdout(), rt.stderr(), &out[..n]);
+    if let Some(t) = read_input(rt.stdin(), rt.stderr()) {
+        let mut out = [0; MOST];
+        let n = lines::ride_lines(&mut out, t.answer, t.reader.load);
+        print(rt.stdout(), rt.stderr(), &out[..n]);
+    }
 }

@@ -4,13 +4,14 @@
 ghost use Rattle.std.specs.Prelude.{◌≡◌, take};
 ghost use Rattle.best.specs.Best.{best_of_of};
 
-use best::{best_over, front};
+use best::best_over;
+use prefix::first;
 use profile::Journey;
 
-// Best over the first `count` of the lent journeys; over all of them, if `count` is more.
+// Best over the first `count` of the lent journeys; over all of them, if `count` is more. The count is the caller's, who lends an array.
 pub fn best_lent(journeys: &[Journey], count: usize, horizon: u16, second: i64) -> Option<Journey>
     ensures { result ≡ best_of_of (take count journeys.now) horizon second }
 {
-    let lent = front(journeys, count);
+    let lent = first(journeys, count);
     best_over(lent, horizon, second)
 }

@@ -1,12 +1,13 @@
 // Best over journeys given as plain numbers, for programs in C and Rust to call. Each figure has a column of 64 numbers; a journey's
-// number is its place in the columns.
+// number is its place in the columns. Columns and counts, 65535 for none: C has neither options nor slices that know their length.
 #![tactic(auto)]
 
 ghost use Rattle.std.specs.Prelude.{◌≡◌};
 ghost use Rattle.lent_c.specs.Plain.{journey_with, journeys_of, answer_of, best_numbers, first_numbers};
 
-use best::{best_over, first_leaving, front};
+use best::{best_over, first_leaving};
 use lent::best_lent;
+use prefix::first;
 use profile::{Journey, no_ride};
 
 fn journey_with(number: u8, leave: u16, arrival: u16, rides: u8, walk: u8) -> Journey
@@ -72,7 +73,7 @@ pub extern "C" fn best_over_numbers(
     ensures { answer.new ≡ best_numbers leaves.now arrivals.now rides.now walks.now count horizon second }
 {
     let journeys = journeys_of(leaves, arrivals, rides, walks);
-    *answer = answer_of(best_over(front(&journeys, count), horizon, second));
+    *answer = answer_of(best_over(first(&journeys, count), horizon, second));
 }
 
 // The same by `best_lent`.
@@ -108,5 +109,5 @@ pub extern "C" fn first_numbers(
     ensures { answer.new ≡ first_numbers leaves.now arrivals.now rides.now walks.now count horizon second }
 {
     let journeys = journeys_of(leaves, arrivals, rides, walks);
-    *answer = answer_of(first_leaving(front(&journeys, count), horizon, second));
+    *answer = answer_of(first_leaving(first(&journeys, count), horizon, second));
 }

@@ -1,5 +1,5 @@
-// Asks best (`best_over`) over the first of the journeys, and `best_lent` over as many lent, side by side, a line for each question: which journey of the
-// list each takes, with its leave, arrival, rides and walk. The file `stdout` says what each must give.
+// Asks best (`best_over`) over the first of the journeys, and `best_lent` over as many lent, side by side, a line for each question: which
+// journey of the list each takes, with its leave, arrival, rides and walk. The file `stdout` says what each must give.
 #![tactic(auto)]
 
 mod questions;
@@ -25,10 +25,10 @@ impl fmt::Display for Shown {
     }
 }
 
-fn ask(rt: &impl Print, name: &str, list: [Journey; 64], question: &str) -> Result<()> {
+fn ask(rt: &impl Print, name: &str, list: &[Journey; 64], question: &str) -> Result<()> {
     let q = questions::read_question(question)?;
-    let over = best::best_over(best::front(&list, q.count), q.horizon, q.second);
-    let lent = lent::best_lent(&list, q.count, q.horizon, q.second);
+    let over = best::best_over(prefix::first(list, q.count), q.horizon, q.second);
+    let lent = lent::best_lent(list, q.count, q.horizon, q.second);
     println!(rt;
         "{name} at {}, first {}, up to {}: {} | {}",
         q.second,
@@ -45,7 +45,7 @@ fn line(rt: &impl Print, text: &str) -> Result<()> {
     let (list, questions) = asked.split_once('|').context("a list is not asked")?;
     let list = questions::list(list)?;
     for question in questions.split(',') {
-        ask(rt, name, list, question)?;
+        ask(rt, name, &list, question)?;
     }
     Ok(())
 }
@@ -58,6 +58,7 @@ fn run(rt: &impl Print) -> Result<()> {
 }
 
 // A failed write goes unsaid, as what is printed is compared with the file `stdout`.
+// Each program that prints lines has this `main`: one that took `run` would be as long to call.
 fn main(rt: HostRuntime) {
     let _ = run(&rt);
 }

@@ -77,7 +77,7 @@ pub fn list(text: &str) -> Result<[Journey; 64]> {
 }
 
 // How many journeys are asked, up to which horizon, and at which second.
-#[derive(Clone, Copy, Debug)]
+#[derive(Clone, Copy, Debug, PartialEq, Eq)]
 pub struct Question {
     pub count: usize,
     pub horizon: u16,

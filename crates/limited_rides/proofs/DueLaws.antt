@@ -1,5 +1,6 @@
 -- How the earliest arrival of a ride at a target is found: over the targets of a call, over the calls from the right.
-use mathlib.Core.Path.{◌≡◌, refl, sym, ap, ◌∙◌}
+use Rattle.std.specs.Prelude.{None, Option, Some}
+use mathlib.Core.Path.{◌≡◌, refl, sym, ap, ap₂, ◌∙◌}
 use mathlib.Core.Bool.{Bool, true, false, cond, ◌&&◌}
 use mathlib.Core.List.{List, [], ◌∷◌, ◌++◌, map}
 use Prim.Native.Nat.{ℕ, ◌+◌, ◌-◌, ◌≤◌, ◌<◌, min}
@@ -13,57 +14,66 @@ use Rattle.rides.specs.Loops.{later_from}
 use Rattle.rides.specs.Sheets.{joins_of, sheet_of}
 use lib.Dec.{ltb}
 use Rattle.rides.proofs.LoopLaws.{run-end, run-next, run-on}
-use Rattle.limited_rides.specs.Earliest.{soonest, target_due, alight_due, later_due, board_due, ride_due, DueByRides}
+use Rattle.limited_rides.specs.Earliest.{sooner, soonest, target_due, alight_due, later_due, board_due, ride_due, DueByRides}
 use Rattle.limited_rides.proofs.EventRowLaws.{over-rides}
 
 -- ---- the least of a list
 
-soonest-top : (xs : List ℕ) → soonest xs ≤ 4294967295
-unfolding soonest
-soonest-top [] = omega arith
-soonest-top (x ∷ xs) = let h = soonest-top xs in omega arith
+sooner-none : (s : Option ℕ) → sooner s None ≡ s
+unfolding sooner
+sooner-none None = refl
+sooner-none (Some x) = refl
 
-soonest-append : (xs ys : List ℕ) → soonest (xs ++ ys) ≡ min (soonest xs) (soonest ys)
-unfolding soonest
-soonest-append [] ys = let h = soonest-top ys in omega arith
-soonest-append (x ∷ xs) ys = let e = soonest-append xs ys in omega arith
+sooner-sooner : (s t u : Option ℕ) → sooner (sooner s t) u ≡ sooner s (sooner t u)
+unfolding sooner
+sooner-sooner None t u = refl
+sooner-sooner (Some x) None u = refl
+sooner-sooner (Some x) (Some y) None = refl
+sooner-sooner (Some x) (Some y) (Some z) = let e : min (min x y) z ≡ min x (min y z) = omega arith in ap Some e
 
-pub soonest-none : 4294967295 ≡ soonest []
+soonest-append : (xs ys : List ℕ) → soonest (xs ++ ys) ≡ sooner (soonest xs) (soonest ys)
+unfolding soonest sooner
+soonest-append [] ys = refl
+soonest-append (x ∷ xs) ys =
+    ap (sooner (Some x)) (soonest-append xs ys) ∙ sym (sooner-sooner (Some x) (soonest xs) (soonest ys))
+
+pub soonest-none : None ≡ soonest []
 unfolding soonest
 soonest-none = refl
 
 -- ---- the targets of a mask
 
 -- t and what is left give the least of all
-pub record InDue (feed : List ℕ) (a mask t left : ℕ) : Type 0 where
-  pub most : t ≤ 4294967295
-  pub rest : min t (soonest (target_due feed a left)) ≡ soonest (target_due feed a mask)
+pub record InDue (feed : List ℕ) (a mask : ℕ) (t : Option ℕ) (left : ℕ) : Type 0 where
+  pub rest : sooner t (soonest (target_due feed a left)) ≡ soonest (target_due feed a mask)
 
-pub due-start : {feed : List ℕ} {a mask : ℕ} → InDue feed a mask 4294967295 mask
-due-start {feed} {a} {mask} = let s = soonest-top (target_due feed a mask) in record { most = omega arith; rest = omega arith }
+pub due-start : {feed : List ℕ} {a mask : ℕ} → InDue feed a mask None mask
+unfolding sooner
+due-start = record { rest = refl }
 
-pub due-turn : {feed : List ℕ} {a mask t left left' x w d t' : ℕ} → bits_of left ≡ x ∷ bits_of left' → w ≡ target_walk_of feed x → d ≡ arrival_of w a → t' ≡ min t d
-    → InDue feed a mask t left → InDue feed a mask t' left'
+pub due-turn : {feed : List ℕ} {a mask left left' x w d : ℕ} {t t' : Option ℕ} → bits_of left ≡ x ∷ bits_of left' → w ≡ target_walk_of feed x → d ≡ arrival_of w a
+    → t' ≡ sooner t (Some d) → InDue feed a mask t left → InDue feed a mask t' left'
 unfolding soonest target_due
-due-turn {feed} {a} {mask} {t} {left} {left'} {x} {w} {d} {t'} eb ew ed et i =
+due-turn {feed} {a} {left = left} {left' = left'} {x} {d = d} {t = t} eb ew ed et i =
     let d' : d ≡ arrival_of (target_walk_of feed x) a = ed ∙ ap (λ (y : ℕ). arrival_of y a) ew in
-    let e : soonest (target_due feed a left) ≡ min d (soonest (target_due feed a left')) = rw (d', eb) refl in
-    record { most = omega (arith, i.most); rest = omega (arith, i.rest, e) }
+    let e : soonest (target_due feed a left) ≡ sooner (Some d) (soonest (target_due feed a left')) = rw (d', eb) refl in
+    record { rest = rw et (sooner-sooner t (Some d) (soonest (target_due feed a left')) ∙ ap (sooner t) (sym e) ∙ i.rest) }
 
-pub due-done : {feed : List ℕ} {a mask t left : ℕ} → bits_of left ≡ [] → InDue feed a mask t left → t ≡ soonest (target_due feed a mask)
+pub due-done : {feed : List ℕ} {a mask left : ℕ} {t : Option ℕ} → bits_of left ≡ [] → InDue feed a mask t left → t ≡ soonest (target_due feed a mask)
 unfolding soonest target_due
-due-done {feed} {a} {left = left} e i =
-    let none : soonest (target_due feed a left) ≡ 4294967295 = rw e refl in
-    omega (arith, i.rest, i.most, none)
+due-done {feed} {a} {left = left} {t = t} e i =
+    let none : soonest (target_due feed a left) ≡ None = rw e refl in
+    sym (sooner-none t) ∙ ap (sooner t) (sym none) ∙ i.rest
 
 -- ---- the calls of a run
 
 module _ (feed : List ℕ) (n j : ℕ) {r : Bool} (er : r ≡ (ltb (j + 1) n && same_run (call_at feed j) (call_at feed (j + 1)))) where
-  pub later-end : r ≡ false → 4294967295 ≡ soonest (later_due feed n j)
+  pub later-end : r ≡ false → None ≡ soonest (later_due feed n j)
   unfolding later_due soonest
   later-end e = rw (run-end (call_at feed) n j er e) refl
 
-  pub later-one : {v next t : ℕ} → r ≡ true → v ≡ soonest (alight_due feed (j + 1)) → (j + 1 < n → next ≡ soonest (later_due feed n (j + 1))) → t ≡ min v next
+  pub later-one : {v next t : Option ℕ} → r ≡ true → v ≡ soonest (alight_due feed (j + 1)) → (j + 1 < n → next ≡ soonest (later_due feed n (j + 1)))
+      → t ≡ sooner v next
       → t ≡ soonest (later_due feed n j)
   unfolding later_due
   later-one e ev en et =
@@ -72,29 +82,30 @@ module _ (feed : List ℕ) (n j : ℕ) {r : Bool} (er : r ≡ (ltb (j + 1) n && 
 
 -- ---- the loop stands at j
 
-pub record Due (feed : List ℕ) (n j next least : ℕ) : Type 0 where
+pub record Due (feed : List ℕ) (n j : ℕ) (next least : Option ℕ) : Type 0 where
   pub low : j ≤ n
   pub here : j < n → next ≡ soonest (later_due feed n j)
   pub all : least ≡ soonest (concat_map (board_due feed n) (span j (n - j)))
 
-pub calls-start : {feed : List ℕ} {n next : ℕ} → Due feed n n next 4294967295
+pub calls-start : {feed : List ℕ} {n : ℕ} {next : Option ℕ} → Due feed n n next None
 calls-start {feed} {n} = record { low = omega arith; here = λ g. absurd (omega arith); all = soonest-none ∙ sym (ap (λ (js : List ℕ). soonest (concat_map (board_due feed n) js)) (span-nil n n (omega arith))) }
 
-pub calls-next : {feed : List ℕ} {n j' next least : ℕ} (j : ℕ) → 0 < j' → j ≡ j' - 1 → Due feed n j' next least → j + 1 < n → next ≡ soonest (later_due feed n (j + 1))
+pub calls-next : {feed : List ℕ} {n j' : ℕ} {next least : Option ℕ} (j : ℕ) → 0 < j' → j ≡ j' - 1 → Due feed n j' next least → j + 1 < n → next ≡ soonest (later_due feed n (j + 1))
 calls-next {feed} {n} {j'} j h ej w l =
     let q : j' ≡ j + 1 = omega arith in
     w.here (omega arith) ∙ ap (λ (i : ℕ). soonest (later_due feed n i)) q
 
-board-due : (feed : List ℕ) (n j : ℕ) {next t : ℕ} → next ≡ soonest (later_due feed n j) → t ≡ cond (call_at feed j).board next 4294967295 → t ≡ soonest (board_due feed n j)
+board-due : (feed : List ℕ) (n j : ℕ) {next t : Option ℕ} → next ≡ soonest (later_due feed n j) → t ≡ cond (call_at feed j).board next None
+    → t ≡ soonest (board_due feed n j)
 unfolding board_due
 board-due feed n j {next} en et = et ∙ go (call_at feed j).board
   where
-    go : (b : Bool) → cond b next 4294967295 ≡ soonest (cond b (later_due feed n j) [])
+    go : (b : Bool) → cond b next None ≡ soonest (cond b (later_due feed n j) [])
     go true = en
     go false = soonest-none
 
-pub calls-turn : {feed : List ℕ} {n j' next' least' : ℕ} (j : ℕ) {next t least : ℕ} → 0 < j' → j ≡ j' - 1 → Due feed n j' next' least' → next ≡ soonest (later_due feed n j)
-    → t ≡ cond (call_at feed j).board next 4294967295 → least ≡ min least' t → Due feed n j next least
+pub calls-turn : {feed : List ℕ} {n j' : ℕ} {next' least' : Option ℕ} (j : ℕ) {next t least : Option ℕ} → 0 < j' → j ≡ j' - 1 → Due feed n j' next' least'
+    → next ≡ soonest (later_due feed n j) → t ≡ cond (call_at feed j).board next None → least ≡ sooner t least' → Due feed n j next least
 calls-turn {feed} {n} {j'} {next'} {least'} j {next} {t} {least} h ej w en et el = record { low = omega (arith, w.low); here = λ g. en; all = sums }
   where
     sums : least ≡ soonest (concat_map (board_due feed n) (span j (n - j)))
@@ -102,9 +113,9 @@ calls-turn {feed} {n} {j'} {next'} {least'} j {next} {t} {least} h ej w en et el
         let q : j + 1 ≡ j' = omega arith in
         let here = board-due feed n j en et in
         rw (span-cons j n (omega (arith, w.low)), q, soonest-append (board_due feed n j) (concat_map (board_due feed n) (span j' (n - j'))))
-        (omega (arith, w.all, here, el))
+        (el ∙ ap₂ sooner here w.all)
 
-pub calls-done : {feed : List ℕ} {n j next least : ℕ} → j ≡ 0 → Due feed n j next least → least ≡ soonest (ride_due feed n)
+pub calls-done : {feed : List ℕ} {n j : ℕ} {next least : Option ℕ} → j ≡ 0 → Due feed n j next least → least ≡ soonest (ride_due feed n)
 unfolding ride_due
 calls-done {feed} {n} {j} e w = w.all ∙ ap (λ (i : ℕ). soonest (concat_map (board_due feed n) (span i (n - i)))) e
 

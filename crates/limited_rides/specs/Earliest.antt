@@ -1,5 +1,5 @@
 -- The earliest arrival, walk included, of any ride at a target, by places: what the margin of a stopped search reads.
-use Rattle.std.specs.Prelude.{◌≡◌, cond, List, [], ◌∷◌, map, ℕ, ◌+◌, ◌-◌, min}
+use Rattle.std.specs.Prelude.{◌≡◌, cond, List, [], ◌∷◌, map, ℕ, ◌+◌, ◌-◌, min, None, Option, Some}
 use Rattle.laws.specs.Lists.{concat_map, span}
 use Rattle.laws.specs.Bits.{bits_of}
 use Rattle.ways.specs.Rides.{rides}
@@ -8,10 +8,16 @@ use Rattle.rides.specs.Rows.{network_of}
 use Rattle.rides.specs.Loops.{later_from}
 use Rattle.rides.specs.Sheets.{joins_of, sheet_of}
 
--- the least of a list; 4294967295, which is later than any arrival, of none
-unfoldable pub soonest : List ℕ → ℕ
-soonest [] = 4294967295
-soonest (x ∷ xs) = min x (soonest xs)
+-- the sooner of two times, either of which may be missing
+unfoldable pub sooner : Option ℕ → Option ℕ → Option ℕ
+sooner None t = t
+sooner (Some x) None = Some x
+sooner (Some x) (Some y) = Some (min x y)
+
+-- the least of a list
+unfoldable pub soonest : List ℕ → Option ℕ
+soonest [] = None
+soonest (x ∷ xs) = sooner (Some x) (soonest xs)
 
 -- when one who alights at the time a is at each target of the mask
 unfoldable pub target_due : List ℕ → ℕ → ℕ → List ℕ

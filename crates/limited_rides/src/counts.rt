@@ -5,7 +5,7 @@ ghost use Rattle.limited_rides.specs.Counts.{alights_from, Counts};
 
 use rides::calls::Calls;
 
-#[derive(Clone, Copy)]
+#[derive(Clone, Copy, Debug, PartialEq, Eq)]
 pub struct RideCounts {
     pub board: [u32; 512],
     pub all: u32,

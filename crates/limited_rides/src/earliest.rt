@@ -1,29 +1,40 @@
 // The earliest that any ride brings one to a target, walk included: what the margin of a stopped search reads.
-ghost use Rattle.std.specs.Prelude.{◌≡◌, cond, ◌+◌, ◌≤◌, ◌<◌, min};
+ghost use Rattle.std.specs.Prelude.{◌≡◌, cond, ◌+◌, ◌≤◌, ◌<◌, min, None};
 ghost use Rattle.feed.specs.Feed.{call_at};
-ghost use Rattle.limited_rides.specs.Earliest.{soonest, target_due, alight_due, later_due, ride_due};
+ghost use Rattle.limited_rides.specs.Earliest.{sooner, soonest, target_due, alight_due, later_due, ride_due};
 
 use feed::arrival_of;
 use feed::layout::Feed;
 use rides::bits::Digits;
 use rides::calls::Calls;
 
-// Later than any ride.
-const NEVER: u32 = u32::MAX;
+// The sooner of two times, either of which may be missing.
+#[tactic(auto, unfolding(crate::specs::Earliest::sooner))]
+fn sooner(a: Option<u32>, b: Option<u32>) -> Option<u32>
+    ensures { result ≡ sooner a b }
+{
+    match a {
+        Some(x) => match b {
+            Some(y) => Some(x.min(y)),
+            None => a,
+        },
+        None => b,
+    }
+}
 
 // The earliest of these targets.
-fn at_targets(calls: &Calls, a: u16, targets: Digits) -> u32
+fn at_targets(calls: &Calls, a: u16, targets: Digits) -> Option<u32>
     ensures { result ≡ soonest (target_due calls.now.feed.now a targets.left) }
 {
-    let mut t = NEVER;
+    let mut t = None;
     for x in targets {
-        t = t.min(arrival_of(calls.target_walk(x), a));
+        t = sooner(t, Some(arrival_of(calls.target_walk(x), a)));
     }
     t
 }
 
 // The same of the targets of the stop at place m, if one can alight there.
-fn at_alighting(calls: &Calls, m: usize) -> u32
+fn at_alighting(calls: &Calls, m: usize) -> Option<u32>
     requires { m < 512 }
     ensures { result ≡ soonest (alight_due calls.now.feed.now m) }
 {
@@ -31,42 +42,42 @@ fn at_alighting(calls: &Calls, m: usize) -> u32
     if c.alight {
         return at_targets(calls, c.arrival, calls.targets(c.stop));
     }
-    NEVER
+    None
 }
 
 // The earliest for whoever boards at j: that of the next call of its run, or of whoever boards there, which is `next`.
-fn at_later(calls: &Calls, j: usize, next: u32) -> u32
+fn at_later(calls: &Calls, j: usize, next: Option<u32>) -> Option<u32>
     requires { (j < calls.now.n) × (j + 1 < calls.now.n → next ≡ soonest (later_due calls.now.feed.now calls.now.n (j + 1))) }
     ensures { result ≡ soonest (later_due calls.now.feed.now calls.now.n j) }
 {
     if calls.goes_on(j) {
-        return at_alighting(calls, j + 1).min(next);
+        return sooner(at_alighting(calls, j + 1), next);
     }
-    NEVER
+    None
 }
 
 // t, if one can board at j.
-fn at_boarding(calls: &Calls, j: usize, t: u32) -> u32
+fn at_boarding(calls: &Calls, j: usize, t: Option<u32>) -> Option<u32>
     requires { j < 512 }
-    ensures { result ≡ cond (call_at calls.now.feed.now j).board t 4294967295 }
+    ensures { result ≡ cond (call_at calls.now.feed.now j).board t None }
 {
-    if calls.at(j).board { t } else { NEVER }
+    if calls.at(j).board { t } else { None }
 }
 
-fn least_of(calls: &Calls) -> u32
+fn least_of(calls: &Calls) -> Option<u32>
     ensures { result ≡ soonest (ride_due calls.now.feed.now calls.now.n) }
 {
-    let mut next = NEVER;
-    let mut least = NEVER;
+    let mut next = None;
+    let mut least = None;
     for j in (0..calls.n).rev() {
         next = at_later(calls, j, next);
-        least = least.min(at_boarding(calls, j, next));
+        least = sooner(at_boarding(calls, j, next), least);
     }
     least
 }
 
-// The earliest of every ride over the first n calls; 4294967295 where none alights at a target.
-pub fn earliest_of(feed: &Feed, n: usize) -> u32
+// The earliest of every ride over the first n calls; none where no ride alights at a target.
+pub fn earliest_of(feed: &Feed, n: usize) -> Option<u32>
     ensures { result ≡ soonest (ride_due feed.now (min n 512)) }
 {
     least_of(&Calls::first(feed, n))

@@ -47,7 +47,7 @@ fn last_alightings(st: &mut State, tally: &mut Tally, calls: &Calls, f: FirstRid
 }
 
 // The last rides, and how many there are.
-#[derive(Clone, Copy)]
+#[derive(Clone, Copy, Debug, PartialEq, Eq)]
 pub struct LastJoins<'a> {
     pub last: LastRides<'a>,
     pub counts: &'a RideCounts,

@@ -1,4 +1,6 @@
-// A search within a limit on joins, over lent arrays of numbers: the loops of crate `rides`, which count the joins that they test.
+// A search within a limit on joins, over lent arrays of numbers: the loops of crate `rides`, which count the joins that they test. They
+// stand beside those: a loop for both would count where there is no limit. A loop ends where the search is over, which a chain would ask
+// in a closure that holds the state.
 #![tactic(auto)]
 
 mod counts;
@@ -9,7 +11,7 @@ mod tally;
 pub mod within;
 
 // How many joins a search tested, and whether none was left.
-#[derive(Clone, Copy)]
+#[derive(Clone, Copy, Debug, PartialEq, Eq)]
 pub struct Tested {
     pub joins: u64,
     pub finished: bool,

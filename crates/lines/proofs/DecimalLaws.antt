@@ -1,7 +1,7 @@
 -- Decimal digits: how many there are, one digit more, and that they are right.
 use mathlib.Core.Path.{◌≡◌, refl, sym, ap, ◌∙◌}
 use mathlib.Core.Bool.{Bool, true, false, cond}
-use mathlib.Core.List.{List, [], ◌∷◌, ◌++◌}
+use mathlib.Core.List.{List, [], ◌∷◌, ◌++◌, append_assoc}
 use Prim.Native.Nat.{ℕ, zero, suc, ◌+◌, ◌*◌, ◌-◌, ◌/◌, ◌%◌, ◌≤◌, ◌<◌}
 use native.Mathlib.Omega.{arith}
 use borrow.Author.Tests.{ltb-true, ltb-false, lt-ltb, le-ltb}
@@ -9,9 +9,10 @@ use lib.Dec.{ltb}
 use lib.ListN.{length, get_or, length-append}
 use Rattle.laws.proofs.Folds.{foldl-append}
 use Rattle.laws.proofs.Every.{all_append}
-use Rattle.lines.specs.Buffer.{Put}
-use Rattle.lines.proofs.BufferLaws.{put_then, put_as, put-within}
-use Rattle.lines.specs.Decimal.{decimal_by, decimal, value_of, IsDigit, Spells, DecimalRight}
+use Rattle.buffer.specs.declared.Buffer.{Buffer}
+use Rattle.buffer.specs.Put.{Put}
+use Rattle.buffer.proofs.PutLaws.{put_then, put_as, put-within}
+use Rattle.lines.specs.Decimal.{decimal_by, decimal, spaced, value_of, IsDigit, Spells, DecimalRight}
 
 abbrev tens : ℕ → ℕ
 tens zero = 1
@@ -81,13 +82,33 @@ unfolding decimal
 decimal-right n h = by_right 4 n (omega arith)
 
 -- ---- put into a buffer
-module _ (n : ℕ) (big : 10 ≤ n) (fits : n < 65536) where
-  pub shorter : length (decimal (n / 10)) ≤ 4
-  shorter = omega (arith, decimal-small n, ap length (decimal-more n big fits), length-append (decimal (n / 10)) ((48 + n % 10) ∷ []))
+pub one-put : (n : ℕ) {a b : Buffer} → n < 10 → Put 1 ((48 + n) ∷ []) a b → Put 5 (decimal n) a b
+one-put n h p = put-within 5 (decimal-small n) (put_as (sym (decimal-one n h)) p)
 
-  pub more-put : {a b r d : ℕ} {l₀ l₁ l₂ : List ℕ} → d ≡ 48 + n % 10 → Put 5 (decimal (n / 10)) a l₀ b l₁ → Put 1 (d ∷ []) b l₁ r l₂ → Put 5 (decimal n) a l₀ r l₂
-  more-put e p q =
-      put-within 5 (decimal-small n) (put_as (ap (λ (x : ℕ). decimal (n / 10) ++ x ∷ []) e ∙ sym (decimal-more n big fits)) (put_then p q))
+module _ (n : ℕ) (fits : n < 65536) where
+  two-more : 100 ≤ n → decimal n ≡ decimal (n / 100) ++ ((48 + n / 10 % 10) ∷ (48 + n % 10) ∷ [])
+  two-more h =
+      let e : n / 10 / 10 ≡ n / 100 = omega arith in
+      decimal-more n (omega arith) fits
+      ∙ ap (λ (ds : List ℕ). ds ++ ((48 + n % 10) ∷ [])) (decimal-more (n / 10) (omega arith) (omega arith))
+      ∙ append_assoc (decimal (n / 10 / 10)) _ _
+      ∙ ap (λ (k : ℕ). decimal k ++ ((48 + n / 10 % 10) ∷ (48 + n % 10) ∷ [])) e
 
-pub one-put : (n : ℕ) {a r d : ℕ} {l₀ l₁ : List ℕ} → n < 10 → d ≡ 48 + n → Put 1 (d ∷ []) a l₀ r l₁ → Put 5 (decimal n) a l₀ r l₁
-one-put n h e p = put-within 5 (decimal-small n) (put_as (ap (λ (x : ℕ). x ∷ []) e ∙ sym (decimal-one n h)) p)
+  two-only : 10 ≤ n → n < 100 → decimal n ≡ (48 + n / 10 % 10) ∷ (48 + n % 10) ∷ []
+  two-only h k =
+      let e : 48 + n / 10 ≡ 48 + n / 10 % 10 = omega arith in
+      decimal-more n h fits
+      ∙ ap (λ (ds : List ℕ). ds ++ ((48 + n % 10) ∷ [])) (decimal-one (n / 10) (omega arith))
+      ∙ ap (λ (d : ℕ). d ∷ (48 + n % 10) ∷ []) e
+
+  pub more-put : {a b c d : Buffer} → 100 ≤ n → Put 5 (decimal (n / 100)) a b → Put 1 ((48 + n / 10 % 10) ∷ []) b c → Put 1 ((48 + n % 10) ∷ []) c d
+      → Put 5 (decimal n) a d
+  more-put h p q r = put-within 5 (decimal-small n) (put_as (sym (two-more h)) (put_then p (put_then q r)))
+
+  pub two-put : {b c d : Buffer} → 10 ≤ n → n < 100 → Put 1 ((48 + n / 10 % 10) ∷ []) b c → Put 1 ((48 + n % 10) ∷ []) c d → Put 5 (decimal n) b d
+  two-put h k q r = put-within 5 (decimal-small n) (put_as (sym (two-only h k)) (put_then q r))
+
+-- a space before it
+pub space-put : (n : ℕ) {a b c : Buffer} → Put 1 (32 ∷ []) a b → Put 5 (decimal n) b c → Put 6 (spaced n) a c
+unfolding spaced
+space-put n p q = put_then p q

@@ -1,22 +1,27 @@
 -- The answer's lines, once they are put at the start of the buffer.
 use Rattle.refusal.specs.First.{Answer}
-use mathlib.Core.Path.{◌≡◌}
+use mathlib.Core.Path.{◌≡◌, sym}
+use lib.Seq.{length-take-le}
 use mathlib.Core.Bool.{true, false}
 use mathlib.Core.List.{List}
 use Prim.Native.Nat.{ℕ, ◌≤◌}
 use native.Mathlib.Omega.{arith}
 use lib.ListN.{length, take}
 use Rattle.load.specs.declared.Load.{Load}
-use Rattle.lines.specs.Buffer.{Put, Counts}
-use Rattle.lines.specs.Lines.{lines_of}
+use Rattle.lines.specs.Lines.{Counts, lines_of}
 use Rattle.lines.specs.Rides.{ride_lines_of, lines_for, lines_most}
-use Rattle.lines.proofs.BufferLaws.{put-text, put-counts}
+use Rattle.buffer.specs.declared.Buffer.{Buffer}
+use Rattle.buffer.specs.Put.{Put}
+use Rattle.buffer.proofs.PutLaws.{put-text, put-within-room}
 
-module _ (a : Answer) (l : Load) {r : ℕ} {l₀ l₁ : List ℕ} where
-  pub plain_lines : length l₀ ≡ 4096 → Put (lines_most false) (lines_for false a l) 0 l₀ r l₁ → (take r l₁ ≡ lines_of a l) × Counts r l₁
-  unfolding lines_for lines_most
-  plain_lines n p = let room : 2843 ≤ length l₀ = omega arith in (put-text p room, put-counts p room)
+module _ (o : Answer) (l : Load) {a b : Buffer} (start : a.len ≡ 0) where
+  counts : {m : ℕ} {xs : List ℕ} → Put m xs a b → m ≤ length a.out.now → Counts b.len b.out.now
+  counts p h = let n = put-within-room p start h in (n, sym (length-take-le b.len b.out.now n))
 
-  pub rides-lines : length l₀ ≡ 16384 → Put (lines_most true) (lines_for true a l) 0 l₀ r l₁ → (take r l₁ ≡ ride_lines_of a l) × Counts r l₁
+  pub plain_lines : length a.out.now ≡ 4096 → Put (lines_most false) (lines_for false o l) a b → (take b.len b.out.now ≡ lines_of o l) × Counts b.len b.out.now
   unfolding lines_for lines_most
-  rides-lines n p = let room : 12458 ≤ length l₀ = omega arith in (put-text p room, put-counts p room)
+  plain_lines n p = (put-text p start (omega arith), counts p (omega arith))
+
+  pub rides-lines : length a.out.now ≡ 16384 → Put (lines_most true) (lines_for true o l) a b → (take b.len b.out.now ≡ ride_lines_of o l) × Counts b.len b.out.now
+  unfolding lines_for lines_most
+  rides-lines n p = (put-text p start (omega arith), counts p (omega arith))

@@ -1,5 +1,4 @@
 pub mod Decimal
 pub mod Lines
-pub mod Buffer
 pub mod Marked
 pub mod Rides

@@ -1,7 +1,7 @@
 -- The lines that are printed of a load: one for each kept journey in list order, then horizon and limits; or the refusal alone.
 use Rattle.refusal.specs.First.{Answer}
 use Rattle.refusal.specs.declared.Accepted.TheVariants.{Taken, Outside}
-use Rattle.std.specs.Prelude.{ℕ, List, [], ◌∷◌, ◌++◌, Err, Ok}
+use Rattle.std.specs.Prelude.{ℕ, ◌≤◌, ◌≡◌, List, [], ◌∷◌, ◌++◌, length, take, Err, Ok}
 use Rattle.laws.specs.Lists.{concat_map}
 use Rattle.refusal.specs.Causes.{number_of}
 use Rattle.profile.specs.declared.Journey.{Journey}
@@ -34,3 +34,7 @@ unfoldable pub lines_of : Answer → Load → List ℕ
 lines_of (Ok Taken) l = load_lines l
 lines_of (Ok Outside) l = load_lines l
 lines_of (Err r) l = refused_line_of (number_of r)
+
+-- the first n bytes of the buffer can be lent
+abbrev pub Counts : ℕ → List ℕ → Type 0
+Counts n buffer = (n ≤ length buffer) × (n ≡ length (take n buffer))

@@ -1,11 +1,8 @@
--- Whether two journeys are one, or have the same figures; and that the tests decide it.
-use Rattle.std.specs.Prelude.{◌≡◌, Bool, true, false, not, ◌&&◌, eqb}
+-- Whether two journeys are one, part by part, or have the same figures; and that the tests decide it.
+use Rattle.std.specs.Prelude.{◌≡◌, Bool, true, ◌&&◌, eqb}
+use mathlib.Core.Bool.{beq}
 use Rattle.profile.specs.declared.Ride.{Ride}
 use Rattle.profile.specs.declared.Journey.{Journey}
-
-abbrev pub same_bool : Bool → Bool → Bool
-same_bool true b = b
-same_bool false b = not b
 
 unfoldable pub same_ride : Ride → Ride → Bool
 same_ride a b =
@@ -15,7 +12,7 @@ same_ride a b =
     && (eqb a.to b.to
     && (eqb a.departure b.departure
     && (eqb a.arrival b.arrival
-    && (same_bool a.board_request b.board_request && same_bool a.alight_request b.alight_request))))))
+    && (beq a.board_request b.board_request && beq a.alight_request b.alight_request))))))
 
 -- leave, arrival, rides and walk
 unfoldable pub same_figures : Journey → Journey → Bool
@@ -24,11 +21,14 @@ same_figures a b = eqb a.leave b.leave && (eqb a.arrival b.arrival && (eqb a.rid
 -- every part
 unfoldable pub same_journey : Journey → Journey → Bool
 same_journey a b =
-    same_figures a b
+    eqb a.leave b.leave
+    && (eqb a.arrival b.arrival
+    && (eqb a.rides b.rides
+    && (eqb a.walk b.walk
     && (eqb a.origin b.origin
     && (eqb a.target b.target
     && (same_ride a.first b.first
-    && (same_ride a.middle b.middle && same_ride a.last b.last))))
+    && (same_ride a.middle b.middle && same_ride a.last b.last)))))))
 
 -- ---- what is claimed
 

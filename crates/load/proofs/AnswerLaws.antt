@@ -23,7 +23,7 @@ use Rattle.load.specs.declared.Stepped.{Stepped}
 use Rattle.load.specs.Load.{table_of, with_week}
 use Rattle.load.specs.Steps.{stop_answer, stop_spec, plain_call, is_unknown, is_resting, running_tests, gate_answer, call_spec, rule_answer, rule_spec, service_spec, exception_spec}
 use Rattle.load.specs.Filling.{stop, call, rule, service, exception, window_tests, causes, StepAnswered}
-use Rattle.load.proofs.StepLaws.{Called, without, goes_on, stays_out, sent_back, called, gate-passed}
+use Rattle.load.proofs.StepLaws.{Called, without, goes_on, stays_out, sent_back, called, gate-passed, plain-unchanged}
 
 refused-not-taken : (a : Answer) → is_refused a ≡ true → is_taken a ≡ false
 refused-not-taken (Ok Taken) e = absurd (false≢true e)
@@ -60,15 +60,11 @@ module _ (l : Load) (name : List ℕ) (i : CallInput) where
       go _ (stays_out d e) = gate-first (Ok Outside) e (λ q. true≢false (sym (ap is_taken q)))
       go _ (sent_back d r e) = gate-first (Err r) e (λ q. true≢false (sym (ap is_taken q)))
 
-  plain-unchanged : is_refused (plain_call l i).answer ≡ true → (plain_call l i).load ≡ l
-  unfolding plain_call
-  plain-unchanged e = cond-by _ _ e
-
   call-unchanged : is_refused (call_spec l name i).answer ≡ true → (call_spec l name i).load ≡ l
   call-unchanged = go _ (called l name i)
     where
       go : (r : Stepped) → Called l name i r → is_refused r.answer ≡ true → r.load ≡ l
-      go _ (without d) e = plain-unchanged e
+      go _ (without d) e = plain-unchanged l i e
       go _ (goes_on d q) e = cond-by _ _ e
       go _ (stays_out d q) e = absurd (false≢true e)
       go _ (sent_back d r q) e = refl

@@ -13,7 +13,7 @@ use Rattle.stops.proofs.SoundLaws.{no-stops-sound, stop-keeps-sound}
 use Rattle.calls.specs.declared.CallInput.{CallInput}
 use Rattle.calls.proofs.SoundLaws.{empty-sound, call-keeps-sound}
 use Rattle.calls.proofs.KnownLaws.{call-keeps-known, more-stops-known}
-use Rattle.rules.specs.declared.RuleInput.{RuleInput}
+use Rattle.rules.specs.declared.Rule.{Rule}
 use Rattle.rules.proofs.SoundLaws.{no-rules-sound, rule-keeps-sound, more-stops-sound}
 use Rattle.load.specs.declared.Load.{Load}
 use Rattle.week.specs.declared.Week.{Week}
@@ -45,17 +45,16 @@ open-sound o = record {
   none_kept = λ e. refl;
   same_horizon = λ e. refl;
   same_limits = λ e. refl;
-  no_limit = λ e. refl;
   stopped_search = λ e. absurd (false≢true e);
   stopped_change = λ e. absurd (false≢true e);
   week = week-sound o.dates;
 }
 
-stop-sound : (l : Load) (id name parent : List ℕ) (i : StopInput) → Sound l → Sound (stop_spec l id name parent i).load
+stop-sound : (l : Load) (id : List ℕ) (name parent : Option (List ℕ)) (i : StopInput) → Sound l → Sound (stop_spec l id name parent i).load
 unfolding stop_spec
 stop-sound l id name parent i s = go (is_taken (stop_answer l id name parent i)) refl
   where
-    go : (b : Bool) → is_taken (stop_answer l id name parent i) ≡ b → Sound (stop_load l (stop_of id name (station_in l parent i) i) (stop_answer l id name parent i))
+    go : (b : Bool) → is_taken (stop_answer l id name parent i) ≡ b → Sound (stop_load l (stop_of id name (station_in l parent) i) (stop_answer l id name parent i))
     go true e = rw e (record {
       stops = stop-keeps-sound l.searched l.stops l.stop_count id name parent i s.stops (taken_is (stop_answer l id name parent i) e);
       table = s.table;
@@ -68,7 +67,6 @@ stop-sound l id name parent i s = go (is_taken (stop_answer l id name parent i))
       none_kept = s.none_kept;
       same_horizon = s.same_horizon;
       same_limits = s.same_limits;
-      no_limit = s.no_limit;
       stopped_search = s.stopped_search;
       stopped_change = s.stopped_change;
       week = s.week;
@@ -93,7 +91,6 @@ plain-sound l i s = go (is_refused (call_fitted l i).answer) refl
       none_kept = s.none_kept;
       same_horizon = λ x. refl;
       same_limits = λ x. refl;
-      no_limit = s.no_limit;
       stopped_search = s.stopped_search;
       stopped_change = s.stopped_change;
       week = s.week;
@@ -113,7 +110,6 @@ with-week-sound l w s v = record {
   none_kept = s.none_kept;
   same_horizon = s.same_horizon;
   same_limits = s.same_limits;
-  no_limit = s.no_limit;
   stopped_search = s.stopped_search;
   stopped_change = s.stopped_change;
   week = v;
@@ -143,7 +139,7 @@ exception-sound : (l : Load) (name : List ℕ) (date kind : ℕ) → Sound l →
 unfolding exception_spec
 exception-sound l name date kind s = with-week-sound l _ s (exception-keeps-sound l.week l.searched name date kind s.week)
 
-rule-sound : (l : Load) (i : RuleInput) → Sound l → Sound (rule_spec l i).load
+rule-sound : (l : Load) (i : Rule) → Sound l → Sound (rule_spec l i).load
 unfolding rule_spec
 rule-sound l i s = go (is_taken (rule_answer l i)) refl
   where
@@ -160,7 +156,6 @@ rule-sound l i s = go (is_taken (rule_answer l i)) refl
       none_kept = s.none_kept;
       same_horizon = s.same_horizon;
       same_limits = s.same_limits;
-      no_limit = s.no_limit;
       stopped_search = s.stopped_search;
       stopped_change = s.stopped_change;
       week = s.week;

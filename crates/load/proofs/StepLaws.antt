@@ -1,6 +1,6 @@
 -- The load that a step returns, by its answer: laws that the steps' proofs cite.
 use Rattle.refusal.specs.declared.Accepted.TheVariants.{Taken, Outside}
-use Rattle.std.specs.Prelude.{Err, Ok}
+use Rattle.std.specs.Prelude.{Option, Err, Ok}
 use Prim.Native.Nat.{ℕ, ◌+◌, ◌<◌}
 use mathlib.Core.Path.{◌≡◌, refl, sym, ap, ◌∙◌}
 use mathlib.Core.Bool.{Bool, true, false, not, cond, true≢false}
@@ -28,8 +28,7 @@ use Rattle.calls.specs.Tables.{blank_call, put}
 use Rattle.calls.specs.Uncut.{uncut_on, Told}
 use Rattle.calls.proofs.UncutLaws.{uncut-tells}
 use Rattle.rules.specs.declared.Rule.{Rule}
-use Rattle.rules.specs.declared.RuleInput.{RuleInput}
-use Rattle.rules.specs.Rules.{blank_rule, rule_of}
+use Rattle.rules.specs.Rules.{blank_rule}
 use Rattle.rules.proofs.SoundLaws as rules
 use Rattle.profile.specs.declared.Journey.{Journey}
 use Rattle.profile.specs.Journeys.{no_journey}
@@ -40,27 +39,14 @@ use Rattle.week.specs.declared.Running.TheVariants.{Unknown, Rests, Runs}
 use Rattle.week.specs.Weeks.{closed_week, running}
 use Rattle.load.specs.declared.Load.{Load}
 use Rattle.load.specs.declared.Stepped.{Stepped}
-use Rattle.load.specs.Load.{empty_with, empty_of, empty_load, blank_settings, table_of, with_table, with_stops, with_rules, with_week}
-use Rattle.load.specs.Steps.{Opening, undated, dated, open_answer, opened, open_spec_of, station_in, stop_answer, stop_load, stop_spec, call_fitted, call_load, plain_call, is_unknown, is_resting, running_tests, gate_answer, closed_load, closing, gated, dated_call, call_spec, rule_answer, rule_load, rule_spec}
+use Rattle.load.specs.Load.{empty_with, empty_of, table_of, with_table, with_stops, with_rules, with_week}
+use Rattle.load.specs.Steps.{undated, dated, open_answer, station_in, stop_answer, stop_load, stop_spec, call_fitted, call_load, plain_call, is_unknown, is_resting, running_tests, gate_answer, closed_load, closing, gated, dated_call, call_spec, rule_answer, rule_load, rule_spec}
 
 -- ---- opening
 
 pub empty-made : (s : Settings) (w : Week) (a : Stop) (b : Call) (r : Rule) (j : Journey) → a ≡ blank_stop → b ≡ blank_call → r ≡ blank_rule → j ≡ no_journey → empty_with s a b r j w ≡ empty_of s w
 unfolding empty_of
 empty-made s w a b r j ea eb er ej = λ k. empty_with s (ea k) (eb k) (er k) (ej k) w
-
-module _ (o : Opening) (a : Answer) (h : a ≡ open_answer o) where
-  pub open-refused : (l : Load) → is_refused a ≡ true → l ≡ empty_load blank_settings → ◌≡◌ {A = Stepped} (record { answer = a; load = l }) (open_spec_of o)
-  unfolding open_spec_of
-  open-refused l e q =
-      let same : l ≡ cond (is_refused (open_answer o)) (empty_load blank_settings) (opened o) = q ∙ sym (cond-by _ _ (ap is_refused (sym h) ∙ e)) in
-      λ k. record { answer = h k; load = same k }
-
-  pub open-taken : (l : Load) → is_refused a ≡ false → l ≡ opened o → ◌≡◌ {A = Stepped} (record { answer = a; load = l }) (open_spec_of o)
-  unfolding open_spec_of
-  open-taken l e q =
-      let same : l ≡ cond (is_refused (open_answer o)) (empty_load blank_settings) (opened o) = q ∙ sym (cond-not _ _ (ap is_refused (sym h) ∙ e)) in
-      λ k. record { answer = h k; load = same k }
 
 -- without dates the answer is that of the settings
 pub undated-answer : (s : Settings) → first_answer (settings_tests s) ≡ open_answer (undated s)
@@ -93,22 +79,22 @@ module _ (s : Settings) (dates : List ℕ) (a : Answer) (h : a ≡ first_answer 
 
 -- ---- stop
 
-module _ (l : Load) (id name parent : List ℕ) (i : StopInput) (a : Answer) (h : a ≡ stop_answer l id name parent i) where
+module _ (l : Load) (id : List ℕ) (name parent : Option (List ℕ)) (i : StopInput) (a : Answer) (h : a ≡ stop_answer l id name parent i) where
   pub stop-room : is_taken a ≡ true → l.stop_count < 128
-  stop-room e = (stops.passed l.searched l.stops l.stop_count (station_in l parent i) id name i (sym h ∙ taken_is a e)).room
+  stop-room e = (stops.passed l.searched l.stops l.stop_count (station_in l parent) id name parent i (sym h ∙ taken_is a e)).room
 
-  pub stop-taken : (s : Stop) → is_taken a ≡ true → s ≡ stop_of id name (station_in l parent i) i
+  pub stop-taken : (s : Stop) → is_taken a ≡ true → s ≡ stop_of id name (station_in l parent) i
       → ◌≡◌ {A = Stepped} (record { answer = a; load = with_stops l (set l.stops l.stop_count s) (l.stop_count + 1) }) (stop_spec l id name parent i)
   unfolding stop_spec
   stop-taken s e q =
-      let same : with_stops l (set l.stops l.stop_count s) (l.stop_count + 1) ≡ stop_load l (stop_of id name (station_in l parent i) i) (stop_answer l id name parent i) =
+      let same : with_stops l (set l.stops l.stop_count s) (l.stop_count + 1) ≡ stop_load l (stop_of id name (station_in l parent) i) (stop_answer l id name parent i) =
       ap (λ (x : Stop). with_stops l (set l.stops l.stop_count x) (l.stop_count + 1)) q ∙ sym (cond-by _ _ (ap is_taken (sym h) ∙ e)) in
       λ k. record { answer = h k; load = same k }
 
   pub stop-refused : is_taken a ≡ false → ◌≡◌ {A = Stepped} (record { answer = a; load = l }) (stop_spec l id name parent i)
   unfolding stop_spec
   stop-refused e =
-      let same : l ≡ stop_load l (stop_of id name (station_in l parent i) i) (stop_answer l id name parent i) = sym (cond-not _ _ (ap is_taken (sym h) ∙ e)) in
+      let same : l ≡ stop_load l (stop_of id name (station_in l parent) i) (stop_answer l id name parent i) = sym (cond-not _ _ (ap is_taken (sym h) ∙ e)) in
       λ k. record { answer = h k; load = same k }
 
 -- ---- call
@@ -125,6 +111,11 @@ module _ (l : Load) (i : CallInput) (f : Fitted) (h : f ≡ call_fitted l i) whe
   call-taken e =
       let same : with_table l f.table ≡ call_load l f = sym (cond-not _ _ e) in
       λ k. record { answer = (h k).answer; load = (same ∙ ap (call_load l) h) k }
+
+-- a call that is sent back leaves the load
+pub plain-unchanged : (l : Load) (i : CallInput) → is_refused (plain_call l i).answer ≡ true → (plain_call l i).load ≡ l
+unfolding plain_call
+plain-unchanged l i e = cond-by _ _ e
 
 -- where nothing is cut
 module _ (l : Load) (i : CallInput) where
@@ -214,9 +205,9 @@ module _ (l : Load) (r : Running) (i : CallInput) (a : Answer) (h : a ≡ gate_a
   passes : is_taken a ≡ true → closing l (plain_call l i) ≡ dated_call l r i
   passes t = ap (gated l i) (sym (taken_is a t)) ∙ by-gate
 
-  pub plain-refused : is_taken a ≡ true → (s : Stepped) → s ≡ plain_call l i → is_refused s.answer ≡ true → ◌≡◌ {A = Stepped} (record { answer = s.answer; load = l }) (dated_call l r i)
+  pub plain-refused : is_taken a ≡ true → (s : Stepped) → s ≡ plain_call l i → is_refused s.answer ≡ true → s ≡ dated_call l r i
   plain-refused t s q e =
-      let same : l ≡ (closing l s).load = sym (cond-by _ _ e) in
+      let same : s.load ≡ (closing l s).load = ap (λ (x : Stepped). x.load) q ∙ plain-unchanged l i (ap (λ (x : Stepped). is_refused x.answer) (sym q) ∙ e) ∙ sym (cond-by _ _ e) in
       (λ k. record { answer = s.answer; load = same k }) ∙ ap (closing l) q ∙ passes t
 
   pub plain-answered : is_taken a ≡ true → (s : Stepped) → s ≡ plain_call l i → is_refused s.answer ≡ false → (w : Week) → w ≡ closed_week l.week
@@ -258,11 +249,11 @@ called l name i = go l.week.dated refl
 
 -- ---- rule
 
-module _ (l : Load) (i : RuleInput) (a : Answer) (h : a ≡ rule_answer l i) where
+module _ (l : Load) (i : Rule) (a : Answer) (h : a ≡ rule_answer l i) where
   pub rule-room : is_taken a ≡ true → l.rule_count < 128
   rule-room e = (rules.passed l.searched l.stop_count l.rules l.rule_count i (sym h ∙ taken_is a e)).room
 
-  pub rule-taken : (r : Rule) → is_taken a ≡ true → r ≡ rule_of i
+  pub rule-taken : (r : Rule) → is_taken a ≡ true → r ≡ i
       → ◌≡◌ {A = Stepped} (record { answer = a; load = with_rules l (set l.rules l.rule_count r) (l.rule_count + 1) }) (rule_spec l i)
   unfolding rule_spec
   rule-taken r e q =

@@ -1,5 +1,5 @@
 -- The table lemma: after any steps the table is the calls answered taken, as the window shows them at its horizon.
-use Rattle.std.specs.Prelude.{None}
+use Rattle.std.specs.Prelude.{None, Option}
 use Prim.Native.Nat.{ℕ, ◌+◌, ◌≤◌}
 use mathlib.Core.Path.{◌≡◌, refl, sym, ap, ◌∙◌}
 use mathlib.Core.Bool.{Bool, true, false, cond}
@@ -12,7 +12,6 @@ use Rattle.settings.specs.Settings.{canonical_of}
 use lib.ListN.{set}
 use Rattle.stops.specs.declared.StopInput.{StopInput}
 use Rattle.stops.specs.Taken.{stop_of}
-use Rattle.rules.specs.Rules.{rule_of}
 use Rattle.calls.specs.declared.CallInput.{CallInput}
 use Rattle.calls.specs.declared.Table.{Table}
 use Rattle.calls.specs.Calls.{window}
@@ -20,7 +19,7 @@ use Rattle.calls.specs.Shown.{windowed, table_calls, Shows, taken_of, Meets}
 use Rattle.calls.proofs.ShownLaws.{step-shows, refused-same}
 use Rattle.calls.proofs.FallLaws as fall
 use Rattle.calls.proofs.FallLaws.{outside-same}
-use Rattle.rules.specs.declared.RuleInput.{RuleInput}
+use Rattle.rules.specs.declared.Rule.{Rule}
 use Rattle.week.specs.declared.Week.{Week}
 use Rattle.week.specs.Weeks.{closed_week}
 use Rattle.load.specs.declared.Load.{Load}
@@ -70,17 +69,17 @@ call-left f l name i k = go _ (called l name i)
     go _ (sent_back d r e) = inr (refl, refl)
 
 -- the load with one stop or rule more
-abbrev with_stop : Load → List ℕ → List ℕ → List ℕ → StopInput → Load
-with_stop l id name parent i = with_stops l (set l.stops l.stop_count (stop_of id name (station_in l parent i) i)) (l.stop_count + 1)
+abbrev with_stop : Load → List ℕ → Option (List ℕ) → Option (List ℕ) → StopInput → Load
+with_stop l id name parent i = with_stops l (set l.stops l.stop_count (stop_of id name (station_in l parent) i)) (l.stop_count + 1)
 
-abbrev ruled : Load → RuleInput → Load
-ruled l i = with_rules l (set l.rules l.rule_count (rule_of i)) (l.rule_count + 1)
+abbrev ruled : Load → Rule → Load
+ruled l i = with_rules l (set l.rules l.rule_count i) (l.rule_count + 1)
 
-stop-table : (l : Load) (id name parent : List ℕ) (i : StopInput) → table_of (stop_spec l id name parent i).load ≡ table_of l
+stop-table : (l : Load) (id : List ℕ) (name parent : Option (List ℕ)) (i : StopInput) → table_of (stop_spec l id name parent i).load ≡ table_of l
 unfolding stop_spec
 stop-table l id name parent i = either_same table_of (with_stop l id name parent i) l (is_taken (stop_answer l id name parent i)) refl
 
-rule-table : (l : Load) (i : RuleInput) → table_of (rule_spec l i).load ≡ table_of l
+rule-table : (l : Load) (i : Rule) → table_of (rule_spec l i).load ≡ table_of l
 unfolding rule_spec
 rule-table l i = either_same table_of (ruled l i) l (is_taken (rule_answer l i)) refl
 
@@ -232,7 +231,6 @@ same-table l h m = λ k. record {
   horizon = sym h k;
   limits = sym m k;
   searched = l.searched;
-  stopped = l.stopped;
   limit = l.limit;
   week = l.week;
 }

@@ -1,13 +1,13 @@
 -- The steps that fill a load, as one type, and a list of them: each gets the load that the one before it returned.
 use Rattle.refusal.specs.declared.Accepted.TheVariants.{Taken}
-use Rattle.std.specs.Prelude.{ℕ, ◌≡◌, Bool, true, List, [], ◌∷◌, ◌++◌, Ok}
+use Rattle.std.specs.Prelude.{ℕ, ◌≡◌, Bool, true, List, [], ◌∷◌, ◌++◌, Option, Ok}
 use Rattle.refusal.specs.First.{First, AllFail, is_refused, Answer}
 use Rattle.stops.specs.declared.StopInput.{StopInput}
 use Rattle.stops.specs.Answer.{stop_tests}
 use Rattle.calls.specs.declared.CallInput.{CallInput}
 use Rattle.calls.specs.Calls.{field_tests, time_tests}
 use Rattle.calls.specs.Reached.{call_window}
-use Rattle.rules.specs.declared.RuleInput.{RuleInput}
+use Rattle.rules.specs.declared.Rule.{Rule}
 use Rattle.rules.specs.Rules.{rule_tests}
 use Rattle.week.specs.Weeks.{service_tests, exception_tests, running}
 use Rattle.load.specs.declared.Load.{Load}
@@ -17,10 +17,10 @@ use Rattle.load.specs.Steps.{station_in, stop_spec, running_tests, call_spec, ru
 
 pub data Filling : Type 0 where
   -- id, name, parent's id and the rest
-  stop : List ℕ → List ℕ → List ℕ → StopInput → Filling
+  stop : List ℕ → Option (List ℕ) → Option (List ℕ) → StopInput → Filling
   -- the service's name, empty where none is named, and the rest
   call : List ℕ → CallInput → Filling
-  rule : RuleInput → Filling
+  rule : Rule → Filling
   -- name, weekday marks, start, end
   service : List ℕ → ℕ → ℕ → ℕ → Filling
   -- the service's name, date, type
@@ -29,7 +29,7 @@ pub data Filling : Type 0 where
 abbrev pub filled : Load → Filling → Stepped
 filled l (stop id name parent i) = stop_spec l id name parent i
 filled l (call name i) = call_spec l name i
-filled l (rule i) = rule_spec l i
+filled l (rule r) = rule_spec l r
 filled l (service name weekdays start end) = service_spec l name weekdays start end
 filled l (exception name date kind) = exception_spec l name date kind
 
@@ -46,9 +46,9 @@ window_tests l i = call_window l.settings (table_of l) i
 -- stop 15, 3, 5, 6, 7, 8, 4; call 15, 9, 21, not running, absent time, 10, outside, 11; rule 15, 9, 12, 13, 11; service 15, 3, 5, 20, 22;
 -- exception 15, 20, 21
 abbrev pub causes : Load → Filling → List (Bool × Answer)
-causes l (stop id name parent i) = stop_tests l.searched l.stops l.stop_count (station_in l parent i) id name i
+causes l (stop id name parent i) = stop_tests l.searched l.stops l.stop_count (station_in l parent) id name parent i
 causes l (call name i) = field_tests l.searched l.stop_count i ++ running_tests (running l.week name i.day) ++ time_tests i ++ window_tests l i
-causes l (rule i) = rule_tests l.searched l.stop_count l.rules l.rule_count i
+causes l (rule r) = rule_tests l.searched l.stop_count l.rules l.rule_count r
 causes l (service name weekdays start end) = service_tests l.searched l.week.closed l.week.services l.week.service_count name start end
 causes l (exception name date kind) = exception_tests l.searched l.week.closed l.week.services l.week.service_count name date kind
 

@@ -1,6 +1,6 @@
 -- The parts of a load, and a load with some of them changed. Two definitions name every field, `empty_with` and `remade`: a field that is added
 -- touches these.
-use Rattle.std.specs.Prelude.{ℕ, Bool, false, List, [], ◌∷◌, pos, replicate}
+use Rattle.std.specs.Prelude.{ℕ, Bool, false, List, [], ◌∷◌, pos, replicate, None, Option, is_some}
 use Rattle.settings.specs.declared.Settings.{Settings}
 use Rattle.calls.specs.declared.Call.{Call}
 use Rattle.calls.specs.declared.Table.{Table}
@@ -32,8 +32,7 @@ empty_with s a b r j w = record {
   horizon = 21600;
   limits = 0;
   searched = false;
-  stopped = false;
-  limit = 0;
+  limit = None;
   week = w;
 }
 
@@ -61,20 +60,22 @@ blank_settings = record {
 abbrev pub table_of : Load → Table
 table_of l = record { calls = l.calls; count = l.call_count; horizon = l.table_horizon; limits = l.table_limits }
 
--- what a query sees: the journeys, of which so many are kept, the horizon, the mark, whether the load is searched, and whether that search was
--- stopped at a limit, and which
+-- the search was stopped at a limit
+abbrev pub stopped : Load → Bool
+stopped l = is_some l.limit
+
+-- what a query sees: the journeys, of which so many are kept, the horizon, the mark, whether the load is searched, and the limit at which that
+-- search was stopped, if it was
 pub record Seen : Type 0 where
   pub journeys : List Journey
   pub count : ℕ
   pub horizon : ℕ
   pub limits : ℕ
   pub searched : Bool
-  pub stopped : Bool
-  pub limit : ℕ
+  pub limit : Option ℕ
 
 abbrev pub seen_of : Load → Seen
-seen_of l =
-    record { journeys = l.journeys; count = l.journey_count; horizon = l.horizon; limits = l.limits; searched = l.searched; stopped = l.stopped; limit = l.limit }
+seen_of l = record { journeys = l.journeys; count = l.journey_count; horizon = l.horizon; limits = l.limits; searched = l.searched; limit = l.limit }
 
 -- the load with these stops, of which n are taken, this table, these rules, of which m are taken, this to be seen and this week; the settings are l's
 abbrev pub remade : Load → List Stop → ℕ → Table → List Rule → ℕ → Seen → Week → Load
@@ -93,7 +94,6 @@ remade l ss n t rs m k w = record {
   horizon = k.horizon;
   limits = k.limits;
   searched = k.searched;
-  stopped = k.stopped;
   limit = k.limit;
   week = w;
 }
@@ -105,7 +105,7 @@ with_seen l t k = remade l l.stops l.stop_count t l.rules l.rule_count k l.week
 -- the load with this table; until the search its horizon and limits are the table's
 abbrev pub with_table : Load → Table → Load
 with_table l t =
-    with_seen l t (record { journeys = l.journeys; count = l.journey_count; horizon = t.horizon; limits = t.limits; searched = l.searched; stopped = l.stopped; limit = l.limit })
+    with_seen l t (record { journeys = l.journeys; count = l.journey_count; horizon = t.horizon; limits = t.limits; searched = l.searched; limit = l.limit })
 
 -- the load with these stops, of which n are taken
 abbrev pub with_stops : Load → List Stop → ℕ → Load

@@ -1,5 +1,5 @@
 -- A load that the steps make: sound stops, calls, rules and week, every call at one of its stops, journeys in order, none before the search, one
--- horizon until then, and a limit only where a search was stopped at it.
+-- horizon until then, and a search stopped only where one may be.
 use Rattle.refusal.specs.declared.Accepted.TheVariants.{Taken}
 use Rattle.std.specs.Prelude.{ℕ, ◌-◌, ◌≤◌, ◌≡◌, true, false, List, length, take, drop, replicate, None, Option, Some, Ok}
 use Rattle.stops.specs.Sound.{StopsSound}
@@ -9,7 +9,7 @@ use Rattle.profile.specs.Best.{Ordered}
 use Rattle.profile.specs.Journeys.{no_journey, journey_figures}
 use Rattle.week.specs.Sound.{WeekSound}
 use Rattle.load.specs.declared.Load.{Load}
-use Rattle.load.specs.Load.{table_of}
+use Rattle.load.specs.Load.{stopped, table_of}
 use Rattle.load.specs.Steps.{Opening, open_answer, opened}
 use Rattle.load.specs.Filling.{Filling, filled}
 
@@ -36,10 +36,9 @@ pub record Sound (l : Load) : Type 0 where
   pub none_kept : l.searched ≡ false → l.journey_count ≡ 0
   pub same_horizon : l.searched ≡ false → l.horizon ≡ l.table_horizon
   pub same_limits : l.searched ≡ false → l.limits ≡ l.table_limits
-  -- a search that was stopped, and of what load; any other load holds no limit
-  pub no_limit : l.stopped ≡ false → l.limit ≡ 0
-  pub stopped_search : l.stopped ≡ true → l.searched ≡ true
-  pub stopped_change : l.stopped ≡ true → l.settings.max_transfers ≤ 1
+  -- a search that was stopped, and of what load
+  pub stopped_search : stopped l ≡ true → l.searched ≡ true
+  pub stopped_change : stopped l ≡ true → l.settings.max_transfers ≤ 1
   pub week : WeekSound l.week
 
 abbrev pub OpenSound : Type 0

@@ -12,8 +12,8 @@ use Rattle.stops.specs.Taken.{stop_of}
 use Rattle.calls.specs.declared.CallInput.{CallInput}
 use Rattle.calls.specs.declared.Fitted.{Fitted}
 use Rattle.calls.specs.Calls.{field_tests, call_on}
-use Rattle.rules.specs.declared.RuleInput.{RuleInput}
-use Rattle.rules.specs.Rules.{rule_tests, rule_of}
+use Rattle.rules.specs.declared.Rule.{Rule}
+use Rattle.rules.specs.Rules.{rule_tests}
 use Rattle.services.specs.Wrong.{dates_wrong}
 use Rattle.week.specs.declared.Week.{Week}
 use Rattle.week.specs.declared.Running.{Running}
@@ -54,25 +54,28 @@ week_of (Some dates) = dated_week dates
 abbrev pub opened : Opening → Load
 opened o = empty_of (canonical_of o.settings) (week_of o.dates)
 
+abbrev pub open_by : Answer → Settings → Week → Stepped
+open_by a s w = record { answer = a; load = cond (is_refused a) (empty_load blank_settings) (empty_of (canonical_of s) w) }
+
 unfoldable pub open_spec_of : Opening → Stepped
-open_spec_of o = record { answer = open_answer o; load = cond (is_refused (open_answer o)) (empty_load blank_settings) (opened o) }
+open_spec_of o = open_by (open_answer o) o.settings (week_of o.dates)
 
 -- ---- stop: 15, 3, 5, 6, 7, 8, 4
 
-abbrev pub station_in : Load → List ℕ → StopInput → Option ℕ
-station_in l parent i = station_of l.stops l.stop_count i.has_parent parent
+abbrev pub station_in : Load → Option (List ℕ) → Option ℕ
+station_in l parent = station_of l.stops l.stop_count parent
 
-abbrev pub stop_answer : Load → List ℕ → List ℕ → List ℕ → StopInput → Answer
-stop_answer l id name parent i = first_answer (stop_tests l.searched l.stops l.stop_count (station_in l parent i) id name i)
+abbrev pub stop_answer : Load → List ℕ → Option (List ℕ) → Option (List ℕ) → StopInput → Answer
+stop_answer l id name parent i = first_answer (stop_tests l.searched l.stops l.stop_count (station_in l parent) id name parent i)
 
 -- the load with the stop, where it is taken
 abbrev pub stop_load : Load → Stop → Answer → Load
 stop_load l s a = cond (is_taken a) (with_stops l (set l.stops l.stop_count s) (l.stop_count + 1)) l
 
-unfoldable pub stop_spec : Load → List ℕ → List ℕ → List ℕ → StopInput → Stepped
+unfoldable pub stop_spec : Load → List ℕ → Option (List ℕ) → Option (List ℕ) → StopInput → Stepped
 stop_spec l id name parent i = record {
   answer = stop_answer l id name parent i;
-  load = stop_load l (stop_of id name (station_in l parent i) i) (stop_answer l id name parent i);
+  load = stop_load l (stop_of id name (station_in l parent) i) (stop_answer l id name parent i);
 }
 
 -- ---- call: 15, 9, 21, not running, absent time, 10, outside, 11
@@ -127,15 +130,15 @@ call_spec l name i = cond l.week.dated (dated_call l (running l.week name i.day)
 
 -- ---- rule: 15, 9, 12, 13, 11
 
-abbrev pub rule_answer : Load → RuleInput → Answer
-rule_answer l i = first_answer (rule_tests l.searched l.stop_count l.rules l.rule_count i)
+abbrev pub rule_answer : Load → Rule → Answer
+rule_answer l r = first_answer (rule_tests l.searched l.stop_count l.rules l.rule_count r)
 
 -- the load with the rule, where it is taken
-abbrev pub rule_load : Load → RuleInput → Answer → Load
-rule_load l i a = cond (is_taken a) (with_rules l (set l.rules l.rule_count (rule_of i)) (l.rule_count + 1)) l
+abbrev pub rule_load : Load → Rule → Answer → Load
+rule_load l r a = cond (is_taken a) (with_rules l (set l.rules l.rule_count r) (l.rule_count + 1)) l
 
-unfoldable pub rule_spec : Load → RuleInput → Stepped
-rule_spec l i = record { answer = rule_answer l i; load = rule_load l i (rule_answer l i) }
+unfoldable pub rule_spec : Load → Rule → Stepped
+rule_spec l r = record { answer = rule_answer l r; load = rule_load l r (rule_answer l r) }
 
 -- ---- service: 15, 3, 5, 20, 22
 

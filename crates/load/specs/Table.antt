@@ -16,7 +16,7 @@ use Rattle.load.specs.Filling.{Filling, stop, call, rule, service, exception, fi
 abbrev pub taken_call : Load → Filling → List CallInput
 taken_call l (stop id name parent i) = []
 taken_call l (call name i) = cond (is_taken (call_spec l name i).answer) (i ∷ []) []
-taken_call l (rule i) = []
+taken_call l (rule r) = []
 taken_call l (service name weekdays start end) = []
 taken_call l (exception name date kind) = []
 

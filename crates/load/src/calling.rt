@@ -10,6 +10,7 @@ use table::step::{call_on, is_known, uncut};
 use week::{Running, closed};
 
 // What a call on a dated load is answered by its service: 15, 9, 21, outside on a day when that doesn't run; taken where it goes on.
+// The load's two fields by value: the load whole would be copied. Each case of `told` has its answer here, and calls nothing.
 #[tactic(auto, unfolding(crate::specs::Steps::gate_answer, refusal::specs::First::first_answer))]
 fn gate_answer(searched: bool, stops: usize, told: Running, input: CallInput) -> Answer
     ensures { result ≡ gate_answer searched stops told input }
@@ -42,29 +43,31 @@ impl Load {
     fn call_dated(self, service: &[u8], input: CallInput) -> Stepped
         ensures { result ≡ dated_call self (running self.week service.now input.day) input }
     {
-        let week = self.week;
-        let told = week.running(service, input.day);
-        let first = gate_answer(self.searched, self.stop_count, told, input);
-        if is_refused(first) {
+        let told = self.week.running(service, input.day);
+        let gate = gate_answer(self.searched, self.stop_count, told, input);
+        if is_refused(gate) {
             return Stepped {
-                answer: first,
+                answer: gate,
                 load: self,
             };
         }
-        if is_taken(first) {
-            let s = self.call_by_cuts(input);
-            let answer = s.answer;
-            if is_refused(answer) {
-                return Stepped { answer, load: self };
+        let week = closed(self.week);
+        if is_taken(gate) {
+            let called = self.call_by_cuts(input);
+            if is_refused(called.answer) {
+                return called;
             }
-            let mut next = s.load;
-            next.week = closed(week);
-            return Stepped { answer, load: next };
+            let mut next = called.load;
+            next.week = week;
+            return Stepped {
+                answer: called.answer,
+                load: next,
+            };
         }
         let mut next = self;
-        next.week = closed(week);
+        next.week = week;
         Stepped {
-            answer: first,
+            answer: gate,
             load: next,
         }
     }
@@ -75,13 +78,11 @@ impl Load {
         ensures { result ≡ call_spec self [] input }
     {
         if self.week.dated {
-            let none: [u8; 0] = [];
-            return self.call_dated(&none, input);
+            return self.call_dated(b"", input);
         }
-        let settings = self.settings;
         let at = self.call_count;
         let told = uncut(
-            settings,
+            self.settings,
             self.searched,
             self.stop_count,
             at,
@@ -117,7 +118,7 @@ impl Load {
     fn call_by_cuts(self, input: CallInput) -> Stepped
         ensures { result ≡ plain_call self input }
     {
-        let settings = self.settings;
+        // An array goes from one record to another by a variable: the borrow checker covers no shorter way.
         let calls = self.calls;
         let table = Table {
             calls,
@@ -125,20 +126,25 @@ impl Load {
             horizon: self.table_horizon,
             limits: self.table_limits,
         };
-        let f = call_on(settings, self.searched, self.stop_count, table, input);
-        let answer = f.answer;
-        if is_refused(answer) {
-            return Stepped { answer, load: self };
+        let f = call_on(self.settings, self.searched, self.stop_count, table, input);
+        if is_refused(f.answer) {
+            return Stepped {
+                answer: f.answer,
+                load: self,
+            };
         }
         let t = f.table;
-        let out = t.calls;
+        let calls = t.calls;
         let mut next = self;
-        next.calls = out;
+        next.calls = calls;
         next.call_count = t.count;
         next.table_horizon = t.horizon;
         next.table_limits = t.limits;
         next.horizon = t.horizon;
         next.limits = t.limits;
-        Stepped { answer, load: next }
+        Stepped {
+            answer: f.answer,
+            load: next,
+        }
     }
 }

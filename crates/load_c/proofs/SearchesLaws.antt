@@ -1,11 +1,9 @@
--- One turn more.
+-- One turn more, and the last.
 use mathlib.Core.Path.{◌≡◌, refl, ap, sym, ◌∙◌}
-use mathlib.Core.Bool.{Bool, true, false, cond}
 use Prim.Native.Nat.{ℕ, zero, suc, ◌+◌, ◌-◌, ◌%◌, ◌<◌}
 use native.Mathlib.Omega.{arith}
-use Rattle.calls.specs.declared.CallInput.{CallInput}
 use Rattle.load.specs.declared.Load.{Load}
-use Rattle.load_c.specs.Searches.{with_mark, sum_of, horizon_with, horizon_without, horizon_altered}
+use Rattle.load_c.specs.Searches.{with_mark, sum_of}
 
 module _ (f : Load → ℕ) where
   -- each turn sets the mark anew
@@ -32,16 +30,3 @@ module _ (f : Load → ℕ) where
   last_turn left l sum all none so =
       let nothing : sum_of f left l ≡ 0 = ap (λ (k : ℕ). sum_of f k l) none in
       omega arith
-
--- added, or withdrawn
-pub when-added : (b : Bool) (i : CallInput) (l : Load) {h : ℕ} → b ≡ true → h ≡ horizon_with i l → h ≡ horizon_altered b i l
-unfolding horizon_altered
-when-added b i l added is = is ∙ sym (ap (λ (x : Bool). cond x (horizon_with i l) (horizon_without i l)) added)
-
-pub when-withdrawn : (b : Bool) (i : CallInput) (l : Load) {h : ℕ} → b ≡ false → h ≡ horizon_without i l → h ≡ horizon_altered b i l
-unfolding horizon_altered
-when-withdrawn b i l gone is = is ∙ sym (ap (λ (x : Bool). cond x (horizon_with i l) (horizon_without i l)) gone)
-
--- of one call and one load
-pub same-turns : (b : Bool) (n : ℕ) {i j : CallInput} {l m : Load} → i ≡ j → l ≡ m → sum_of (horizon_altered b i) n l ≡ sum_of (horizon_altered b j) n m
-same-turns b n {j = j} {l = l} e q = ap (λ (x : CallInput). sum_of (horizon_altered b x) n l) e ∙ ap (sum_of (horizon_altered b j) n) q

@@ -3,9 +3,12 @@ use Rattle.std.specs.Prelude.{ℕ, zero, suc, ◌+◌, ◌%◌, Bool, cond, [], 
 use Rattle.calls.specs.declared.CallInput.{CallInput}
 use Rattle.withdrawal.specs.Removal.{key_of}
 use Rattle.load.specs.declared.Load.{Load}
+use Rattle.load.specs.declared.Stepped.{Stepped}
 use Rattle.load.specs.Load.{seen_of, with_seen}
 use Rattle.search.specs.Search.{search_spec}
 use Rattle.again.specs.Again.{add_spec_of, withdraw_spec}
+use Rattle.load_c.specs.declared.altered.Action.{Action}
+use Rattle.load_c.specs.declared.altered.Action.TheVariants.{Search, Add, Withdraw}
 
 -- the load with another mark of its table
 abbrev pub with_mark : Load → ℕ → Load
@@ -16,10 +19,6 @@ with_mark l m = with_seen l (record { calls = l.calls; count = l.call_count; hor
 unfoldable pub sum_of : (Load → ℕ) → ℕ → Load → ℕ
 sum_of f zero l = 0
 sum_of f (suc n) l = f (with_mark l (n % 2)) + sum_of f n l
-
--- the horizon that a search leaves
-unfoldable pub horizon_after : Load → ℕ
-horizon_after l = (search_spec l).load.horizon
 
 -- a call of day 0 in one second
 abbrev pub call_at : ℕ → ℕ → ℕ → ℕ → CallInput
@@ -34,12 +33,17 @@ call_at trip sequence stop second = record {
   drop_off = 0;
 }
 
--- the horizon that it leaves where it is added, and where the call with its key is withdrawn
-unfoldable pub horizon_with : CallInput → Load → ℕ
-horizon_with i l = (add_spec_of l [] i).load.horizon
+-- ---- what is done in each turn
 
-unfoldable pub horizon_without : CallInput → Load → ℕ
-horizon_without i l = (withdraw_spec l (key_of i)).load.horizon
+-- a call is added, or the one with its key withdrawn
+abbrev pub alteration_of : Bool → CallInput → Action
+alteration_of adds i = cond adds (Add i) (Withdraw (key_of i))
 
-unfoldable pub horizon_altered : Bool → CallInput → Load → ℕ
-horizon_altered adds i l = cond adds (horizon_with i l) (horizon_without i l)
+abbrev pub done : Action → Load → Stepped
+done Search l = search_spec l
+done (Add i) l = add_spec_of l [] i
+done (Withdraw k) l = withdraw_spec l k
+
+-- the horizon that it leaves
+unfoldable pub horizon_after : Action → Load → ℕ
+horizon_after a l = (done a l).load.horizon

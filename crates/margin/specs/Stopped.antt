@@ -5,6 +5,7 @@ use Rattle.std.specs.Prelude.{cond, ◌-◌, pos, None, Option, Some, ℕ}
 use Rattle.offers.specs.Offers.{Timetable}
 use Rattle.limited.specs.Margin.{earliest}
 use Rattle.load.specs.declared.Load.{Load}
+use Rattle.load.specs.Load.{stopped}
 use Rattle.search.specs.Timetable.{timetable_of}
 use Rattle.best.specs.Best.{best_spec}
 
@@ -15,4 +16,4 @@ margin_from t None = None
 
 -- none of a load that is not stopped
 unfoldable pub margin_spec : Load → Option ℕ
-margin_spec l = cond l.stopped (margin_from (timetable_of l) (best_spec l (pos 0))) None
+margin_spec l = cond (stopped l) (margin_from (timetable_of l) (best_spec l (pos 0))) None

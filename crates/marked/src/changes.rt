@@ -1,10 +1,10 @@
 // The scope's changes, of every kind, and its marked joins. Station 0 has the platforms 1 and 2, station 3 the
 // platform 4; 5 and 6 are of one place, 7 of none of theirs. The change time is 180 seconds.
 use crate::show::yes;
-use rules::{Rule, blank_rule};
+use rules::Rule;
 use std::io;
-use transfer::copied::flat_rules;
-use transfer::pair::{join, transfer};
+use transfer::Transfers;
+use transfer::pair::join;
 
 const NO_STOP: u16 = 65535;
 
@@ -27,34 +27,40 @@ fn places() -> [u16; 128] {
     places
 }
 
+// The type is a byte, as in a rule.
 fn rule(from: u16, to: u16, transfer_type: u8, seconds: u16) -> Rule {
     Rule {
         from,
         to,
         transfer_type,
-        seconds,
-        timed: true,
+        seconds: Some(seconds),
     }
 }
 
-// Ten rules, in the order taken.
-fn taken() -> [u16; 640] {
-    let mut rules = [blank_rule(); 128];
-    rules[0] = rule(1, 4, 2, 300);
-    rules[1] = rule(2, 3, 2, 200);
-    rules[2] = rule(0, 4, 2, 240);
-    rules[3] = rule(0, 3, 3, 0);
-    rules[4] = rule(5, 6, 3, 0);
-    rules[5] = rule(7, 5, 0, 600);
-    rules[6] = rule(7, 6, 1, 600);
-    rules[7] = rule(6, 7, 2, 60);
-    rules[8] = rule(3, 1, 2, 65535);
-    rules[9] = rule(3, 0, 2, 400);
-    flat_rules(rules)
+// In the order taken.
+fn taken() -> [Rule; 10] {
+    [
+        rule(1, 4, 2, 300),
+        rule(2, 3, 2, 200),
+        rule(0, 4, 2, 240),
+        rule(0, 3, 3, 0),
+        rule(5, 6, 3, 0),
+        rule(7, 5, 0, 600),
+        rule(7, 6, 1, 600),
+        rule(6, 7, 2, 60),
+        rule(3, 1, 2, 65535),
+        rule(3, 0, 2, 400),
+    ]
 }
 
 fn between(from: u16, to: u16) -> Option<u16> {
-    transfer(&taken(), 10, &parents(), &places(), from, to, 180)
+    let transfers = Transfers {
+        rules: &taken(),
+        parents: &parents(),
+        places: &places(),
+        change: 180,
+    };
+    transfers.between(from, to)
 }
 
 fn change(rt: &impl Print, label: &str, from: u16, to: u16) -> io::Result<()> {

@@ -4,19 +4,20 @@
 mod changes;
 mod places;
 mod show;
-mod texts;
+mod text_lines;
 
 use std::io;
 
 fn run(rt: &impl Print) -> io::Result<()> {
-    texts::hashes(rt)?;
-    texts::names(rt)?;
-    texts::times(rt)?;
+    text_lines::hashes(rt)?;
+    text_lines::names(rt)?;
+    text_lines::times(rt)?;
     places::run(rt)?;
     changes::run(rt)
 }
 
 // A failed write goes unsaid, as what is printed is compared with the file `stdout`.
+// Each program that prints lines has this `main`: one that took `run` would be as long to call.
 fn main(rt: HostRuntime) {
     let _ = run(&rt);
 }

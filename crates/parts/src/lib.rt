@@ -20,15 +20,13 @@ impl From<io::Error> for Unread {
     }
 }
 
-// The buffer filled from `held` on, until it is full or the file has ended; how many bytes it then holds. std's read_exact doesn't say how
-// many, and for stdio's `full` a read that fails is the end.
-fn fill(stdin: Stdin, buf: &mut [u8], held: usize) -> io::Result<usize>
-    requires { held ≤ length buf.old }
-    ensures in_bounds { IfOk result (λ n. n ≤ length buf.new) }
-    ensures same { length buf.new ≡ length buf.old }
+// Reads until the buffer is full or the file has ended; how many bytes were put at its start. std's read_exact doesn't say how many, and
+// for stdio's `full` a read that fails is the end.
+fn fill(stdin: Stdin, buf: &mut [u8]) -> io::Result<usize>
+    ensures { IfOk result (λ n. n ≤ length buf.new) }
 {
     let mut from = stdin;
-    let mut n = held;
+    let mut n = 0;
     while n < buf.len() {
         match from.read(&mut buf[n..])? {
             0 => break,
@@ -49,7 +47,8 @@ fn move_down(buf: &mut [u8], from: usize, end: usize) -> usize
     end - from
 }
 
-// The records of the parts that follow the first `held` bytes of the buffer; the records begin after a version that was taken.
+// The records of the parts that follow the first bytes of the buffer; the records begin after a version that was taken. The file's end
+// or a refusal ends the loop; its range bounds it, as each loop needs a bound.
 fn records(stdin: Stdin, buf: &mut [u8], first: usize, second: bool) -> Result<Took, Unread>
     requires { first ≤ length buf.old }
 {
@@ -71,7 +70,7 @@ fn records(stdin: Stdin, buf: &mut [u8], first: usize, second: bool) -> Result<T
             });
         }
         let left = move_down(buf, from, held);
-        held = fill(stdin, buf, left)?;
+        held = left + fill(stdin, &mut buf[left..])?;
         at = 0;
     }
     Err(Unread)
@@ -79,7 +78,7 @@ fn records(stdin: Stdin, buf: &mut [u8], first: usize, second: bool) -> Result<T
 
 // The version, then the records.
 fn file(stdin: Stdin, buf: &mut [u8]) -> Result<Took, Unread> {
-    let held = fill(stdin, buf, 0)?;
+    let held = fill(stdin, buf)?;
     let answer = version(&buf[..held]);
     let second = is_second(&buf[..held]);
     if is_refused(answer) {
@@ -91,15 +90,14 @@ fn file(stdin: Stdin, buf: &mut [u8]) -> Result<Took, Unread> {
     records(stdin, buf, held, second)
 }
 
-// Reads standard input to its end: what the last record was answered, and the reader then.
-pub fn read_input(stdin: Stdin) -> Result<Took, Unread> {
+// Reads standard input to its end: what the last record was answered, and the reader then. A read that fails is told on standard error.
+pub fn read_input(stdin: Stdin, stderr: Stderr) -> Option<Took> {
     let mut buf = [0; 131072];
-    file(stdin, &mut buf)
-}
-
-// Says on standard error that standard input can't be read.
-pub fn tell_unread(stderr: Stderr) {
-    let _ = stderr.write_all(b"standard input can't be read\n");
+    let took = file(stdin, &mut buf);
+    if took.is_err() {
+        let _ = stderr.write_all(b"standard input can't be read\n");
+    }
+    took.ok()
 }
 
 // Writes to standard output; if that fails, says so on standard error.

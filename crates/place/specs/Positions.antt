@@ -8,10 +8,6 @@ use Rattle.place.specs.Numbers.{n90, n180, n1_m, ◌⊗◌}
 use Rattle.place.specs.declared.Degrees.{Degrees}
 use Rattle.place.specs.declared.Micro.{Micro}
 
-abbrev pub position_of : Bool → Degrees → Option Degrees
-position_of true d = Some d
-position_of false d = None
-
 -- Rust's `abs`
 abbrev pub absolute : Float → Float
 absolute nan = nan

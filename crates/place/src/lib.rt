@@ -4,7 +4,7 @@
 ghost use Rattle.std.specs.Prelude.{◌≡◌, ◌&&◌, Some, is_some, option_copied};
 ghost use Rattle.std.specs.Float.{binary64};
 ghost use Rattle.std.specs.Float.Ieee.{neg, le, of_int};
-ghost use Rattle.place.specs.Positions.{position_of, usable_degrees, is_usable, micro, micro_of};
+ghost use Rattle.place.specs.Positions.{usable_degrees, is_usable, micro, micro_of};
 ghost use Rattle.place.specs.Keys.{no_place, parent_key, id_key, text_of, place_key};
 ghost use Rattle.place.specs.Near.{close_by, turn, series, metres, same_keys};
 
@@ -25,19 +25,12 @@ pub struct Micro {
 // The key of a stop's place. The tag says what the hash is of: 80, P, the parent's id; 78, N, the name
 // at a position; 73, I, the stop's own id. 0 is no place.
 // A number, and no enum: C hands in any tag, and the test of two keys is promised for each.
-#[derive(Clone, Copy, Debug, PartialEq, Eq)]
+#[derive(Clone, Copy, Debug, Default, PartialEq, Eq)]
 pub struct PlaceKey {
     pub tag: u8,
     pub hash: u64,
     pub lat: i32,
     pub lon: i32,
-}
-
-// The position that a stop's record gives.
-pub fn position_of(located: bool, degrees: Degrees) -> Option<Degrees>
-    ensures { result ≡ position_of located degrees }
-{
-    located.then_some(degrees)
 }
 
 fn in_reach(x: f64, top: f64) -> bool
@@ -96,12 +89,7 @@ pub fn coordinates(p: Option<Degrees>) -> Option<Micro>
 pub fn no_place() -> PlaceKey
     ensures { result ≡ no_place }
 {
-    PlaceKey {
-        tag: 0,
-        hash: 0,
-        lat: 0,
-        lon: 0,
-    }
+    PlaceKey::default()
 }
 
 // The key of a stop with a parent: the hash of the parent's id.
@@ -207,7 +195,7 @@ impl PlaceKey {
     }
 }
 
-// Whether two place keys are one place.
+// Whether two place keys are one place. Not the derived equality: of two names at positions it is asked how far apart these are.
 #[tactic(auto, unfolding(crate::specs::Near::same_keys))]
 pub fn same_place_keys(a: PlaceKey, b: PlaceKey) -> bool
     ensures { result ≡ same_keys a b }

@@ -6,8 +6,9 @@ ghost use Rattle.place.specs.Near.{same_keys};
 ghost use Rattle.place.specs.Positions.{is_usable, micro_of};
 ghost use Rattle.place_c.specs.Plain.{key_with, position_with, lat_of, lon_of};
 
-use place::{Degrees, Micro, PlaceKey};
+use place::{Degrees, PlaceKey};
 
+// The kind is a number, as C gives it.
 fn key_with(tag: u8, hash: u64, lat: i32, lon: i32) -> PlaceKey
     ensures { result ≡ key_with tag hash lat lon }
 {
@@ -39,46 +40,36 @@ pub extern "C" fn place_same(
     )
 }
 
+// C has no options: each of its functions takes a flag and two floats, which are made an option here.
+fn position_with(located: bool, latitude: f64, longitude: f64) -> Option<Degrees>
+    ensures { result ≡ position_with located latitude longitude }
+{
+    located.then_some(Degrees {
+        latitude,
+        longitude,
+    })
+}
+
 // Whether a position is given and usable.
 #[unsafe(no_mangle)]
 pub extern "C" fn place_usable(located: bool, latitude: f64, longitude: f64) -> bool
     ensures { result ≡ is_usable (position_with located latitude longitude) }
 {
-    let degrees = Degrees {
-        latitude,
-        longitude,
-    };
-    place::usable(place::position_of(located, degrees))
+    place::usable(position_with(located, latitude, longitude))
 }
 
-fn micro_with(located: bool, latitude: f64, longitude: f64) -> Option<Micro>
-    ensures { result ≡ micro_of (position_with located latitude longitude) }
-{
-    let degrees = Degrees {
-        latitude,
-        longitude,
-    };
-    place::coordinates(place::position_of(located, degrees))
-}
-
-// The latitude in microdegrees; 0 where the position is not usable.
+// The latitude in microdegrees; 0, as C has no options, where the position is not usable.
 #[unsafe(no_mangle)]
 pub extern "C" fn place_latitude(located: bool, latitude: f64, longitude: f64) -> i32
     ensures { result ≡ lat_of (micro_of (position_with located latitude longitude)) }
 {
-    match micro_with(located, latitude, longitude) {
-        Some(micro) => micro.lat,
-        None => 0,
-    }
+    place::coordinates(position_with(located, latitude, longitude)).map_or(0, |micro| micro.lat)
 }
 
-// The longitude in microdegrees; 0 where the position is not usable.
+// The longitude in microdegrees; 0, as C has no options, where the position is not usable.
 #[unsafe(no_mangle)]
 pub extern "C" fn place_longitude(located: bool, latitude: f64, longitude: f64) -> i32
     ensures { result ≡ lon_of (micro_of (position_with located latitude longitude)) }
 {
-    match micro_with(located, latitude, longitude) {
-        Some(micro) => micro.lon,
-        None => 0,
-    }
+    place::coordinates(position_with(located, latitude, longitude)).map_or(0, |micro| micro.lon)
 }

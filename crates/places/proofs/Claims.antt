@@ -1,8 +1,9 @@
 -- Every stop with a key has the right place, a stop without one has none, and places are not merged through a chain.
+use Rattle.std.specs.Prelude.{Option, is_some}
 use Prim.Native.Nat.{ℕ, ◌^◌, ◌≤◌, ◌<◌}
 use mathlib.Core.Path.{◌≡◌, refl, sym, ap, ◌∙◌, subst}
 use mathlib.Core.Logic.{◌⊎◌, inl, inr}
-use mathlib.Core.Bool.{Bool, true, false, cond, not, true≢false}
+use mathlib.Core.Bool.{Bool, true, false, cond, true≢false}
 use mathlib.Core.List.{List, [], ◌∷◌, Memᴰ}
 use native.Mathlib.Nat.{le_trans}
 use native.Mathlib.Omega.{arith}
@@ -15,15 +16,14 @@ use Rattle.laws.proofs.Folds.{mem-span}
 use Rattle.laws.proofs.Order.{strict-bytes}
 use Rattle.laws.proofs.Sort.{sort-ordered, mem-sort}
 use Rattle.place.specs.declared.PlaceKey.{PlaceKey}
-use Rattle.place.specs.Keys.{place_key, no_place}
-use Rattle.place.specs.Positions.{position_of}
+use Rattle.place.specs.Keys.{place_key, no_place, text_of}
 use Rattle.place.specs.Promises.{LatFits}
 use Rattle.place.proofs.Placed.{key-in-range}
 use Rattle.place.proofs.SameKeys.{reflexive}
 use Rattle.stops.specs.declared.Stop.{Stop}
-use Rattle.stops.specs.Stops.{id_of}
+use Rattle.stops.specs.Stops.{id_of, name_of}
 use Rattle.stops.specs.Sound.{stop_at}
-use Rattle.places.specs.Keys.{stop_key, key_at}
+use Rattle.places.specs.Keys.{parent_id, stop_key, key_at}
 use Rattle.places.specs.Places.{has_key, same_place, id_less, place, no_groups, id_order, groups_of, places_of}
 use Rattle.places.specs.Promises.{place_at, PlaceRight, PlacesRight, EveryPlace, NoKeyNoPlace, ChainNotMerged}
 use Rattle.places.proofs.Orders.{order-apart}
@@ -42,15 +42,17 @@ key_fits ss k = go (eqb s.location_type 0)
     s : Stop
     s = stop_at ss k
 
+    parent : Option (List ℕ)
+    parent = parent_id ss s.parent
+
     key : PlaceKey
-    key = place_key (not (eqb s.parent 65535)) (id_of (stop_at ss s.parent)) (position_of s.located s.degrees) s.named (take s.name_len s.name) (id_of s)
+    key = place_key (is_some parent) (text_of parent) s.degrees (is_some (name_of s)) (text_of (name_of s)) (id_of s)
 
     small : 90000000 ≤ 2 ^ 31
     small = lit≤ tt
 
     go : (b : Bool) → nat_abs (cond b key no_place).lat ≤ 2 ^ 31
-    go true =
-        le_trans (key-in-range (not (eqb s.parent 65535)) (id_of (stop_at ss s.parent)) (position_of s.located s.degrees) s.named (take s.name_len s.name) (id_of s)).0 small
+    go true = le_trans (key-in-range (is_some parent) (text_of parent) s.degrees (is_some (name_of s)) (text_of (name_of s)) (id_of s)).0 small
     go false = lit≤ tt
 
 pub same_self : (ss : List Stop) (k : ℕ) → same_place ss k k ≡ true

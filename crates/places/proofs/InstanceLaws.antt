@@ -16,6 +16,7 @@ use Rattle.place.specs.Near.{same_keys}
 use Rattle.place.specs.Positions.{in_reach, usable_degrees, micro, micro_of}
 use Rattle.place.specs.Promises.{LatFits}
 use Rattle.place.proofs.SameKeys.{same-meridian}
+use Rattle.texts.specs.Texts.{held}
 use Rattle.stops.specs.Sound.{stop_at}
 use Rattle.places.specs.Keys.{stop_key, key_at}
 use Rattle.places.specs.Places.{has_key, same_place, id_less}
@@ -26,15 +27,15 @@ abbrev at : ℕ → PlaceKey
 at lat = record { tag = tag_n; hash = key_of (120 ∷ []); lat = pos lat; lon = pos 0 }
 
 key-a : key_at chain 0 ≡ at 0
-unfolding key_at stop_key stop_at name_key points_key encoded_of point_of is_bad is_latin is_control is_space is_capital lower_of micro_of usable_degrees in_reach micro of_bits le to_signed mul round
+unfolding held key_at stop_key stop_at name_key points_key encoded_of point_of is_bad is_latin is_control is_space is_capital lower_of micro_of usable_degrees in_reach micro of_bits le to_signed mul round
 key-a = refl
 
 key-b : key_at chain 1 ≡ at 1000
-unfolding key_at stop_key stop_at name_key points_key encoded_of point_of is_bad is_latin is_control is_space is_capital lower_of micro_of usable_degrees in_reach micro of_bits le to_signed mul round
+unfolding held key_at stop_key stop_at name_key points_key encoded_of point_of is_bad is_latin is_control is_space is_capital lower_of micro_of usable_degrees in_reach micro of_bits le to_signed mul round
 key-b = refl
 
 key-c : key_at chain 2 ≡ at 2000
-unfolding key_at stop_key stop_at name_key points_key encoded_of point_of is_bad is_latin is_control is_space is_capital lower_of micro_of usable_degrees in_reach micro of_bits le to_signed mul round
+unfolding held key_at stop_key stop_at name_key points_key encoded_of point_of is_bad is_latin is_control is_space is_capital lower_of micro_of usable_degrees in_reach micro of_bits le to_signed mul round
 key-c = refl
 
 by-keys : (i j m n : ℕ) → key_at chain i ≡ at m → key_at chain j ≡ at n → LatFits (at m) → LatFits (at n) → same_place chain i j ≡ leb (nat_abs (pos m -ℤ pos n)) 1124
@@ -49,6 +50,6 @@ keyed (suc (suc zero)) h = refl
 keyed (suc (suc (suc k))) h = absurd (omega arith)
 
 pub chain-instance : ChainInstance
-unfolding id_less stop_at
+unfolding held id_less stop_at
 chain-instance =
     chain-not-merged _ _ _ keyed refl refl (by-keys 1 0 1000 0 key-b key-a (lit≤ tt) (lit≤ tt)) (by-keys 2 1 2000 1000 key-c key-b (lit≤ tt) (lit≤ tt)) (by-keys 2 0 2000 0 key-c key-a (lit≤ tt) (lit≤ tt))

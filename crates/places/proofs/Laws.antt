@@ -1,93 +1,151 @@
--- What the proofs of this crate share: texts in arrays, the entry that the code makes, the grouping of entries.
-use Rattle.std.specs.Prelude.{None, Some}
-use Rattle.laws.proofs.Bounds.{get_d_any}
-use Prim.Native.Nat.{ℕ, ◌+◌, ◌≤◌, ◌<◌}
-use mathlib.Core.Path.{◌≡◌, refl, sym, ap, ◌∙◌}
-use mathlib.Core.Logic.{inl}
+-- What the proofs of this crate share: the order of ids by std's words, an entry put in among others, the key of a stop, the first match.
+use Rattle.std.specs.Prelude.{None, Option, Some, option_map, option_copied, is_some}
+use Rattle.std.specs.Option.{unwrap_or, MatchOption, IsSomeAnd}
+use Rattle.std.specs.List.{find, position_or_len}
+use Rattle.std.specs.Ordering.{nat_cmp, is_lt, is_some_and}
+use Rattle.std.specs.Cmp.Lexicographic.{slice_partial_cmp}
+use Rattle.std.proofs.Common.{Bor}
+use Rattle.std.proofs.lemmas.Bool.Decides.{nat_tests}
+use Rattle.std.proofs.lemmas.Cmp.{same_from_slice_cmp_tested}
+use Rattle.std.proofs.lemmas.List.Sums.{prefix_len-le-length}
+use Prim.Native.Nat.{ℕ, zero, suc, ◌+◌, ◌-◌, ◌≤◌, ◌<◌}
+use mathlib.Core.Path.{◌≡◌, refl, sym, ap, ap₂, ◌∙◌}
 use mathlib.Core.Bool.{Bool, true, false, cond, not}
-use mathlib.Core.List.{List, []}
+use mathlib.Core.List.{List, [], ◌∷◌, ◌++◌, map, append_assoc, append-nil}
 use native.Mathlib.Omega.{arith}
 use lib.Dec.{ltb, eqb}
-use lib.ListN.{length, get_or, take, drop, length-take, get_or-eq_default}
-use lib.Seq.{take_at, length-take-le, get_or-take}
-use borrow.Author.Tests.{ltb-true, ltb-false}
-use Rattle.laws.specs.Sort.{sort}
+use lib.ListN.{length, get_or, take, drop, length-drop, drop_of_length-le}
+use lib.Seq.{take_all, take-suc, drop-cons, take_at, drop_at, length-take-le}
+use borrow.Author.Tests.{ltb-false}
+use Rattle.laws.specs.Lists.{span}
+use Rattle.laws.specs.Order.{less_bytes}
+use Rattle.laws.specs.Sort.{insert_by, sort}
+use Rattle.laws.specs.Tables.{table}
 use Rattle.laws.proofs.Bools.{cond-by, cond-not}
-use Rattle.laws.proofs.Insertion.{from, done}
-use Rattle.laws.proofs.Sort.{length-sort}
-use Rattle.laws.proofs.Turns.{drop-take-cons, drop-take-nil}
 use Rattle.place.specs.declared.PlaceKey.{PlaceKey}
-use Rattle.place.specs.Keys.{place_key, no_place}
+use Rattle.place.specs.Keys.{place_key, no_place, text_of}
 use Rattle.place.specs.Near.{same_keys}
-use Rattle.place.specs.Positions.{position_of}
 use Rattle.stops.specs.declared.Stop.{Stop}
-use Rattle.stops.specs.Stops.{id_of}
-use Rattle.stops.specs.Sound.{stop_at}
-use Rattle.stops.specs.Taken.{blank_stop}
+use Rattle.stops.specs.Stops.{id_of, name_of}
 use Rattle.places.specs.declared.Entry.{Entry}
 use Rattle.places.specs.Keys.{stop_key}
-use Rattle.places.specs.Entries.{within, parent_id, entry_of, entry_at, first_entry}
+use Rattle.places.specs.Entries.{blank_entry, id_before, first_in, first_entry}
 
--- ---- the entry that the code makes
+-- ---- the order of ids
 
-within-small : (i n : ℕ) → 0 < n → within i n < n
-within-small i n h = go (ltb i n) refl
-  where
-    go : (b : Bool) → ltb i n ≡ b → cond b i 0 < n
-    go true e = ltb-true i n e
-    go false e = h
+pub less-is : (xs ys : List ℕ) (r : Bool) → r ≡ is_some_and is_lt (slice_partial_cmp (λ x y. Some (nat_cmp x y)) xs ys) → r ≡ less_bytes xs ys
+less-is = same_from_slice_cmp_tested nat_cmp is_lt less_bytes refl (λ _ _. refl) (λ _ _. refl) (λ x y xs ys o h. grind (arith, nat_tests))
 
--- the parent's id as the code reads it: from `within`, and with its length 0 where the parent is not among the first n
-parent-id : (stops : List Stop) (n p : ℕ) → n ≤ length stops → parent_id p n (stop_at stops (within p n)) ≡ id_of (stop_at (take n stops) p)
-unfolding stop_at
-parent-id stops n p h = go (ltb p n) refl
-  where
-    go : (b : Bool) → ltb p n ≡ b → take (cond b (get_or stops (cond b p 0) blank_stop).id_len 0) (get_or stops (cond b p 0) blank_stop).id ≡ id_of (get_or (take n stops) p blank_stop)
-    go true e = ap id_of (sym (get_or-take n stops p blank_stop (ltb-true p n e)))
-    go false e =
-        let l : length (take n stops) ≤ p = simp length-take (omega (arith, ltb-false p n e)) in
-        sym (ap id_of (get_or-eq_default (take n stops) blank_stop l))
+-- ---- x put in at the first of ys that is not below it
 
-pub within_in : (i n : ℕ) → 0 < n → within i n < n
-within_in = within-small
+module _ {A : Type 0} (lt : A → A → Bool) (x : A) where
+  abbrev stays : A → Bool
+  stays y = not (lt y x)
 
-pub entry-parts : (stops : List Stop) (n i : ℕ) (d : Stop) → n ≤ length stops → i < n → {s p : Stop} {at : ℕ} {e : Entry}
-    → s ≡ get_or stops i d → at ≡ within s.parent n → p ≡ get_or stops at d → e ≡ entry_of s (parent_id s.parent n p) i → e ≡ entry_at (take n stops) i
-unfolding entry_at stop_at
-entry-parts stops n i d long h {s} {p} {at} {e} es ea ep ee =
-    let q : s ≡ get_or (take n stops) i blank_stop = es ∙ get_d_any stops i d blank_stop (omega arith) ∙ sym (get_or-take n stops i blank_stop h) in
-    let w : at < n = omega (arith, ea, within-small s.parent n (omega arith)) in
-    let r : p ≡ get_or stops (within s.parent n) blank_stop = ep ∙ get_d_any stops at d blank_stop (omega arith) ∙ ap (λ (k : ℕ). get_or stops k blank_stop) ea in
-    ee ∙ ap (λ (x : Stop). entry_of s (parent_id s.parent n x) i) r ∙ ap (λ (l : List ℕ). entry_of s l i) (parent-id stops n s.parent long)
-    ∙ ap (λ (x : Stop). entry_of x (id_of (get_or (take n stops) x.parent blank_stop)) i) q
+  abbrev gone : List A → ℕ
+  gone ys = position_or_len stays ys
 
--- what is read past the end of an array of entries
-abbrev pub past : Entry
-past = record { id = []; id_len = 0; stop = 0; key = no_place }
+  insert-at : (ys : List A) → take (gone ys) ys ++ x ∷ drop (gone ys) ys ≡ insert_by lt x ys
+  insert-at [] = refl
+  insert-at (y ∷ ys) = go (lt y x) (insert-at ys)
+    where
+      go : (b : Bool) → take (gone ys) ys ++ x ∷ drop (gone ys) ys ≡ insert_by lt x ys
+          → take (cond (not (not b)) (1 + gone ys) 0) (y ∷ ys) ++ x ∷ drop (cond (not (not b)) (1 + gone ys) 0) (y ∷ ys) ≡ cond b (y ∷ insert_by lt x ys) (x ∷ y ∷ ys)
+      go true e = let n : 1 + gone ys ≡ suc (gone ys) = omega arith in rw n (ap {B = List A} (λ r. y ∷ r) e)
+      go false e = refl
 
--- ---- the sorted entries
+  -- where `position` finds it, or past the last
+  passed : (ys : List A) → unwrap_or (cond (ltb (gone ys) (length ys)) (Some (gone ys)) None) (length ys) ≡ gone ys
+  passed ys = go (ltb (gone ys) (length ys)) refl
+    where
+      go : (b : Bool) → ltb (gone ys) (length ys) ≡ b → unwrap_or (cond b (Some (gone ys)) None) (length ys) ≡ gone ys
+      go true e = refl
+      go false e = omega (arith, ltb-false (gone ys) (length ys) e, prefix_len-le-length (λ y. not (stays y)) ys)
 
-pub sorted_front : (lt : Entry → Entry → Bool) (n : ℕ) (l a : List Entry) → n ≤ length l → a ≡ from lt n l 0 → take n a ≡ sort lt (take n l)
-sorted_front lt n l a h e =
-    ap (take n) (e ∙ done lt n n l (inl refl)) ∙ take_at (sort lt (take n l)) (drop n l) n (length-sort lt (take n l) ∙ length-take-le n l h)
+  put-in : (ys : List A) {p : ℕ} → p ≡ unwrap_or (cond (ltb (gone ys) (length ys)) (Some (gone ys)) None) (length ys) → take p ys ++ x ∷ drop p ys ≡ insert_by lt x ys
+  put-in ys e = rw (e ∙ passed ys) (insert-at ys)
+
+-- the first of a list goes behind the p that it passes
+pub moved : (old now ys : List Entry) (x : Entry) (p : ℕ) {found : Option ℕ} → old ≡ x ∷ ys
+    → found ≡ cond (ltb (gone id_before x ys) (length ys)) (Some (gone id_before x ys)) None → p ≡ unwrap_or found (length ys)
+    → now ≡ drop 1 (take (p + 1) old) ++ take 1 (take (p + 1) old) → now ++ drop (p + 1) old ≡ first_in old
+moved old now ys x p e f q n =
+    let s : p + 1 ≡ suc p = omega arith in
+    rw (n, e, s) (append_assoc (take p ys) (x ∷ []) (drop p ys) ∙ put-in id_before x ys (q ∙ ap (λ (r : Option ℕ). unwrap_or r (length ys)) f))
+
+-- and so a list is put in order from the right
+pub sort-turn : (l now new : List Entry) (i : ℕ) → 0 < i → i ≤ length l → now ≡ take i l ++ sort id_before (drop i l)
+    → new ≡ first_in (take (length now - (i - 1)) (drop (i - 1) now))
+    → take (i - 1) now ++ (new ++ drop (length now - (i - 1)) (drop (i - 1) now)) ≡ take (i - 1) l ++ sort id_before (drop (i - 1) l)
+sort-turn l now new zero h b e n = absurd (omega arith)
+sort-turn l now new (suc j) h b e n =
+    let k : suc j - 1 ≡ j = omega arith in
+    let d : Entry = blank_entry in
+    let x = get_or l j d in
+    let all : now ≡ take j l ++ x ∷ sort id_before (drop (suc j) l) =
+    e ∙ ap (λ (r : List Entry). r ++ sort id_before (drop (suc j) l)) (take-suc l j d (omega arith)) ∙ append_assoc (take j l) (x ∷ []) (sort id_before (drop (suc j) l)) in
+    let long : length (take j l) ≡ j = length-take-le j l (omega arith) in
+    let front : take j now ≡ take j l = ap (take j) all ∙ take_at (take j l) (x ∷ sort id_before (drop (suc j) l)) j long in
+    let back : drop j now ≡ x ∷ sort id_before (drop (suc j) l) = ap (drop j) all ∙ drop_at (take j l) (x ∷ sort id_before (drop (suc j) l)) j long in
+    let rest : new ≡ sort id_before (drop j l) =
+    n ∙ ap (λ (z : ℕ). first_in (take (length now - z) (drop z now))) k ∙ ap first_in (take_all (length now - j) (drop j now) (omega (arith, length-drop j now)) ∙ back)
+    ∙ sym (ap (sort id_before) (drop-cons l j d (omega arith))) in
+    let none : drop (length now - j) (drop j now) ≡ [] = drop_of_length-le (drop j now) (omega (arith, length-drop j now)) in
+    rw (k, none, append-nil) (ap₂ (λ (a b : List Entry). a ++ b) front rest)
+
+-- ---- what is read of an option of a reference
+
+pub now-or : {A : Type 0} (r : Option (Bor A)) (b : Bor A) → (unwrap_or r b).now ≡ unwrap_or (option_map (λ x. x.now) r) b.now
+now-or (Some x) b = refl
+now-or None b = refl
+
+-- ---- what a closure makes of an option
+
+pub mapped : {A B : Type 0} (h : A → B) (o : Option A) (r : Option B) (P : A → B → Type 0) → MatchOption o (r ≡ None) (λ x. IsSomeAnd r (P x))
+    → ((x : A) (y : B) → P x y → y ≡ h x) → r ≡ option_map h o
+mapped h None r P m w = m
+mapped h (Some x) (Some y) P m w = ap Some (w x y m)
+mapped h (Some x) None P m w = absurd m
+
+pub option_map-map : {A B C : Type 0} (f : A → B) (g : B → C) (o : Option A) → option_map (λ x. g (f x)) o ≡ option_map g (option_map f o)
+option_map-map f g None = refl
+option_map-map f g (Some x) = refl
 
 -- ---- the first match
 
-module _ (key : PlaceKey) (reps : List Entry) (m q : ℕ) where
-  pub match-turn : q < m → q < length reps
-      → first_entry key (drop q (take m reps)) ≡ cond (same_keys key (get_or reps q past).key) (Some (get_or reps q past).stop) (first_entry key (drop (q + 1) (take m reps)))
-  match-turn h k = rw (drop-take-cons reps m q past h k)
+pub found-is : (key : PlaceKey) (l : List Entry) → option_map (λ e. e.stop) (find (λ e. same_keys key e.key) l) ≡ first_entry key l
+found-is key [] = refl
+found-is key (x ∷ l) = go (same_keys key x.key) (found-is key l)
+  where
+    go : (b : Bool) → option_map (λ e. e.stop) (find (λ e. same_keys key e.key) l) ≡ first_entry key l
+        → option_map (λ e. e.stop) (cond b (Some x) (find (λ e. same_keys key e.key) l)) ≡ cond b (Some x.stop) (first_entry key l)
+    go true e = refl
+    go false e = e
 
-  pub match-end : length (take m reps) ≤ q → first_entry key (drop q (take m reps)) ≡ None
-  match-end h = rw (drop-take-nil reps m q h)
+-- ---- the first n of a table
 
--- ---- the key of texts in arrays, as the code computes it
+pub take-table : {A : Type 0} (f : ℕ → A) (n m : ℕ) → n ≤ m → take n (table m f) ≡ table n f
+unfolding table
+take-table {A} f n m h = go 0 n m h
+  where
+    go : (a n m : ℕ) → n ≤ m → take n (map f (span a m)) ≡ map f (span a n)
+    go a zero m h = refl
+    go a (suc n) zero h = absurd (omega arith)
+    go a (suc n) (suc m) h = ap {B = List A} (λ r. f a ∷ r) (go (suc a) n m (omega arith))
 
-pub key-parts : (has : Bool) (parent : List ℕ) (s : Stop) {k : PlaceKey} → eqb s.location_type 0 ≡ true → has ≡ not (eqb s.parent 65535)
-    → k ≡ place_key has parent (position_of s.located s.degrees) s.named (take s.name_len s.name) (take s.id_len s.id) → k ≡ stop_key s parent
+-- ---- the key of texts that may be absent
+
+some-copied : (r : Option (Bor (List ℕ))) → is_some r ≡ is_some (option_copied r)
+some-copied (Some t) = refl
+some-copied None = refl
+
+pub key-parts : (s : Stop) (parent name : Option (Bor (List ℕ))) {id : List ℕ} {k : PlaceKey} → eqb s.location_type 0 ≡ true
+    → option_copied name ≡ name_of s → id ≡ id_of s
+    → k ≡ place_key (is_some parent) (text_of (option_copied parent)) s.degrees (is_some name) (text_of (option_copied name)) id
+    → k ≡ stop_key s (option_copied parent)
 unfolding stop_key
-key-parts has parent s t e q = q ∙ rw e (sym (cond-by _ _ t))
+key-parts s parent name t n i q = q ∙ rw (some-copied parent, some-copied name, n, i) (sym (cond-by _ _ t))
 
-pub key-none : (parent : List ℕ) (s : Stop) {k : PlaceKey} → eqb s.location_type 0 ≡ false → k ≡ no_place → k ≡ stop_key s parent
+pub key-none : (parent : Option (List ℕ)) (s : Stop) {k : PlaceKey} → eqb s.location_type 0 ≡ false → k ≡ no_place → k ≡ stop_key s parent
 unfolding stop_key
 key-none parent s t e = e ∙ sym (cond-not _ _ t)

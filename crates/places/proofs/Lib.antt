@@ -1,4 +1,5 @@
 pub mod Laws
+pub mod Made
 pub mod Grouping
 pub mod Numbers
 pub mod Orders

@@ -1,7 +1,5 @@
 -- Grouping the entries of stops is grouping their numbers.
-use Rattle.std.specs.Prelude.{None, Option, Some}
-use Rattle.laws.specs.Bounds.{least}
-use Rattle.laws.proofs.Bounds.{least_under, take-least}
+use Rattle.std.specs.Prelude.{None, Option, Some, is_some}
 use Prim.Native.Nat.{ℕ, ◌%◌, ◌≤◌, ◌<◌}
 use mathlib.Core.Path.{◌≡◌, refl, sym, ap, ap₂, ◌∙◌}
 use mathlib.Core.Bool.{Bool, true, false, cond, not}
@@ -10,7 +8,6 @@ use native.Mathlib.Nat.{mod-eq_of_lt}
 use native.Mathlib.Omega.{arith}
 use lib.Dec.{eqb}
 use lib.ListN.{length, take, set}
-use lib.Seq.{length-take-le}
 use borrow.Author.Tests.{ne_eqb}
 use Rattle.laws.specs.Lists.{foldl, span}
 use Rattle.laws.specs.Sort.{sort}
@@ -19,18 +16,18 @@ use Rattle.laws.proofs.Folds.{span-mem}
 use Rattle.laws.proofs.Sort.{sort-mem}
 use Rattle.laws.proofs.Tables.{sort-map}
 use Rattle.place.specs.declared.PlaceKey.{PlaceKey}
-use Rattle.place.specs.Keys.{no_place, place_key}
+use Rattle.place.specs.Keys.{no_place, place_key, text_of}
 use Rattle.place.specs.Near.{same_keys}
-use Rattle.place.specs.Positions.{position_of}
 use Rattle.place.proofs.Placed.{placed}
 use Rattle.stops.specs.declared.Stop.{Stop}
-use Rattle.stops.specs.Stops.{id_of}
+use Rattle.stops.specs.Stops.{id_of, name_of}
 use Rattle.stops.specs.Sound.{stop_at}
 use Rattle.places.specs.declared.Entry.{Entry}
-use Rattle.places.specs.Keys.{stop_key, key_at}
+use Rattle.places.specs.Keys.{parent_id, stop_key, key_at}
 use Rattle.places.specs.Places.{has_key, same_place, id_less, Groups, first_match, place, no_groups, id_order, groups_of, places_of}
 use Rattle.places.specs.Places as P
-use Rattle.places.specs.Entries.{entry_of, entry_at, id_before, first_entry, EntryGroups, put, place_entry, no_entries, group_entries}
+use Rattle.places.proofs.Laws.{take-table}
+use Rattle.places.specs.Entries.{entry_at, id_before, first_entry, EntryGroups, put, place_entry, no_entries, group_entries}
 
 module _ (ss : List Stop) where
   -- a stop has a key if its key's tag is not 0
@@ -41,18 +38,18 @@ module _ (ss : List Stop) where
       s : Stop
       s = stop_at ss i
 
-      parent : List ℕ
-      parent = id_of (stop_at ss s.parent)
+      parent : Option (List ℕ)
+      parent = parent_id ss s.parent
 
       k : PlaceKey
-      k = place_key (not (eqb s.parent 65535)) parent (position_of s.located s.degrees) s.named (take s.name_len s.name) (id_of s)
+      k = place_key (is_some parent) (text_of parent) s.degrees (is_some (name_of s)) (text_of (name_of s)) (id_of s)
 
       go : (b : Bool) → eqb (cond b k no_place).tag 0 ≡ not b
-      go true = ne_eqb k.tag 0 (placed (not (eqb s.parent 65535)) parent (position_of s.located s.degrees) s.named (take s.name_len s.name) (id_of s))
+      go true = ne_eqb k.tag 0 (placed (is_some parent) (text_of parent) s.degrees (is_some (name_of s)) (text_of (name_of s)) (id_of s))
       go false = refl
 
   first-map : (i : ℕ) (l : List ℕ) → first_entry (key_at ss i) (map (entry_at ss) l) ≡ first_match (same_place ss i) l
-  unfolding entry_at entry_of key_at same_place
+  unfolding entry_at same_place
   first-map i [] = refl
   first-map i (r ∷ l) = ap (cond (same_keys (key_at ss i) (key_at ss r)) (Some r)) (first-map i l)
 
@@ -65,7 +62,7 @@ module _ (ss : List Stop) where
     at = mod-eq_of_lt small
 
     by-case : (b : Bool) (f : Option ℕ) → Same (cond (not b) e (put e (entry_at ss i) f)) (cond b (P.placed g i f) g)
-    unfolding entry_at entry_of
+    unfolding entry_at
     by-case true (Some r) = record { reps = h.reps; places = ap₂ (λ (l : List ℕ) (k : ℕ). set l k r) h.places at }
     by-case true None = record {
       reps = ap (λ (l : List Entry). l ++ entry_at ss i ∷ []) h.reps ∙ sym (map-append (entry_at ss) g.reps (i ∷ []));
@@ -74,7 +71,7 @@ module _ (ss : List Stop) where
     by-case false f = h
 
     same_step : Same (place_entry e (entry_at ss i)) (place (same_place ss) (has_key ss) g i)
-    unfolding entry_at entry_of key_at
+    unfolding entry_at
     same_step =
         let f : first_entry (key_at ss i) e.reps ≡ first_match (same_place ss i) g.reps = ap (first_entry (key_at ss i)) h.reps ∙ first-map i g.reps in
         rw (keyed-tag i, f) (by-case (has_key ss i) (first_match (same_place ss i) g.reps))
@@ -91,7 +88,7 @@ module _ (ss : List Stop) where
 
   -- the entries in the order of ids are those of the numbers in that order
   order-map : (n : ℕ) → length ss ≡ n → sort id_before (table n (entry_at ss)) ≡ map (entry_at ss) (id_order ss)
-  unfolding table id_order id_less id_before entry_at entry_of
+  unfolding table id_order id_less id_before entry_at
   order-map n e = ap (λ (k : ℕ). sort id_before (map (entry_at ss) (span 0 k))) (sym e) ∙ sym (sort-map id_before (entry_at ss) (span 0 (length ss)))
 
   groups-right : length ss ≤ 128 → (group_entries (map (entry_at ss) (id_order ss))).places ≡ places_of ss
@@ -99,11 +96,9 @@ module _ (ss : List Stop) where
   groups-right h = (same_fold (id_order ss) no_entries no_groups (record { reps = refl; places = refl }) (λ k m. omega (arith, order_below m))).places
 
 -- the three steps of the code
-pub group-parts : (stops : List Stop) (count n : ℕ) (entries ordered : List Entry) {out : List ℕ} → n ≡ least count 128 → length stops ≡ 128
-    → take n entries ≡ table n (entry_at (take n stops)) → take n ordered ≡ sort id_before (take n entries) → out ≡ (group_entries (take n ordered)).places
-    → out ≡ places_of (take count stops)
-group-parts stops count n entries ordered {out} e long f g o =
-    let few : n ≤ 128 = omega (arith, e, least_under count 128) in
-    let l : length (take n stops) ≡ n = length-take-le n stops (omega arith) in
-    o ∙ ap (λ (x : List Entry). (group_entries x).places) (g ∙ ap (sort id_before) f ∙ order-map (take n stops) n l) ∙ groups-right (take n stops) (omega arith)
-    ∙ ap places_of (take-least stops count 128 n e long)
+pub group-parts : (ss : List Stop) (entries ordered : List Entry) {out : List ℕ} → length ss ≤ 128 → entries ≡ table 128 (entry_at ss)
+    → ordered ≡ sort id_before (take (length ss) entries) → out ≡ (group_entries ordered).places → out ≡ places_of ss
+group-parts ss entries ordered few f g o =
+    o ∙ ap (λ (x : List Entry). (group_entries x).places)
+    (g ∙ ap (λ (l : List Entry). sort id_before (take (length ss) l)) f ∙ ap (sort id_before) (take-table (entry_at ss) (length ss) 128 few) ∙ order-map ss (length ss) refl)
+    ∙ groups-right ss few

@@ -1,39 +1,30 @@
 -- What the code makes of the stops first: for each its id, number and key; and the grouping of these.
-use Rattle.std.specs.Prelude.{Bool, cond, List, [], ◌∷◌, ◌++◌, ℕ, ◌%◌, ltb, eqb, take, set, replicate, None, Option, Some}
+use Rattle.std.specs.Prelude.{Bool, cond, List, [], ◌∷◌, ◌++◌, ℕ, ◌%◌, eqb, set, replicate, None, Option, Some}
 use Rattle.laws.specs.Lists.{foldl}
 use Rattle.laws.specs.Order.{less_bytes}
+use Rattle.laws.specs.Sort.{insert_by}
+use Rattle.texts.specs.Texts.{held, bytes_of}
 use Rattle.place.specs.declared.PlaceKey.{PlaceKey}
 use Rattle.place.specs.Keys.{no_place}
 use Rattle.place.specs.Near.{same_keys}
 use Rattle.stops.specs.declared.Stop.{Stop}
-use Rattle.stops.specs.Stops.{id_of}
 use Rattle.stops.specs.Sound.{stop_at}
 use Rattle.places.specs.declared.Entry.{Entry}
-use Rattle.places.specs.Keys.{stop_key}
-
--- a number below n as it is, any other as 0
-abbrev pub within : ℕ → ℕ → ℕ
-within i n = cond (ltb i n) i 0
-
--- the length and the text of a parent's id, where the parent is among the first n
-abbrev pub held : ℕ → ℕ → ℕ → ℕ
-held parent n len = cond (ltb parent n) len 0
-
-abbrev pub parent_id : ℕ → ℕ → Stop → List ℕ
-parent_id parent n p = take (held parent n p.id_len) p.id
+use Rattle.places.specs.Keys.{key_at}
 
 abbrev pub blank_entry : Entry
-blank_entry = record { id = replicate 32 0; id_len = 0; stop = 0; key = no_place }
-
-unfoldable pub entry_of : Stop → List ℕ → ℕ → Entry
-entry_of s parent i = record { id = s.id; id_len = s.id_len; stop = i; key = stop_key s parent }
+blank_entry = record { id = held 32 []; stop = 0; key = no_place }
 
 unfoldable pub entry_at : List Stop → ℕ → Entry
-unfolding entry_of
-entry_at ss i = entry_of (stop_at ss i) (id_of (stop_at ss (stop_at ss i).parent)) i
+entry_at ss i = record { id = (stop_at ss i).id; stop = i; key = key_at ss i }
 
 unfoldable pub id_before : Entry → Entry → Bool
-id_before a b = less_bytes (take a.id_len a.id) (take b.id_len b.id)
+id_before a b = less_bytes (bytes_of a.id) (bytes_of b.id)
+
+-- the first put in among those behind it
+abbrev pub first_in : List Entry → List Entry
+first_in [] = []
+first_in (x ∷ xs) = insert_by id_before x xs
 
 -- the first entry that is one place with a key
 abbrev pub first_entry : PlaceKey → List Entry → Option ℕ

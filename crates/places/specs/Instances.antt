@@ -1,22 +1,19 @@
 -- Three stops of one name at the latitudes 0, 1000 and 2000 microdegrees: a and b match, b and c match, a and c do not.
-use Rattle.std.specs.Prelude.{◌≡◌, true, List, [], ◌∷◌, ℕ, take, replicate}
+use Rattle.std.specs.Prelude.{◌≡◌, List, [], ◌∷◌, ℕ, take, None, Some}
 use Rattle.std.specs.Float.{binary64}
 use Rattle.std.specs.Float.Ieee.{of_bits}
+use Rattle.texts.specs.Texts.{held}
 use Rattle.stops.specs.declared.Stop.{Stop}
 use Rattle.places.specs.Places.{places_of}
 
 -- a stop with an id of one byte and the name x, at longitude 0 and at the latitude of these bits
 abbrev pub stop_named_x : ℕ → ℕ → Stop
 stop_named_x id bits = record {
-  id = id ∷ replicate 31 0;
-  id_len = 1;
-  name = 120 ∷ replicate 63 0;
-  name_len = 1;
-  named = true;
-  parent = 65535;
+  id = held 32 (id ∷ []);
+  name = Some (held 64 (120 ∷ []));
+  parent = None;
   location_type = 0;
-  located = true;
-  degrees = record { latitude = of_bits binary64 bits; longitude = of_bits binary64 0 };
+  degrees = Some (record { latitude = of_bits binary64 bits; longitude = of_bits binary64 0 });
   members = 0;
 }
 

@@ -1,4 +1,5 @@
-// The places of stops: each stop of type 0, in the byte order of ids, goes with the smallest-id representative that is one place with it, else as its own.
+// The places of stops: each stop of type 0, in the byte order of ids, goes with the smallest-id representative that is one place with it,
+// else as its own.
 #![tactic(auto)]
 
 mod entries;
@@ -6,12 +7,12 @@ pub mod group;
 mod sorted;
 
 use place::PlaceKey;
+use texts::Text;
 
 // What the grouping reads of a stop: its id, its number and its place key.
-#[derive(Clone, Copy)]
+#[derive(Clone, Copy, Debug, PartialEq, Eq)]
 pub struct Entry {
-    pub id: [u8; 32],
-    pub id_len: u8,
+    pub id: Text<32>,
     pub stop: u16,
     pub key: PlaceKey,
 }

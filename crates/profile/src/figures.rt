@@ -38,6 +38,7 @@ impl Figures {
     }
 }
 
+// Methods, and no `From`: callers chain them.
 impl Row {
     pub fn figures(self) -> Figures
         ensures { result ≡ row_figures self }

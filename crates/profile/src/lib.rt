@@ -52,7 +52,8 @@ pub struct Row {
     pub middle_alight: u16,
 }
 
-// The blank ride, the blank journey and the blank row: what stands where there is none.
+// The blank ride, the blank journey and the blank row: what stands where there is none. Functions over the derived defaults, so that
+// contracts say which values these are.
 pub fn no_ride() -> Ride
     ensures { result ≡ no_ride }
 {

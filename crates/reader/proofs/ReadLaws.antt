@@ -1,52 +1,47 @@
 -- What the reader's functions do, as equations: the next record, the turns of a reader that goes on, the whole file.
 use Rattle.refusal.specs.declared.Accepted.TheVariants.{Taken}
-use Rattle.std.specs.Prelude.{Ok}
+use Rattle.std.specs.Prelude.{None, Some, Ok}
 use mathlib.Core.Path.{◌≡◌, refl, sym, ap, ◌∙◌, subst}
 use mathlib.Core.Bool.{Bool, true, false, true≢false, false≢true}
 use mathlib.Core.List.{List, [], ◌∷◌}
-use Prim.Native.Nat.{ℕ, ◌+◌, ◌-◌, ◌≤◌, ◌<◌}
+use Prim.Native.Nat.{ℕ, ◌+◌, ◌-◌, ◌≤◌}
 use native.Mathlib.Omega.{arith}
-use borrow.Author.Tests.{le-leb, lt-leb}
 use borrow.Author.Rules.{part_to_end}
 use lib.ListN.{length, take, drop, length-drop}
 use Rattle.refusal.specs.First.{is_refused, Answer}
-use Rattle.fields.specs.Numbers.{u16_at}
-use Rattle.load.specs.declared.Load.{Load}
 use Rattle.file.specs.declared.Reader.{Reader}
 use Rattle.file.specs.declared.Took.{Took}
 use Rattle.file.specs.declared.Fed.{Fed}
 use Rattle.file.specs.Record.{fresh_reader, record_spec}
-use Rattle.file.specs.File.{version_answer, is_second, starts_whole, size_of, body_of, next_spec, fed_spec, end_answer, ended_by, read_spec_of}
-use Rattle.runs.specs.Runs.{open_reader, Left, Turned}
+use Rattle.file.specs.File.{version_answer, is_second, starts_whole, size_of, body_of, whole_of, next_spec, fed_spec, end_answer, ended_by, read_spec_of}
+use Rattle.runs.specs.Runs.{Left, Moved}
 use Rattle.file.proofs.FedLaws.{fed-stops, fed-refuses, fed-room}
+use Rattle.file.proofs.WholeLaws.{whole-tells, none-tells}
 use Rattle.runs.proofs.LeftLaws.{left-first, left_one, left-trans, left-ends}
 
 -- ---- the next record
-
-module _ (r : Reader) (xs : List ℕ) {n : ℕ} (n-is : n ≡ u16_at xs 0) where
-  pub next-whole : {t : Took} → 2 + n ≤ length xs → t ≡ record_spec r (take (2 + n - 2) (drop 2 xs)) → record { answer = t.answer; used = 2 + n; reader = t.reader } ≡ next_spec r xs
-  unfolding next_spec starts_whole
-  next-whole {t} h e =
-      ap (λ (t : Took). record { answer = t.answer; used = 2 + n; reader = t.reader }) (e ∙ ap (λ (k : ℕ). record_spec r (take k (drop 2 xs))) (back n))
-      ∙ sym (rw (sym n-is, le-leb _ _ h) refl)
-    where
-      back : (n : ℕ) → 2 + n - 2 ≡ n
-      back n = omega arith
-
-  pub next-none : length xs < 2 + n → record { answer = Ok Taken; used = 0; reader = r } ≡ next_spec r xs
-  unfolding next_spec starts_whole
-  next-none h = sym (rw (sym n-is, lt-leb _ _ h) refl)
-
--- ---- a turn
-
-next_one : (r : Reader) (xs : List ℕ) → starts_whole xs ≡ true → next_spec r xs ≡ record { answer = (record_spec r (body_of xs)).answer; used = size_of xs; reader = (record_spec r (body_of xs)).reader }
-unfolding next_spec
-next_one r xs e = rw e refl
 
 next-no : (r : Reader) (xs : List ℕ) → starts_whole xs ≡ false → next_spec r xs ≡ record { answer = Ok Taken; used = 0; reader = r }
 unfolding next_spec
 next-no r xs e = rw e refl
 
+next_one : (r : Reader) (xs : List ℕ) → starts_whole xs ≡ true → next_spec r xs ≡ record { answer = (record_spec r (body_of xs)).answer; used = size_of xs; reader = (record_spec r (body_of xs)).reader }
+unfolding next_spec
+next_one r xs e = rw e refl
+
+module _ (r : Reader) (xs : List ℕ) where
+  pub next-none : None ≡ whole_of xs → record { answer = Ok Taken; used = 0; reader = r } ≡ next_spec r xs
+  next-none e = sym (next-no r xs (none-tells xs e))
+
+  pub next-whole : {b : List ℕ} {t : Took} → Some b ≡ whole_of xs → t ≡ record_spec r b → record { answer = t.answer; used = 2 + length b; reader = t.reader } ≡ next_spec r xs
+  next-whole {b} {t} e t-is =
+      let w = whole-tells xs e in
+      let q : t ≡ record_spec r (body_of xs) = t-is ∙ ap (record_spec r) w.is in
+      (λ k. record { answer = (q k).answer; used = w.size k; reader = (q k).reader }) ∙ sym (next_one r xs w.starts)
+
+-- ---- a turn: a record stored in place, or the next one
+
+-- where the next one is refused, or is not there, no more is fed
 module _ (r : Reader) (xs : List ℕ) where
   next-refused : is_refused (next_spec r xs).answer ≡ true → fed_spec r xs ≡ record { answer = (next_spec r xs).answer; used = 0; reader = r }
   next-refused e = go (starts_whole xs) refl
@@ -57,11 +52,11 @@ module _ (r : Reader) (xs : List ℕ) where
           let q = next_one r xs w in
           fed-refuses r xs w (sym (ap (λ (f : Fed). is_refused f.answer) q) ∙ e) ∙ ap (λ (f : Fed). record { answer = f.answer; used = 0; reader = r }) (sym q)
 
-  next-stops : (next_spec r xs).used ≡ 0 → fed_spec r xs ≡ record { answer = Ok Taken; used = 0; reader = r }
+  next-stops : (next_spec r xs).used ≡ 0 → fed_spec r xs ≡ record { answer = (next_spec r xs).answer; used = 0; reader = r }
   next-stops e = go (starts_whole xs) refl
     where
-      go : (b : Bool) → starts_whole xs ≡ b → fed_spec r xs ≡ record { answer = Ok Taken; used = 0; reader = r }
-      go false w = fed-stops r xs w
+      go : (b : Bool) → starts_whole xs ≡ b → fed_spec r xs ≡ record { answer = (next_spec r xs).answer; used = 0; reader = r }
+      go false w = fed-stops r xs w ∙ ap (λ (f : Fed). record { answer = f.answer; used = 0; reader = r }) (sym (next-no r xs w))
       go true w = let q : size_of xs ≡ 0 = sym (ap (λ (f : Fed). f.used) (next_one r xs w)) ∙ e in absurd (omega (arith, q))
 
   next-on : is_refused (next_spec r xs).answer ≡ false → Left r xs (next_spec r xs).reader (next_spec r xs).used
@@ -73,33 +68,25 @@ module _ (r : Reader) (xs : List ℕ) where
           let q = next_one r xs w in
           subst (λ (f : Fed). Left r xs f.reader f.used) (sym q) (left_one r _ xs w refl (sym (ap (λ (f : Fed). is_refused f.answer) q) ∙ e))
 
--- the next record is a turn
-pub next-turned : (r : Reader) (xs : List ℕ) {f : Fed} → f ≡ next_spec r xs → Turned r xs f
-next-turned r xs f-is = rw f-is (record { refused = next-refused r xs; stops = λ e. next-stops r xs; goes_on = next-on r xs })
-
--- and so is a run of an opened reader that used bytes
-pub run-turned : (r : Reader) {xs : List ℕ} {l : Load} {n : ℕ} → (r.opened ≡ true) × (r.second ≡ false) → Left (open_reader r.load) xs (open_reader l) n → 0 < n
-    → Turned r xs (record { answer = Ok Taken; used = n; reader = open_reader l })
-run-turned r {xs} {l} {n} (o, s) left some = record {
-  refused = λ e. absurd (false≢true e);
-  stops = λ e z. absurd (omega (arith, some, z));
-  goes_on = λ e. subst (λ (q : Reader). Left q xs (open_reader l) n) (λ k. record { opened = sym o k; second = sym s k; load = r.load }) left;
-}
-
 -- ---- the turns
 
-module _ {r₀ r : Reader} {bytes : List ℕ} {at : ℕ} {f : Fed} {t : Bool} (l : Left r₀ bytes r at) (f-is : Turned r (take (length bytes - at) (drop at bytes)) f) (t-is : t ≡ is_refused f.answer) where
-  turned : Turned r (drop at bytes) f
-  turned = rw (part_to_end bytes at) at f-is
+module _ {r₀ r : Reader} {bytes : List ℕ} {at : ℕ} (l : Left r₀ bytes r at) where
+  pub left-stored : {new : Reader} {n : ℕ} → Moved r (take (length bytes - at) (drop at bytes)) new (Some n) → Left r₀ bytes new (at + n)
+  left-stored m = left-trans l (rw (part_to_end bytes at) at m.1)
 
-  pub left-refused : t ≡ true → record { answer = f.answer; used = at; reader = r } ≡ fed_spec r₀ bytes
-  left-refused e = left-ends f.answer l (turned.refused (sym t-is ∙ e))
+  -- the reader that stored nothing is the one before
+  module _ {s : Reader} {f : Fed} (same : s ≡ r) (f-is : f ≡ next_spec s (take (length bytes - at) (drop at bytes))) where
+    is : f ≡ next_spec r (drop at bytes)
+    is = f-is ∙ (λ k. next_spec (same k) (part_to_end bytes at k))
 
-  pub left-stops : t ≡ false → f.used ≡ 0 → record { answer = Ok Taken; used = at; reader = r } ≡ fed_spec r₀ bytes
-  left-stops e n = left-ends (Ok Taken) l (turned.stops (sym t-is ∙ e) n)
+    pub left-refused : is_refused f.answer ≡ true → record { answer = f.answer; used = at; reader = s } ≡ fed_spec r₀ bytes
+    left-refused e = (λ k. record { answer = (is k).answer; used = at; reader = same k }) ∙ left-ends _ l (next-refused r (drop at bytes) (ap (λ (f : Fed). is_refused f.answer) (sym is) ∙ e))
 
-  pub left-on : t ≡ false → Left r₀ bytes f.reader (at + f.used)
-  left-on e = left-trans l (turned.goes_on (sym t-is ∙ e))
+    pub left-stops : f.used ≡ 0 → record { answer = f.answer; used = at; reader = s } ≡ fed_spec r₀ bytes
+    left-stops e = (λ k. record { answer = (is k).answer; used = at; reader = same k }) ∙ left-ends _ l (next-stops r (drop at bytes) (ap (λ (f : Fed). f.used) (sym is) ∙ e))
+
+    pub left-on : is_refused f.answer ≡ false → Left r₀ bytes f.reader (at + f.used)
+    left-on e = subst (λ (f : Fed). Left r₀ bytes f.reader (at + f.used)) (sym is) (left-trans l (next-on r (drop at bytes) (ap (λ (f : Fed). is_refused f.answer) (sym is) ∙ e)))
 
 -- ---- the whole file
 

@@ -1,7 +1,7 @@
 -- The calls and rules that steps are tried with.
 use Rattle.std.specs.Prelude.{ℕ, Option}
 use Rattle.calls.specs.declared.CallInput.{CallInput}
-use Rattle.rules.specs.declared.RuleInput.{RuleInput}
+use Rattle.rules.specs.declared.Rule.{Rule}
 
 -- a call of day 0
 abbrev pub call_with : ℕ → ℕ → ℕ → Option ℕ → Option ℕ → CallInput
@@ -16,5 +16,5 @@ call_with trip sequence stop arrival departure = record {
   drop_off = 0;
 }
 
-abbrev pub rule_with : ℕ → ℕ → ℕ → Option ℕ → RuleInput
+abbrev pub rule_with : ℕ → ℕ → ℕ → Option ℕ → Rule
 rule_with from to kind time = record { from = from; to = to; transfer_type = kind; seconds = time }

@@ -42,7 +42,7 @@ fn boarded(load: Load, faults: Faults) -> Load {
 
 // How many good calls are added first.
 fn filling(faults: Faults) -> u16 {
-    if faults.meet(Refusal::NoRoom) { 512 } else { 0 }
+    faults.many(Fault::Meets(Refusal::NoRoom), 512)
 }
 
 fn added(load: Load, faults: Faults) -> Stepped {
@@ -55,7 +55,7 @@ fn added(load: Load, faults: Faults) -> Stepped {
 
 // 64 journeys leave before it where its own is to be the 65th.
 fn tried(faults: Faults) -> Stepped {
-    let before = rides(if faults.have(Fault::Falls) { 128 } else { 0 });
+    let before = rides(faults.many(Fault::Falls, 128));
     added(
         with(boarded(before, faults), filling(faults), good::call),
         faults,

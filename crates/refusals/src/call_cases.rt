@@ -1,7 +1,7 @@
 // Calls of no service: their faults, and calls told in words.
 use crate::fault::{Fault, Faults};
 use crate::inputs::{call_at, faulty_call};
-use crate::loads::{full_of_calls, small};
+use crate::loads::{small, with_calls};
 use crate::pairs;
 use crate::shown::{held, then};
 use crate::step::Step;
@@ -20,8 +20,7 @@ const FAULTS: [Fault; 5] = [
 ];
 
 fn tried(faults: Faults) -> Stepped {
-    let full = faults.meet(Refusal::NoRoom);
-    let load = if full { full_of_calls() } else { small() };
+    let load = with_calls(faults.many(Fault::Meets(Refusal::NoRoom), 512));
     add(load, b"", faulty_call(faults, 0, 1, 600))
 }
 
@@ -60,5 +59,5 @@ pub fn run(rt: &impl Print) -> io::Result<()> {
     told_at(rt, "at the start", 1000)?;
     told_at(rt, "at the horizon", 22600)?;
     told_at(rt, "a second after the horizon", 22601)?;
-    held(rt, Step::Call, full_of_calls().call_count)
+    held(rt, Step::Call, with_calls(512).call_count)
 }

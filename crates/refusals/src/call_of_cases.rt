@@ -21,7 +21,7 @@ const FAULTS: [Fault; 7] = [
 ];
 
 fn tried(faults: Faults) -> Stepped {
-    let calls = if faults.meet(Refusal::NoRoom) { 512 } else { 0 };
+    let calls = faults.many(Fault::Meets(Refusal::NoRoom), 512);
     let load = with(week(2), calls, good::call_of);
     add(load, service_of(faults), faulty_call(faults, 0, 1, 600))
 }
@@ -49,7 +49,7 @@ fn names(rt: &impl Print) -> io::Result<()> {
 }
 
 // When a service runs: its weekdays, start and end.
-#[derive(Clone, Copy)]
+#[derive(Clone, Copy, Debug, PartialEq, Eq)]
 struct Runs {
     weekdays: u8,
     start: u32,

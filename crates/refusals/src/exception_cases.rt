@@ -25,6 +25,7 @@ fn told(rt: &impl Print, label: &str, load: Load, name: &[u8]) -> io::Result<()>
     then(rt, Step::Exception, label, load.exception(name, MONDAY, 1))
 }
 
+// The type is a byte, as any may be handed in, also one that no exception has.
 fn told_of(rt: &impl Print, label: &str, name: &[u8], kind: u8) -> io::Result<()> {
     then(
         rt,

@@ -18,18 +18,18 @@ pub enum Fault {
 
 impl fmt::Display for Fault {
     fn fmt<W: fmt::Write>(&self, f: &mut fmt::Formatter<W>) -> fmt::Result {
-        match *self {
-            Fault::Meets(cause) => write!(f, "{}", u8::from(cause)),
-            Fault::Absent => f.write_str("absent"),
-            Fault::Outside => f.write_str("outside"),
-            Fault::Rests => f.write_str("rests"),
-            Fault::Falls => f.write_str("list falls"),
-        }
+        f.write_str(match *self {
+            Fault::Meets(cause) => return write!(f, "{}", u8::from(cause)),
+            Fault::Absent => "absent",
+            Fault::Outside => "outside",
+            Fault::Rests => "rests",
+            Fault::Falls => "list falls",
+        })
     }
 }
 
 // One fault, or two in the scope's order.
-#[derive(Clone, Copy, Debug)]
+#[derive(Clone, Copy, Debug, PartialEq, Eq)]
 pub struct Faults {
     pub first: Fault,
     pub second: Option<Fault>,
@@ -42,6 +42,11 @@ impl Faults {
 
     pub fn meet(self, cause: Refusal) -> bool {
         self.have(Fault::Meets(cause))
+    }
+
+    // How many of something a load is to have for this fault: so many with it, none without it.
+    pub fn many(self, fault: Fault, count: u16) -> u16 {
+        if self.have(fault) { count } else { 0 }
     }
 }
 

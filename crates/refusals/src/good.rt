@@ -19,7 +19,7 @@ pub fn stop(load: Load, i: u16) -> Stepped {
         },
         ..PLAIN
     };
-    load.stop(&name_of(i), b"", b"", input)
+    load.stop(&name_of(i), None, None, input)
 }
 
 // A call of trip i, which stays at every horizon.

@@ -4,9 +4,8 @@ ghost use Rattle.refusals.specs.Inputs.{call_with, rule_with};
 
 use crate::fault::{Fault, Faults};
 use calls::CallInput;
-use place::Degrees;
 use refusal::Refusal;
-use rules::RuleInput;
+use rules::Rule;
 use stops::StopInput;
 
 // A call of day 0.
@@ -63,6 +62,17 @@ pub fn faulty_call(faults: Faults, sequence: u32, stop: u16, time: u16) -> CallI
     call(trip, sequence, stop, Some(arrival), departure)
 }
 
+// The id or the name of a step: empty, one that is taken, or a new one.
+pub fn name_of(faults: Faults, taken: &'static [u8]) -> &'static [u8] {
+    if faults.meet(Refusal::IdLength) {
+        b""
+    } else if faults.meet(Refusal::IdTaken) {
+        taken
+    } else {
+        b"new"
+    }
+}
+
 // The service that a call names: "A" runs every day, "B" on none.
 pub fn service_of(faults: Faults) -> &'static [u8] {
     if faults.meet(Refusal::ServiceUnknown) {
@@ -74,10 +84,11 @@ pub fn service_of(faults: Faults) -> &'static [u8] {
     }
 }
 
-pub fn rule(from: u16, to: u16, kind: u8, seconds: Option<u16>) -> RuleInput
+// The kind is a byte, as any may be handed in, also one that no rule has.
+pub fn rule(from: u16, to: u16, kind: u8, seconds: Option<u16>) -> Rule
     ensures { result ≡ rule_with from to kind seconds }
 {
-    RuleInput {
+    Rule {
         from,
         to,
         transfer_type: kind,
@@ -85,16 +96,10 @@ pub fn rule(from: u16, to: u16, kind: u8, seconds: Option<u16>) -> RuleInput
     }
 }
 
-// A stop without a name, a parent or a position, of no origin or target.
+// What a stop has beside its texts: no position, of no origin or target.
 pub const PLAIN: StopInput = StopInput {
-    named: false,
-    has_parent: false,
     location_type: 0,
-    located: false,
-    degrees: Degrees {
-        latitude: 0.0,
-        longitude: 0.0,
-    },
+    degrees: None,
     members: 0,
 };
 

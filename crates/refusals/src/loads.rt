@@ -1,4 +1,4 @@
-// Loads that a step is tried on: a small one, with dates and without, and one full of stops, calls, rules or services.
+// Loads that a step is tried on: a small one, with dates and without, and with so many stops, calls, rules or services.
 use crate::good;
 use crate::inputs::call;
 use again::add;
@@ -47,17 +47,18 @@ pub fn week(services: u16) -> Load {
     with(on([20261116, 20261117, 20261118]), services, good::service)
 }
 
-pub fn full_of_stops() -> Load {
-    with(small(), 128, good::stop)
+// So many stops; the small load has the first three.
+pub fn with_stops(count: u16) -> Load {
+    with(small(), count, good::stop)
 }
 
-pub fn full_of_calls() -> Load {
-    with(small(), 512, good::call)
+pub fn with_calls(count: u16) -> Load {
+    with(small(), count, good::call)
 }
 
-// Of stops too.
-pub fn full_of_rules() -> Load {
-    with(full_of_stops(), 128, good::rule)
+// So many rules, and as many stops.
+pub fn with_rules(count: u16) -> Load {
+    with(with_stops(count), count, good::rule)
 }
 
 // So many halves of journeys, none of which equals or beats another.

@@ -24,12 +24,12 @@ mod withdrawal_cases;
 use std::io;
 
 fn run(rt: &impl Print) -> io::Result<()> {
-    open_cases::undated(rt)?;
+    open_cases::without_dates(rt)?;
     stop_cases::run(rt)?;
     call_cases::run(rt)?;
     rule_cases::run(rt)?;
     search_cases::run(rt)?;
-    open_cases::dated(rt)?;
+    open_cases::with_dates(rt)?;
     service_cases::run(rt)?;
     exception_cases::run(rt)?;
     call_of_cases::run(rt)?;
@@ -38,6 +38,7 @@ fn run(rt: &impl Print) -> io::Result<()> {
 }
 
 // A failed write goes unsaid, as what is printed is compared with the file `stdout`.
+// Each program that prints lines has this `main`: one that took `run` would be as long to call.
 fn main(rt: HostRuntime) {
     let _ = run(&rt);
 }

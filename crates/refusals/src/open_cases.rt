@@ -70,7 +70,7 @@ fn change_times(rt: &impl Print) -> io::Result<()> {
     })
 }
 
-pub fn undated(rt: &impl Print) -> io::Result<()> {
+pub fn without_dates(rt: &impl Print) -> io::Result<()> {
     counts(rt)?;
     clocks(rt)?;
     change_times(rt)
@@ -90,7 +90,7 @@ fn open_wrong(rt: &impl Print, label: &str, transfers: u8, now: i64) -> io::Resu
     opened(rt, label, Load::open_dated(settings, [0; 3]))
 }
 
-pub fn dated(rt: &impl Print) -> io::Result<()> {
+pub fn with_dates(rt: &impl Print) -> io::Result<()> {
     open_on(
         rt,
         "with the first and the last date",

@@ -1,13 +1,13 @@
 // Rules: their faults, and rules told in words.
 use crate::fault::{Fault, Faults};
 use crate::inputs::rule;
-use crate::loads::{full_of_rules, searched_if, small};
+use crate::loads::{searched_if, small, with_rules};
 use crate::pairs;
 use crate::shown::{held, then};
 use crate::step::Step;
 use load::Stepped;
 use refusal::Refusal;
-use rules::RuleInput;
+use rules::Rule;
 use std::io;
 
 const FAULTS: [Fault; 5] = [
@@ -19,8 +19,7 @@ const FAULTS: [Fault; 5] = [
 ];
 
 fn tried(faults: Faults) -> Stepped {
-    let full = faults.meet(Refusal::NoRoom);
-    let load = if full { full_of_rules() } else { small() };
+    let load = with_rules(faults.many(Fault::Meets(Refusal::NoRoom), 128));
     let (from, to) = if faults.meet(Refusal::PairTaken) {
         (1, 2)
     } else {
@@ -35,7 +34,7 @@ fn tried(faults: Faults) -> Stepped {
     searched_if(faults.meet(Refusal::AlreadySearched), load).rule(rule(from, to, kind, None))
 }
 
-fn told(rt: &impl Print, label: &str, rule: RuleInput) -> io::Result<()> {
+fn told(rt: &impl Print, label: &str, rule: Rule) -> io::Result<()> {
     then(rt, Step::Rule, label, small().rule(rule))
 }
 
@@ -48,5 +47,5 @@ pub fn run(rt: &impl Print) -> io::Result<()> {
     told(rt, "of type 3 without seconds", rule(2, 1, 3, None))?;
     told(rt, "of type 2 with 0 seconds", rule(2, 1, 2, Some(0)))?;
     told(rt, "of type 4 with 0 seconds", rule(2, 1, 4, Some(0)))?;
-    held(rt, Step::Rule, full_of_rules().rule_count)
+    held(rt, Step::Rule, with_rules(128).rule_count)
 }

@@ -24,7 +24,7 @@ const LIMITED_FAULTS: [Fault; 4] = [
 
 // 65 unbeaten journeys are one too many; neighbours that are refused are two calls of one sequence.
 fn load_of(faults: Faults) -> Load {
-    let load = rides(if faults.meet(Refusal::NoRoom) { 130 } else { 0 });
+    let load = rides(faults.many(Fault::Meets(Refusal::NoRoom), 130));
     let load = if faults.meet(Refusal::Neighbours) {
         with_two(load, 0, 600)
     } else {

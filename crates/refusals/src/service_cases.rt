@@ -1,6 +1,6 @@
 // Services: their faults, and services told in words.
 use crate::fault::{Fault, Faults};
-use crate::inputs::{FIRST, LAST, MONDAY, call_at};
+use crate::inputs::{FIRST, LAST, MONDAY, call_at, name_of};
 use crate::loads::{searched_if, small, week};
 use crate::pairs;
 use crate::shown::{held, then};
@@ -16,16 +16,6 @@ const FAULTS: [Fault; 5] = [
     Fault::Meets(Refusal::DateWrong),
     Fault::Meets(Refusal::ServicesFull),
 ];
-
-fn name_of(faults: Faults) -> &'static [u8] {
-    if faults.meet(Refusal::IdLength) {
-        b""
-    } else if faults.meet(Refusal::IdTaken) {
-        b"A"
-    } else {
-        b"new"
-    }
-}
 
 // A date, or none that the calendar has.
 pub fn date_of(faults: Faults) -> u32 {
@@ -43,7 +33,7 @@ fn tried(faults: Faults) -> Stepped {
         2
     });
     let load = searched_if(faults.meet(Refusal::AlreadySearched), load);
-    load.service(name_of(faults), 127, date_of(faults), LAST)
+    load.service(name_of(faults, b"A"), 127, date_of(faults), LAST)
 }
 
 // A week after a call of a service.

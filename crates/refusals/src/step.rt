@@ -45,7 +45,7 @@ impl fmt::Display for Step {
 
 impl Step {
     // A good step after this one: a call after a rule, a withdrawal and a call after the search, a service after an exception and after a
-    // call that names one, an exception after a service, else a rule.
+    // call that names one, an exception after a service, else a rule. A match, as no function may be handed out of a table.
     pub fn then(self, load: Load) -> Stepped {
         match self {
             Step::Rule | Step::Added | Step::Withdrawal | Step::Withdrawn => good::call(load, 127),

@@ -1,7 +1,7 @@
 // Stops: their faults, and stops told in words.
 use crate::fault::{Fault, Faults};
-use crate::inputs::PLAIN;
-use crate::loads::{full_of_stops, searched_if, small};
+use crate::inputs::{PLAIN, name_of};
+use crate::loads::{searched_if, small, with_stops};
 use crate::pairs;
 use crate::shown::{held, then};
 use crate::step::Step;
@@ -21,28 +21,20 @@ const FAULTS: [Fault; 7] = [
     Fault::Meets(Refusal::StopsFull),
 ];
 
-fn id_of(faults: Faults) -> &'static [u8] {
-    if faults.meet(Refusal::IdLength) {
-        b""
-    } else if faults.meet(Refusal::IdTaken) {
-        b"B"
-    } else {
-        b"new"
-    }
-}
-
 // The parent of a stop, if it has one, is unknown.
 fn tried(faults: Faults) -> Stepped {
-    let full = faults.meet(Refusal::StopsFull);
-    let load = if full { full_of_stops() } else { small() };
+    let load = with_stops(faults.many(Fault::Meets(Refusal::StopsFull), 128));
     let name: &[u8] = if faults.meet(Refusal::NameUnusable) {
         &[b'a'; 65]
     } else {
         b"name"
     };
+    let parent: Option<&[u8]> = if faults.meet(Refusal::ParentUnknown) {
+        Some(b"unknown")
+    } else {
+        None
+    };
     let input = StopInput {
-        named: true,
-        has_parent: faults.meet(Refusal::ParentUnknown),
         location_type: if faults.meet(Refusal::LocationType) {
             2
         } else {
@@ -50,28 +42,24 @@ fn tried(faults: Faults) -> Stepped {
         },
         ..PLAIN
     };
-    searched_if(faults.meet(Refusal::AlreadySearched), load).stop(
-        id_of(faults),
-        name,
-        b"unknown",
-        input,
-    )
+    let load = searched_if(faults.meet(Refusal::AlreadySearched), load);
+    load.stop(name_of(faults, b"B"), Some(name), parent, input)
 }
 
 // A stop and its texts.
-#[derive(Clone, Copy)]
+#[derive(Clone, Copy, Debug, PartialEq)]
 struct NewStop<'a> {
     id: &'a [u8],
-    name: &'a [u8],
-    parent: &'a [u8],
+    name: Option<&'a [u8]>,
+    parent: Option<&'a [u8]>,
     input: StopInput,
 }
 
 fn with_id(id: &[u8]) -> NewStop<'_> {
     NewStop {
         id,
-        name: b"",
-        parent: b"",
+        name: None,
+        parent: None,
         input: PLAIN,
     }
 }
@@ -79,22 +67,19 @@ fn with_id(id: &[u8]) -> NewStop<'_> {
 fn with_name(name: &[u8]) -> NewStop<'_> {
     NewStop {
         id: b"new",
-        name,
-        parent: b"",
-        input: StopInput {
-            named: true,
-            ..PLAIN
-        },
+        name: Some(name),
+        parent: None,
+        input: PLAIN,
     }
 }
 
+// The type is a byte, as any may be handed in, also one that no stop has.
 fn with_parent(parent: &[u8], location_type: u8) -> NewStop<'_> {
     NewStop {
         id: b"new",
-        name: b"",
-        parent,
+        name: None,
+        parent: Some(parent),
         input: StopInput {
-            has_parent: true,
             location_type,
             ..PLAIN
         },
@@ -103,12 +88,12 @@ fn with_parent(parent: &[u8], location_type: u8) -> NewStop<'_> {
 
 impl<'a> NewStop<'a> {
     fn at(self, latitude: f64) -> NewStop<'a> {
+        let degrees = Some(Degrees {
+            latitude,
+            longitude: 0.0,
+        });
         let input = StopInput {
-            located: true,
-            degrees: Degrees {
-                latitude,
-                longitude: 0.0,
-            },
+            degrees,
             ..self.input
         };
         NewStop { input, ..self }
@@ -167,5 +152,5 @@ pub fn run(rt: &impl Print) -> io::Result<()> {
     pairs::each(rt, Step::Stop, &FAULTS, tried)?;
     texts(rt)?;
     names(rt)?;
-    held(rt, Step::Stop, full_of_stops().stop_count)
+    held(rt, Step::Stop, with_stops(128).stop_count)
 }

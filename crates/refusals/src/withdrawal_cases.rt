@@ -60,8 +60,8 @@ fn tried(faults: Faults) -> Stepped {
 
 // 65 journeys are to show again where the list falls.
 fn tried_searched(faults: Faults) -> Stepped {
-    let halves = if faults.have(Fault::Falls) { 130 } else { 0 };
-    withdrawn(searched(hiding(halves)), faults)
+    let load = hiding(faults.many(Fault::Falls, 130));
+    withdrawn(searched(load), faults)
 }
 
 fn told(rt: &impl Print, label: &str, load: Load, key: CallKey) -> io::Result<()> {

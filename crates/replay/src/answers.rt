@@ -2,6 +2,7 @@
 use crate::load_lines;
 use reader::{fresh, is_second, next, read};
 use refusal::{Accepted, Answer};
+use stdio::load_lines::refused;
 use stdio::out::Out;
 
 // The letter of a call's answer.
@@ -13,7 +14,8 @@ fn letter(answer: Answer) -> char {
     }
 }
 
-// Notes the answers to the calls among the records after the version, up to a record that is refused.
+// Notes the answers to the calls among the records after the version, up to a record that is refused. A `while`: how long a record is,
+// the reader says, and so no chain of std cuts the records.
 fn answers(out: &mut Out, second: bool, records: &[u8]) {
     write!(out, "answers");
     let mut between = " ";
@@ -45,6 +47,6 @@ pub fn file(out: &mut Out, bytes: &[u8]) {
             answers(out, is_second(bytes), bytes.get(1..).unwrap_or(&[]));
             load_lines::lines(out, t.reader.load);
         }
-        Err(r) => writeln!(out, "refused {}", u8::from(r)),
+        Err(r) => refused(out, r),
     }
 }

@@ -2,14 +2,15 @@
 use crate::queries;
 use load::Load;
 use places::group::group_places;
+use prefix::first;
 use stdio::load_lines::{horizon, journeys, table};
 use stdio::out::Out;
 
 // Each stop's place; `-` for a stop that has none.
 fn places(out: &mut Out, load: Load) {
-    let places = group_places(load.stops, load.stop_count);
+    let stops = first(&load.stops, load.stop_count);
     write!(out, "places");
-    for place in &places[..load.stop_count.min(128)] {
+    for place in first(&group_places(stops), stops.len()) {
         match *place {
             65535 => write!(out, " -"),
             place => write!(out, " {place}"),
@@ -19,8 +20,8 @@ fn places(out: &mut Out, load: Load) {
 }
 
 pub fn lines(out: &mut Out, load: Load) {
-    let kept = &load.journeys[..load.journey_count.min(64)];
-    table(out, load.calls, load.call_count);
+    let kept = first(&load.journeys, load.journey_count);
+    table(out, &load.calls, load.call_count);
     if load.searched {
         places(out, load);
     }

@@ -10,24 +10,14 @@ mod queries;
 use stdio::input;
 use stdio::out::Out;
 
-// As long as the longest file. A function of its own: the proof of `main` can't hold an array of that length.
-fn buffer() -> [u8; 1000000] {
-    [0; 1000000]
-}
+// As long as the longest file.
+const MOST: usize = 1000000;
 
 fn main(rt: HostRuntime) {
-    let stdin = rt.stdin();
     let mut out = Out::new(rt.stdout());
-    let mut bytes = buffer();
-    let buf: &mut [u8] = &mut bytes;
-    for _ in 0..u64::MAX {
-        if input::head(stdin, buf) < 4 {
-            return;
-        }
-        let Some(size) = input::body(stdin, buf) else {
-            return;
-        };
-        answers::file(&mut out, &buf[..size]);
+    let mut buf = input::zeros::<MOST>();
+    input::each_file(rt.stdin(), &mut buf, |bytes| {
+        answers::file(&mut out, bytes);
         out.end_file();
-    }
+    });
 }

@@ -1,6 +1,6 @@
 -- What every loop of the search cites. A loop goes through a list of numbers, and its invariant is that what is left of the list, offered to the
 -- present state, gives what the whole list gives from the first state.
-use mathlib.Core.Path.{◌≡◌, refl, sym, ◌∙◌, ap}
+use mathlib.Core.Path.{◌≡◌, refl, sym, ◌∙◌, ap, subst}
 use mathlib.Core.Logic.{◌⊎◌, inl, inr}
 use mathlib.Core.Bool.{Bool, true, false, not, ◌&&◌}
 use lib.Dec.{eqb, ltb}
@@ -45,6 +45,10 @@ seen_first {os = os} e w = record { is = w.is ∙ ap (λ (s : St Row). offer_all
 pub single : {l l' : List ℕ} {o : Row} → view l' ≡ offer_to (view l) o → Offered l l' (o ∷ [])
 unfolding offer_all
 single e = record { is = e }
+
+-- the same of a row that is written otherwise
+pub single_as : {l l' : List ℕ} {o r : Row} → o ≡ r → view l' ≡ offer_to (view l) o → Offered l l' (r ∷ [])
+single_as {l} {l'} e w = subst (λ (x : Row). Offered l l' (x ∷ [])) e (single w)
 
 pub both : {l l' l'' : List ℕ} {xs ys : List Row} → Offered l l' xs → Offered l' l'' ys → Offered l l'' (xs ++ ys)
 unfolding offer_all

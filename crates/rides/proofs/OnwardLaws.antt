@@ -1,15 +1,12 @@
 -- What leads on from a ride: its rows are those of the ways on, so that what bounds these covers them; and one change fewer is left after a
 -- ride. The bounds of one change and of two stand side by side.
 use mathlib.Core.Path.{◌≡◌, refl, sym, ap, subst, ◌∙◌}
-use mathlib.Core.Logic.{◌⊎◌, inl, inr}
 use mathlib.Core.Bool.{Bool, true, false, ◌&&◌}
 use mathlib.Core.List.Memᴰ
 use mathlib.Core.List.{List, [], ◌∷◌, Memᴰ}
-use Prim.Native.Nat.{ℕ, zero, suc, ◌+◌, ◌-◌, ◌*◌, ◌≤◌, ◌<◌}
+use Prim.Native.Nat.{ℕ, zero, suc, ◌+◌, ◌-◌, ◌≤◌, ◌<◌}
 use native.Mathlib.Omega.{arith}
-use native.Mathlib.Nat.{eq-or-lt_of_le}
-use lib.ListN.{get_or, set, drop, replicate, length-set, length-replicate}
-use lib.Seq.{get_or-drop, get_or-set_same, get_or-set_other}
+use lib.ListN.{get_or}
 use Rattle.laws.specs.Lists.{span}
 use Rattle.ways.specs.Rides.{Leg, leg, first_ride, first_rides}
 use Rattle.ways.proofs.RideLaws.{firsts-mem}
@@ -29,7 +26,7 @@ use Rattle.rides.specs.Rows.{Sheet, Joins, first_of, three_row, network_of}
 use Rattle.rides.specs.Loops.{over_calls, over_run, onward_rows, alight_on, board_on}
 use Rattle.rides.specs.Sheets.{sheet_of, joins_of}
 use Rattle.rides.specs.Offered.{Offered}
-use Rattle.rides.specs.Reach.{end_of, due_at, NotBefore, Onward, Beside}
+use Rattle.rides.specs.Reach.{end_of, due_at, NotBefore, Onward}
 use Rattle.rides.specs.Routes.{on_row}
 use Rattle.rides.proofs.LoopLaws.{nothing}
 use Rattle.laws.proofs.Bools.{and-true-left, and-true-right}
@@ -64,9 +61,9 @@ on-like s f x p r [] = record { leave = refl; rides = refl; walk = refl; due = r
 on-like s f x p r (l ∷ ls) = on-like s f x r l ls
 
 -- nothing that leads on is walked, if what is due at its bound would be passed over
-pub skip-on : {times l : List ℕ} (feed changes : List ℕ) (n left : ℕ) (f : FirstRide) (b a j m : ℕ) {t : ℕ} {x : Bool}
+pub skip-on : {times : List (List ℕ)} {l : List ℕ} (feed changes : List ℕ) (n left : ℕ) (f : FirstRide) (b a j m : ℕ) {t : ℕ} {x : Bool}
     → Onward times feed changes n → left < 3 → (left ≡ 0 → ⊥) → m < n → (call_at feed m).alight ≡ true → same_run (call_at feed j) (call_at feed m) ≡ true
-    → t ≡ get_or (drop ((left - 1) * 512) times) m 0 → x ≡ passed_over (view l) (row_of f.leave t 3 f.walk 0 0 0 0 0 0 0 0) → x ≡ true
+    → t ≡ get_or (get_or times (left - 1) []) m 0 → x ≡ passed_over (view l) (row_of f.leave t 3 f.walk 0 0 0 0 0 0 0 0) → x ≡ true
     → Offered l l (onward_rows left (sheet_of feed) (joins_of feed changes) n f b a j m)
 unfolding NotBefore due_at sheet_of row_of
 skip-on {times} feed changes n left f b a j m {t} w hl z hm y q e p u =
@@ -99,40 +96,12 @@ module _ (left : ℕ) (feed changes : List ℕ) (n : ℕ) (f p : FirstRide) (j m
 
 -- ---- the bounds side by side
 
-pub beside-start : (one two : List ℕ) → Beside one two (replicate 1024 0) 0
-beside-start one two = record { long = length-replicate {A = ℕ} 1024 0; low = λ m h. absurd (omega arith); high = λ m h. absurd (omega arith) }
-
-pub beside-turn : {one two r : List ℕ} {k x y : ℕ} → k < 512 → x ≡ get_or one k 0 → y ≡ get_or two k 0 → Beside one two r k
-    → Beside one two (set (set r k x) (512 + k) y) (k + 1)
-beside-turn {one} {two} {r} {k} {x} {y} h ex ey w =
-    record {
-      long = length-set (set r k x) (512 + k) y ∙ length-set r k x ∙ w.long;
-      low = λ m l. let d : m ≡ 512 + k → ⊥ = λ e. omega arith in get_or-set_other (set r k x) (512 + k) m y 0 d ∙ low m (eq-or-lt_of_le (omega arith));
-      high = λ m l. high m (eq-or-lt_of_le (omega arith));
-    }
+pub onward-made : {one two : List ℕ} {feed changes : List ℕ} {n : ℕ} → NotBefore feed changes n 1 one → NotBefore feed changes n 2 two
+    → Onward (one ∷ two ∷ []) feed changes n
+onward-made {one} {two} {feed} {changes} {n} w₁ w₂ = record { on = on }
   where
-    low : (m : ℕ) → (m ≡ k) ⊎ (m < k) → get_or (set r k x) m 0 ≡ get_or one m 0
-    low m (inl e) = rw e (get_or-set_same r k x 0 (omega (arith, w.long)) ∙ ex)
-    low m (inr l) = let d : m ≡ k → ⊥ = λ e. omega arith in get_or-set_other r k m x 0 d ∙ w.low m l
-
-    high : (m : ℕ) → (m ≡ k) ⊎ (m < k) → get_or (set (set r k x) (512 + k) y) (512 + m) 0 ≡ get_or two m 0
-    high m (inl e) = rw e (get_or-set_same (set r k x) (512 + k) y 0 (omega (arith, length-set r k x, w.long)) ∙ ey)
-    high m (inr l) =
-        let d : 512 + m ≡ 512 + k → ⊥ = λ e. omega arith in
-        let d' : 512 + m ≡ k → ⊥ = λ e. omega arith in
-        get_or-set_other (set r k x) (512 + k) (512 + m) y 0 d ∙ get_or-set_other r k (512 + m) x 0 d' ∙ w.high m l
-
-pub beside-all : {one two r : List ℕ} {k : ℕ} → k ≤ 512 → 512 ≤ k → Beside one two r k → Beside one two r 512
-beside-all {one} {two} {r} {k} a b w = let e : k ≡ 512 = omega arith in subst (Beside one two r) e w
-
--- the same numbers are bounds too
-same-bounds : (feed changes : List ℕ) (n left : ℕ) (at new : List ℕ) → ((m : ℕ) → m < n → get_or new m 0 ≡ get_or at m 0) → NotBefore feed changes n left at → NotBefore feed changes n left new
-unfolding NotBefore
-same-bounds feed changes n left at new e w r v h y q k = omega (arith, e r.a h, w r v h y q k)
-
-pub onward-made : {one two r feed changes : List ℕ} {n : ℕ} → n ≤ 512 → NotBefore feed changes n 1 one → NotBefore feed changes n 2 two → Beside one two r 512 → Onward r feed changes n
-onward-made {one} {two} {r} {feed} {changes} {n} h w₁ w₂ b = record { on = λ left lo hi. go left (eq-or-lt_of_le hi) lo }
-  where
-    go : (left : ℕ) → (left ≡ 2) ⊎ (left < 2) → 1 ≤ left → NotBefore feed changes n left (drop ((left - 1) * 512) r)
-    go left (inl e) lo = rw e (same-bounds feed changes n 2 two (drop ((2 - 1) * 512) r) (λ m l. get_or-drop 512 r m 0 ∙ b.high m (omega arith)) w₂)
-    go left (inr l) lo = let e : left ≡ 1 = omega arith in rw e (same-bounds feed changes n 1 one (drop ((1 - 1) * 512) r) (λ m l. b.low m (omega arith)) w₁)
+    on : (left : ℕ) → 1 ≤ left → left ≤ 2 → NotBefore feed changes n left (get_or (one ∷ two ∷ []) (left - 1) [])
+    on zero lo hi = absurd (omega arith)
+    on (suc zero) lo hi = w₁
+    on (suc (suc zero)) lo hi = w₂
+    on (suc (suc (suc k))) lo hi = absurd (omega arith)

@@ -1,7 +1,7 @@
 -- How early one can be at a target from where a ride alights, by so many further rides: arrays of 512 numbers, one for each place, one
 -- array for each number of changes left. Made from the last ride back, so that each number is that of the rides that join. For request
 -- 10, whose loops pass over what leads on from a place where a journey due at its number would be passed over.
-use Rattle.std.specs.Prelude.{◌≡◌, true, ℕ, suc, ◌+◌, ◌-◌, ◌*◌, ◌≤◌, ◌<◌, length, get_or, drop}
+use Rattle.std.specs.Prelude.{◌≡◌, true, ℕ, suc, ◌+◌, ◌-◌, ◌≤◌, ◌<◌, length, get_or}
 use Rattle.std.specs.Coded.{le_prop}
 use mathlib.Core.List.{List, [], ◌∷◌, Memᴰ}
 use Rattle.laws.specs.Lists.{span}
@@ -37,16 +37,16 @@ TargetTimes feed n at = (changes : List ℕ) → NotBefore feed changes n 0 at
 abbrev pub TimesBefore : List ℕ → List ℕ → ℕ → List ℕ → List ℕ → Type 0
 TimesBefore feed changes n at new = (left : ℕ) → NotBefore feed changes n left at → NotBefore feed changes n (suc left) new
 
--- the array b has one such array with one change left, and after it one with two
-pub record Onward (b feed changes : List ℕ) (n : ℕ) : Type 0 where
-  pub on : (left : ℕ) → 1 ≤ left → left ≤ 2 → NotBefore feed changes n left (drop ((left - 1) * 512) b)
+-- b has such an array with one change left, and one with two
+pub record Onward (b : List (List ℕ)) (feed changes : List ℕ) (n : ℕ) : Type 0 where
+  pub on : (left : ℕ) → 1 ≤ left → left ≤ 2 → NotBefore feed changes n left (get_or b (left - 1) [])
 
 -- so that a struct can keep them
 NotBefore-prop : (feed changes : List ℕ) (n left : ℕ) (at : List ℕ) → IsProp (NotBefore feed changes n left at)
 unfolding NotBefore due_at
 NotBefore-prop feed changes n left at = Prim.hlevel le_prop
 
-pub Onward-prop : (b feed changes : List ℕ) (n : ℕ) → IsProp (Onward b feed changes n)
+pub Onward-prop : (b : List (List ℕ)) (feed changes : List ℕ) (n : ℕ) → IsProp (Onward b feed changes n)
 Onward-prop b feed changes n = Prim.hlevel NotBefore-prop
 
 -- ---- on the way there
@@ -75,9 +75,3 @@ JoinsAt feed changes n boards m t = (call_at feed m).alight ≡ true → Least f
 pub record Each (P : ℕ → ℕ → Type 0) (i n : ℕ) (l : List ℕ) : Type 0 where
   pub long : length l ≡ 512
   pub each : (k : ℕ) → i ≤ k → k < n → P k (get_or l k 0)
-
--- r begins with the first k numbers of one and has those of two from 512 on
-pub record Beside (one two r : List ℕ) (k : ℕ) : Type 0 where
-  pub long : length r ≡ 1024
-  pub low : (m : ℕ) → m < k → get_or r m 0 ≡ get_or one m 0
-  pub high : (m : ℕ) → m < k → get_or r (512 + m) 0 ≡ get_or two m 0

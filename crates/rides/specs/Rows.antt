@@ -6,6 +6,7 @@ use Rattle.laws.specs.Bits.{bits_of}
 use Rattle.ways.specs.Rides.{Leg, First, Network, journeys}
 use Rattle.profile.specs.declared.Row.{Row}
 use Rattle.profile.specs.Journeys.{row_of}
+use Rattle.candidate.specs.declared.Offer.{Offer}
 use Rattle.feed.specs.declared.FeedCall.{FeedCall}
 use Rattle.feed.specs.declared.FirstRide.{FirstRide}
 use Rattle.feed.specs.Feed.{same_run, leave_of, arrival_of}
@@ -38,6 +39,25 @@ first_of s i o k =
       day = (s.at i).day;
       stop = (s.at k).stop;
       arrival = (s.at k).arrival;
+    }
+
+-- what is offered of a journey of so many rides that begins with f and whose last arrives at `arrival`, to target x, but for the calls of
+-- its other rides
+unfoldable pub offer_of : Sheet → FirstRide → ℕ → ℕ → ℕ → Offer
+offer_of s f rides arrival x =
+    record {
+      leave = f.leave;
+      arrival = arrival_of (s.target_walk x) arrival;
+      rides = rides;
+      walk = f.walk;
+      origin = f.origin;
+      target = x;
+      board = f.board;
+      alight = f.alight;
+      board2 = 0;
+      alight2 = 0;
+      middle_board = 0;
+      middle_alight = 0;
     }
 
 -- one ride, to target x

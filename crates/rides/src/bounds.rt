@@ -1,5 +1,6 @@
 // How early a last ride can bring one to a target: 1024 numbers, made once. The first 512 are one for each boarding call, the others one
-// for each 128 seconds of the day, for whatever departs then or later. A time past 65535 is cut to it.
+// for each 128 seconds of the day, for whatever departs then or later. A time past 65535 is cut to it, and 65535 stands where there is no
+// ride: the latest time is what a minimum begins with, so it needs no option.
 ghost use Rattle.std.specs.Prelude.{◌≡◌, ◌+◌, ◌≤◌, ◌<◌};
 ghost use Rattle.laws.specs.Bits.{bits_of};
 ghost use Rattle.feed.specs.Feed.{target_walk_of, arrival_of};

@@ -9,7 +9,7 @@ use feed::layout::Feed;
 use feed::{FeedCall, FirstRide, at_most_512, leave_of, origins_of, same_run, targets_of};
 
 // The first n calls of the feed.
-#[derive(Clone, Copy)]
+#[derive(Clone, Copy, Debug, PartialEq, Eq)]
 pub struct Calls<'a> {
     pub feed: &'a Feed,
     pub n: usize,
@@ -17,7 +17,7 @@ pub struct Calls<'a> {
 }
 
 // A ride, by the places of the calls where it boards and alights.
-#[derive(Clone, Copy)]
+#[derive(Clone, Copy, Debug, PartialEq, Eq)]
 pub struct Ride {
     pub board: usize,
     pub alight: usize,

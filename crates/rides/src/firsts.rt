@@ -7,7 +7,7 @@ use crate::later::Later;
 use feed::can_walk;
 
 // A first ride by its places, and the origin that one walks from.
-#[derive(Clone, Copy)]
+#[derive(Clone, Copy, Debug, PartialEq, Eq)]
 pub struct FirstLeg {
     pub origin: u8,
     pub ride: Ride,
@@ -16,7 +16,7 @@ pub struct FirstLeg {
 
 // Those that are left: first from `origin` those that board at the call at `board` and alight at one of `later`, then those from `origins`
 // that board there, then those that board at `next` or behind it.
-#[derive(Clone, Copy, Drop)]
+#[derive(Clone, Copy, Debug, PartialEq, Eq, Drop)]
 pub struct FirstRides<'a> {
     pub calls: Calls<'a>,
     pub next: usize,
@@ -87,6 +87,7 @@ impl<'a> Iterator for FirstRides<'a> {
 
     ghost remaining = { item_count firsts_left };
 
+    // A loop: a call where one can't alight, an origin too far and a call where one can't board give nothing, and the next is looked at.
     #[inline]
     fn next(&mut self) -> Option<FirstLeg> {
         'seek: loop {

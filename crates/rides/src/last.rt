@@ -11,8 +11,9 @@ use crate::bounds::bucket_of;
 use crate::calls::{Calls, Ride};
 use crate::later::Later;
 use crate::lent::Lent;
+use crate::offer::offer;
 use candidate::{Offer, candidate, passes_over};
-use feed::{FirstRide, arrival_of};
+use feed::FirstRide;
 use state::is_refused;
 use state::layout::State;
 
@@ -21,23 +22,13 @@ fn last_at(st: &mut State, calls: &Calls, f: FirstRide, r: Ride, x: u8)
     requires { x < 4 }
     ensures { Offered st.old st.new (last_at (sheet_of calls.now.feed.now) f r.board r.alight x) }
 {
-    let a = calls.at(r.alight);
-    let walk = calls.target_walk(x);
+    let first = offer(calls, f, 2, calls.at(r.alight).arrival, x);
     candidate(
         st,
         Offer {
-            leave: f.leave,
-            arrival: arrival_of(walk, a.arrival),
-            rides: 2,
-            walk: f.walk,
-            origin: f.origin,
-            target: x as u16,
-            board: f.board,
-            alight: f.alight,
             board2: r.board as u16,
             alight2: r.alight as u16,
-            middle_board: 0,
-            middle_alight: 0,
+            ..first
         },
     );
 }
@@ -76,7 +67,7 @@ fn last_alightings(st: &mut State, calls: &Calls, f: FirstRide, j: usize)
 }
 
 // The last rides, and how early one of them can bring one to a target.
-#[derive(Clone, Copy)]
+#[derive(Clone, Copy, Debug, PartialEq, Eq)]
 pub struct LastRides<'a> {
     pub lent: Lent<'a>,
     pub bounds: &'a [u16; 1024],

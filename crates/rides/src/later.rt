@@ -5,7 +5,7 @@ use crate::calls::Calls;
 use feed::{FeedCall, same_run};
 
 // The places from `next` on, as far as their calls are of the trip and day of `call`.
-#[derive(Clone, Copy, Drop)]
+#[derive(Clone, Copy, Debug, PartialEq, Eq, Drop)]
 pub struct Later<'a> {
     pub calls: Calls<'a>,
     pub call: FeedCall,

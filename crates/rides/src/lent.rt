@@ -8,7 +8,7 @@ use feed::layout::{Changes, Feed};
 use feed::{FirstRide, change_at, join};
 
 // The calls, and the changes between stops.
-#[derive(Clone, Copy)]
+#[derive(Clone, Copy, Debug, PartialEq, Eq)]
 pub struct Lent<'a> {
     pub calls: Calls<'a>,
     pub changes: &'a Changes,

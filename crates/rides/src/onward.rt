@@ -1,6 +1,6 @@
 // Journeys of three rides: what leads on from a ride. With no change left that is the targets where it ends, else every ride that it
 // joins, with the number of changes left falling by one at each.
-ghost use Rattle.std.specs.Prelude.{◌≡◌, ◌+◌, ◌-◌, ◌*◌, ◌≤◌, ◌<◌, get_or, drop};
+ghost use Rattle.std.specs.Prelude.{◌≡◌, [], ◌+◌, ◌-◌, ◌≤◌, ◌<◌, get_or};
 ghost use Rattle.feed.specs.Feed.{call_at};
 ghost use Rattle.rides.specs.Loops.{over_bits, over_calls, over_run, end_at, onward_rows, alight_on, board_on};
 ghost use Rattle.rides.specs.Offered.{Offered};
@@ -12,8 +12,9 @@ use crate::bits::Digits;
 use crate::calls::{Calls, Ride};
 use crate::later::Later;
 use crate::lent::Lent;
+use crate::offer::offer;
 use candidate::{Offer, candidate, passes_over};
-use feed::{FirstRide, arrival_of};
+use feed::FirstRide;
 use state::is_refused;
 use state::layout::State;
 
@@ -22,23 +23,15 @@ fn end_at(st: &mut State, calls: &Calls, f: FirstRide, p: Ride, r: Ride, x: u8)
     requires { x < 4 }
     ensures { Offered st.old st.new (end_at (sheet_of calls.now.feed.now) f p.board p.alight r.board r.alight x) }
 {
-    let a = calls.at(r.alight);
-    let walk = calls.target_walk(x);
+    let first = offer(calls, f, 3, calls.at(r.alight).arrival, x);
     candidate(
         st,
         Offer {
-            leave: f.leave,
-            arrival: arrival_of(walk, a.arrival),
-            rides: 3,
-            walk: f.walk,
-            origin: f.origin,
-            target: x as u16,
-            board: f.board,
-            alight: f.alight,
             board2: r.board as u16,
             alight2: r.alight as u16,
             middle_board: p.board as u16,
             middle_alight: p.alight as u16,
+            ..first
         },
     );
 }
@@ -53,10 +46,10 @@ fn ends(st: &mut State, calls: &Calls, f: FirstRide, p: Ride, r: Ride, targets: 
 }
 
 // The journeys of three rides, and how early one can be at a target from where a ride alights.
-#[derive(Clone, Copy)]
+#[derive(Clone, Copy, Debug, PartialEq, Eq)]
 pub struct ThreeRides<'a> {
     pub lent: Lent<'a>,
-    pub times: &'a [u16; 1024],
+    pub times: &'a [[u16; 512]; 2],
     ghost on_time: { Onward times.now lent.calls.feed.now lent.changes.now lent.calls.n } by { Onward-prop times.now lent.calls.feed.now lent.changes.now lent.calls.n },
 }
 
@@ -66,9 +59,9 @@ impl<'a> ThreeRides<'a> {
     // A time before which nothing that leads on from m by so many changes is due.
     fn time_on(&self, left: u16, m: usize) -> u16
         requires { (1 ≤ left) × (left ≤ 2) × (m < 512) }
-        ensures { result ≡ get_or (drop ((left - 1) * 512) self.now.times.now) m 0 }
+        ensures { result ≡ get_or (get_or self.now.times.now (left - 1) []) m 0 }
     {
-        self.times[(left as usize - 1) * 512 + m]
+        self.times[left as usize - 1][m]
     }
 
     // What leads on from the ride q, after r, if one can alight there.

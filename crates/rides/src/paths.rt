@@ -12,11 +12,12 @@ use crate::calls::{Calls, Ride};
 use crate::firsts::FirstRides;
 use crate::last::LastRides;
 use crate::lent::Lent;
+use crate::offer::offer;
 use crate::onward::ThreeRides;
 use crate::reach::onward_times;
-use candidate::{Offer, candidate};
+use candidate::candidate;
+use feed::FirstRide;
 use feed::layout::{Changes, Feed};
-use feed::{FirstRide, arrival_of};
 use state::is_refused;
 use state::layout::State;
 
@@ -25,24 +26,7 @@ fn direct_at(st: &mut State, calls: &Calls, f: FirstRide, x: u8)
     requires { x < 4 }
     ensures { Offered st.old st.new (direct_at (sheet_of calls.now.feed.now) f x) }
 {
-    let walk = calls.target_walk(x);
-    candidate(
-        st,
-        Offer {
-            leave: f.leave,
-            arrival: arrival_of(walk, f.arrival),
-            rides: 1,
-            walk: f.walk,
-            origin: f.origin,
-            target: x as u16,
-            board: f.board,
-            alight: f.alight,
-            board2: 0,
-            alight2: 0,
-            middle_board: 0,
-            middle_alight: 0,
-        },
-    );
+    candidate(st, offer(calls, f, 1, f.arrival, x));
 }
 
 // The targets of the stop where the ride ends.

@@ -1,8 +1,8 @@
 // How early one can be at a target from where a ride alights, by so many further rides: 512 numbers for each number of changes left.
-// A time past 65535 is cut to it.
+// A time past 65535 is cut to it, which also stands where no target is reached.
 ghost use Rattle.std.specs.Prelude.{◌≡◌, ◌+◌, ◌≤◌, ◌<◌};
 ghost use Rattle.rides.specs.Bounds.{AtCall};
-ghost use Rattle.rides.specs.Reach.{TargetTimes, TimesBefore, Onward, BoardAt, Least, JoinsAt, Each, Beside};
+ghost use Rattle.rides.specs.Reach.{TargetTimes, TimesBefore, Onward, BoardAt, Least, JoinsAt, Each};
 
 use crate::bounds::alight_bound;
 use crate::calls::{Calls, Ride};
@@ -96,23 +96,11 @@ pub fn times_before(lent: &Lent, at: &[u16; 512]) -> [u16; 512]
     put_joined(lent, &put_boards(&lent.calls, at))
 }
 
-// Two such arrays in one.
-fn beside(one: &[u16; 512], two: &[u16; 512]) -> [u16; 1024]
-    ensures { Beside one.now two.now result 512 }
-{
-    let mut both = [0u16; 1024];
-    for i in 0..512 {
-        both[i] = one[i];
-        both[512 + i] = two[i];
-    }
-    both
-}
-
 // Those with one change left, then those with two.
-pub fn onward_times(lent: &Lent) -> [u16; 1024]
+pub fn onward_times(lent: &Lent) -> [[u16; 512]; 2]
     ensures { Onward result lent.now.calls.feed.now lent.now.changes.now lent.now.calls.n }
 {
     let one = times_before(lent, &target_times(&lent.calls));
     let two = times_before(lent, &one);
-    beside(&one, &two)
+    [one, two]
 }

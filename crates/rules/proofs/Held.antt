@@ -6,9 +6,8 @@ use mathlib.Core.List.{List}
 use lib.ListN.{length, take}
 use Rattle.laws.proofs.Prefixes.{all-taken, full-taken}
 use Rattle.rules.specs.declared.Rule.{Rule}
-use Rattle.rules.specs.declared.RuleInput.{RuleInput}
 use Rattle.rules.specs.Rules.{rule_tests}
 
-pub tests-taken : (n : ℕ) (rs : List Rule) → length rs ≡ 128 → (b : Bool) (stops : ℕ) (i : RuleInput) → rule_tests b stops (take n rs) (length (take n rs)) i ≡ rule_tests b stops rs n i
+pub tests-taken : (n : ℕ) (rs : List Rule) → length rs ≡ 128 → (b : Bool) (stops : ℕ) (r : Rule) → rule_tests b stops (take n rs) (length (take n rs)) r ≡ rule_tests b stops rs n r
 unfolding rule_tests
 tests-taken n rs long b stops i = rw (all-taken n rs, full-taken n rs 128 long) refl

@@ -16,8 +16,7 @@ use Rattle.laws.proofs.Slots.{blank-set, below-cases, anyb-below}
 use Rattle.refusal.specs.First.{first_answer}
 use Rattle.refusal.proofs.FirstLaws.{taken-all-fail}
 use Rattle.rules.specs.declared.Rule.{Rule}
-use Rattle.rules.specs.declared.RuleInput.{RuleInput}
-use Rattle.rules.specs.Rules.{blank_rule, same_pair, type_right_of, rule_tests, rule_of}
+use Rattle.rules.specs.Rules.{blank_rule, same_pair, type_right_of, rule_tests}
 use Rattle.rules.specs.Sound.{rule_at, NoRulesSound, RuleKeepsSound, MoreStopsSound}
 
 pub no-rules-sound : NoRulesSound
@@ -43,7 +42,7 @@ more-stops-sound stops more rules count le s = record {
 }
 
 -- what a taken rule has passed
-pub record Passed (b : Bool) (stops : ℕ) (rules : List Rule) (count : ℕ) (i : RuleInput) : Type 0 where
+pub record Passed (b : Bool) (stops : ℕ) (rules : List Rule) (count : ℕ) (i : Rule) : Type 0 where
   pub unsearched : b ≡ false
   pub from_known : i.from < stops
   pub to_known : i.to < stops
@@ -59,7 +58,7 @@ type-small : (k : ℕ) (m : Option ℕ) → type_right_of k m ≡ true → k ≤
 type-small k (Some n) e = leb-true k 3 e
 type-small k None e = leb-true k 3 (and-true-right (not (eqb k 2)) (leb k 3) e)
 
-pub passed : (b : Bool) (stops : ℕ) (rules : List Rule) (count : ℕ) (i : RuleInput) → first_answer (rule_tests b stops rules count i) ≡ Ok Taken → Passed b stops rules count i
+pub passed : (b : Bool) (stops : ℕ) (rules : List Rule) (count : ℕ) (i : Rule) → first_answer (rule_tests b stops rules count i) ≡ Ok Taken → Passed b stops rules count i
 unfolding rule_tests
 passed b stops rules count i e =
     let f = taken-all-fail (rule_tests b stops rules count i) ((λ q. let z : ◌≡◌ {A = ℕ} 0 1 = cc in omega arith), ((λ q. let z : ◌≡◌ {A = ℕ} 0 1 = cc in omega arith), ((λ q. let z : ◌≡◌ {A = ℕ} 0 1 = cc in omega arith), ((λ q. let z : ◌≡◌ {A = ℕ} 0 1 = cc in omega arith), ((λ q. let z : ◌≡◌ {A = ℕ} 0 1 = cc in omega arith), tt))))) e in
@@ -73,14 +72,14 @@ passed b stops rules count i e =
       room = leb-false 128 count f.1.1.1.1.0;
     }
 
-module _ (rules : List Rule) (count : ℕ) (i : RuleInput) (long : length rules ≡ 128) (room : count < 128) where
-  at_new : rule_at (set rules count (rule_of i)) count ≡ rule_of i
+module _ (rules : List Rule) (count : ℕ) (i : Rule) (long : length rules ≡ 128) (room : count < 128) where
+  at_new : rule_at (set rules count i) count ≡ i
   unfolding rule_at
-  at_new = get_or-set_same rules count (rule_of i) blank_rule (omega arith)
+  at_new = get_or-set_same rules count i blank_rule (omega arith)
 
-  at_old : (k : ℕ) → k < count → rule_at (set rules count (rule_of i)) k ≡ rule_at rules k
+  at_old : (k : ℕ) → k < count → rule_at (set rules count i) k ≡ rule_at rules k
   unfolding rule_at
-  at_old k h = get_or-set_other rules count k (rule_of i) blank_rule (λ e. omega arith)
+  at_old k h = get_or-set_other rules count k i blank_rule (λ e. omega arith)
 
 pub rule-keeps-sound : RuleKeepsSound
 unfolding rule_at
@@ -90,12 +89,12 @@ rule-keeps-sound b stops rules count i s e =
     let old = at_old rules count i s.long p.room in
     record {
       few = omega (arith, p.room);
-      long = length-set rules count (rule_of i) ∙ s.long;
-      blank = blank-set blank_rule 128 rules count (rule_of i) s.long p.room s.blank;
-      from_known = λ k h. below-cases (λ m. (rule_at (set rules count (rule_of i)) m).from < stops) count k h (λ l. subst (λ (r : Rule). r.from < stops) (sym (old k l)) (s.from_known k l)) (subst (λ (r : Rule). r.from < stops) (sym new) p.from_known);
-      to_known = λ k h. below-cases (λ m. (rule_at (set rules count (rule_of i)) m).to < stops) count k h (λ l. subst (λ (r : Rule). r.to < stops) (sym (old k l)) (s.to_known k l)) (subst (λ (r : Rule). r.to < stops) (sym new) p.to_known);
-      types = λ k h. below-cases (λ m. (rule_at (set rules count (rule_of i)) m).transfer_type ≤ 3) count k h (λ l. subst (λ (r : Rule). r.transfer_type ≤ 3) (sym (old k l)) (s.types k l)) (subst (λ (r : Rule). r.transfer_type ≤ 3) (sym new) p.type-fits);
-      alone = λ j k l h. below-cases (λ m. j < m → same_pair (rule_at (set rules count (rule_of i)) m).from (rule_at (set rules count (rule_of i)) m).to (rule_at (set rules count (rule_of i)) j) ≡ false) count k h
+      long = length-set rules count i ∙ s.long;
+      blank = blank-set blank_rule 128 rules count i s.long p.room s.blank;
+      from_known = λ k h. below-cases (λ m. (rule_at (set rules count i) m).from < stops) count k h (λ l. subst (λ (r : Rule). r.from < stops) (sym (old k l)) (s.from_known k l)) (subst (λ (r : Rule). r.from < stops) (sym new) p.from_known);
+      to_known = λ k h. below-cases (λ m. (rule_at (set rules count i) m).to < stops) count k h (λ l. subst (λ (r : Rule). r.to < stops) (sym (old k l)) (s.to_known k l)) (subst (λ (r : Rule). r.to < stops) (sym new) p.to_known);
+      types = λ k h. below-cases (λ m. (rule_at (set rules count i) m).transfer_type ≤ 3) count k h (λ l. subst (λ (r : Rule). r.transfer_type ≤ 3) (sym (old k l)) (s.types k l)) (subst (λ (r : Rule). r.transfer_type ≤ 3) (sym new) p.type-fits);
+      alone = λ j k l h. below-cases (λ m. j < m → same_pair (rule_at (set rules count i) m).from (rule_at (set rules count i) m).to (rule_at (set rules count i) j) ≡ false) count k h
           (λ q l'. rw (old k q, old j (omega arith)) (s.alone j k l' q))
           (λ l'. rw (new, old j l') (anyb-below (same_pair i.from i.to) rules count j blank_rule l' (omega (arith, s.long, p.room)) p.new)) l;
     }

@@ -1,15 +1,13 @@
--- **Rule**: why one is sent back, in the scope's order 15, 9, 12, 13, 11, and the record of one that is taken.
-use Rattle.std.specs.Option.{unwrap_or}
+-- **Rule**: why one is sent back, in the scope's order 15, 9, 12, 13, 11. One that is taken is held as it was handed in.
 use Rattle.refusal.specs.First.{Answer}
-use Rattle.std.specs.Prelude.{ℕ, List, [], ◌∷◌, Bool, false, not, ◌&&◌, take, ltb, leb, eqb, None, Option, Some, Err, is_some}
+use Rattle.std.specs.Prelude.{ℕ, List, [], ◌∷◌, Bool, not, ◌&&◌, take, ltb, leb, eqb, None, Option, Some, Err}
 use Rattle.laws.specs.Lists.{anyb}
 use Rattle.refusal.specs.declared.Refusal.TheVariants.{AlreadySearched, FieldRange, RuleType, PairTaken, NoRoom}
 use Rattle.rules.specs.declared.Rule.{Rule}
-use Rattle.rules.specs.declared.RuleInput.{RuleInput}
 
 -- what an unused slot holds
 abbrev pub blank_rule : Rule
-blank_rule = record { from = 0; to = 0; transfer_type = 0; seconds = 0; timed = false }
+blank_rule = record { from = 0; to = 0; transfer_type = 0; seconds = None }
 
 abbrev pub same_pair : ℕ → ℕ → Rule → Bool
 same_pair from to r = eqb r.from from && eqb r.to to
@@ -20,7 +18,7 @@ type_right_of k (Some n) = leb k 3
 type_right_of k None = not (eqb k 2) && leb k 3
 
 -- why a rule is sent back: `searched` and `stops` are the load's, of whose rules `count` are taken
-unfoldable pub rule_tests : Bool → ℕ → List Rule → ℕ → RuleInput → List (Bool × Answer)
+unfoldable pub rule_tests : Bool → ℕ → List Rule → ℕ → Rule → List (Bool × Answer)
 rule_tests searched stops rules count i =
     (searched, Err AlreadySearched)
     ∷ (not (ltb i.from stops && ltb i.to stops), Err FieldRange)
@@ -28,7 +26,3 @@ rule_tests searched stops rules count i =
     ∷ (anyb (same_pair i.from i.to) (take count rules), Err PairTaken)
     ∷ (leb 128 count, Err NoRoom)
     ∷ []
-
--- the record, as taken
-abbrev pub rule_of : RuleInput → Rule
-rule_of i = record { from = i.from; to = i.to; transfer_type = i.transfer_type; seconds = unwrap_or i.seconds 0; timed = is_some i.seconds }

@@ -3,8 +3,7 @@ use Rattle.refusal.specs.declared.Accepted.TheVariants.{Taken}
 use Rattle.std.specs.Prelude.{ℕ, ◌+◌, ◌-◌, ◌≤◌, ◌<◌, ◌≡◌, Bool, false, List, length, get_or, drop, set, replicate, Ok}
 use Rattle.refusal.specs.First.{first_answer}
 use Rattle.rules.specs.declared.Rule.{Rule}
-use Rattle.rules.specs.declared.RuleInput.{RuleInput}
-use Rattle.rules.specs.Rules.{blank_rule, same_pair, rule_tests, rule_of}
+use Rattle.rules.specs.Rules.{blank_rule, same_pair, rule_tests}
 
 -- the rule of a number
 unfoldable pub rule_at : List Rule → ℕ → Rule
@@ -25,8 +24,8 @@ NoRulesSound = (stops : ℕ) → RulesSound stops (replicate 128 blank_rule) 0
 
 -- a rule that is taken keeps the rules sound
 abbrev pub RuleKeepsSound : Type 0
-RuleKeepsSound = (searched : Bool) (stops : ℕ) (rules : List Rule) (count : ℕ) (i : RuleInput) → RulesSound stops rules count
-    → first_answer (rule_tests searched stops rules count i) ≡ Ok Taken → RulesSound stops (set rules count (rule_of i)) (count + 1)
+RuleKeepsSound = (searched : Bool) (stops : ℕ) (rules : List Rule) (count : ℕ) (r : Rule) → RulesSound stops rules count
+    → first_answer (rule_tests searched stops rules count r) ≡ Ok Taken → RulesSound stops (set rules count r) (count + 1)
 
 -- and so do more stops
 abbrev pub MoreStopsSound : Type 0

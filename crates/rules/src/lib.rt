@@ -4,39 +4,24 @@
 ghost use Rattle.std.specs.Prelude.{◌≡◌, length};
 ghost use Rattle.refusal.specs.First.{first_answer};
 ghost use Rattle.laws.specs.Lists.{anyb};
-ghost use Rattle.rules.specs.Rules.{blank_rule, same_pair, type_right_of, rule_tests, rule_of};
+ghost use Rattle.rules.specs.Rules.{blank_rule, same_pair, type_right_of, rule_tests};
 
 use refusal::{Accepted, Answer, Refusal};
 
-#[derive(Clone, Copy, Debug, PartialEq, Eq)]
-pub struct RuleInput {
+// A rule is held as it is handed in. `transfer_type` is a number and no enum: any may be handed in, and one above 3 is sent back.
+#[derive(Clone, Copy, Debug, Default, PartialEq, Eq)]
+pub struct Rule {
     pub from: u16,
     pub to: u16,
     pub transfer_type: u8,
     pub seconds: Option<u16>,
 }
 
-// `seconds` is 0 where none were given. Beside `timed`, and no option: C lends rules as plain numbers, which have the 0 too.
-#[derive(Clone, Copy, Debug, PartialEq, Eq)]
-pub struct Rule {
-    pub from: u16,
-    pub to: u16,
-    pub transfer_type: u8,
-    pub seconds: u16,
-    pub timed: bool,
-}
-
-// What an unused slot holds.
+// What an unused slot holds: the default, by a name that contracts can give it.
 pub fn blank_rule() -> Rule
     ensures { result ≡ blank_rule }
 {
-    Rule {
-        from: 0,
-        to: 0,
-        transfer_type: 0,
-        seconds: 0,
-        timed: false,
-    }
+    Rule::default()
 }
 
 fn same_pair(rule: Rule, from: u16, to: u16) -> bool
@@ -52,6 +37,7 @@ fn rule_known(rules: &[Rule], from: u16, to: u16) -> bool
     rules.iter().any(|&rule| same_pair(rule, from, to))
 }
 
+// `kind` is the number handed in.
 fn type_right(kind: u8, seconds: Option<u16>) -> bool
     ensures { result ≡ type_right_of kind seconds }
 {
@@ -63,7 +49,7 @@ fn type_right(kind: u8, seconds: Option<u16>) -> bool
 
 // What a rule is answered, by the rules taken: 15, 9, 12, 13, 11.
 #[tactic(auto, unfolding(crate::specs::Rules::rule_tests, refusal::specs::First::first_answer))]
-pub fn rule_answer(searched: bool, stops: usize, rules: &[Rule], input: RuleInput) -> Answer
+pub fn rule_answer(searched: bool, stops: usize, rules: &[Rule], input: Rule) -> Answer
     ensures { result ≡ first_answer (rule_tests searched stops rules.now (length rules.now) input) }
 {
     if searched {
@@ -82,17 +68,4 @@ pub fn rule_answer(searched: bool, stops: usize, rules: &[Rule], input: RuleInpu
         return Err(Refusal::NoRoom);
     }
     Ok(Accepted::Taken)
-}
-
-// The record of a rule that is taken.
-pub fn rule_of(input: RuleInput) -> Rule
-    ensures { result ≡ rule_of input }
-{
-    Rule {
-        from: input.from,
-        to: input.to,
-        transfer_type: input.transfer_type,
-        seconds: input.seconds.unwrap_or(0),
-        timed: input.seconds.is_some(),
-    }
 }

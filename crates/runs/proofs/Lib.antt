@@ -1,4 +1,3 @@
 pub mod LeftLaws
-pub mod FitLaws
-pub mod RunLaws
-pub mod Held
+pub mod StoreLaws
+pub mod MovedLaws

@@ -1,134 +1,119 @@
-// A loop for each kind that carries the load, and a run by the kind of the next record.
-ghost use Rattle.std.specs.Prelude.{◌≡◌, false};
-ghost use Rattle.runs.specs.Runs.{open_reader, Left};
+// A stop, a rule or a call that its record hands in is stored, if the load takes it; all else is left to the reader.
+// What is not stored leaves by a guard, before anything is written.
+ghost use Rattle.std.specs.Prelude.{◌≡◌, []};
+ghost use Rattle.fields.specs.Layout.{
+  text_at,
+  option_text_at,
+  name_at,
+  parent_at,
+  stop_filled_of,
+  call_filled_of,
+  rule_filled_of,
+};
+ghost use Rattle.fields.specs.Records.{stop_in, call_in, rule_in};
+ghost use Rattle.load.specs.Steps.{stop_spec, call_spec, rule_spec};
+ghost use Rattle.runs.specs.Runs.{Stored, Takes, Moved};
 
-use crate::Run;
-use crate::fits::{call_told, rule_told, size_of, stop_told};
 use calls::Uncut;
+use fields::layout::{call_filled, kind_of, rule_filled, stop_filled};
+use fields::records::{call_in, rule_in, stop_in};
+use file::Reader;
+use file::framed::whole;
+use file::stop_texts::{id_text, name_text, parent_text};
 use load::Load;
+use prefix::first;
+use refusal::is_taken;
+use rules::rule_answer;
+use stop_answer::{parent_of, stop_answer};
+use stops::taken::stop_of;
+use table::step::uncut;
 
-fn stop_run(load: Load, bytes: &[u8]) -> Run
-    ensures { Left (open_reader load) bytes.now (open_reader result.load) result.used }
+fn store_stop(load: &mut Load, b: &[u8]) -> bool
+    ensures { Stored (stop_filled_of b.now)
+        (stop_spec load.old (text_at b.now 1) (option_text_at b.now (name_at b.now)) (option_text_at b.now (parent_at b.now)) (stop_in b.now))
+        load.old load.new result }
 {
-    let mut next = load;
-    let mut at: usize = 0;
-    while at < bytes.len() {
-        let stops = next.stops;
-        let n = next.stop_count;
-        let told = stop_told(next.searched, stops, n, &bytes[at..]);
-        let size = size_of(&bytes[at..]);
-        if told.fits {
-            let stop = told.stop;
-            next.stops[n] = stop;
-            next.stop_count = n + 1;
-            at += size;
-        } else {
-            return Run {
-                used: at,
-                load: next,
-            };
-        }
+    if !stop_filled(b) {
+        return false;
     }
-    Run {
-        used: at,
-        load: next,
+    let (id, name, parent, input) = (id_text(b), name_text(b), parent_text(b), stop_in(b));
+    let at = load.stop_count;
+    let stops = first(&load.stops, at);
+    let station = parent_of(stops, parent);
+    let answer = stop_answer(load.searched, stops, station, id, name, parent, input);
+    if !is_taken(answer) {
+        return false;
     }
+    load.stops[at] = stop_of(id, name, station, input);
+    load.stop_count = at + 1;
+    true
 }
 
-fn rule_run(load: Load, bytes: &[u8]) -> Run
-    ensures { Left (open_reader load) bytes.now (open_reader result.load) result.used }
+fn store_rule(load: &mut Load, b: &[u8]) -> bool
+    ensures { Stored (rule_filled_of b.now) (rule_spec load.old (rule_in b.now)) load.old load.new result }
 {
-    let mut next = load;
-    let mut at: usize = 0;
-    while at < bytes.len() {
-        let rules = next.rules;
-        let n = next.rule_count;
-        let told = rule_told(next.searched, next.stop_count, rules, n, &bytes[at..]);
-        let size = size_of(&bytes[at..]);
-        if told.fits {
-            let rule = told.rule;
-            next.rules[n] = rule;
-            next.rule_count = n + 1;
-            at += size;
-        } else {
-            return Run {
-                used: at,
-                load: next,
-            };
-        }
+    if !rule_filled(b) {
+        return false;
     }
-    Run {
-        used: at,
-        load: next,
+    let rule = rule_in(b);
+    let at = load.rule_count;
+    let rules = first(&load.rules, at);
+    if !is_taken(rule_answer(load.searched, load.stop_count, rules, rule)) {
+        return false;
     }
+    load.rules[at] = rule;
+    load.rule_count = at + 1;
+    true
 }
 
 // A call that goes in without a cut is stored; one outside the window is passed over. On a dated load each call names its service.
-fn call_run(load: Load, bytes: &[u8]) -> Run
-    requires { load.week.dated ≡ false }
-    ensures { Left (open_reader load) bytes.now (open_reader result.load) result.used }
+fn store_call(load: &mut Load, b: &[u8]) -> bool
+    ensures { Stored (call_filled_of b.now) (call_spec load.old [] (call_in b.now)) load.old load.new result }
 {
-    let mut next = load;
-    let mut at: usize = 0;
-    while at < bytes.len() {
-        let settings = next.settings;
-        let n = next.call_count;
-        let h = next.table_horizon;
-        let told = call_told(settings, next.searched, next.stop_count, n, h, &bytes[at..]);
-        let size = size_of(&bytes[at..]);
-        match told {
-            Uncut::In(call) => {
-                next.calls[n] = call;
-                next.call_count = n + 1;
-                next.horizon = h;
-                next.limits = next.table_limits;
-                at += size;
-                continue;
-            }
-            Uncut::Outside => {
-                next.horizon = h;
-                next.limits = next.table_limits;
-                at += size;
-                continue;
-            }
-            Uncut::Other => {
-                return Run {
-                    used: at,
-                    load: next,
-                };
-            }
-        }
+    if load.week.dated || !call_filled(b) {
+        return false;
     }
-    Run {
-        used: at,
-        load: next,
+    let at = load.call_count;
+    let h = load.table_horizon;
+    let told = uncut(
+        load.settings,
+        load.searched,
+        load.stop_count,
+        at,
+        h,
+        call_in(b),
+    );
+    if matches!(told, Uncut::Other) {
+        return false;
+    }
+    load.horizon = h;
+    load.limits = load.table_limits;
+    if let Uncut::In(call) = told {
+        load.calls[at] = call;
+        load.call_count = at + 1;
+    }
+    true
+}
+
+// The match stays, since each kind is stored elsewhere.
+fn store(load: &mut Load, b: &[u8]) -> bool
+    ensures { Takes load.old b.now load.new result }
+{
+    match kind_of(b) {
+        2 => store_stop(load, b),
+        3 => store_call(load, b),
+        4 => store_rule(load, b),
+        _ => false,
     }
 }
 
-// The kind of the next record, 0 where there is none.
-fn kind_ahead(bytes: &[u8]) -> u8 {
-    if 2 < bytes.len() {
-        return bytes[2];
-    }
-    0
-}
-
-// The records of one kind at the start of the bytes that the load takes as they come.
-pub fn run(load: Load, bytes: &[u8]) -> Run
-    ensures { Left (open_reader load) bytes.now (open_reader result.load) result.used }
+// The record at the start of the bytes, stored if the reader's load is opened and takes it: how many bytes it is.
+pub fn stored(reader: &mut Reader, bytes: &[u8]) -> Option<usize>
+    ensures { Moved reader.old bytes.now reader.new result }
 {
-    let kind = kind_ahead(bytes);
-    if kind == 2 {
-        return stop_run(load, bytes);
+    if reader.second || !reader.opened {
+        return None;
     }
-    if kind == 3 {
-        if load.week.dated {
-            return Run { used: 0, load };
-        }
-        return call_run(load, bytes);
-    }
-    if kind == 4 {
-        return rule_run(load, bytes);
-    }
-    Run { used: 0, load }
+    let b = whole(bytes)?;
+    store(&mut reader.load, b).then_some(2 + b.len())
 }

@@ -9,10 +9,8 @@ use std::io::{Stderr, Stdout};
 use stdio::input;
 use writer::write;
 
-// As long as the longest file that is read. A function of its own: the proof of `main` can't hold an array of that length.
-fn buffer() -> [u8; 1048576] {
-    [0; 1048576]
-}
+// As long as the longest file that is read.
+const MOST: usize = 1048576;
 
 // As long as the longest file of a load that steps make.
 const ROOM: usize = 33588;
@@ -28,14 +26,13 @@ fn tell(stderr: Stderr, answer: Answer, load: Load) {
 
 fn save(stdout: Stdout, load: Load) -> Result<(), Refusal> {
     let mut out = [0; ROOM];
-    let wrote = write(load, &mut out);
-    wrote.answer?;
-    let _ = stdout.write_all(&out[..wrote.length.min(ROOM)]);
+    let size = write(load, &mut out)?;
+    let _ = stdout.write_all(&out[..size.min(ROOM)]);
     Ok(())
 }
 
 fn main(rt: HostRuntime) {
-    let mut bytes = buffer();
+    let mut bytes = input::zeros::<MOST>();
     let buf: &mut [u8] = &mut bytes;
     let held = input::rest(rt.stdin(), buf, 0);
     let t = read(&buf[..held]);

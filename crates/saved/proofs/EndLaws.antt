@@ -9,6 +9,7 @@ use Rattle.laws.specs.Lists.{one_of}
 use Rattle.laws.proofs.Bools.{or-false-left, or-false-right}
 use Rattle.laws.proofs.Every.{one-of}
 use Rattle.calls.specs.Sound.{horizons}
+use Rattle.load.specs.Load.{stopped}
 use Rattle.steps.specs.Lists.{end_of}
 use Rattle.writer.specs.Wrote.{unwritable}
 use Rattle.written.proofs.EndLaws.{end_whole}
@@ -34,9 +35,9 @@ not_stopped dated stopped h e = or-false-left stopped (ltb h 21600) (or-false-ri
 pub passes-writable : PassesWritable
 passes-writable l w p = record {
   whole = w;
-  dateless = no-dates l.week.dated l.stopped l.table_horizon p;
-  unstopped = not_stopped l.week.dated l.stopped l.table_horizon p;
-  uncut = never-cut l.week.dated l.stopped l.table_horizon p w.own.sound.table.known;
+  dateless = no-dates l.week.dated (stopped l) l.table_horizon p;
+  unstopped = not_stopped l.week.dated (stopped l) l.table_horizon p;
+  uncut = never-cut l.week.dated (stopped l) l.table_horizon p w.own.sound.table.known;
 }
 
 pub end-reads-back : EndReadsBack

@@ -20,7 +20,8 @@ use Rattle.file.specs.declared.Took.{Took}
 use Rattle.file.specs.Record.{open_reader, kind_right, filled, record_tests, step_in, stepped_by, settled, record_spec}
 use Rattle.file.specs.File.{starts_whole, size_of, body_of, later, fed_spec}
 use Rattle.file.proofs.FedLaws.{none-whole, fed-stops, fed-goes-on}
-use Rattle.codec.specs.Shapes.{two_bytes, framed}
+use Rattle.buffer.specs.Bytes.{two_bytes}
+use Rattle.codec.specs.Shapes.{framed}
 use Rattle.saved.specs.Saved.{read_as, Takes, Feeds, none, more}
 use Rattle.codec.proofs.ShapeLaws.{two-long, read-two}
 

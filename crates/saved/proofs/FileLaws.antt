@@ -1,6 +1,6 @@
 -- A written load is read as it was, with its epochs at the start.
 use Rattle.refusal.specs.declared.Accepted.TheVariants.{Taken}
-use Rattle.std.specs.Prelude.{Err, Ok}
+use Rattle.std.specs.Prelude.{None, Option, Some, Err, Ok, is_some}
 use mathlib.Core.Path.{◌≡◌, refl, sym, ap, ◌∙◌, subst}
 use mathlib.Core.Bool.{Bool, true, false, not, cond, true≢false}
 use mathlib.Core.List.{List, [], ◌∷◌, ◌++◌, map}
@@ -45,6 +45,10 @@ use Rattle.saved.proofs.SlotLaws.{up_to, up_none, up-all, load_of}
 use Rattle.saved.proofs.StopLaws.{stop-takes}
 use Rattle.saved.proofs.RuleLaws.{rule-takes}
 use Rattle.saved.proofs.CallLaws.{all-at, call-takes}
+
+pub none-by : (o : Option ℕ) → is_some o ≡ false → o ≡ None
+none-by (Some n) e = absurd (true≢false e)
+none-by None e = refl
 
 -- ---- settings
 
@@ -220,8 +224,7 @@ module _ (l : Load) (w : Writable l) (unsearched : l.searched ≡ false) where
     horizon = sym (w.whole.own.sound.same_horizon unsearched ∙ w.uncut) t;
     limits = sym (w.whole.own.sound.same_limits unsearched ∙ no-limits) t;
     searched = sym unsearched t;
-    stopped = sym w.unstopped t;
-    limit = sym (w.whole.own.sound.no_limit w.unstopped) t;
+    limit = sym (none-by l.limit w.unstopped) t;
     week = sym (w.whole.own.sound.week.undated w.dateless) t;
   }
 

@@ -30,7 +30,7 @@ use Rattle.codec.specs.Parts.{at_start}
 use Rattle.writer.specs.File.{settings_file, stop_file, rule_file, call_file, search_file, write_spec_of}
 use Rattle.saved.specs.Saved.{load_at_start, Writable, stop_record, rule_record, call_record, records_of, Takes, Feeds, none, more, FileIs, RecordsTaken, ReadsBack, OneFile, OneFileBack}
 use Rattle.saved.proofs.FeedLaws.{takes, feeds-append}
-use Rattle.saved.proofs.FileLaws.{all-fed, first-opens, read_all}
+use Rattle.saved.proofs.FileLaws.{none-by, all-fed, first-opens, read_all}
 
 -- ---- reading
 
@@ -100,7 +100,7 @@ searched-fed l w e =
     subst (λ (bs : List (List ℕ)). Feeds (empty_load (at_start l.settings)) bs (load_at_start l)) (records-are l e)
     (feeds-append
     (subst (λ (s : Settings). Feeds (empty_load (at_start s)) (records_of (unsearched_of l)) (load_at_start (unsearched_of l))) (same-settings l) (all-fed (unsearched_of l) (back-writable l w) (unsearched-new l)))
-    (more (search-takes (load_at_start (unsearched_of l)) (load_at_start l) (search-at (unsearched_of l) l (unsearched-new l) (own-finished l w.whole.own e w.unstopped)) (same_horizon l)) none))
+    (more (search-takes (load_at_start (unsearched_of l)) (load_at_start l) (search-at (unsearched_of l) l (unsearched-new l) (own-finished l w.whole.own e (none-by l.limit w.unstopped))) (same_horizon l)) none))
 
 pub records-taken : RecordsTaken
 records-taken l w = go l.searched refl

@@ -1,4 +1,5 @@
 -- An array whose first elements are taken and whose others are blank, as it is filled.
+use Rattle.std.specs.Prelude.{None}
 use mathlib.Core.Path.{◌≡◌, refl, sym, ap, ◌∙◌}
 use mathlib.Core.Bool.{Bool, false}
 use mathlib.Core.List.{List, [], ◌∷◌, ◌++◌}
@@ -62,7 +63,6 @@ load_of s stops stopCount rules ruleCount calls callCount = record {
   horizon = 21600;
   limits = 0;
   searched = false;
-  stopped = false;
-  limit = 0;
+  limit = None;
   week = undated_week;
 }

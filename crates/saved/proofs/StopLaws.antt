@@ -1,8 +1,8 @@
 -- Each stop of a written load is taken again, with its number.
 use Rattle.refusal.specs.declared.Accepted.TheVariants.{Taken}
-use Rattle.std.specs.Prelude.{None, Option, Some, Ok, is_some}
+use Rattle.std.specs.Prelude.{None, Option, Some, Ok, is_some, option_map}
 use mathlib.Core.Path.{◌≡◌, refl, ap, ◌∙◌}
-use mathlib.Core.Bool.{Bool, true, false, not, cond, ◌&&◌}
+use mathlib.Core.Bool.{Bool, true, false, not, ◌&&◌}
 use mathlib.Core.List.{List, [], ◌∷◌}
 use Prim.Native.Nat.{ℕ, zero, suc, ◌+◌, ◌<◌}
 use native.Mathlib.Omega.{arith}
@@ -16,11 +16,11 @@ use Rattle.refusal.specs.First.{first_answer}
 use Rattle.settings.specs.declared.Settings.{Settings}
 use Rattle.stops.specs.declared.Stop.{Stop}
 use Rattle.stops.specs.declared.StopInput.{StopInput}
-use Rattle.stops.specs.Texts.{same_bytes_of, shown}
-use Rattle.stops.specs.Stops.{id_of, is_it, find_stop}
+use Rattle.stops.specs.Texts.{same_bytes_of}
+use Rattle.stops.specs.Stops.{id_of, name_of, is_it, find_stop}
 use Rattle.stops.specs.Answer.{station_of, id_wrong, is_known, type_wrong, name_needed, name_wrong, stop_tests}
 use Rattle.stops.specs.Taken.{stop_of, blank_stop}
-use Rattle.stops.specs.Sound.{stop_at, StopsSound}
+use Rattle.stops.specs.Sound.{stop_at, Parented, StopsSound}
 use Rattle.calls.specs.declared.Call.{Call}
 use Rattle.rules.specs.declared.Rule.{Rule}
 use Rattle.load.specs.declared.Load.{Load}
@@ -31,8 +31,8 @@ use Rattle.steps.specs.Steps.{filling, stepped}
 use Rattle.file.specs.Record.{kind_right, filled, step_in}
 use Rattle.codec.specs.Kinds.{stop_body}
 use Rattle.codec.proofs.BackLaws.{back}
-use Rattle.written.proofs.StopLaws.{shown-wrong, shown_of}
-use Rattle.codec.specs.Parts.{name_of, has_parent, station_of_stop, parent_id_of, stop_input_of}
+use Rattle.written.proofs.StopLaws.{some-map}
+use Rattle.codec.specs.Parts.{parent_id_of, stop_input_of}
 use Rattle.written.specs.Kept.{StopKept}
 use Rattle.saved.specs.Saved.{Takes, stop_record}
 use Rattle.saved.proofs.FeedLaws.{takes}
@@ -59,15 +59,15 @@ find_none p (x ∷ xs) m n = rw (n 0 (omega arith)) (find_none p xs (m + 1) (λ 
 
 -- ---- a stop that no test sends back
 
-module _ (searched : Bool) (ss : List Stop) (k : ℕ) (f : Option ℕ) (id name : List ℕ) (i : StopInput) where
-  no_test : searched ≡ false → id_wrong id ≡ false → is_known ss k id ≡ false → type_wrong i.location_type i.has_parent ≡ false
-      → (i.has_parent && not (is_some f)) ≡ false → name_wrong i.named (name_needed i) id name ≡ false → leb 128 k ≡ false
-      → first_answer (stop_tests searched ss k f id name i) ≡ Ok Taken
+module _ (searched : Bool) (ss : List Stop) (k : ℕ) (f : Option ℕ) (id : List ℕ) (name parent : Option (List ℕ)) (i : StopInput) where
+  no_test : searched ≡ false → id_wrong id ≡ false → is_known ss k id ≡ false → type_wrong i.location_type (is_some parent) ≡ false
+      → (is_some parent && not (is_some f)) ≡ false → name_wrong name (name_needed parent i) id ≡ false → leb 128 k ≡ false
+      → first_answer (stop_tests searched ss k f id name parent i) ≡ Ok Taken
   unfolding stop_tests first_answer
   no_test a b c d e g h = rw (a, b, c, d, e, g, h) refl
 
-stop-taken : (l : Load) (id name parent : List ℕ) (i : StopInput) (f : Option ℕ) → station_in l parent i ≡ f
-    → first_answer (stop_tests l.searched l.stops l.stop_count f id name i) ≡ Ok Taken
+stop-taken : (l : Load) (id : List ℕ) (name parent : Option (List ℕ)) (i : StopInput) (f : Option ℕ) → station_in l parent ≡ f
+    → first_answer (stop_tests l.searched l.stops l.stop_count f id name parent i) ≡ Ok Taken
     → stop_spec l id name parent i ≡ record { answer = Ok Taken; load = with_stops l (set l.stops l.stop_count (stop_of id name f i)) (l.stop_count + 1) }
 unfolding stop_spec
 stop-taken l id name parent i f e t = rw (e, t) refl
@@ -93,7 +93,7 @@ module _ (stops : List Stop) (count k : ℕ) (sound : StopsSound stops count) (b
       (ap is_some (find_none (is_it false (id_of (stop_at stops k))) (take k stops) 0 (λ j h. let g : j < k = omega (arith, first-long) in ap (is_it false (id_of (stop_at stops k))) (first-at j g) ∙ sound.alone j k g below)))
 
   -- a station before it is found by its id
-  station-at : (p : ℕ) → p < k → (stop_at stops p).location_type ≡ 1 → station_of (up_to blank_stop 128 stops k) k true (id_of (stop_at stops p)) ≡ Some p
+  station-at : (p : ℕ) → p < k → (stop_at stops p).location_type ≡ 1 → station_of (up_to blank_stop 128 stops k) k (Some (id_of (stop_at stops p))) ≡ Some p
   unfolding station_of
   station-at p h e =
       let test = is_it true (id_of (stop_at stops p)) in
@@ -108,47 +108,55 @@ module _ (stops : List Stop) (count k : ℕ) (sound : StopsSound stops count) (b
       and-off false y e = refl
 
   module _ (told : StopKept stops k (stop_at stops k)) where
-    station-is : station_of (up_to blank_stop 128 stops k) k (has_parent (stop_at stops k)) (shown (has_parent (stop_at stops k)) (parent_id_of stops (stop_at stops k))) ≡ station_of_stop (stop_at stops k)
-    unfolding station_of
-    station-is = go (has_parent (stop_at stops k)) told.parent_first
-      where
-        go : (h : Bool) → (h ≡ true → ((stop_at stops k).parent < k) × ((stop_at stops (stop_at stops k).parent).location_type ≡ 1))
-            → station_of (up_to blank_stop 128 stops k) k h (shown h (parent_id_of stops (stop_at stops k))) ≡ cond h (Some (stop_at stops k).parent) None
-        go true w = station-at (stop_at stops k).parent (w refl).0 (w refl).1
-        go false w = refl
+    abbrev here : Stop
+    here = stop_at stops k
 
-    found : (has_parent (stop_at stops k) && not (is_some (station_of_stop (stop_at stops k)))) ≡ false
-    found = go (has_parent (stop_at stops k))
+    abbrev parent : Option (List ℕ)
+    parent = parent_id_of stops here
+
+    station-is : station_of (up_to blank_stop 128 stops k) k parent ≡ here.parent
+    unfolding station_of
+    station-is = go here.parent told.parent_first
       where
-        go : (h : Bool) → (h && not (is_some (cond h (Some (stop_at stops k).parent) None))) ≡ false
-        go true = refl
-        go false = refl
+        go : (p : Option ℕ) → Parented stops k p → station_of (up_to blank_stop 128 stops k) k (option_map (λ (q : ℕ). id_of (stop_at stops q)) p) ≡ p
+        go (Some p) w = station-at p w.0 w.1
+        go None w = refl
+
+    found : (is_some parent && not (is_some here.parent)) ≡ false
+    found = go here.parent
+      where
+        go : (p : Option ℕ) → (is_some (option_map (λ (q : ℕ). id_of (stop_at stops q)) p) && not (is_some p)) ≡ false
+        go (Some p) = refl
+        go None = refl
+
+    type-right : type_wrong here.location_type (is_some parent) ≡ false
+    type-right = ap (type_wrong here.location_type) (some-map (λ (q : ℕ). id_of (stop_at stops q)) here.parent) ∙ told.type_right
 
     -- what its record hands in
-    step_is : step_in (stop_record stops (stop_at stops k)) ≡ filling (stop (id_of (stop_at stops k)) (shown (stop_at stops k).named (name_of (stop_at stops k))) (shown (has_parent (stop_at stops k)) (parent_id_of stops (stop_at stops k))) (stop_input_of (stop_at stops k)))
+    step_is : step_in (stop_record stops here) ≡ filling (stop (id_of here) (name_of here) parent (stop_input_of here))
     unfolding step_in stop_record stop_body stop_input_of
     step_is =
-        let b = back.stop (id_of (stop_at stops k)) (name_of (stop_at stops k)) (parent_id_of stops (stop_at stops k)) (stop_input_of (stop_at stops k)) told.degrees in
+        let b = back.stop (id_of here) (name_of here) parent (stop_input_of here) told.degrees in
         λ t. filling (stop (b.id_is t) (b.name_is t) (b.parent_is t) (b.rest_is t))
 
-    filled_is : filled false (stop_record stops (stop_at stops k)) ≡ true
+    filled_is : filled false (stop_record stops here) ≡ true
     unfolding filled stop_record stop_body stop_input_of
-    filled_is = (back.stop (id_of (stop_at stops k)) (name_of (stop_at stops k)) (parent_id_of stops (stop_at stops k)) (stop_input_of (stop_at stops k)) told.degrees).filled
+    filled_is = (back.stop (id_of here) (name_of here) parent (stop_input_of here) told.degrees).filled
 
     module _ (s : Settings) (rules : List Rule) (ruleCount : ℕ) (calls : List Call) (callCount : ℕ) where
       abbrev at : ℕ → Load
       at n = load_of s (up_to blank_stop 128 stops n) n rules ruleCount calls callCount
 
-      stepped-is : stop_spec (at k) (id_of (stop_at stops k)) (shown (stop_at stops k).named (name_of (stop_at stops k))) (shown (has_parent (stop_at stops k)) (parent_id_of stops (stop_at stops k))) (stop_input_of (stop_at stops k)) ≡ record { answer = Ok Taken; load = at (suc k) }
+      stepped-is : stop_spec (at k) (id_of here) (name_of here) parent (stop_input_of here) ≡ record { answer = Ok Taken; load = at (suc k) }
       unfolding stop_input_of stop_at
       stepped-is =
-          let t : Stop = stop_at stops k in
+          let t : Stop = here in
           let e = up_more blank_stop 128 stops sound.long k blank_stop room in
-          stop-taken (at k) (id_of t) (shown t.named (name_of t)) _ (stop_input_of t) (station_of_stop t) station-is
-          (no_test false (up_to blank_stop 128 stops k) k (station_of_stop t) (id_of t) (shown t.named (name_of t)) (stop_input_of t) refl told.id_right new-id told.type_right found (shown-wrong t.named _ _ (name_of t) ∙ told.name_right) (lt-leb 128 k room))
-          ∙ (λ r. record { answer = Ok Taken; load = load_of s (set (up_to blank_stop 128 stops k) k ((shown_of (id_of t) (name_of t) (station_of_stop t) (stop_input_of t) ∙ told.whole) r)) (add-one k r) rules ruleCount calls callCount })
+          stop-taken (at k) (id_of t) (name_of t) parent (stop_input_of t) t.parent station-is
+          (no_test false (up_to blank_stop 128 stops k) k t.parent (id_of t) (name_of t) parent (stop_input_of t) refl told.id_right new-id type-right found told.name_right (lt-leb 128 k room))
+          ∙ (λ r. record { answer = Ok Taken; load = load_of s (set (up_to blank_stop 128 stops k) k (told.whole r)) (add-one k r) rules ruleCount calls callCount })
           ∙ (λ r. record { answer = Ok Taken; load = load_of s (e r) (suc k) rules ruleCount calls callCount })
 
-      pub stop-takes : Takes (at k) (stop_record stops (stop_at stops k)) (at (suc k))
+      pub stop-takes : Takes (at k) (stop_record stops here) (at (suc k))
       unfolding stop_record stop_body kind_right
       stop-takes = takes (at k) (at (suc k)) 2 _ refl filled_is (ap (stepped (at k)) step_is ∙ stepped-is) refl

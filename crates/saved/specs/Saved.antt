@@ -3,11 +3,11 @@ use Rattle.refusal.specs.declared.Accepted.TheVariants.{Taken}
 use Rattle.std.specs.Prelude.{◌≡◌, false, cond, List, [], ◌∷◌, ◌++◌, map, ℕ, take, Ok}
 use Rattle.laws.specs.Lists.{concat_map}
 use Rattle.stops.specs.declared.Stop.{Stop}
-use Rattle.stops.specs.Stops.{id_of}
+use Rattle.stops.specs.Stops.{id_of, name_of}
 use Rattle.rules.specs.declared.Rule.{Rule}
 use Rattle.calls.specs.declared.Call.{Call}
 use Rattle.load.specs.declared.Load.{Load}
-use Rattle.load.specs.Load.{empty_load}
+use Rattle.load.specs.Load.{empty_load, stopped}
 use Rattle.load.specs.Steps.{Opening}
 use Rattle.load.specs.Sound.{Opens}
 use Rattle.steps.specs.Steps.{Step}
@@ -17,7 +17,7 @@ use Rattle.file.specs.Record.{open_reader, record_spec}
 use Rattle.file.specs.File.{read_spec_of}
 use Rattle.codec.specs.Shapes.{framed}
 use Rattle.codec.specs.Kinds.{settings_body, stop_body, rule_body, call_body, search_body}
-use Rattle.codec.specs.Parts.{at_start, name_of, parent_id_of, stop_input_of, rule_input_of, call_input_of}
+use Rattle.codec.specs.Parts.{at_start, parent_id_of, stop_input_of, call_input_of}
 use Rattle.written.specs.Kept.{Whole}
 use Rattle.written.specs.Keeps.{AllGive}
 use Rattle.writer.specs.File.{write_spec_of}
@@ -42,7 +42,6 @@ load_at_start l = record {
   horizon = l.horizon;
   limits = l.limits;
   searched = l.searched;
-  stopped = l.stopped;
   limit = l.limit;
   week = l.week;
 }
@@ -55,12 +54,12 @@ read_as l = record { answer = Ok Taken; reader = open_reader l }
 pub record Writable (l : Load) : Type 0 where
   pub whole : Whole l
   pub dateless : l.week.dated ≡ false
-  pub unstopped : l.stopped ≡ false
+  pub unstopped : stopped l ≡ false
   pub uncut : l.table_horizon ≡ 21600
 
 -- which 25 does not meet
 abbrev pub Passes : Load → Type 0
-Passes l = unwritable l.week.dated l.stopped l.table_horizon ≡ false
+Passes l = unwritable l.week.dated (stopped l) l.table_horizon ≡ false
 
 abbrev pub PassesWritable : Type 0
 PassesWritable = (l : Load) → Whole l → Passes l → Writable l
@@ -71,7 +70,7 @@ unfoldable pub stop_record : List Stop → Stop → List ℕ
 stop_record stops s = stop_body (id_of s) (name_of s) (parent_id_of stops s) (stop_input_of s)
 
 unfoldable pub rule_record : Rule → List ℕ
-rule_record r = rule_body (rule_input_of r)
+rule_record r = rule_body r
 
 unfoldable pub call_record : Call → List ℕ
 call_record c = call_body (call_input_of c)

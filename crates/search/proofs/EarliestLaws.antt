@@ -1,18 +1,14 @@
 -- The earliest arrival over the lent arrays is that of the load's timetable.
+use Rattle.std.specs.Prelude.{Option, Some}
+use Rattle.std.specs.Option.{unwrap_or}
 use Prim.Native.Nat.{ℕ, ◌+◌, ◌*◌, ◌<◌, min}
 use mathlib.Core.Path.{◌≡◌, refl, sym, ap, ◌∙◌}
-use mathlib.Core.Bool.{cond}
-use mathlib.Core.List.Memᴰ
 use mathlib.Core.List.{List, [], ◌∷◌, map, map-id, Memᴰ}
 use native.Mathlib.Omega.{arith}
-use lib.Dec.{eqb}
 use lib.ListN.{length, get_or}
-use borrow.Author.Tests.{ne_eqb}
 use Rattle.laws.specs.Lists.{concat_map, span}
 use Rattle.laws.proofs.Agree.{concat_map-agree}
-use Rattle.laws.proofs.Bools.{cond-not}
 use Rattle.laws.proofs.Flat.{map-agree}
-use Rattle.laws.proofs.Folds.{concat_map-mem}
 use Rattle.laws.proofs.Places.{concat_map-map}
 use Rattle.ways.specs.Rides.{Leg, Network, rides}
 use Rattle.ways.specs.Images.{leg_by, Images}
@@ -29,7 +25,7 @@ use Rattle.rides.specs.Rows as by
 use Rattle.rides.specs.Sheets.{joins_of, sheet_of}
 use Rattle.rides.specs.Agree.{Agree}
 use Rattle.rides.proofs.AgreeLaws.{target_below, place-below, same-network}
-use Rattle.limited_rides.specs.Earliest.{soonest, ride_due}
+use Rattle.limited_rides.specs.Earliest.{sooner, soonest, ride_due}
 use Rattle.limited_rides.proofs.DueLaws.{due-by-rides}
 use Rattle.feed_array.specs.Feeds.{Feeds}
 use Rattle.load.specs.declared.Load.{Load}
@@ -42,23 +38,15 @@ use Rattle.search.proofs.FoundLaws.{in-places}
 
 -- ---- the least of a list
 
-abbrev AllBelow : List ℕ → Type 0
-AllBelow ds = (d : ℕ) → Memᴰ d ds → d < 4294967295
+soonest-least : (x : ℕ) (ds : List ℕ) → soonest (x ∷ ds) ≡ Some (least_of (x ∷ ds))
+unfolding soonest sooner
+soonest-least x [] = refl
+soonest-least x (y ∷ ys) = ap (sooner (Some x)) (soonest-least y ys)
 
-soonest-least : (x : ℕ) (ds : List ℕ) → AllBelow (x ∷ ds) → (soonest (x ∷ ds) ≡ least_of (x ∷ ds)) × (soonest (x ∷ ds) < 4294967295)
+or-zero : (ds : List ℕ) → unwrap_or (soonest ds) 0 ≡ least_of ds
 unfolding soonest
-soonest-least x [] b = let h = b x (Memᴰ.head refl) in (omega arith, omega arith)
-soonest-least x (y ∷ ys) b =
-    let h = b x (Memᴰ.head refl) in
-    let (e, l) = soonest-least y ys (λ d m. b d (Memᴰ.tail m)) in
-    (omega arith, omega arith)
-
-or-zero : (ds : List ℕ) → AllBelow ds → cond (eqb (soonest ds) 4294967295) 0 (soonest ds) ≡ least_of ds
-unfolding soonest
-or-zero [] b = refl
-or-zero (x ∷ ds) b =
-    let (e, l) = soonest-least x ds b in
-    cond-not 0 (soonest (x ∷ ds)) (ne_eqb (soonest (x ∷ ds)) 4294967295 (λ q. omega arith)) ∙ e
+or-zero [] = refl
+or-zero (x ∷ ds) = ap (λ (t : Option ℕ). unwrap_or t 0) (soonest-least x ds)
 
 -- ---- a sheet that holds the timetable
 
@@ -106,21 +94,14 @@ module _ (f : List ℕ) (t : Timetable) (at : ℕ → Call) (n : ℕ) (a : Agree
   unfolding due-at
   due-is = due-by-rides f [] n ∙ sym arrivals-are
 
-  below : ((i : ℕ) → get_or f i 0 < 65536) → AllBelow (target_arrivals t)
-  unfolding due-at feed.arrival_of call_at target_walk_of
-  below small d m =
-      let (r, i, j) = concat_map-mem (λ r. due-at r.a) (rides N (span 0 n)) (rw arrivals-are at m) in
-      let (k, l, e) = Memᴰ.of_map (λ k. feed.arrival_of (target_walk_of f k) (call_at f r.a).arrival) (N.targets r.a) j in
-      omega (arith, e, small (3204 + k), small (r.a * 6 + 3))
-
-  pub least-is : ((i : ℕ) → get_or f i 0 < 65536) → cond (eqb (soonest (ride_due f n)) 4294967295) 0 (soonest (ride_due f n)) ≡ earliest t
+  pub least-is : unwrap_or (soonest (ride_due f n)) 0 ≡ earliest t
   unfolding earliest
-  least-is small = ap (λ (ds : List ℕ). cond (eqb (soonest ds) 4294967295) 0 (soonest ds)) due-is ∙ or-zero (target_arrivals t) (below small)
+  least-is = ap (λ (ds : List ℕ). unwrap_or (soonest ds) 0) due-is ∙ or-zero (target_arrivals t)
 
-pub earliest-is : (l : Load) (cs : List Call) (f : List ℕ) (e r : ℕ) → cs ≡ sort_first l.call_count l.calls → length l.calls ≡ 512 → length l.stops ≡ 128
-    → Feeds f cs l.stops l.settings → ((i : ℕ) → get_or f i 0 < 65536) → e ≡ soonest (ride_due f (min l.call_count 512)) → r ≡ cond (eqb e 4294967295) 0 e
+pub earliest-is : (l : Load) (cs : List Call) (f : List ℕ) (e : Option ℕ) (r : ℕ) → cs ≡ sort_first l.call_count l.calls → length cs ≡ 512
+    → Feeds f cs l.stops l.settings → ((i : ℕ) → get_or f i 0 < 65536) → e ≡ soonest (ride_due f (min l.call_count 512)) → r ≡ unwrap_or e 0
     → r ≡ earliest (timetable_of l)
-earliest-is l cs f e r order long stops-long w small ee er =
+earliest-is l cs f e r order long w small ee er =
     let n = min l.call_count 512 in
-    er ∙ ap (λ (x : ℕ). cond (eqb x 4294967295) 0 x) ee
-    ∙ least-is f (timetable_of l) (placed cs) n (agrees l cs f [] w small stops-long n 0 (omega arith) (λ one. absurd (omega arith))) (in-places l cs order long) small
+    er ∙ ap (λ (x : Option ℕ). unwrap_or x 0) ee
+    ∙ least-is f (timetable_of l) (placed cs) n (agrees l cs f [] w small n 0 (omega arith) (λ one. absurd (omega arith))) (in-places l cs order long)

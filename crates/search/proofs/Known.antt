@@ -1,18 +1,28 @@
--- What owning a load tells of it: its arrays have their lengths.
-use mathlib.Core.Path.{◌≡◌}
-use mathlib.Core.List.{List}
-use lib.ListN.{length}
-use mir.Val.{Val}
+-- What owning a value tells of it: its numbers fit their types.
+use mathlib.Core.List.{List, [], ◌∷◌}
+use lib.ListN.{get_or}
+use Prim.Native.Nat.{ℕ, zero, suc, ◌<◌, ◌^◌}
+use native.Mathlib.Omega.{arith}
+use borrow.Kind.Array.{e_int}
+use denote.Array.{each}
+use denote.Shadow.{shadow}
+use mir.Syntax.{Width, w8, w16}
+use mir.Val.{Val, bits}
 use denote.Laws.{Is}
 use denote.Struct.Declared.{row}
 use Rattle.load.specs.contracts.Load as L
 use Rattle.load.specs.declared.Load.{Load}
 
-pub stops-long : (x : Load) (vs : List Val) → Is (row L.the_type) x vs → length x.stops ≡ 128
-stops-long x vs g = g.1.1.1.0.1.0.1
+-- each number of an array fits its type
+fit : (w : Width) → 0 < 2 ^ bits w → (xs : List ℕ) (us : List Val) → shadow (each (e_int w).ty.Denot (e_int w).ty.own_val xs us) → (i : ℕ) → get_or xs i 0 < 2 ^ bits w
+fit w h [] us s i = h
+fit w h (x ∷ xs) [] s i = absurd s
+fit w h (x ∷ xs) (u ∷ us) s zero = s.0.1
+fit w h (x ∷ xs) (u ∷ us) s (suc i) = fit w h xs us s.1 i
 
-pub calls-long : (x : Load) (vs : List Val) → Is (row L.the_type) x vs → length x.calls ≡ 512
-calls-long x vs g = g.1.1.1.1.1.0.1.0.1
+pub numbers-small : (xs : List ℕ) (us : List Val) → shadow (each (e_int w16).ty.Denot (e_int w16).ty.own_val xs us) → (i : ℕ) → get_or xs i 0 < 65536
+numbers-small = fit w16 (omega arith)
 
-pub rules-long : (x : Load) (vs : List Val) → Is (row L.the_type) x vs → length x.rules ≡ 128
-rules-long x vs g = g.1.1.1.1.1.1.1.0.1.0.1
+-- and so do the walks of a load
+pub walks-small : (x : Load) (vs : List Val) → Is (row L.the_type) x vs → (o : ℕ) → get_or x.settings.origin_walks o 0 < 256
+walks-small x vs g = fit w8 (omega arith) x.settings.origin_walks _ g.1.1.0.1.1.1.1.0.1.1

@@ -1,6 +1,7 @@
 -- The search within a limit by its tests: what is returned is what the definition says, from the state after the offers before the stop.
 use Rattle.refusal.specs.declared.Accepted.TheVariants.{Taken}
-use Rattle.std.specs.Prelude.{Err, Ok}
+use Rattle.std.specs.Prelude.{None, Option, Some, Err, Ok}
+use Rattle.std.specs.Bool.{then_some}
 use Prim.Native.Nat.{ℕ, ◌≤◌, ◌<◌, min}
 use mathlib.Core.Path.{◌≡◌, refl, sym, ap, subst, ◌∙◌}
 use mathlib.Core.Bool.{Bool, true, false, not, cond, true≢false}
@@ -9,16 +10,16 @@ use mathlib.Core.List.{List, [], ◌++◌, map, Memᴰ}
 use native.Mathlib.Omega.{arith}
 use borrow.Author.Tests.{lt-ltb, le-ltb}
 use lib.ListN.{length, take, get_or}
-use Rattle.laws.specs.Lists.{padded, span}
+use Rattle.laws.specs.Lists.{span}
 use Rattle.laws.proofs.Bools.{of-not, cond-by, cond-not}
 use Rattle.refusal.specs.declared.Refusal.TheVariants.{SettingsRange, AlreadySearched, Neighbours, NoRoom}
 use Rattle.calls.specs.declared.Call.{Call}
 use Rattle.profile.specs.declared.Row.{Row}
 use Rattle.profile.specs.declared.Journey.{Journey}
 use Rattle.profile.specs.Best.{ordered}
-use Rattle.profile.specs.Journeys.{no_journey, journey_figures, row_figures}
+use Rattle.profile.specs.Journeys.{journey_figures, row_figures}
 use Rattle.profile.specs.Kept.{St, going, refused, searched, map_st}
-use Rattle.state.specs.View.{view, open_of, count_of, kept_of, horizon_of, limits_of}
+use Rattle.state.specs.View.{view, open_of}
 use Rattle.state.proofs.ViewLaws.{view-is-refused}
 use Rattle.candidate.proofs.OfferLaws.{offers-search}
 use Rattle.offers.specs.Order.{sort_first, clashes}
@@ -35,18 +36,17 @@ use Rattle.rides.proofs.RouteLaws.{rows-up-to-one}
 use Rattle.limited_rides.specs.declared.Tested.{Tested}
 use Rattle.limited_rides.specs.Runs.{RowEvent}
 use Rattle.limited_rides.specs.Within.{Within}
-use Rattle.read_back.specs.Kept.{journey_of}
 use Rattle.load.specs.declared.Load.{Load}
 use Rattle.search.specs.declared.Limited.{Limited}
 use Rattle.search.specs.Timetable.{timetable_of}
 use Rattle.search.specs.Rows.{sheet_from, joins_from}
 use Rattle.search.specs.Events.{sheet_events, place_events}
-use Rattle.search.specs.Offered.{placed}
+use Rattle.search.specs.Offered.{placed, found_in}
 use Rattle.search.specs.Search.{with_found}
 use Rattle.search.specs.Within.{outcome_within, finishes_in, within_found, sent_back_of, ran_within, within_spec}
 use Rattle.search.proofs.SmallLaws.{AllSmall, rows-small}
 use Rattle.search.proofs.EventsLaws.{limit-by-rows}
-use Rattle.search.proofs.FoundLaws.{in-front, in-places, kept_small, holding, holds-found}
+use Rattle.search.proofs.FoundLaws.{in-front, in-places, kept_small, holds-found}
 
 -- ---- what is offered before a stop is offered
 
@@ -75,7 +75,7 @@ module _ (l : Load) (n : ℕ) where
   within-settings u h = sym (cond-not _ _ u ∙ cond-by _ _ (lt-ltb 1 l.settings.max_transfers h))
 
 module _ (l : Load) (n : ℕ) (u : l.searched ≡ false) (one : l.settings.max_transfers ≤ 1) (cs : List Call) (order : cs ≡ sort_first l.call_count l.calls)
-    (long : length l.calls ≡ 512) where
+    (long : length cs ≡ 512) where
   ran : (o : Outcome) → outcome_within l n ≡ o → ran_within l n o ≡ within_spec l n
   unfolding within_spec
   ran o e = ap (ran_within l n) (sym e) ∙ sym (cond-not _ _ u ∙ cond-not _ _ (le-ltb 1 l.settings.max_transfers one))
@@ -130,13 +130,11 @@ module _ (l : Load) (n : ℕ) (u : l.searched ≡ false) (one : l.settings.max_t
         joins : r.joins ≡ joins_within n (timetable_of l)
         joins = w.joins not_refused ∙ sym (limit-by-rows n (timetable_of l) (placed cs) (min l.call_count 512) l.table_horizon l.table_limits (in-places l cs order long)).joins
 
-      module _ (walks : (o : ℕ) → get_or l.settings.origin_walks o 0 < 256) (js : List Journey) (k h' m' : ℕ)
-          (ej : js ≡ padded no_journey 64 (map (journey_of cs) (ordered row_figures (kept_of st')))) (en : k ≡ count_of st') (eh : h' ≡ horizon_of st') (em : m' ≡ limits_of st')
-          (s : Bool) (x : ℕ) (es' : s ≡ not r.finished) (ex : x ≡ cond r.finished 0 n) where
+      module _ (walks : (o : ℕ) → get_or l.settings.origin_walks o 0 < 256) (x : Option ℕ) (ex : x ≡ then_some (not r.finished) n) where
         abbrev next : Limited
-        next = record { answer = Ok Taken; load = holding l cs js k h' m' s x; joins = r.joins; finished = r.finished }
+        next = record { answer = Ok Taken; load = found_in l cs st' x; joins = r.joins; finished = r.finished }
 
-        either : (ks : List Journey) (h m : ℕ) (b : Bool) → with_found l ks h m (not b) (cond b 0 n) ≡ cond b (with_found l ks h m false 0) (with_found l ks h m true n)
+        either : (ks : List Journey) (h m : ℕ) (b : Bool) → with_found l ks h m (then_some (not b) n) ≡ cond b (with_found l ks h m None) (with_found l ks h m (Some n))
         either ks h m true = refl
         either ks h m false = refl
 
@@ -144,9 +142,9 @@ module _ (l : Load) (n : ℕ) (u : l.searched ≡ false) (one : l.settings.max_t
         going-returned ks h m g =
             let js' = ordered journey_figures (map (journey_at (placed cs)) ks) in
             let fin = all ks h m g in
-            let loads : holding l cs js k h' m' s x ≡ within_found l n js' h m =
-            holds-found l cs order st' js k h' m' ej en eh em ks h m g (small walks ks h m g) s x
-            ∙ (λ i. with_found l js' h m ((es' ∙ ap not fin) i) ((ex ∙ ap (λ (b : Bool). cond b 0 n) fin) i)) ∙ either js' h m (finishes_in l n) in
+            let loads : found_in l cs st' x ≡ within_found l n js' h m =
+            holds-found l cs order st' ks h m g (small walks ks h m g) x
+            ∙ ap (with_found l js' h m) (ex ∙ ap (λ (b : Bool). then_some (not b) n) fin) ∙ either js' h m (finishes_in l n) in
             (λ i. record { answer = Ok Taken; load = loads i; joins = joins ks h m g i; finished = fin i })
             ∙ ran (found js' h m) (outcome-of (going ks h m) g)
 

@@ -8,14 +8,11 @@ use native.Mathlib.Omega.{arith}
 use native.Mathlib.Nat.{zero-mod, zero-div}
 use borrow.Author.Tests.{ltb-true, ltb-false, lt-ltb, le-ltb, lt-leb}
 use lib.Dec.{leb, ltb, eqb}
-use lib.ListN.{length, take, get_or, get_or-eq_default}
-use Rattle.laws.specs.Bounds.{least}
+use lib.ListN.{take, get_or}
 use Rattle.laws.specs.Lists.{foldl}
 use Rattle.laws.proofs.Bools.{cond-by, cond-not}
-use Rattle.laws.proofs.Bounds.{least_under, take-least}
 use Rattle.stops.specs.declared.Stop.{Stop}
 use Rattle.stops.specs.Sound.{stop_at}
-use Rattle.stops.specs.Taken.{blank_stop}
 use Rattle.rules.specs.declared.Rule.{Rule}
 use Rattle.calls.specs.declared.Call.{Call}
 use Rattle.profile.specs.Kept.{going}
@@ -24,7 +21,7 @@ use Rattle.candidate.specs.Offer.{offer_to}
 use Rattle.candidate.proofs.OfferLaws.{offers-search}
 use Rattle.places.specs.Places.{places_of}
 use Rattle.transfer.specs.Changes.{transfer_of, joins_by, join_of, change_number}
-use Rattle.transfer.specs.Copied.{rules_of, parents_of}
+use Rattle.transfer.specs.Copied.{parents_of}
 use Rattle.transfer.specs.Rows.{entry_of}
 use Rattle.offers.specs.Offers.{ride_of}
 use Rattle.offers.specs.Places as by
@@ -47,19 +44,10 @@ use Rattle.search.specs.Events.{sheet_events, place_events}
 use Rattle.search.proofs.RowsLaws.{same_rows}
 use Rattle.search.proofs.EventsLaws.{same-events}
 
--- an empty array
-pub none_below : (a : List ℕ) (i b : ℕ) → length a ≤ 0 → 0 < b → get_or a i 0 < b
-none_below a i b h k = omega (arith, get_or-eq_default a 0 {n = i} (omega arith))
-
 -- ---- members
 
--- a stop past the end has no members
-past-members : (ss : List Stop) (k : ℕ) → length ss ≤ k → (stop_at ss k).members ≡ 0
-unfolding stop_at
-past-members ss k h = ap (λ (s : Stop). s.members) (get_or-eq_default ss blank_stop h)
-
 -- the membership byte of the stop k, read at the number r that the feed has for it, or a part of the byte
-module _ (f : List ℕ) (ss : List Stop) (long : length ss ≡ 128) (part : ℕ → ℕ) (none : part 0 ≡ 0) (count : ℕ)
+module _ (f : List ℕ) (ss : List Stop) (past : (k : ℕ) → 128 ≤ k → (stop_at ss k).members ≡ 0) (part : ℕ → ℕ) (none : part 0 ≡ 0) (count : ℕ)
     (here : (k : ℕ) → k < 128 → part (get_or f (3072 + k) 0) % 16 ≡ part (stop_at ss k).members % 2 ^ min count 4) where
   member_of : (k r : ℕ) → r ≡ cond (ltb k 128) k 65535 → part (member_at f r) % 16 ≡ part (stop_at ss k).members % 2 ^ min count 4
   unfolding member_at
@@ -72,7 +60,7 @@ module _ (f : List ℕ) (ss : List Stop) (long : length ss ≡ 128) (part : ℕ 
           ∙ ap (λ (x : ℕ). part x % 16) (cond-by _ _ q) ∙ here k (ltb-true k 128 q)
       go false q =
           let far : r ≡ 65535 = e ∙ cond-not k 65535 q in
-          let gone : (stop_at ss k).members ≡ 0 = past-members ss k (omega (arith, ltb-false k 128 q)) in
+          let gone : (stop_at ss k).members ≡ 0 = past k (ltb-false k 128 q) in
           let left : part (cond (ltb r 128) (get_or f (3072 + r) 0) 0) % 16 ≡ 0 =
           ap (λ (x : ℕ). part (cond (ltb x 128) (get_or f (3072 + x) 0) 0) % 16) far ∙ ap (λ (x : ℕ). x % 16) none ∙ zero-mod 16 in
           let right : part (stop_at ss k).members % 2 ^ min count 4 ≡ 0 = ap (λ (x : ℕ). part x % 2 ^ min count 4) gone ∙ ap (λ (x : ℕ). x % 2 ^ min count 4) none ∙ zero-mod (2 ^ min count 4) in
@@ -119,7 +107,7 @@ module _ (g : List ℕ) (p q r s : ℕ) (er : r ≡ cond (ltb p 128) p 65535) (e
 
 -- ---- the arrays hold the timetable
 
-module _ (l : Load) (calls : List Call) (f g : List ℕ) (w : Feeds f calls l.stops l.settings) (small : (i : ℕ) → get_or f i 0 < 65536) (long : length l.stops ≡ 128)
+module _ (l : Load) (calls : List Call) (f g : List ℕ) (w : Feeds f calls l.stops l.settings) (small : (i : ℕ) → get_or f i 0 < 65536)
     (n depth : ℕ) (few : n ≤ 512) (here : HoldsChanges g f n depth (λ p q. change_number (change_in l p q))) where
   below : (j : ℕ) → j < 512 → (placed calls j).departure < 65536
   below j h = omega (arith, small (j * 6 + 4), w.departure j h)
@@ -177,8 +165,8 @@ module _ (l : Load) (calls : List Call) (f g : List ℕ) (w : Feeds f calls l.st
     departure = λ i k. w.departure i (omega arith);
     board = λ i k. w.board i (omega arith);
     alight = λ i k. w.alight i (omega arith);
-    origins = λ i k. member_of f l.stops long (λ x. x) refl l.settings.origins w.origins (placed calls i).stop (get_or f (i * 6 + 2) 0) (w.stop i (omega arith));
-    targets = λ i k. member_of f l.stops long (λ x. x / 16) (zero-div 16) l.settings.targets w.targets (placed calls i).stop (get_or f (i * 6 + 2) 0) (w.stop i (omega arith));
+    origins = λ i k. member_of f l.stops w.past (λ x. x) refl l.settings.origins w.origins (placed calls i).stop (get_or f (i * 6 + 2) 0) (w.stop i (omega arith));
+    targets = λ i k. member_of f l.stops w.past (λ x. x / 16) (zero-div 16) l.settings.targets w.targets (placed calls i).stop (get_or f (i * 6 + 2) 0) (w.stop i (omega arith));
     origin_walk = λ o k. w.origin_walk o k;
     target_walk = λ x k. w.target_walk x k;
     joined = λ one i o k j a lo b c. tested i o k j (omega arith) (omega arith) (omega arith) ∙ joins-right one i k j b c;
@@ -196,26 +184,24 @@ unfolding entry_of
 entry-number l rules p q e =
     ap (λ (rs : List Rule). change_number (transfer_of rs (parents_of l.stops) (places_of (take l.stop_count l.stops)) p q l.settings.transfer_seconds)) e
 
--- the changes by the rules, parents and places as they are copied
-pub changes-are : (l : Load) (f g flat parents places : List ℕ) (change depth : ℕ) → length l.rules ≡ 128
-    → ((n : ℕ) → n ≤ 128 → rules_of flat n ≡ take n l.rules) → parents ≡ parents_of l.stops → places ≡ places_of (take l.stop_count l.stops)
+-- the changes by the rules, parents and places of the load
+pub changes-are : (l : Load) (f g : List ℕ) (rules : List Rule) (parents places : List ℕ) (change depth : ℕ)
+    → rules ≡ take l.rule_count l.rules → parents ≡ parents_of l.stops → places ≡ places_of (take l.stop_count l.stops)
     → change ≡ l.settings.transfer_seconds → depth ≡ l.settings.max_transfers
-    → HoldsChanges g f l.call_count depth (λ p q. entry_of (rules_of flat (least l.rule_count 128)) parents places p change q)
+    → HoldsChanges g f l.call_count depth (λ p q. entry_of rules parents places p change q)
     → HoldsChanges g f l.call_count l.settings.max_transfers (λ p q. change_number (change_in l p q))
-changes-are l f g flat parents places change depth rules-long er ep el ec ed here =
-    let rs : rules_of flat (least l.rule_count 128) ≡ take l.rule_count l.rules =
-    er (least l.rule_count 128) (least_under l.rule_count 128) ∙ take-least l.rules l.rule_count 128 (least l.rule_count 128) refl rules-long in
+changes-are l f g rules parents places change depth er ep el ec ed here =
     λ one k q hk few near hq. here (omega (arith, ed, one)) k q hk few near hq
-    ∙ (λ i. entry_of (rules_of flat (least l.rule_count 128)) (ep i) (el i) (stop_in f k) (ec i) q) ∙ entry-number l (rules_of flat (least l.rule_count 128)) (stop_in f k) q rs
+    ∙ (λ i. entry_of (er i) (ep i) (el i) (stop_in f k) (ec i) q) ∙ entry-number l (take l.rule_count l.rules) (stop_in f k) q refl
 
-module _ (l : Load) (calls : List Call) (f g : List ℕ) (depth : ℕ) (w : Feeds f calls l.stops l.settings) (small : (i : ℕ) → get_or f i 0 < 65536) (long : length l.stops ≡ 128)
+module _ (l : Load) (calls : List Call) (f g : List ℕ) (depth : ℕ) (w : Feeds f calls l.stops l.settings) (small : (i : ℕ) → get_or f i 0 < 65536)
     (here : HoldsChanges g f l.call_count l.settings.max_transfers (λ p q. change_number (change_in l p q))) (ed : depth ≡ l.settings.max_transfers) where
   abbrev first : ℕ
   first = min l.call_count 512
 
   held : Agrees (sheet_of f) (joins_of f g) (timetable_of l) (placed calls) first
   unfolding timetable_of
-  held = agrees l calls f g w small long first l.settings.max_transfers (omega arith) (λ one k q hk few near hq. here one k q (omega arith) few near hq)
+  held = agrees l calls f g w small first l.settings.max_transfers (omega arith) (λ one k q hk few near hq. here one k q (omega arith) few near hq)
 
   pub offered-is : (st st' : List ℕ) → view st ≡ going [] l.table_horizon l.table_limits → view st' ≡ offer_all (view st) (rows_of f g l.call_count depth)
       → view st' ≡ offered_of l calls

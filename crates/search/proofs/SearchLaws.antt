@@ -1,35 +1,32 @@
 -- The search by its tests: what is returned is what the definition says, from the state after every offer.
 use Rattle.refusal.specs.declared.Accepted.TheVariants.{Taken}
-use Rattle.std.specs.Prelude.{Err, Ok}
-use Prim.Native.Nat.{ℕ, ◌-◌, ◌<◌, min}
+use Rattle.std.specs.Prelude.{None, Err, Ok}
+use Prim.Native.Nat.{ℕ, ◌<◌, min}
 use mathlib.Core.Path.{◌≡◌, refl, sym, ap, ◌∙◌}
 use mathlib.Core.Bool.{Bool, true, false, not, true≢false}
 use mathlib.Core.List.{List, map}
 use lib.ListN.{length, take, get_or}
-use Rattle.laws.specs.Lists.{padded}
 use Rattle.laws.proofs.Bools.{of-not, cond-by, cond-not}
 use Rattle.refusal.specs.declared.Refusal.TheVariants.{AlreadySearched, Neighbours, NoRoom}
 use Rattle.calls.specs.declared.Call.{Call}
 use Rattle.profile.specs.declared.Row.{Row}
-use Rattle.profile.specs.declared.Journey.{Journey}
 use Rattle.profile.specs.Best.{ordered}
-use Rattle.profile.specs.Journeys.{no_journey, journey_figures, row_figures}
-use Rattle.profile.specs.Kept.{St, going, refused, searched, map_st}
-use Rattle.state.specs.View.{view, open_of, count_of, kept_of, horizon_of, limits_of}
+use Rattle.profile.specs.Journeys.{journey_figures}
+use Rattle.profile.specs.Kept.{St, going, refused, map_st}
+use Rattle.state.specs.View.{view, open_of}
 use Rattle.state.proofs.ViewLaws.{view-is-refused}
 use Rattle.offers.specs.Order.{sort_first, clashes}
 use Rattle.offers.specs.Places.{journey_at}
 use Rattle.offers.specs.Search.{Outcome, clashing, falling, found, answer_of, found_by, search_of}
-use Rattle.read_back.specs.Kept.{journey_of}
 use Rattle.load.specs.declared.Load.{Load}
 use Rattle.load.specs.declared.Stepped.{Stepped}
 use Rattle.search.specs.Timetable.{timetable_of}
 use Rattle.search.specs.Rows.{sheet_from, joins_from, row_offers}
-use Rattle.search.specs.Offered.{placed, offered_of}
+use Rattle.search.specs.Offered.{placed, offered_of, found_in}
 use Rattle.search.specs.Search.{outcome_of, settled, search_spec}
 use Rattle.search.proofs.RowsLaws.{search-by-rows}
 use Rattle.search.proofs.SmallLaws.{AllSmall, rows-small}
-use Rattle.search.proofs.FoundLaws.{in-front, in-places, kept_small, holding, holds-found}
+use Rattle.search.proofs.FoundLaws.{in-front, in-places, kept_small, holds-found}
 
 -- ---- what is returned, by the outcome
 
@@ -47,7 +44,7 @@ returned : (l : Load) (o : Outcome) → l.searched ≡ false → outcome_of l �
 unfolding search_spec
 returned l o u e = ap (ran l) (sym e) ∙ sym (cond-not (again l) (ran l (outcome_of l)) u)
 
-module _ (l : Load) (cs : List Call) (order : cs ≡ sort_first l.call_count l.calls) (long : length l.calls ≡ 512) (u : l.searched ≡ false) where
+module _ (l : Load) (cs : List Call) (order : cs ≡ sort_first l.call_count l.calls) (long : length cs ≡ 512) (u : l.searched ≡ false) where
   clash-outcome : clashes (take l.call_count cs) ≡ true → outcome_of l ≡ clashing
   unfolding outcome_of search_of
   clash-outcome e = cond-by _ _ (ap clashes (sym (in-front l cs order long)) ∙ e)
@@ -69,10 +66,9 @@ module _ (l : Load) (cs : List Call) (order : cs ≡ sort_first l.call_count l.c
     returned-falling st r v er tr =
         returned l falling u (outcome-by ∙ ap (λ (s : St Row). found_by (map_st (journey_at (placed cs)) s)) (sym v ∙ (view-is-refused st).1 (of-not (open_of st) (sym er ∙ tr))))
 
-    module _ (walks : (o : ℕ) → get_or l.settings.origin_walks o 0 < 256) (st : List ℕ) (js : List Journey) (n h' m' : ℕ) (v : view st ≡ offered_of l cs)
-        (ej : js ≡ padded no_journey 64 (map (journey_of cs) (ordered row_figures (kept_of st)))) (en : n ≡ count_of st) (eh : h' ≡ horizon_of st) (em : m' ≡ limits_of st) where
+    module _ (walks : (o : ℕ) → get_or l.settings.origin_walks o 0 < 256) (st : List ℕ) (v : view st ≡ offered_of l cs) where
       abbrev next : Load
-      next = holding l cs js n h' m' false 0
+      next = found_in l cs st None
 
       small : (ks : List Row) (h m : ℕ) → view st ≡ going ks h m → AllSmall ks
       unfolding offered_of row_offers sheet_from timetable_of
@@ -82,7 +78,7 @@ module _ (l : Load) (cs : List Call) (order : cs ≡ sort_first l.call_count l.c
 
       going-returned : (ks : List Row) (h m : ℕ) → view st ≡ going ks h m → ◌≡◌ {A = Stepped} (record { answer = Ok Taken; load = next }) (search_spec l)
       going-returned ks h m g =
-          ap {B = Stepped} (λ (x : Load). record { answer = Ok Taken; load = x }) (holds-found l cs order st js n h' m' ej en eh em ks h m g (small ks h m g) false 0)
+          ap {B = Stepped} (λ (x : Load). record { answer = Ok Taken; load = x }) (holds-found l cs order st ks h m g (small ks h m g) None)
           ∙ returned l (found (ordered journey_figures (map (journey_at (placed cs)) ks)) h m) u (outcome-by ∙ ap (λ (s : St Row). found_by (map_st (journey_at (placed cs)) s)) (sym v ∙ g))
 
       pub returned-found : (r : Bool) → r ≡ not (open_of st) → r ≡ false → ◌≡◌ {A = Stepped} (record { answer = Ok Taken; load = next }) (search_spec l)

@@ -1,5 +1,5 @@
 -- A search keeps a load sound: its calls are the same calls in order, and at most 64 journeys are kept, in order.
-use Rattle.std.specs.Prelude.{Err}
+use Rattle.std.specs.Prelude.{None, Option, Err, is_some}
 use Prim.Native.Nat.{ℕ, ◌+◌, ◌-◌, ◌≤◌}
 use mathlib.Core.Path.{◌≡◌, refl, sym, ap, subst, ◌∙◌}
 use mathlib.Core.Bool.{Bool, true, false, cond, true≢false, false≢true}
@@ -63,9 +63,9 @@ fill-up : (n : ℕ) → n ≤ 64 → n + (64 - n) ≡ 64
 fill-up n h = omega arith
 
 -- at most 64 journeys, in order; a limit only where the search was stopped, and then of a load with at most one change
-pub found-sound : (l : Load) (ks : List Journey) (h m : ℕ) (b : Bool) (n : ℕ) → length ks ≤ 64 → Ordered journey_figures ks → (b ≡ false → n ≡ 0)
-    → (b ≡ true → l.settings.max_transfers ≤ 1) → Sound l → Sound (with_found l ks h m b n)
-found-sound l ks h m b n fit ord none one s =
+pub found-sound : (l : Load) (ks : List Journey) (h m : ℕ) (n : Option ℕ) → length ks ≤ 64 → Ordered journey_figures ks
+    → (is_some n ≡ true → l.settings.max_transfers ≤ 1) → Sound l → Sound (with_found l ks h m n)
+found-sound l ks h m n fit ord one s =
     let few = s.table.few in
     let long = s.table.long in
     record {
@@ -87,14 +87,13 @@ found-sound l ks h m b n fit ord none one s =
       none_kept = λ x. absurd (true≢false x);
       same_horizon = λ x. absurd (true≢false x);
       same_limits = λ x. absurd (true≢false x);
-      no_limit = none;
       stopped_search = λ x. refl;
       stopped_change = one;
       week = s.week;
     }
 
 searched-sound : (l : Load) (ks : List Journey) (h m : ℕ) → outcome_of l ≡ found ks h m → Sound l → Sound (with_journeys l ks h m)
-searched-sound l ks h m e = found-sound l ks h m false 0 (kept-few l ks h m e) (kept-ordered l ks h m e) (λ x. refl) (λ x. absurd (false≢true x))
+searched-sound l ks h m e = found-sound l ks h m None (kept-few l ks h m e) (kept-ordered l ks h m e) (λ x. absurd (false≢true x))
 
 pub search-sound : (l : Load) → Sound l → Sound (search_spec l).load
 unfolding search_spec

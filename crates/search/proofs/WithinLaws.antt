@@ -1,7 +1,7 @@
 -- A search within a limit: its answer is that of the first of its causes that holds, a finished one is the full search, what it leaves is sound,
 -- and what is found within the limit.
 use Rattle.refusal.specs.declared.Accepted.TheVariants.{Taken}
-use Rattle.std.specs.Prelude.{Err, Ok}
+use Rattle.std.specs.Prelude.{None, Option, Some, Err, Ok}
 use Prim.Native.Nat.{ℕ, ◌≤◌}
 use mathlib.Core.Path.{◌≡◌, refl, sym, ap, subst, ◌∙◌}
 use mathlib.Core.Bool.{Bool, true, false, cond, true≢false, false≢true}
@@ -27,6 +27,7 @@ use Rattle.offers.specs.Search.{Outcome, clashing, falling, found, answer_of, en
 use Rattle.limited.specs.Limited.{offers_within, joins_within}
 use Rattle.limited.proofs.LimitLaws.{finished-is-full, within-by-offers, within-found}
 use Rattle.load.specs.declared.Load.{Load}
+use Rattle.load.specs.Load.{stopped}
 use Rattle.load.specs.Sound.{Sound}
 use Rattle.search.specs.declared.Limited.{Limited}
 use Rattle.search.specs.Timetable.{timetable_of}
@@ -131,17 +132,17 @@ untaken-within l n = within-cases l n (λ w. is_taken w.answer ≡ false → w.l
     go (found ks h m) q = absurd (true≢false q)
 
 -- what a search within the limit leaves: searched in full, or stopped at n
-pub found-load : (l : Load) (n : ℕ) (ks : List Journey) (h m : ℕ) (b : Bool) → finishes_in l n ≡ b → within_found l n ks h m ≡ cond b (with_journeys l ks h m) (with_found l ks h m true n)
-found-load l n ks h m b e = ap (λ (c : Bool). cond c (with_journeys l ks h m) (with_found l ks h m true n)) e
+pub found-load : (l : Load) (n : ℕ) (ks : List Journey) (h m : ℕ) (b : Bool) → finishes_in l n ≡ b → within_found l n ks h m ≡ cond b (with_journeys l ks h m) (with_found l ks h m (Some n))
+found-load l n ks h m b e = ap (λ (c : Bool). cond c (with_journeys l ks h m) (with_found l ks h m (Some n))) e
 
 -- what no search alters, this one leaves
-pub within-keeps : {X : Type 0} (f : Load → X) (l : Load) (n : ℕ) → ((ks : List Journey) (h m : ℕ) (b : Bool) (k : ℕ) → f (with_found l ks h m b k) ≡ f l)
+pub within-keeps : {X : Type 0} (f : Load → X) (l : Load) (n : ℕ) → ((ks : List Journey) (h m : ℕ) (k : Option ℕ) → f (with_found l ks h m k) ≡ f l)
     → f (within_spec l n).load ≡ f l
 within-keeps f l n same = go (is_taken (within_spec l n).answer) refl
   where
-    left : (ks : List Journey) (h m : ℕ) (c : Bool) → f (cond c (with_journeys l ks h m) (with_found l ks h m true n)) ≡ f l
-    left ks h m true = same ks h m false 0
-    left ks h m false = same ks h m true n
+    left : (ks : List Journey) (h m : ℕ) (c : Bool) → f (cond c (with_journeys l ks h m) (with_found l ks h m (Some n))) ≡ f l
+    left ks h m true = same ks h m None
+    left ks h m false = same ks h m (Some n)
 
     go : (b : Bool) → is_taken (within_spec l n).answer ≡ b → f (within_spec l n).load ≡ f l
     go true t = let w = taken-within l n t in ap (λ (r : Limited). f r.load) w.is ∙ left w.kept w.to w.mark (finishes_in l n)
@@ -150,25 +151,25 @@ within-keeps f l n same = go (is_taken (within_spec l n).answer) refl
 -- by whether it finished
 abbrev left_by_of : Load → ℕ → List Journey → ℕ → ℕ → Bool → Limited
 left_by_of l n ks h m b =
-    record { answer = Ok Taken; load = cond b (with_journeys l ks h m) (with_found l ks h m true n); joins = joins_within n (timetable_of l); finished = b }
+    record { answer = Ok Taken; load = cond b (with_journeys l ks h m) (with_found l ks h m (Some n)); joins = joins_within n (timetable_of l); finished = b }
 
 record Left (l : Load) (n : ℕ) (b : Bool) (w : Limited) : Type 0 where
   searched : w.load.searched ≡ true
   says : w.finished ≡ b
   counts : w.joins ≡ joins_within n (timetable_of l)
-  stops : w.load.stopped ≡ true → w.finished ≡ false
-  stopped : w.finished ≡ false → w.load.stopped ≡ true
-  holds : w.load.limit ≡ cond b 0 n
+  stops : stopped w.load ≡ true → w.finished ≡ false
+  goes_on : w.finished ≡ false → stopped w.load ≡ true
+  holds : w.load.limit ≡ cond b None (Some n)
 
 left_by : (l : Load) (n : ℕ) (ks : List Journey) (h m : ℕ) (b : Bool) → Left l n b (left_by_of l n ks h m b)
-left_by l n ks h m true = record { searched = refl; says = refl; counts = refl; stops = λ e. absurd (false≢true e); stopped = λ e. absurd (true≢false e); holds = refl }
-left_by l n ks h m false = record { searched = refl; says = refl; counts = refl; stops = λ e. refl; stopped = λ e. refl; holds = refl }
+left_by l n ks h m true = record { searched = refl; says = refl; counts = refl; stops = λ e. absurd (false≢true e); goes_on = λ e. absurd (true≢false e); holds = refl }
+left_by l n ks h m false = record { searched = refl; says = refl; counts = refl; stops = λ e. refl; goes_on = λ e. refl; holds = refl }
 
 pub within-taken : WithinTaken
 within-taken l n q =
     let w = taken-within l n (ap is_taken q) in
     let v : Left l n (finishes_in l n) (within_spec l n) = subst (Left l n (finishes_in l n)) (sym w.is) (left_by l n w.kept w.to w.mark (finishes_in l n)) in
-    record { searched = v.searched; says = v.says; counts = v.counts; stops = (v.stops, v.stopped); holds = v.holds }
+    record { searched = v.searched; says = v.says; counts = v.counts; stops = (v.stops, v.goes_on); holds = v.holds }
 
 -- ---- one that finished
 
@@ -218,9 +219,9 @@ module _ (l : Load) (n : ℕ) (ks : List Journey) (h m : ℕ) (e : outcome_withi
   pub found-within-sound : l.settings.max_transfers ≤ 1 → Sound l → Sound (within_found l n ks h m)
   found-within-sound one s = go (finishes_in l n)
     where
-      go : (b : Bool) → Sound (cond b (with_journeys l ks h m) (with_found l ks h m true n))
-      go true = found-sound l ks h m false 0 within-few within-ordered (λ x. refl) (λ x. absurd (false≢true x)) s
-      go false = found-sound l ks h m true n within-few within-ordered (λ x. absurd (true≢false x)) (λ x. one) s
+      go : (b : Bool) → Sound (cond b (with_journeys l ks h m) (with_found l ks h m (Some n)))
+      go true = found-sound l ks h m None within-few within-ordered (λ x. absurd (false≢true x)) s
+      go false = found-sound l ks h m (Some n) within-few within-ordered (λ x. one) s
 
 pub within-sound : WithinSound
 within-sound l n s = go (is_taken (within_spec l n).answer) refl

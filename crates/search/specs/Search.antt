@@ -1,6 +1,6 @@
 -- **Search**: 15, 14, 11; or the calls in order, the journeys kept in list order, horizon and limits by the scope's rule, searched.
 use Rattle.refusal.specs.declared.Accepted.TheVariants.{Taken}
-use Rattle.std.specs.Prelude.{◌≡◌, Bool, true, false, cond, List, [], ◌∷◌, ℕ, length, Err, Ok}
+use Rattle.std.specs.Prelude.{◌≡◌, Bool, true, false, cond, List, [], ◌∷◌, ℕ, length, None, Option, Err, Ok}
 use Rattle.laws.specs.Lists.{padded}
 use Rattle.refusal.specs.declared.Refusal.TheVariants.{AlreadySearched, Neighbours, NoRoom}
 use Rattle.refusal.specs.First.{First, AllFail, is_refused, Answer}
@@ -25,15 +25,15 @@ outcome_of l = search_of (timetable_of l) l.table_horizon l.table_limits
 abbrev pub sorted_table : Load → Table
 sorted_table l = record { calls = sort_first l.call_count l.calls; count = l.call_count; horizon = l.table_horizon; limits = l.table_limits }
 
--- the load, searched: its calls in order, these journeys, this horizon and mark; and whether the search was stopped, and at which limit
-abbrev pub with_found : Load → List Journey → ℕ → ℕ → Bool → ℕ → Load
-with_found l ks h m b n =
+-- the load, searched: its calls in order, these journeys, this horizon and mark; and the limit at which the search was stopped, if it was
+abbrev pub with_found : Load → List Journey → ℕ → ℕ → Option ℕ → Load
+with_found l ks h m n =
     with_seen l (sorted_table l)
-    (record { journeys = padded no_journey 64 ks; count = length ks; horizon = h; limits = m; searched = true; stopped = b; limit = n })
+    (record { journeys = padded no_journey 64 ks; count = length ks; horizon = h; limits = m; searched = true; limit = n })
 
 -- searched in full
 abbrev pub with_journeys : Load → List Journey → ℕ → ℕ → Load
-with_journeys l ks h m = with_found l ks h m false 0
+with_journeys l ks h m = with_found l ks h m None
 
 -- refused: the load as it was, unsorted
 abbrev pub settled : Load → Outcome → Load

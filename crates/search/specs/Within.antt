@@ -2,7 +2,7 @@
 -- past the limit leave. "It says finished when no untested join is left, and stopped otherwise". One that finished leaves the load of a full
 -- search; one that was stopped leaves a load that holds its limit.
 use Rattle.refusal.specs.declared.Accepted.TheVariants.{Taken}
-use Rattle.std.specs.Prelude.{◌≡◌, ◌↔◌, Bool, true, false, cond, List, [], ◌∷◌, ℕ, ◌≤◌, ltb, Err, Ok}
+use Rattle.std.specs.Prelude.{◌≡◌, ◌↔◌, Bool, true, false, cond, List, [], ◌∷◌, ℕ, ◌≤◌, ltb, None, Some, Err, Ok}
 use Rattle.refusal.specs.declared.Refusal.TheVariants.{SettingsRange, AlreadySearched, Neighbours, NoRoom}
 use Rattle.refusal.specs.First.{First, AllFail, is_refused, Answer}
 use Rattle.profile.specs.declared.Journey.{Journey}
@@ -15,6 +15,7 @@ use Rattle.offers.specs.Search.{Outcome, clashing, falling, found}
 use Rattle.limited.specs.Limited.{offers_within, joins_within, finished_within, search_within}
 use Rattle.load.specs.declared.Load.{Load}
 use Rattle.load.specs.declared.Stepped.{Stepped}
+use Rattle.load.specs.Load.{stopped}
 use Rattle.load.specs.Sound.{Sound}
 use Rattle.search.specs.declared.Limited.{Limited}
 use Rattle.search.specs.Timetable.{timetable_of}
@@ -30,7 +31,7 @@ finishes_in l n = finished_within n (timetable_of l)
 
 -- the load of a full search, or one that was stopped
 abbrev pub within_found : Load → ℕ → List Journey → ℕ → ℕ → Load
-within_found l n ks h m = cond (finishes_in l n) (with_journeys l ks h m) (with_found l ks h m true n)
+within_found l n ks h m = cond (finishes_in l n) (with_journeys l ks h m) (with_found l ks h m (Some n))
 
 -- refused: the load as it was, unsorted
 abbrev pub settled_within : Load → ℕ → Outcome → Load
@@ -86,8 +87,8 @@ pub record WithinLeaves (l : Load) (n : ℕ) : Type 0 where
   pub searched : (within_spec l n).load.searched ≡ true
   pub says : (within_spec l n).finished ≡ finishes_in l n
   pub counts : (within_spec l n).joins ≡ joins_within n (timetable_of l)
-  pub stops : ((within_spec l n).load.stopped ≡ true) ↔ ((within_spec l n).finished ≡ false)
-  pub holds : (within_spec l n).load.limit ≡ cond (finishes_in l n) 0 n
+  pub stops : (stopped (within_spec l n).load ≡ true) ↔ ((within_spec l n).finished ≡ false)
+  pub holds : (within_spec l n).load.limit ≡ cond (finishes_in l n) None (Some n)
 
 abbrev pub WithinTaken : Type 0
 WithinTaken = (l : Load) (n : ℕ) → (within_spec l n).answer ≡ Ok Taken → WithinLeaves l n

@@ -1,7 +1,8 @@
 -- A service of plain numbers, with no name.
-use Rattle.std.specs.Prelude.{ℕ, replicate}
+use Rattle.std.specs.Prelude.{ℕ, []}
+use Rattle.texts.specs.Texts.{held}
 use Rattle.services.specs.declared.Service.{Service}
 
 abbrev pub service_with : ℕ → ℕ → ℕ → ℕ → ℕ → Service
 service_with weekdays start end added removed =
-    record { name = replicate 32 0; name_len = 0; weekdays = weekdays; start = start; end = end; added = added; removed = removed }
+    record { name = held 32 []; weekdays = weekdays; start = start; end = end; added = added; removed = removed }

@@ -7,6 +7,7 @@ ghost use Rattle.services.specs.Runs.{runs_of};
 ghost use Rattle.services_c.specs.Plain.{service_with};
 
 use services::Service;
+use texts::Text;
 
 // Whether the calendar has the date.
 #[unsafe(no_mangle)]
@@ -16,7 +17,7 @@ pub extern "C" fn date_known(d: u32) -> bool
     calendar::is_date(d)
 }
 
-// The weekday of a date, 0 Monday to 6 Sunday; 7 for a number that is no date.
+// The weekday of a date, 0 Monday to 6 Sunday; 7 for a number that is no date, since C has no options.
 #[unsafe(no_mangle)]
 pub extern "C" fn date_weekday(d: u32) -> u8
     ensures { result ≡ weekday_of d }
@@ -25,6 +26,7 @@ pub extern "C" fn date_weekday(d: u32) -> u8
 }
 
 // Whether a service of these weekdays, start, end and marks runs on the load's day `day`, which has this date.
+// The numbers one by one, as C hands them in.
 #[unsafe(no_mangle)]
 pub extern "C" fn service_runs(
     weekdays: u8,
@@ -37,10 +39,8 @@ pub extern "C" fn service_runs(
 ) -> bool
     ensures { result ≡ runs_of (service_with weekdays start end added removed) day date }
 {
-    let name = [0u8; 32];
     let service = Service {
-        name,
-        name_len: 0,
+        name: Text::of(b""),
         weekdays,
         start,
         end,

@@ -8,7 +8,7 @@ ghost use Rattle.settings.specs.Settings.{near, all_near, over_counts, settings_
 use refusal::{Accepted, Answer, Refusal};
 
 // Walks past a count are ignored, and 0 in the settings of a load. Arrays beside their counts, since the core has no heap.
-#[derive(Clone, Copy, Debug, PartialEq, Eq)]
+#[derive(Clone, Copy, Debug, Default, PartialEq, Eq)]
 pub struct Settings {
     pub origins: u8,
     pub targets: u8,

@@ -2,17 +2,15 @@
 // that fails is told on standard error; after a failed read nothing is printed.
 #![tactic(auto)]
 
-use parts::{print, read_input, tell_unread};
+use parts::{print, read_input};
 
 // As long as the longest list.
 const MOST: usize = 4096;
 
 fn main(rt: HostRuntime) {
-    let Ok(t) = read_input(rt.stdin()) else {
-        tell_unread(rt.stderr());
-        return;
-    };
-    let mut out = [0; MOST];
-    let n = lines::lines(&mut out, t.answer, t.reader.load);
-    print(rt.stdout(), rt.stderr(), &out[..n]);
+    if let Some(t) = read_input(rt.stdin(), rt.stderr()) {
+        let mut out = [0; MOST];
+        let n = lines::lines(&mut out, t.answer, t.reader.load);
+        print(rt.stdout(), rt.stderr(), &out[..n]);
+    }
 }

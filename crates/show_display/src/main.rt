@@ -3,52 +3,33 @@
 // longer than the buffer, or is not there whole, ends the reading.
 #![tactic(auto)]
 
-ghost use Rattle.std.specs.Prelude.{◌≤◌, IfSome, length};
-
 mod text;
 
 use groups::{Group, group_of, no_group};
+use prefix::first;
 use reader::read;
 use refusal::Refusal;
 use std::io::Stdin;
 use stdio::input;
 use stdio::out::Out;
 
-// As long as the longest file. A function of its own: the proof of `main` can't hold an array of that length.
-fn buffer() -> [u8; 1048576] {
-    [0; 1048576]
-}
+// As long as the longest file.
+const MOST: usize = 1048576;
 
-// The groups of the files: the first `count`.
-#[derive(Clone, Copy)]
-struct Given {
-    groups: [Group; 4],
-    count: usize,
-}
-
-// The group whose file is refused.
-#[derive(Clone, Copy)]
+// The group whose file is refused, as an error: no value stands beside the cause.
+#[derive(Clone, Copy, Debug, PartialEq, Eq)]
 struct Refused {
     number: u8,
     cause: Refusal,
 }
 
-// The next file, put at the start of the buffer; its size, if it is there.
-fn file(stdin: Stdin, buf: &mut [u8]) -> Option<usize>
-    ensures { IfSome result (λ n. n ≤ length buf.new) }
-{
-    if input::head(stdin, buf) < 4 {
-        return None;
-    }
-    input::body(stdin, buf)
-}
-
-fn read_groups(stdin: Stdin, buf: &mut [u8]) -> Result<Given, Refused> {
-    let mut groups = [no_group(); 4];
+// Reads the groups of up to four files, and says how many there are.
+fn read_groups(stdin: Stdin, buf: &mut [u8], groups: &mut [Group; 4]) -> Result<usize, Refused> {
+    // It leaves where the input does, of which no chain of std can ask.
     for number in 0u8..4 {
         let at = usize::from(number);
-        let Some(size) = file(stdin, buf) else {
-            return Ok(Given { groups, count: at });
+        let Some(size) = input::file(stdin, buf) else {
+            return Ok(at);
         };
         let took = read(&buf[..size]);
         if let Err(cause) = took.answer {
@@ -56,14 +37,15 @@ fn read_groups(stdin: Stdin, buf: &mut [u8]) -> Result<Given, Refused> {
         }
         groups[at] = group_of(number, took.reader.load);
     }
-    Ok(Given { groups, count: 4 })
+    Ok(4)
 }
 
 fn main(rt: HostRuntime) {
     let mut out = Out::new(rt.stdout());
-    let mut bytes = buffer();
-    match read_groups(rt.stdin(), &mut bytes) {
-        Ok(given) => text::display(&mut out, &given.groups[..given.count.min(4)]),
+    let mut buf = input::zeros::<MOST>();
+    let mut groups = [no_group(); 4];
+    match read_groups(rt.stdin(), &mut buf, &mut groups) {
+        Ok(count) => text::display(&mut out, first(&groups, count)),
         Err(refused) => text::file_refused(&mut out, refused.number, refused.cause),
     }
 }

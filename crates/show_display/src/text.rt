@@ -3,12 +3,8 @@ use display::part::Part;
 use display::{Display, deal, part_of};
 use groups::{Group, group_at};
 use refusal::{Accepted, Refusal};
-use stdio::load_lines::Figures;
+use stdio::load_lines::{Figures, refused};
 use stdio::out::Out;
-
-fn refused(out: &mut Out, r: Refusal) {
-    writeln!(out, "refused {}", u8::from(r));
-}
 
 // A group whose load file is refused.
 pub fn file_refused(out: &mut Out, number: u8, r: Refusal) {

@@ -1,7 +1,16 @@
 // A batch on standard input: files, each after its length as a big-endian u32. All is read into one buffer.
 ghost use Rattle.std.specs.Prelude.{◌≡◌, ◌<◌, ◌≤◌, IfSome, length};
+ghost use Rattle.stdio.specs.Input.{zeros};
 
 use std::io::{Read, Stdin};
+
+// A buffer for input. A function of its own: the proof of a `main` can't hold an array of a million bytes.
+#[tactic(auto, unfolding(crate::specs::Input::zeros))]
+pub fn zeros<const N: usize>() -> [u8; N]
+    ensures { result ≡ zeros N }
+{
+    [0; N]
+}
 
 // Reads until the buffer is full, the input ends or a read fails; how many bytes were put at its start. std's read_exact doesn't say how
 // many.
@@ -19,22 +28,14 @@ fn full(stdin: Stdin, buf: &mut [u8]) -> usize
     done
 }
 
-// Fills the first n bytes of the buffer; how many there were. None are read into a buffer that is shorter.
-fn read(stdin: Stdin, buf: &mut [u8], n: usize) -> usize
-    ensures { length buf.new ≡ length buf.old }
-{
-    if n <= buf.len() {
-        full(stdin, &mut buf[..n])
-    } else {
-        0
-    }
-}
-
-// The next four bytes of the input, put at the start of the buffer; how many of them there are.
+// The next four bytes of the input, put at the start of the buffer; how many of them there are. None are read into a shorter buffer.
 pub fn head(stdin: Stdin, buf: &mut [u8]) -> usize
     ensures { result ≤ 4 }
 {
-    read(stdin, buf, 4).min(4)
+    match buf.first_chunk_mut::<4>() {
+        Some(first) => full(stdin, first),
+        None => 0,
+    }
 }
 
 // The number that the four bytes at the start of the buffer are.
@@ -56,7 +57,31 @@ pub fn body(stdin: Stdin, buf: &mut [u8]) -> Option<usize>
     (n <= buf.len() && full(stdin, &mut buf[..n]) == n).then_some(n)
 }
 
-// The rest of the input, after the first `held` bytes of the buffer; how many bytes it then holds. Those that don't fit are not read.
+// The next file, put at the start of the buffer; its size, if its length and the file are there.
+pub fn file(stdin: Stdin, buf: &mut [u8]) -> Option<usize>
+    ensures { IfSome result (λ n. n ≤ length buf.new) }
+{
+    if head(stdin, buf) < 4 {
+        return None;
+    }
+    body(stdin, buf)
+}
+
+// Hands on each file of the batch, up to one that is longer than the buffer or is not there whole. The input's end ends the loop; its
+// range bounds it, as each loop needs a bound.
+pub fn each_file<F: FnMut(&[u8])>(stdin: Stdin, buf: &mut [u8], mut each: F)
+    requires { F.IsAlwaysCallable each }
+{
+    for _ in 0..u64::MAX {
+        let Some(size) = file(stdin, buf) else {
+            return;
+        };
+        each(&buf[..size]);
+    }
+}
+
+// The rest of the input, after the first `held` bytes of the buffer, which stay; how many bytes it then holds. Those that don't fit are
+// not read.
 pub fn rest(stdin: Stdin, buf: &mut [u8], held: usize) -> usize
     ensures { result ≤ length buf.new }
 {

@@ -1,14 +1,15 @@
-// The lines of a load: table, journeys, horizon and limits.
+// The lines of a load: table, journeys, horizon and limits; and that of a refusal.
 use crate::out::Out;
 use calls::Call;
 use order::sorted;
+use prefix::first;
 use profile::{Journey, Ride};
+use refusal::Refusal;
 use std::fmt;
 
-// The table by trip, day, sequence, equals as taken.
-pub fn table(out: &mut Out, given: [Call; 512], count: usize) {
-    let calls = sorted(given, count);
-    for c in &calls[..count.min(512)] {
+// The table by trip, day, sequence, equals as taken: the first `count` of the array, which `sorted` takes whole.
+pub fn table(out: &mut Out, calls: &[Call; 512], count: usize) {
+    for c in first(&sorted(calls, count), count) {
         writeln!(
             out,
             "call {} {} {} {} {} {} {} {} {} {}",
@@ -90,4 +91,8 @@ pub fn journeys(out: &mut Out, kept: &[Journey]) {
 
 pub fn horizon(out: &mut Out, horizon: u16, limits: u8) {
     writeln!(out, "horizon {horizon} limits {limits}");
+}
+
+pub fn refused(out: &mut Out, r: Refusal) {
+    writeln!(out, "refused {}", u8::from(r));
 }

@@ -5,7 +5,8 @@ ghost use Rattle.std.specs.Prelude.{◌≡◌, ◌≤◌};
 use std::fmt;
 use std::io::Stdout;
 
-// The first `len` bytes are gathered. An array and not std's BufWriter, since that allocates, and so can fail.
+// The first `len` bytes are gathered. An array and not std's BufWriter, since that allocates, and so can fail. No Debug and no
+// equality: std's Stdout has neither.
 #[derive(Drop)]
 pub struct Out {
     stdout: Stdout,
@@ -22,13 +23,6 @@ impl Out {
             stdout,
             bytes: [0; 65536],
             len: 0,
-        }
-    }
-
-    pub fn put(&mut self, byte: u8) {
-        if self.len < 65536 {
-            self.bytes[self.len] = byte;
-            self.len += 1;
         }
     }
 

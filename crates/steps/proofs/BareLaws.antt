@@ -5,12 +5,12 @@ use mathlib.Core.Bool.{Bool, true, false, cond, true≢false}
 use mathlib.Core.List.{List, []}
 use borrow.Author.Tests.{eq-eqb}
 use lib.ListN.{set}
+use Rattle.std.specs.Prelude.{Option}
 use Rattle.refusal.specs.First.{is_taken, is_refused}
 use Rattle.stops.specs.declared.StopInput.{StopInput}
 use Rattle.stops.specs.Taken.{stop_of}
 use Rattle.calls.specs.declared.CallInput.{CallInput}
-use Rattle.rules.specs.declared.RuleInput.{RuleInput}
-use Rattle.rules.specs.Rules.{rule_of}
+use Rattle.rules.specs.declared.Rule.{Rule}
 use Rattle.withdrawal.specs.declared.CallKey.{CallKey}
 use Rattle.withdrawal.specs.Removal.{withdrawn}
 use Rattle.week.specs.declared.Running.TheVariants.{Runs}
@@ -40,24 +40,24 @@ bared r = record { answer = r.answer; load = bare r.load }
 
 -- ---- stop, rule, search and plain call
 
-pub bare-stop : (l : Load) (id name parent : List ℕ) (i : StopInput) → stop_spec (bare l) id name parent i ≡ bared (stop_spec l id name parent i)
+pub bare-stop : (l : Load) (id : List ℕ) (name parent : Option (List ℕ)) (i : StopInput) → stop_spec (bare l) id name parent i ≡ bared (stop_spec l id name parent i)
 unfolding stop_spec
 bare-stop l id name parent i = go (is_taken (stop_answer l id name parent i))
   where
     go : (b : Bool) → ◌≡◌ {A = Stepped} (record {
       answer = stop_answer l id name parent i;
-      load = cond b (with_stops (bare l) (set l.stops l.stop_count (stop_of id name (station_in l parent i) i)) (l.stop_count + 1)) (bare l);
+      load = cond b (with_stops (bare l) (set l.stops l.stop_count (stop_of id name (station_in l parent) i)) (l.stop_count + 1)) (bare l);
     })
-        (record { answer = stop_answer l id name parent i; load = bare (cond b (with_stops l (set l.stops l.stop_count (stop_of id name (station_in l parent i) i)) (l.stop_count + 1)) l) })
+        (record { answer = stop_answer l id name parent i; load = bare (cond b (with_stops l (set l.stops l.stop_count (stop_of id name (station_in l parent) i)) (l.stop_count + 1)) l) })
     go true = refl
     go false = refl
 
-pub bare-rule : (l : Load) (i : RuleInput) → rule_spec (bare l) i ≡ bared (rule_spec l i)
+pub bare-rule : (l : Load) (i : Rule) → rule_spec (bare l) i ≡ bared (rule_spec l i)
 unfolding rule_spec
 bare-rule l i = go (is_taken (rule_answer l i))
   where
-    go : (b : Bool) → ◌≡◌ {A = Stepped} (record { answer = rule_answer l i; load = cond b (with_rules (bare l) (set l.rules l.rule_count (rule_of i)) (l.rule_count + 1)) (bare l) })
-        (record { answer = rule_answer l i; load = bare (cond b (with_rules l (set l.rules l.rule_count (rule_of i)) (l.rule_count + 1)) l) })
+    go : (b : Bool) → ◌≡◌ {A = Stepped} (record { answer = rule_answer l i; load = cond b (with_rules (bare l) (set l.rules l.rule_count i) (l.rule_count + 1)) (bare l) })
+        (record { answer = rule_answer l i; load = bare (cond b (with_rules l (set l.rules l.rule_count i) (l.rule_count + 1)) l) })
     go true = refl
     go false = refl
 
@@ -85,13 +85,13 @@ bare-unsearched l = refl
 bare-again : (l : Load) (r : Stepped) → again (bare l) (bared r) ≡ bared (again l r)
 unfolding again
 bare-again l r =
-    ap (λ (q : Stepped). cond (is_refused r.answer) (record { answer = r.answer; load = bare l }) (searched_as (bare l) r.answer q)) (research-week l.stopped l.limit r.load undated_week)
-    ∙ go (is_refused r.answer) (is_taken (researched l.stopped l.limit r.load).answer)
+    ap (λ (q : Stepped). cond (is_refused r.answer) (record { answer = r.answer; load = bare l }) (searched_as (bare l) r.answer q)) (research-week l.limit r.load undated_week)
+    ∙ go (is_refused r.answer) (is_taken (researched l.limit r.load).answer)
   where
     go : (b c : Bool) → cond {A = Stepped} b (record { answer = r.answer; load = bare l })
-        (cond {A = Stepped} c (record { answer = r.answer; load = bare (researched l.stopped l.limit r.load).load }) (record { answer = (researched l.stopped l.limit r.load).answer; load = bare l }))
+        (cond {A = Stepped} c (record { answer = r.answer; load = bare (researched l.limit r.load).load }) (record { answer = (researched l.limit r.load).answer; load = bare l }))
         ≡ bared (cond {A = Stepped} b (record { answer = r.answer; load = l })
-        (cond {A = Stepped} c (record { answer = r.answer; load = (researched l.stopped l.limit r.load).load }) (record { answer = (researched l.stopped l.limit r.load).answer; load = l })))
+        (cond {A = Stepped} c (record { answer = r.answer; load = (researched l.limit r.load).load }) (record { answer = (researched l.limit r.load).answer; load = l })))
     go true c = refl
     go false true = refl
     go false false = refl

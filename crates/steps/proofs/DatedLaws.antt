@@ -5,7 +5,6 @@ use mathlib.Core.Path.{◌≡◌, refl, sym, ap, ap₂, ◌∙◌}
 use mathlib.Core.Bool.{Bool, true, false, cond}
 use mathlib.Core.List.{List, [], ◌∷◌, ◌++◌}
 use Prim.Native.Nat.{ℕ}
-use native.Mathlib.Omega.{arith}
 use Rattle.refusal.specs.declared.Refusal.TheVariants.{AlreadySearched}
 use Rattle.settings.specs.declared.Settings.{Settings}
 use Rattle.calls.specs.declared.CallInput.{CallInput}
@@ -30,10 +29,10 @@ use Rattle.steps.proofs.BareLaws.{bare, bared, bare-stop, bare-rule, bare-search
 use Rattle.steps.proofs.WeekLaws.{back-week, add-closes, step-dated, step-closed}
 
 not-unknown : Unknown ≡ Runs → ⊥
-not-unknown e = let z : ◌≡◌ {A = ℕ} 0 1 = cc in omega arith
+not-unknown e = cc
 
 not-rests : Rests ≡ Runs → ⊥
-not-rests e = let z : ◌≡◌ {A = ℕ} 0 1 = cc in omega arith
+not-rests e = cc
 
 -- ---- one step
 

@@ -6,6 +6,7 @@ use Prim.Native.Nat.{ℕ, ◌≤◌}
 use native.Mathlib.Omega.{arith}
 use lib.Dec.{ltb}
 use borrow.Author.Tests.{ltb-false}
+use Rattle.std.specs.Prelude.{Option}
 use Rattle.laws.proofs.Bools.{or-false-right}
 use Rattle.refusal.specs.First.{is_refused, is_taken}
 use Rattle.settings.specs.declared.Settings.{Settings}
@@ -49,19 +50,19 @@ search-settings l = go l.searched refl
     go false e = ap (λ (r : Stepped). r.load.settings) (search-runs l e) ∙ settled-settings l (outcome_of l)
 
 within-settings : (l : Load) (n : ℕ) → (within_spec l n).load.settings ≡ l.settings
-within-settings l n = within-keeps (λ m. m.settings) l n (λ ks h m b k. refl)
+within-settings l n = within-keeps (λ m. m.settings) l n (λ ks h m k. refl)
 
-research-settings : (b : Bool) (n : ℕ) (m : Load) → (researched b n m).load.settings ≡ m.settings
-research-settings b n m = researched-keeps b n m (λ x. x.settings) (λ ks h k c j. refl)
+research-settings : (limit : Option ℕ) (m : Load) → (researched limit m).load.settings ≡ m.settings
+research-settings limit m = researched-keeps limit m (λ x. x.settings) (λ ks h k n. refl)
 
 again-settings : (l : Load) (r : Stepped) → r.load.settings ≡ l.settings → (again l r).load.settings ≡ l.settings
 unfolding again
-again-settings l r e = go (is_refused r.answer) (is_taken (researched l.stopped l.limit r.load).answer)
+again-settings l r e = go (is_refused r.answer) (is_taken (researched l.limit r.load).answer)
   where
     go : (b c : Bool) → (cond {A = Stepped} b (record { answer = r.answer; load = l })
-        (cond {A = Stepped} c (record { answer = r.answer; load = (researched l.stopped l.limit r.load).load }) (record { answer = (researched l.stopped l.limit r.load).answer; load = l }))).load.settings ≡ l.settings
+        (cond {A = Stepped} c (record { answer = r.answer; load = (researched l.limit r.load).load }) (record { answer = (researched l.limit r.load).answer; load = l }))).load.settings ≡ l.settings
     go true c = refl
-    go false true = research-settings l.stopped l.limit r.load ∙ e
+    go false true = research-settings l.limit r.load ∙ e
     go false false = refl
 
 added-settings : (l : Load) (r : Stepped) → r.load.settings ≡ l.settings → (added_to l r).load.settings ≡ l.settings

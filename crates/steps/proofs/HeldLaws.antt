@@ -1,5 +1,5 @@
 -- The load as a machine: its steps meet what demands 2 and 3 ask of a machine.
-use Rattle.std.specs.Prelude.{None, Option, Some, unwrap_or}
+use Rattle.std.specs.Prelude.{None, Option, Some, is_some, unwrap_or}
 use Prim.Native.Nat.{ℕ}
 use mathlib.Core.Path.{◌≡◌, refl, sym, ap, subst, ◌∙◌}
 use mathlib.Core.Bool.{Bool, true, false, not, cond, ◌&&◌, true≢false, false≢true}
@@ -19,7 +19,7 @@ use Rattle.offers.proofs.OrderLaws.{sorted_front}
 use Rattle.offers.proofs.MachineLaws.{meets-2, meets-3, meets-within, kept-stands as machine-stands}
 use Rattle.load.specs.declared.Load.{Load}
 use Rattle.load.specs.declared.Stepped.{Stepped}
-use Rattle.load.specs.Load.{empty_of, with_week}
+use Rattle.load.specs.Load.{empty_of, with_week, stopped}
 use Rattle.load.specs.Steps.{Opening, opened, call_spec}
 use Rattle.load.specs.Filling.{Filling, stop, call, rule, service, exception, filled}
 use Rattle.load.specs.Sound.{Sound}
@@ -51,9 +51,9 @@ use Rattle.steps.proofs.StepLaws.{filled-stays, filled-searched, found-kept, sou
 abbrev pub From : Load → Load → Type 0
 From p l = l.searched ≡ true → timetable_of l ≡ with_calls (timetable_of p) (in_order_of (timetable_of p).calls)
 
-found-reads : (m : Load) (ks : List Journey) (h k : ℕ) (b : Bool) (n : ℕ) → timetable_of (with_found m ks h k b n) ≡ with_calls (timetable_of m) (in_order_of (timetable_of m).calls)
+found-reads : (m : Load) (ks : List Journey) (h k : ℕ) (limit : Option ℕ) → timetable_of (with_found m ks h k limit) ≡ with_calls (timetable_of m) (in_order_of (timetable_of m).calls)
 unfolding timetable_of
-found-reads m ks h k b n = ap (with_calls (timetable_of m)) (sorted_front m.call_count m.calls)
+found-reads m ks h k limit = ap (with_calls (timetable_of m)) (sorted_front m.call_count m.calls)
 
 -- what is asked of a step that makes n of l, its accepted search, if any, having started from o
 pub record Right (l n : Load) (o : Option Load) : Type 0 where
@@ -70,7 +70,7 @@ kept l n s e = record {
   searches = λ m q. absurd (none-ne-some m q);
   stays = λ q d. let same = e d in record {
     searched = sym (ap (λ (m : Load). m.searched) same) ∙ d;
-    whole = λ f. sym (ap (λ (m : Load). m.searched && not m.stopped) same) ∙ f;
+    whole = λ f. sym (ap (λ (m : Load). m.searched && not (stopped m)) same) ∙ f;
     list = ap kept_of same;
     to = ap (λ (m : Load). m.horizon) same;
     mark = ap (λ (m : Load). m.limits) same;
@@ -96,36 +96,35 @@ pub record Leaves (m : Load) (r : Stepped) : Type 0 where
   pub kept : List Journey
   pub to : ℕ
   pub mark : ℕ
-  pub stop : Bool
-  pub at : ℕ
-  pub is : r.load ≡ with_found m kept to mark stop at
-  pub finds : stop ≡ false → outcome_of m ≡ found kept to mark
+  pub limit : Option ℕ
+  pub is : r.load ≡ with_found m kept to mark limit
+  pub finds : limit ≡ None → outcome_of m ≡ found kept to mark
   pub sound : Sound r.load
   pub own : Own r.load
 
-ran-found : (m : Load) (ks : List Journey) (h k : ℕ) (b : Bool) (n : ℕ) → Sound m → m.searched ≡ false → (b ≡ false → outcome_of m ≡ found ks h k)
-    → Ran machine Sound m (with_found m ks h k b n)
+ran-found : (m : Load) (ks : List Journey) (h k : ℕ) (limit : Option ℕ) → Sound m → m.searched ≡ false → (limit ≡ None → outcome_of m ≡ found ks h k)
+    → Ran machine Sound m (with_found m ks h k limit)
 unfolding outcome_of
-ran-found m ks h k b n s new f = record {
+ran-found m ks h k limit s new f = record {
   sound = s;
   new = new;
   searched = refl;
-  finds = λ e. f (not-true b e) ∙ (λ i. found (sym (found-kept m ks h k b n) i) h k);
+  finds = λ e. f (none limit e) ∙ (λ i. found (sym (found-kept m ks h k limit) i) h k);
 }
   where
-    not-true : (c : Bool) → not c ≡ true → c ≡ false
-    not-true true e = absurd (false≢true e)
-    not-true false e = refl
+    none : (o : Option ℕ) → not (is_some o) ≡ true → o ≡ None
+    none (Some n) e = absurd (false≢true e)
+    none None e = refl
 
 ended : (l m : Load) (r : Stepped) → Sound m → Leaves m r → Right l r.load (Some m)
 ended l m r s w =
-    let q : Ran machine Sound m r.load = subst (Ran machine Sound m) (sym w.is) (ran-found m w.kept w.to w.mark w.stop w.at s w.new w.finds) in
+    let q : Ran machine Sound m r.load = subst (Ran machine Sound m) (sym w.is) (ran-found m w.kept w.to w.mark w.limit s w.new w.finds) in
     record {
       sound = w.sound;
       searches = λ p e. subst (λ (x : Load). Ran machine Sound x r.load) (some-injective m p e) q;
       stays = λ e d. absurd (some-ne-none m e);
       own = λ x. w.own;
-      from = λ p x d. ap timetable_of w.is ∙ found-reads m w.kept w.to w.mark w.stop w.at;
+      from = λ p x d. ap timetable_of w.is ∙ found-reads m w.kept w.to w.mark w.limit;
     }
 
 full-leaves : (m : Load) → Sound m → is_taken (search_spec m).answer ≡ true → Leaves m (search_spec m)
@@ -136,8 +135,7 @@ full-leaves m s t =
       kept = w.kept;
       to = w.to;
       mark = w.mark;
-      stop = false;
-      at = 0;
+      limit = None;
       is = ap (λ (r : Stepped). r.load) w.is;
       finds = λ e. w.outcome;
       sound = search-sound m s;
@@ -158,27 +156,26 @@ limited-leaves m n s t = go (finishes_in m n) refl
           kept = w.kept;
           to = w.to;
           mark = w.mark;
-          stop = true;
-          at = n;
+          limit = Some n;
           is = ap (λ (r : Limited). r.load) w.is ∙ cond-not _ _ e;
-          finds = λ x. absurd (true≢false x);
+          finds = λ x. absurd (some-ne-none n x);
           sound = within-sound m n s;
           own = within-own m n s t;
         }
 
-again-leaves : (b : Bool) (n : ℕ) (m : Load) → Sound m → is_taken (researched b n m).answer ≡ true → Leaves m (researched b n m)
-again-leaves b n m s = research-cases b n m (λ r. is_taken r.answer ≡ true → Leaves m r) (λ w. limited-leaves m n s) (full-leaves m s)
+again-leaves : (limit : Option ℕ) (m : Load) → Sound m → is_taken (researched limit m).answer ≡ true → Leaves m (researched limit m)
+again-leaves limit m s = research-cases limit m (λ r. is_taken r.answer ≡ true → Leaves m r) (λ n w. limited-leaves m n s) (full-leaves m s)
 
 -- a step on the unsearched load, and a search
 again-right : (l : Load) (r : Stepped) → Sound l → Sound r.load → Right l (again l r).load (ran_again l r)
 unfolding again
-again-right l r s t = go (is_refused r.answer) (is_taken (researched l.stopped l.limit r.load).answer) refl
+again-right l r s t = go (is_refused r.answer) (is_taken (researched l.limit r.load).answer) refl
   where
-    go : (b c : Bool) → is_taken (researched l.stopped l.limit r.load).answer ≡ c
-        → Right l (cond {A = Stepped} b (record { answer = r.answer; load = l }) (cond {A = Stepped} c (record { answer = r.answer; load = (researched l.stopped l.limit r.load).load }) (record { answer = (researched l.stopped l.limit r.load).answer; load = l }))).load
+    go : (b c : Bool) → is_taken (researched l.limit r.load).answer ≡ c
+        → Right l (cond {A = Stepped} b (record { answer = r.answer; load = l }) (cond {A = Stepped} c (record { answer = r.answer; load = (researched l.limit r.load).load }) (record { answer = (researched l.limit r.load).answer; load = l }))).load
         (cond b None (cond c (Some r.load) None))
     go true c e = kept l l s (λ d. refl)
-    go false true e = ended l r.load (researched l.stopped l.limit r.load) t (again-leaves l.stopped l.limit r.load t e)
+    go false true e = ended l r.load (researched l.limit r.load) t (again-leaves l.limit r.load t e)
     go false false e = kept l l s (λ d. refl)
 
 added-right : (l : Load) (r : Stepped) → Sound l → l.searched ≡ true → Sound r.load → Right l (added_to l r).load (ran_added l r)
@@ -261,7 +258,7 @@ steps = record {
 
 -- ---- what a searched load that was not stopped holds, and when best agrees
 
-whole : (l : Load) → l.stopped ≡ false → l.searched ≡ true → (l.searched && not l.stopped) ≡ true
+whole : (l : Load) → stopped l ≡ false → l.searched ≡ true → (l.searched && not (stopped l)) ≡ true
 whole l e d = (λ i. d i && not (e i))
 
 pub searched-holds : SearchedHolds

@@ -1,3 +1,4 @@
+pub mod PermLaws
 pub mod StepLaws
 pub mod AnsweredLaws
 pub mod HeldLaws

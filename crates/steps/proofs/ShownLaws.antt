@@ -6,7 +6,6 @@ use mathlib.Core.Logic.{◌⊎◌, inl, inr}
 use mathlib.Core.Bool.{Bool, true, false, cond}
 use mathlib.Core.List.Memᴰ
 use mathlib.Core.List.{List, [], ◌∷◌, ◌++◌, append_assoc, Memᴰ}
-use native.Mathlib.Omega.{arith}
 use lib.Dec.{ltb}
 use Rattle.laws.specs.Sort.{insert_by, sort, Ordered, Strict, merge}
 use Rattle.laws.proofs.Sort.{sort-ordered, merge-sort}
@@ -46,7 +45,7 @@ module _ (s : Settings) (h : ℕ) where
   window-keeps i c e = go (un_timed i) e
     where
       go : (b : Bool) → cond b None (call_seen s h i) ≡ Some c → Keeps i c
-      go true q = let z : ◌≡◌ {A = ℕ} 0 1 = cc in absurd (omega arith)
+      go true q = absurd (cc)
       go false q = let same = seen-is h (call_time s i i.arrival) (call_time s i i.departure) i c q in record { trip = λ j. (same j).trip; day = λ j. (same j).day; sequence = λ j. (same j).sequence }
 
   -- what is shown is before what is shown as what was handed in is

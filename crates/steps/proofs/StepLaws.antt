@@ -23,12 +23,11 @@ use Rattle.rules.specs.Rules.{rule_tests}
 use Rattle.stops.specs.Answer.{stop_tests}
 use Rattle.transfer.specs.Changes.{joins_by, join_of}
 use Rattle.offers.specs.Admitted.{InTime}
-use Rattle.offers.specs.Search.{found, answer_of, search_of}
+use Rattle.offers.specs.Search.{found, search_of}
 use Rattle.week.specs.Weeks.{service_tests, exception_tests}
 use Rattle.load.specs.declared.Load.{Load}
 use Rattle.load.specs.declared.Stepped.{Stepped}
 use Rattle.stops.specs.Taken.{stop_of}
-use Rattle.rules.specs.Rules.{rule_of}
 use Rattle.load.specs.Load.{with_stops, with_rules, with_table}
 use Rattle.load.specs.Steps.{station_in, stop_answer, stop_spec, call_fitted, plain_call, call_spec, rule_answer, rule_spec, service_spec, exception_spec}
 use Rattle.load.specs.Filling.{Filling, stop, call, rule, service, exception, filled}
@@ -130,9 +129,9 @@ plain-searched l i = either-searched l (with_table l (call_fitted l i).table) (i
 pub filled-searched : (l : Load) (x : Filling) → (filled l x).load.searched ≡ l.searched
 unfolding stop_spec rule_spec service_spec exception_spec
 filled-searched l (stop id name parent i) =
-    either-searched (with_stops l (set l.stops l.stop_count (stop_of id name (station_in l parent i) i)) (l.stop_count + 1)) l (is_taken (stop_answer l id name parent i)) refl
+    either-searched (with_stops l (set l.stops l.stop_count (stop_of id name (station_in l parent) i)) (l.stop_count + 1)) l (is_taken (stop_answer l id name parent i)) refl
 filled-searched l (call name i) = call-keeps (λ (m : Load). m.searched) l name i (λ m w. refl) (plain-searched l i)
-filled-searched l (rule i) = either-searched (with_rules l (set l.rules l.rule_count (rule_of i)) (l.rule_count + 1)) l (is_taken (rule_answer l i)) refl
+filled-searched l (rule i) = either-searched (with_rules l (set l.rules l.rule_count i) (l.rule_count + 1)) l (is_taken (rule_answer l i)) refl
 filled-searched l (service name weekdays start end) = refl
 filled-searched l (exception name date kind) = refl
 
@@ -144,8 +143,8 @@ kept_back : (ks : List Journey) → take (length ks) (padded no_journey 64 ks) �
 kept_back ks = take-append_seam ks (replicate (64 - length ks) no_journey)
 
 -- what is kept of the journeys found
-pub found-kept : (l : Load) (ks : List Journey) (h m : ℕ) (b : Bool) (n : ℕ) → best.kept_of (with_found l ks h m b n) ≡ ks
-found-kept l ks h m b n = kept_back ks
+pub found-kept : (l : Load) (ks : List Journey) (h m : ℕ) (limit : Option ℕ) → best.kept_of (with_found l ks h m limit) ≡ ks
+found-kept l ks h m limit = kept_back ks
 
 -- a search that is answered taken ran on a load not searched before, and leaves it searched
 pub record Searches (l : Load) : Type 0 where

@@ -1,15 +1,15 @@
 -- The table is the calls answered taken and not withdrawn, as the window shows them; in order, once searched.
 use Rattle.refusal.specs.declared.Accepted.TheVariants.{Taken}
-use Rattle.std.specs.Prelude.{Ok}
+use Rattle.std.specs.Prelude.{Ok, None, Some, Option}
 use Prim.Native.Nat.{ℕ}
 use mathlib.Core.Path.{◌≡◌, refl, sym, ap, subst, ◌∙◌}
 use mathlib.Core.Logic.{◌↔◌}
-use mathlib.Core.Bool.{Bool, true, false, cond, not, false≢true}
+use mathlib.Core.Bool.{Bool, true, false, cond, not}
 use mathlib.Core.List.Permᴰ
 use mathlib.Core.List.{List, [], ◌∷◌, ◌++◌, append-nil}
 use lib.Dec.{eqb}
 use Rattle.laws.specs.Lists.{anyb}
-use Rattle.laws.proofs.Bools.{and-true-left, cond-not}
+use Rattle.laws.proofs.Bools.{and-true-left, cond-not, of-not}
 use Rattle.laws.proofs.Sort.{sort-perm}
 use Rattle.refusal.specs.First.{is_refused, is_taken, Answer}
 use Rattle.calls.specs.declared.Call.{Call}
@@ -69,16 +69,16 @@ in_order : (l : Load) (is : List CallInput) → l.searched ≡ true → Holds l 
 in_order l is e h = h ∙ ap (λ (b : Bool). ordered b (windowed l.settings l.table_horizon is)) e
 
 -- m with what a search of it found
-found-holds : (m : Load) (is : List CallInput) (ks : List Journey) (h k : ℕ) (b : Bool) (n : ℕ)
-    → in_order_of (table_calls (table_of m)) ≡ in_order_of (windowed m.settings m.table_horizon is) → Holds (with_found m ks h k b n) is
-found-holds m is ks h k b n e = sorted_front m.call_count m.calls ∙ e
+found-holds : (m : Load) (is : List CallInput) (ks : List Journey) (h k : ℕ) (limit : Option ℕ)
+    → in_order_of (table_calls (table_of m)) ≡ in_order_of (windowed m.settings m.table_horizon is) → Holds (with_found m ks h k limit) is
+found-holds m is ks h k limit e = sorted_front m.call_count m.calls ∙ e
 
 -- an accepted search of m, in full or within a limit
-search-holds : (b : Bool) (n : ℕ) (m : Load) (is : List CallInput) → is_taken (researched b n m).answer ≡ true
-    → in_order_of (table_calls (table_of m)) ≡ in_order_of (windowed m.settings m.table_horizon is) → Holds (researched b n m).load is
-search-holds b n m is t e =
-    let w = taken-researched b n m t in
-    subst (λ (x : Load). Holds x is) (sym (ap (λ (r : Stepped). r.load) w.is)) (found-holds m is w.kept w.to w.mark w.stop w.at e)
+search-holds : (limit : Option ℕ) (m : Load) (is : List CallInput) → is_taken (researched limit m).answer ≡ true
+    → in_order_of (table_calls (table_of m)) ≡ in_order_of (windowed m.settings m.table_horizon is) → Holds (researched limit m).load is
+search-holds limit m is t e =
+    let w = taken-researched limit m t in
+    subst (λ (x : Load). Holds x is) (sym (ap (λ (r : Stepped). r.load) w.is)) (found-holds m is w.kept w.to w.mark w.limit e)
 
 -- ---- all but calls and withdrawals
 
@@ -92,9 +92,9 @@ filled-holds l x is s n h = go l.searched refl
         (subst (ShowsIn (filled l x).load) (ap (λ (r : List CallInput). is ++ r) n ∙ append-nil is) (fill_shows l x is s (plain l is e h)))
 
 either-holds : (l : Load) (n : ℕ) (is : List CallInput) (ks : List Journey) (h k : ℕ) (c : Bool)
-    → in_order_of (table_calls (table_of l)) ≡ in_order_of (windowed l.settings l.table_horizon is) → Holds (cond c (with_journeys l ks h k) (with_found l ks h k true n)) is
-either-holds l n is ks h k true e = found-holds l is ks h k false 0 e
-either-holds l n is ks h k false e = found-holds l is ks h k true n e
+    → in_order_of (table_calls (table_of l)) ≡ in_order_of (windowed l.settings l.table_horizon is) → Holds (cond c (with_journeys l ks h k) (with_found l ks h k (Some n))) is
+either-holds l n is ks h k true e = found-holds l is ks h k None e
+either-holds l n is ks h k false e = found-holds l is ks h k (Some n) e
 
 searched-holds : (l : Load) (is : List CallInput) → Holds l is → Holds (search_spec l).load is
 searched-holds l is h = go (is_taken (search_spec l).answer) refl
@@ -102,7 +102,7 @@ searched-holds l is h = go (is_taken (search_spec l).answer) refl
     go : (b : Bool) → is_taken (search_spec l).answer ≡ b → Holds (search_spec l).load is
     go true t =
         let w = taken-found l t in
-        subst (λ (x : Load). Holds x is) (sym (ap (λ (r : Stepped). r.load) w.is)) (found-holds l is w.kept w.to w.mark false 0 (ap in_order_of (plain l is w.new h)))
+        subst (λ (x : Load). Holds x is) (sym (ap (λ (r : Stepped). r.load) w.is)) (found-holds l is w.kept w.to w.mark None (ap in_order_of (plain l is w.new h)))
     go false t = subst (λ (m : Load). Holds m is) (sym (untaken-stays l t)) h
 
 limited-holds : (l : Load) (n : ℕ) (is : List CallInput) → Holds l is → Holds (within_spec l n).load is
@@ -126,10 +126,6 @@ call-holds : (l : Load) (name : List ℕ) (i : CallInput) (is : List CallInput) 
 call-holds l name i is s e h =
     from-plain (call_spec l name i).load (cond (is_taken (call_spec l name i).answer) (is ++ (i ∷ [])) is) (filled-searched l (call name i) ∙ e)
     (subst (ShowsIn (call_spec l name i).load) (either_held (is_taken (call_spec l name i).answer) is i) (fill_shows l (call name i) is s (plain l is e h)))
-
-not-true : (b : Bool) → not b ≡ true → b ≡ false
-not-true true e = absurd (false≢true e)
-not-true false e = refl
 
 module _ (l : Load) (name : List ℕ) (i : CallInput) (is : List CallInput) (s : Sound l) (d : l.searched ≡ true) (h : Holds l is) where
   abbrev u : Load
@@ -160,13 +156,13 @@ module _ (l : Load) (name : List ℕ) (i : CallInput) (is : List CallInput) (s :
 
   added-holds : HeldBy (added_to l r)
   unfolding added_to again
-  added-holds = go (leaves_table_of l r) (is_refused r.answer) (is_taken (researched l.stopped l.limit m).answer) refl refl refl
+  added-holds = go (leaves_table_of l r) (is_refused r.answer) (is_taken (researched l.limit m).answer) refl refl refl
     where
-      go : (b c e : Bool) → leaves_table_of l r ≡ b → is_refused r.answer ≡ c → is_taken (researched l.stopped l.limit m).answer ≡ e → HeldBy (added_by l r b c e)
-      go true c e x y z = stays r.answer (with_week l r.load.week) (not-true (is_taken r.answer) (and-true-left (not (is_taken r.answer)) (eqb m.table_horizon l.table_horizon) x)) h
+      go : (b c e : Bool) → leaves_table_of l r ≡ b → is_refused r.answer ≡ c → is_taken (researched l.limit m).answer ≡ e → HeldBy (added_by l r b c e)
+      go true c e x y z = stays r.answer (with_week l r.load.week) (of-not (is_taken r.answer) (and-true-left (not (is_taken r.answer)) (eqb m.table_horizon l.table_horizon) x)) h
       go false true e x y z = stays r.answer l (refused-not-taken r.answer y) h
-      go false false true x y z = search-holds l.stopped l.limit m (cond (is_taken r.answer) (is ++ (i ∷ [])) is) z more
-      go false false false x y z = stays (researched l.stopped l.limit m).answer l z h
+      go false false true x y z = search-holds l.limit m (cond (is_taken r.answer) (is ++ (i ∷ [])) is) z more
+      go false false false x y z = stays (researched l.limit m).answer l z h
 
 add_holds : (l : Load) (name : List ℕ) (i : CallInput) (is : List CallInput) → Sound l → Holds l is
     → Holds (add_spec_of l name i).load (cond (is_taken (add_spec_of l name i).answer) (is ++ (i ∷ [])) is)
@@ -214,20 +210,20 @@ module _ (l : Load) (k : CallKey) (is : List CallInput) (w : Kept l) (h : Holds 
         ∙ sorted-without seen k clear-seen (any-sorted (has_key k) seen (sym (ap (anyb (has_key k)) (in_order l is d h)) ∙ e))
         ∙ ap in_order_of (shown-without l.settings l.table_horizon k is)
 
-    searched-left : Goes v k → is_taken (researched l.stopped l.limit (with_table v (withdrawn (table_of v) k))).answer ≡ true
-        → Holds (researched l.stopped l.limit (with_table v (withdrawn (table_of v) k))).load left
+    searched-left : Goes v k → is_taken (researched l.limit (with_table v (withdrawn (table_of v) k))).answer ≡ true
+        → Holds (researched l.limit (with_table v (withdrawn (table_of v) k))).load left
     unfolding unsearched_of withdrawn
     searched-left g z =
-        search-holds l.stopped l.limit (with_table v (withdrawn (table_of v) k)) left z
+        search-holds l.limit (with_table v (withdrawn (table_of v) k)) left z
         (ap in_order_of ((withdrawn-leaves (table_of l) k w.sound.table g.there).calls ∙ left-sorted g.there)
         ∙ in-order-again (windowed l.settings l.table_horizon left))
 
     again-holds : LeftBy (again l (taken_out v k))
     unfolding again
-    again-holds = out_cases v k (λ q. LeftBy (again l q)) (λ q. h) (λ q f. h) (λ g. go g (is_taken (researched l.stopped l.limit (with_table v (withdrawn (table_of v) k))).answer) refl)
+    again-holds = out_cases v k (λ q. LeftBy (again l q)) (λ q. h) (λ q f. h) (λ g. go g (is_taken (researched l.limit (with_table v (withdrawn (table_of v) k))).answer) refl)
       where
-        go : Goes v k → (b : Bool) → is_taken (researched l.stopped l.limit (with_table v (withdrawn (table_of v) k))).answer ≡ b
-            → LeftBy (cond {A = Stepped} b (record { answer = Ok Taken; load = (researched l.stopped l.limit (with_table v (withdrawn (table_of v) k))).load }) (record { answer = (researched l.stopped l.limit (with_table v (withdrawn (table_of v) k))).answer; load = l }))
+        go : Goes v k → (b : Bool) → is_taken (researched l.limit (with_table v (withdrawn (table_of v) k))).answer ≡ b
+            → LeftBy (cond {A = Stepped} b (record { answer = Ok Taken; load = (researched l.limit (with_table v (withdrawn (table_of v) k))).load }) (record { answer = (researched l.limit (with_table v (withdrawn (table_of v) k))).answer; load = l }))
         go g true z = searched-left g z
         go g false z = subst (Holds l) (sym (cond-not _ _ z)) h
 

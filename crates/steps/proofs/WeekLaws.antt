@@ -1,5 +1,5 @@
 -- What each step does to the week of its load: a call that is answered closes the services, and only services and exceptions alter it else.
-use Rattle.std.specs.Prelude.{Err}
+use Rattle.std.specs.Prelude.{Err, Option}
 use Prim.Native.Nat.{ℕ}
 use mathlib.Core.Path.{◌≡◌, refl, sym, ap, subst, ◌∙◌}
 use mathlib.Core.Bool.{Bool, true, false, cond, true≢false}
@@ -8,7 +8,7 @@ use Rattle.refusal.specs.declared.Refusal.TheVariants.{AlreadySearched}
 use Rattle.refusal.specs.First.{is_taken, is_refused}
 use Rattle.stops.specs.declared.StopInput.{StopInput}
 use Rattle.calls.specs.declared.CallInput.{CallInput}
-use Rattle.rules.specs.declared.RuleInput.{RuleInput}
+use Rattle.rules.specs.declared.Rule.{Rule}
 use Rattle.offers.specs.Search.{Outcome, clashing, falling, found, answer_of}
 use Rattle.withdrawal.specs.declared.CallKey.{CallKey}
 use Rattle.week.specs.declared.Week.{Week}
@@ -46,20 +46,20 @@ search-week l = go l.searched
     go false = week-kept l (outcome_of l)
 
 pub within-week : (l : Load) (n : ℕ) → (within_spec l n).load.week ≡ l.week
-within-week l n = within-keeps (λ m. m.week) l n (λ ks h m b k. refl)
+within-week l n = within-keeps (λ m. m.week) l n (λ ks h m k. refl)
 
-research-week : (b : Bool) (n : ℕ) (m : Load) → (researched b n m).load.week ≡ m.week
-research-week b n m = researched-keeps b n m (λ x. x.week) (λ ks h k c j. refl)
+research-week : (limit : Option ℕ) (m : Load) → (researched limit m).load.week ≡ m.week
+research-week limit m = researched-keeps limit m (λ x. x.week) (λ ks h k n. refl)
 
 either-week : (l m : Load) (b : Bool) → m.week ≡ l.week → (cond b m l).week ≡ l.week
 either-week l m true e = e
 either-week l m false e = refl
 
-pub stop-week : (l : Load) (id name parent : List ℕ) (i : StopInput) → (stop_spec l id name parent i).load.week ≡ l.week
+pub stop-week : (l : Load) (id : List ℕ) (name parent : Option (List ℕ)) (i : StopInput) → (stop_spec l id name parent i).load.week ≡ l.week
 unfolding stop_spec
 stop-week l id name parent i = either-week l _ (is_taken (stop_answer l id name parent i)) refl
 
-pub rule-week : (l : Load) (i : RuleInput) → (rule_spec l i).load.week ≡ l.week
+pub rule-week : (l : Load) (i : Rule) → (rule_spec l i).load.week ≡ l.week
 unfolding rule_spec
 rule-week l i = either-week l _ (is_taken (rule_answer l i)) refl
 
@@ -68,12 +68,12 @@ rule-week l i = either-week l _ (is_taken (rule_answer l i)) refl
 -- the load itself, or the week of what the step made of its unsearched load
 again-week : (P : Week → Type 0) (l : Load) (r : Stepped) → P l.week → P r.load.week → P (again l r).load.week
 unfolding again
-again-week P l r p q = go (is_refused r.answer) (is_taken (researched l.stopped l.limit r.load).answer)
+again-week P l r p q = go (is_refused r.answer) (is_taken (researched l.limit r.load).answer)
   where
     go : (b c : Bool) → P (cond {A = Stepped} b (record { answer = r.answer; load = l })
-        (cond {A = Stepped} c (record { answer = r.answer; load = (researched l.stopped l.limit r.load).load }) (record { answer = (researched l.stopped l.limit r.load).answer; load = l }))).load.week
+        (cond {A = Stepped} c (record { answer = r.answer; load = (researched l.limit r.load).load }) (record { answer = (researched l.limit r.load).answer; load = l }))).load.week
     go true c = p
-    go false true = subst P (sym (research-week l.stopped l.limit r.load)) q
+    go false true = subst P (sym (research-week l.limit r.load)) q
     go false false = p
 
 pub back-week : (l : Load) → (unsearched_of l).week ≡ l.week
@@ -125,19 +125,19 @@ within-told m n = within-cases m n (λ w. is_taken w.answer ≡ false → is_ref
     go falling e = refl
     go (found ks h k) e = absurd (true≢false e)
 
-research-told : (b : Bool) (n : ℕ) (m : Load) → is_taken (researched b n m).answer ≡ false → is_refused (researched b n m).answer ≡ true
-research-told b n m = research-cases b n m (λ r. is_taken r.answer ≡ false → is_refused r.answer ≡ true) (λ w. within-told m n) (search-told m)
+research-told : (limit : Option ℕ) (m : Load) → is_taken (researched limit m).answer ≡ false → is_refused (researched limit m).answer ≡ true
+research-told limit m = research-cases limit m (λ r. is_taken r.answer ≡ false → is_refused r.answer ≡ true) (λ n w. within-told m n) (search-told m)
 
 -- an answered call closes the services
 added-closes : (l : Load) (r : Stepped) → (is_refused r.answer ≡ false → r.load.week.closed ≡ true) → is_refused (added_to l r).answer ≡ false → (added_to l r).load.week.closed ≡ true
 unfolding added_to again
-added-closes l r h e = go (leaves_table_of l r) (is_refused r.answer) (is_taken (researched l.stopped l.limit r.load).answer) refl refl e
+added-closes l r h e = go (leaves_table_of l r) (is_refused r.answer) (is_taken (researched l.limit r.load).answer) refl refl e
   where
-    go : (b c d : Bool) → is_refused r.answer ≡ c → is_taken (researched l.stopped l.limit r.load).answer ≡ d → is_refused (added_by l r b c d).answer ≡ false → (added_by l r b c d).load.week.closed ≡ true
+    go : (b c d : Bool) → is_refused r.answer ≡ c → is_taken (researched l.limit r.load).answer ≡ d → is_refused (added_by l r b c d).answer ≡ false → (added_by l r b c d).load.week.closed ≡ true
     go true c d x y e = h e
     go false true d x y e = absurd (true≢false (sym x ∙ e))
-    go false false true x y e = ap (λ (w : Week). w.closed) (research-week l.stopped l.limit r.load) ∙ h e
-    go false false false x y e = absurd (true≢false (sym (research-told l.stopped l.limit r.load y) ∙ e))
+    go false false true x y e = ap (λ (w : Week). w.closed) (research-week l.limit r.load) ∙ h e
+    go false false false x y e = absurd (true≢false (sym (research-told l.limit r.load y) ∙ e))
 
 pub add-closes : (l : Load) (name : List ℕ) (i : CallInput) → l.week.dated ≡ true → is_refused (add_spec_of l name i).answer ≡ false → (add_spec_of l name i).load.week.closed ≡ true
 unfolding add_spec_of

@@ -32,7 +32,7 @@ pub end_kept : EndKept
 end_kept o xs = handed-kept xs (opened o) (new-kept (opened o) (open-sound o) (opened_new o))
 
 pub end-stopped : EndStopped
-end-stopped o xs e = own-stopped (end_of o xs) (end_kept o xs) e
+end-stopped o xs n e = own-stopped (end_of o xs) (end_kept o xs) n e
 
 pub end-found : EndFound
 end-found = last_found machine steps

@@ -24,7 +24,7 @@ next l x = (stepped l x).load
 -- r is what a step made of l's unsearched load
 abbrev pub ran_again : Load → Stepped → Option Load
 ran_again l r =
-    cond (is_refused r.answer) None (cond (is_taken (researched l.stopped l.limit r.load).answer) (Some r.load) None)
+    cond (is_refused r.answer) None (cond (is_taken (researched l.limit r.load).answer) (Some r.load) None)
 
 -- a call that leaves the table has nothing searched again
 abbrev pub ran_added : Load → Stepped → Option Load

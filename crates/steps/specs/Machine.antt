@@ -2,6 +2,7 @@
 use Rattle.std.specs.Prelude.{not, ◌&&◌}
 use Rattle.offers.specs.Machine.{Machine}
 use Rattle.load.specs.declared.Load.{Load}
+use Rattle.load.specs.Load.{stopped}
 use Rattle.load.specs.Steps.{Opening, opened}
 use Rattle.load.specs.Sound.{Opens}
 use Rattle.search.specs.Timetable.{timetable_of}
@@ -20,7 +21,7 @@ machine = record {
   step = next;
   ran = ran;
   done = λ l. l.searched;
-  finished = λ l. l.searched && not l.stopped;
+  finished = λ l. l.searched && not (stopped l);
   timetable = timetable_of;
   table_horizon = λ l. l.table_horizon;
   table_limits = λ l. l.table_limits;

@@ -1,7 +1,7 @@
--- What is claimed of the load after any steps: it is the fresh search of its own table, in full or within the limit at which it was stopped, and a call withdrawn straight after it was taken
--- leaves it as it was.
+-- What is claimed of the load after any steps: it is the fresh search of its own table, in full or within the limit at which it was stopped,
+-- and a call withdrawn straight after it was taken leaves it as it was.
 use Rattle.refusal.specs.declared.Accepted.TheVariants.{Taken}
-use Rattle.std.specs.Prelude.{ℕ, ◌≡◌, true, false, List, Ok}
+use Rattle.std.specs.Prelude.{ℕ, ◌≡◌, true, false, List, Some, Ok}
 use Rattle.calls.specs.declared.CallInput.{CallInput}
 use Rattle.offers.specs.Order.{clashes}
 use Rattle.offers.specs.Offers.{sorted}
@@ -21,15 +21,16 @@ use Rattle.steps.specs.Machine.{machine}
 abbrev pub EndKept : Type 0
 EndKept = (o : Opening) (xs : List Step) → Kept (end_of o xs)
 
--- of a stopped one the search within its limit, which is not finished
+-- of one that was stopped at the limit n the search within it, which is not finished
 abbrev pub EndStopped : Type 0
-EndStopped = (o : Opening) (xs : List Step) → (end_of o xs).stopped ≡ true → Stops (end_of o xs)
+EndStopped = (o : Opening) (xs : List Step) (n : ℕ) → (end_of o xs).limit ≡ Some n → Stops n (end_of o xs)
 
 -- so the list of a finished one is the one that a fresh search of what the last accepted search started from finds
 abbrev pub EndFound : Type 0
 EndFound = LastFound machine
 
--- withdrawing straight after taking gives back the load, unsearched, finished or stopped, save that services stay closed, if the table's horizon didn't fall
+-- withdrawing straight after taking gives back the load, unsearched, finished or stopped, save that services stay closed, if the table's
+-- horizon didn't fall
 abbrev pub EndTakenBack : Type 0
 EndTakenBack = (o : Opening) (xs : List Step) (name : List ℕ) (i : CallInput)
     → let l = end_of o xs in

@@ -2,17 +2,11 @@
 use mathlib.Core.Path.{◌≡◌, sym, ap, ◌∙◌}
 use Prim.Native.Nat.{ℕ, suc, ◌-◌, ◌<◌}
 use native.Mathlib.Omega.{arith}
-use mathlib.Core.List.{[], ◌∷◌}
 use Rattle.settings.specs.declared.Settings.{Settings}
-use Rattle.stops.specs.declared.StopInput.{StopInput}
 use Rattle.load.specs.declared.Load.{Load}
 use Rattle.load.specs.declared.Stepped.{Stepped}
-use Rattle.load.specs.Steps.{undated, open_spec_of, stop_spec}
-use Rattle.steps_c.specs.Steps.{plain_settings, plain_stop, with_stop, with_rule, with_call, turns, calls_held}
-
-pub stop-handed : (k : ℕ) (l : Load) {i : StopInput} {s : Stepped} → i ≡ plain_stop → s ≡ stop_spec l (k ∷ 65 ∷ []) [] [] i → s.load ≡ with_stop k l
-unfolding with_stop
-stop-handed k l e q = ap (λ (s : Stepped). s.load) (q ∙ ap (stop_spec l (k ∷ 65 ∷ []) [] []) e)
+use Rattle.load.specs.Steps.{undated, open_spec_of}
+use Rattle.steps_c.specs.Steps.{plain_settings, with_stop, with_rule, with_call, turns, calls_held}
 
 module _ (step : ℕ → Load → Load) (left : ℕ) (l : Load) {all : Load} where
   pub next-turn : {after : Load} → 0 < left → after ≡ step (left - 1) l → turns left step l ≡ all → turns (left - 1) step after ≡ all

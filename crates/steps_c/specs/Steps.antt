@@ -1,10 +1,8 @@
 -- Steps of one kind handed to a load one after another.
-use Rattle.std.specs.Prelude.{ℕ, zero, suc, false, [], ◌∷◌, pos, replicate, None, Some}
-use Rattle.std.specs.Float.{binary64}
-use Rattle.std.specs.Float.Ieee.{of_bits}
+use Rattle.std.specs.Prelude.{ℕ, zero, suc, [], ◌∷◌, pos, replicate, None, Some}
 use Rattle.settings.specs.declared.Settings.{Settings}
 use Rattle.stops.specs.declared.StopInput.{StopInput}
-use Rattle.rules.specs.declared.RuleInput.{RuleInput}
+use Rattle.rules.specs.declared.Rule.{Rule}
 use Rattle.calls.specs.declared.CallInput.{CallInput}
 use Rattle.load.specs.declared.Load.{Load}
 use Rattle.load.specs.Steps.{undated, open_spec_of, stop_spec, rule_spec, call_spec}
@@ -22,17 +20,10 @@ plain_settings = record {
 }
 
 abbrev pub plain_stop : StopInput
-plain_stop = record {
-  named = false;
-  has_parent = false;
-  location_type = 0;
-  located = false;
-  degrees = record { latitude = of_bits binary64 0; longitude = of_bits binary64 0 };
-  members = 1;
-}
+plain_stop = record { location_type = 0; degrees = None; members = 1 }
 
 -- a rule from stop k to the first
-abbrev pub plain_rule : ℕ → RuleInput
+abbrev pub plain_rule : ℕ → Rule
 plain_rule k = record { from = k; to = 0; transfer_type = 0; seconds = None }
 
 -- a call at the first stop, in second k
@@ -42,7 +33,7 @@ plain_call k = record { trip = 1; day = 0; sequence = k; stop = 0; arrival = Som
 -- ---- a step
 
 unfoldable pub with_stop : ℕ → Load → Load
-with_stop k l = (stop_spec l (k ∷ 65 ∷ []) [] [] plain_stop).load
+with_stop k l = (stop_spec l (k ∷ 65 ∷ []) None None plain_stop).load
 
 unfoldable pub with_rule : ℕ → Load → Load
 with_rule k l = (rule_spec l (plain_rule k)).load

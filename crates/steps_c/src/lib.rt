@@ -1,119 +1,86 @@
 // Stops, rules and calls handed to a load one by one, as many as asked, for programs in C and Rust to time.
 #![tactic(auto)]
 
-ghost use Rattle.std.specs.Prelude.{◌≡◌};
-ghost use Rattle.steps_c.specs.Steps.{plain_settings, plain_stop, plain_rule, plain_call, with_stop, with_rule, with_call, turns, calls_held};
+ghost use Rattle.std.specs.Prelude.{◌≡◌, ℕ, ◌<◌};
+ghost use Rattle.load.specs.declared.Load.{Load};
+ghost use Rattle.steps_c.specs.Steps.{plain_settings, plain_stop, with_stop, with_rule, with_call, turns, calls_held};
 
 use calls::CallInput;
 use load::Load;
-use place::Degrees;
-use rules::RuleInput;
+use rules::Rule;
 use settings::Settings;
 use stops::StopInput;
 
+// Not the default: a load has an origin and a target at least.
 fn settings() -> Settings
     ensures { result ≡ plain_settings }
 {
     Settings {
         origins: 1,
         targets: 1,
-        origin_walks: [0u8; 4],
-        target_walks: [0u8; 4],
-        transfer_seconds: 0,
-        max_transfers: 0,
-        now: 0,
-        epochs: [0i64; 3],
+        ..Settings::default()
     }
 }
 
+// Not the default, by its members.
 fn stop_input() -> StopInput
     ensures { result ≡ plain_stop }
 {
-    let degrees = Degrees {
-        latitude: 0.0,
-        longitude: 0.0,
-    };
     StopInput {
-        named: false,
-        has_parent: false,
         location_type: 0,
-        located: false,
-        degrees,
+        degrees: None,
         members: 1,
     }
 }
 
-fn with_stop(load: Load, k: u8) -> Load
+// The number is a byte of the id.
+#[tactic(auto, unfolding(crate::specs::Steps::with_stop))]
+fn with_stop(load: Load, k: u16) -> Load
+    requires { k < 256 }
     ensures { result ≡ with_stop k load }
 {
-    let id = [k, 65u8];
-    let s = load.stop(&id, b"", b"", stop_input());
-    s.load
+    load.stop(&[k as u8, 65], None, None, stop_input()).load
 }
 
-fn with_rule(load: Load, k: u8) -> Load
+#[tactic(auto, unfolding(crate::specs::Steps::with_rule))]
+fn with_rule(load: Load, k: u16) -> Load
     ensures { result ≡ with_rule k load }
 {
-    let s = load.rule(RuleInput {
-        from: k as u16,
+    let rule = Rule {
+        from: k,
         to: 0,
         transfer_type: 0,
         seconds: None,
-    });
-    s.load
+    };
+    load.rule(rule).load
 }
 
+#[tactic(auto, unfolding(crate::specs::Steps::with_call))]
 fn with_call(load: Load, k: u16) -> Load
     ensures { result ≡ with_call k load }
 {
-    let s = load.call(CallInput {
+    let input = CallInput {
         trip: 1,
         day: 0,
-        sequence: k as u32,
+        sequence: u32::from(k),
         stop: 0,
-        arrival: Some(k as u32),
-        departure: Some(k as u32),
+        arrival: Some(u32::from(k)),
+        departure: Some(u32::from(k)),
         pickup: 0,
         drop_off: 0,
-    });
-    s.load
+    };
+    load.call(input).load
 }
 
-fn stops(load: Load, times: u8) -> Load
-    ensures { result ≡ turns times with_stop load }
+// The load after so many steps, each told how many are left after it.
+fn handed<F: Fn(Load, u16) -> Load>(load: Load, times: u16, step: F) -> Load
+    requires { (l : Load) (k : ℕ) → k < times → F.pre step l k }
+    ensures { (f : ℕ → Load → Load) → ((l : Load) (k : ℕ) (r : Load) → k < times → F.post step l k r → r ≡ f k l)
+        → result ≡ turns times f load }
 {
     let mut next = load;
-    let mut left = times;
-    while left > 0 {
-        left -= 1;
-        let after = with_stop(next, left);
-        next = after;
-    }
-    next
-}
-
-fn rules(load: Load, times: u8) -> Load
-    ensures { result ≡ turns times with_rule load }
-{
-    let mut next = load;
-    let mut left = times;
-    while left > 0 {
-        left -= 1;
-        let after = with_rule(next, left);
-        next = after;
-    }
-    next
-}
-
-fn calls(load: Load, times: u16) -> Load
-    ensures { result ≡ turns times with_call load }
-{
-    let mut next = load;
-    let mut left = times;
-    while left > 0 {
-        left -= 1;
-        let after = with_call(next, left);
-        next = after;
+    for left in (0..times).rev() {
+        next = step(next, left);
     }
     next
 }
@@ -123,10 +90,8 @@ fn calls(load: Load, times: u16) -> Load
 pub extern "C" fn load_steps(stop_count: u8, rule_count: u8, call_count: u16) -> usize
     ensures { result ≡ calls_held stop_count rule_count call_count }
 {
-    let s = Load::open(settings());
-    let opened = s.load;
-    let with_stops = stops(opened, stop_count);
-    let with_rules = rules(with_stops, rule_count);
-    let with_calls = calls(with_rules, call_count);
-    with_calls.call_count
+    let opened = Load::open(settings()).load;
+    let with_stops = handed(opened, u16::from(stop_count), with_stop);
+    let with_rules = handed(with_stops, u16::from(rule_count), with_rule);
+    handed(with_rules, call_count, with_call).call_count
 }

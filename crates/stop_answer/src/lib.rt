@@ -1,7 +1,7 @@
 // Why a stop is sent back: 15, 3, 5, 6, 7, 8, 4.
 #![tactic(auto)]
 
-ghost use Rattle.std.specs.Prelude.{◌≡◌, length, not, ◌&&◌, is_some};
+ghost use Rattle.std.specs.Prelude.{◌≡◌, length, not, ◌&&◌, is_some, option_copied};
 ghost use Rattle.refusal.specs.First.{first_answer};
 ghost use Rattle.stops.specs.Answer.{station_of, is_known, id_wrong, type_wrong, name_needed, unusable, name_wrong, stop_tests};
 
@@ -12,13 +12,10 @@ use stops::{Stop, StopInput};
 
 // The number of the station that is named as the parent, among the stops of a load.
 #[tactic(auto, unfolding(stops::specs::Answer::station_of))]
-pub fn parent_of(stops: &[Stop], has: bool, parent: &[u8]) -> Option<u16>
-    ensures { result ≡ station_of stops.now 128 has parent.now }
+pub fn parent_of(stops: &[Stop], parent: Option<&[u8]>) -> Option<u16>
+    ensures { result ≡ station_of stops.now 128 (option_copied parent.entry) }
 {
-    if !has {
-        return None;
-    }
-    match find(first(stops, 128), parent, true) {
+    match find(first(stops, 128), parent?, true) {
         Some(place) => Some(place as u16),
         None => None,
     }
@@ -31,6 +28,7 @@ pub fn id_wrong(id: &[u8]) -> bool
     id.len() == 0 || 32 < id.len()
 }
 
+// `kind` is the number handed in.
 #[tactic(auto, unfolding(stops::specs::Answer::type_wrong))]
 fn type_wrong(kind: u8, has: bool) -> bool
     ensures { result ≡ type_wrong kind has }
@@ -38,19 +36,17 @@ fn type_wrong(kind: u8, has: bool) -> bool
     1 < kind || kind == 1 && has
 }
 
-fn parent_wrong(has: bool, station: Option<u16>) -> bool
-    ensures { result ≡ (has && not (is_some station)) }
+fn parent_wrong(parent: Option<&[u8]>, station: Option<u16>) -> bool
+    ensures { result ≡ (is_some (option_copied parent.entry) && not (is_some station)) }
 {
-    has && station.is_none()
+    parent.is_some() && station.is_none()
 }
 
 #[tactic(auto, unfolding(stops::specs::Answer::name_needed))]
-fn name_needed(input: StopInput) -> bool
-    ensures { result ≡ name_needed input }
+fn name_needed(parent: Option<&[u8]>, input: StopInput) -> bool
+    ensures { result ≡ name_needed (option_copied parent.entry) input }
 {
-    input.location_type == 0
-        && !input.has_parent
-        && place::usable(place::position_of(input.located, input.degrees))
+    input.location_type == 0 && parent.is_none() && place::usable(input.degrees)
 }
 
 fn is_unusable(text: &[u8]) -> bool
@@ -60,13 +56,13 @@ fn is_unusable(text: &[u8]) -> bool
 }
 
 #[tactic(auto, unfolding(stops::specs::Answer::name_wrong))]
-fn name_wrong(named: bool, needed: bool, id: &[u8], name: &[u8]) -> bool
-    ensures { result ≡ name_wrong named needed id.now name.now }
+fn name_wrong(name: Option<&[u8]>, needed: bool, id: &[u8]) -> bool
+    ensures { result ≡ name_wrong (option_copied name.entry) needed id.now }
 {
-    if named {
-        return 64 < name.len() || needed && is_unusable(name);
+    match name {
+        Some(name) => 64 < name.len() || needed && is_unusable(name),
+        None => needed && is_unusable(id),
     }
-    needed && is_unusable(id)
 }
 
 #[tactic(auto, unfolding(stops::specs::Answer::is_known))]
@@ -76,17 +72,20 @@ fn known(stops: &[Stop], id: &[u8]) -> bool
     find(stops, id, false).is_some()
 }
 
-// What a stop is answered, by the stops of the load, the parent found, and the search.
+// What a stop is answered, by the stops of the load, the parent found, and the search. The texts come as they were handed in: slices that
+// a record would only lend on.
 #[tactic(auto, unfolding(stops::specs::Answer::stop_tests, refusal::specs::First::first_answer))]
 pub fn stop_answer(
     searched: bool,
     stops: &[Stop],
     station: Option<u16>,
     id: &[u8],
-    name: &[u8],
+    name: Option<&[u8]>,
+    parent: Option<&[u8]>,
     input: StopInput,
 ) -> Answer
-    ensures { result ≡ first_answer (stop_tests searched stops.now (length stops.now) station id.now name.now input) }
+    ensures { result ≡ first_answer (stop_tests searched stops.now (length stops.now) station id.now
+        (option_copied name.entry) (option_copied parent.entry) input) }
 {
     if searched {
         return Err(Refusal::AlreadySearched);
@@ -97,13 +96,13 @@ pub fn stop_answer(
     if known(stops, id) {
         return Err(Refusal::IdTaken);
     }
-    if type_wrong(input.location_type, input.has_parent) {
+    if type_wrong(input.location_type, parent.is_some()) {
         return Err(Refusal::LocationType);
     }
-    if parent_wrong(input.has_parent, station) {
+    if parent_wrong(parent, station) {
         return Err(Refusal::ParentUnknown);
     }
-    if name_wrong(input.named, name_needed(input), id, name) {
+    if name_wrong(name, name_needed(parent, input), id) {
         return Err(Refusal::NameUnusable);
     }
     if 128 <= stops.len() {

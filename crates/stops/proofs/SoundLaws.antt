@@ -1,11 +1,9 @@
 -- A stop that is taken keeps the stops sound: its id is new, and its parent a station.
-use Rattle.std.specs.Option.{unwrap_or}
 use Rattle.std.specs.Prelude.{None, Option, Some, is_some}
 use Prim.Native.Nat.{ℕ, zero, suc, ◌+◌, ◌-◌, ◌≤◌, ◌<◌}
 use mathlib.Core.Path.{◌≡◌, refl, sym, ap, ap₂, subst, ◌∙◌}
 use mathlib.Core.List.{List, [], ◌∷◌}
 use mathlib.Core.Bool.{Bool, true, false, cond}
-use mathlib.Core.Logic.{inl, inr, ⊎_elim}
 use native.Mathlib.Omega.{arith}
 use borrow.Author.Tests.{eqb-true}
 use lib.Dec.{eqb}
@@ -13,15 +11,15 @@ use lib.ListN.{length, get_or, take, set, length-set, length-take}
 use lib.Seq.{get_or-set_same, get_or-set_other, get_or-take}
 use Rattle.stops.specs.declared.Stop.{Stop}
 use Rattle.stops.specs.declared.StopInput.{StopInput}
-use Rattle.stops.specs.Texts.{same_bytes_of, shown}
-use Rattle.stops.specs.Stops.{id_of, is_it, find_stop}
+use Rattle.stops.specs.Texts.{same_bytes_of}
+use Rattle.stops.specs.Stops.{id_of, name_of, is_it, find_stop}
 use Rattle.stops.specs.Answer.{station_of, is_known}
 use Rattle.stops.specs.Taken.{stop_of, blank_stop}
 use Rattle.laws.proofs.Bools.{and-true-left}
 use Rattle.laws.proofs.Slots.{blank-set, below-cases}
 use Rattle.stops.specs.Sound.{stop_at, Parented, StopsSound, NoStopsSound, StopKeepsSound, IdKept, NameKept, NeededUsable}
-use Rattle.stops.proofs.Texts.{held-read}
-use Rattle.stops.proofs.Laws.{passed}
+use Rattle.texts.proofs.Laws.{read-whole}
+use Rattle.stops.proofs.Laws.{Short, passed}
 
 -- where nothing was found, no stop has the property
 nothing : (p : Stop → Bool) (l : List Stop) (k j : ℕ) → is_some (find_stop p l k) ≡ false → j < length l → p (get_or l j blank_stop) ≡ false
@@ -60,12 +58,13 @@ module _ (ss : List Stop) (n : ℕ) (s : Stop) (h : n < length ss) where
   unfolding stop_at
   at_old k g = get_or-set_other ss n k s blank_stop (λ e. omega arith)
 
-  still : (p : ℕ) → Parented ss n p → Parented (set ss n s) (n + 1) p
-  still p w = ⊎_elim (λ e. inl e) (λ q. inr (omega (arith, q.0), ap (λ (x : Stop). x.location_type) (at_old p q.0) ∙ q.1)) w
+  still : (p : Option ℕ) → Parented ss n p → Parented (set ss n s) (n + 1) p
+  still None w = tt
+  still (Some p) w = (omega (arith, w.0), ap (λ (x : Stop). x.location_type) (at_old p w.0) ∙ w.1)
 
-held-id : (id name : List ℕ) (f : Option ℕ) (i : StopInput) → length id ≤ 32 → id_of (stop_of id name f i) ≡ id
+held-id : (id : List ℕ) (name : Option (List ℕ)) (f : Option ℕ) (i : StopInput) → length id ≤ 32 → id_of (stop_of id name f i) ≡ id
 unfolding stop_of
-held-id id name f i h = held-read 32 id h
+held-id id name f i h = read-whole 32 id h (omega arith)
 
 module _ (ss : List Stop) (n : ℕ) (long : n ≤ length ss) where
   count : length (take n ss) ≡ n
@@ -79,20 +78,21 @@ module _ (ss : List Stop) (n : ℕ) (long : n ≤ length ss) where
       sym (ap (λ (x : Stop). same_bytes_of (id_of x) id) g) ∙ nothing (is_it false id) (take n ss) 0 j e (omega (arith, count))
 
   -- a station that is found is one
-  station : (has : Bool) (parent : List ℕ) (f : Option ℕ) → station_of ss n has parent ≡ f → Parented ss n (unwrap_or f 65535)
+  station : (parent : Option (List ℕ)) (f : Option ℕ) → station_of ss n parent ≡ f → Parented ss n f
   unfolding station_of stop_at
-  station has parent None e = inl refl
-  station false parent (Some m) e = let z : ◌≡◌ {A = ℕ} 0 1 = cc in absurd (omega arith)
-  station true parent (Some m) e =
+  station parent None e = tt
+  station None (Some m) e = let z : ◌≡◌ {A = ℕ} 0 1 = cc in absurd (omega arith)
+  station (Some parent) (Some m) e =
       let f = found (is_it true parent) (take n ss) 0 m e in
       let h : m < n = omega (arith, f.1, count) in
       let zero-off : m - 0 ≡ m = omega arith in
       let g : get_or (take n ss) (m - 0) blank_stop ≡ get_or ss m blank_stop = ap (λ (j : ℕ). get_or (take n ss) j blank_stop) zero-off ∙ get_or-take n ss m blank_stop h in
-      inr (h, eqb-true _ 1 (and-true-left (eqb (get_or ss m blank_stop).location_type 1) (same_bytes_of (id_of (get_or ss m blank_stop)) parent) (sym (ap (is_it true parent) g) ∙ f.2)))
+      (h, eqb-true _ 1 (and-true-left (eqb (get_or ss m blank_stop).location_type 1) (same_bytes_of (id_of (get_or ss m blank_stop)) parent) (sym (ap (is_it true parent) g) ∙ f.2)))
 
-parent-kept : (ss : List Stop) (n : ℕ) (id name parent : List ℕ) (i : StopInput) → n ≤ length ss → Parented ss n (stop_of id name (station_of ss n i.has_parent parent) i).parent
+pub parent-kept : (ss : List Stop) (n : ℕ) (id : List ℕ) (name parent : Option (List ℕ)) (i : StopInput)
+    → n ≤ length ss → Parented ss n (stop_of id name (station_of ss n parent) i).parent
 unfolding stop_of
-parent-kept ss n id name parent i h = station ss n h i.has_parent parent (station_of ss n i.has_parent parent) refl
+parent-kept ss n id name parent i h = station ss n h parent (station_of ss n parent) refl
 
 -- one more stop, whose id is new and whose parent is a station
 module _ (ss : List Stop) (n : ℕ) (s : Stop) (id : List ℕ) (w : StopsSound ss n) (h : n < 128) (own : id_of s ≡ id)
@@ -136,25 +136,26 @@ no-stops-sound = record {
 }
 
 pub id-kept : IdKept
-id-kept b ss n id name parent i e = held-id id name _ i (passed b ss n _ id name i e).id-fits
+id-kept b ss n id name parent i e = held-id id name _ i (passed b ss n _ id name parent i e).id-fits
 
-held-name : (id name : List ℕ) (f : Option ℕ) (i : StopInput) → length (shown i.named name) ≤ 64 → take (stop_of id name f i).name_len (stop_of id name f i).name ≡ shown i.named name
+held-name : (id : List ℕ) (name : Option (List ℕ)) (f : Option ℕ) (i : StopInput) → Short name → name_of (stop_of id name f i) ≡ name
 unfolding stop_of
-held-name id name f i h = held-read 64 (shown i.named name) h
+held-name id None f i h = refl
+held-name id (Some name) f i h = ap Some (read-whole 64 name h (omega arith))
 
 pub name-kept : NameKept
-name-kept b ss n id name parent i e = held-name id name _ i (passed b ss n _ id name i e).name-fits
+name-kept b ss n id name parent i e = held-name id name _ i (passed b ss n _ id name parent i e).name-fits
 
 pub needed-usable : NeededUsable
-needed-usable b ss n id name parent i e = (passed b ss n _ id name i e).name-used
+needed-usable b ss n id name parent i e = (passed b ss n _ id name parent i e).name-used
 
-kind-kept : (id name : List ℕ) (f : Option ℕ) (i : StopInput) → (stop_of id name f i).location_type ≡ i.location_type
+kind-kept : (id : List ℕ) (name : Option (List ℕ)) (f : Option ℕ) (i : StopInput) → (stop_of id name f i).location_type ≡ i.location_type
 unfolding stop_of
 kind-kept id name f i = refl
 
 pub stop-keeps-sound : StopKeepsSound
 stop-keeps-sound b ss n id name parent i w e =
-    let p = passed b ss n (station_of ss n i.has_parent parent) id name i e in
-    one_more ss n (stop_of id name (station_of ss n i.has_parent parent) i) id w p.room (held-id id name _ i p.id-fits)
-    (omega (arith, p.type-fits, kind-kept id name (station_of ss n i.has_parent parent) i)) p.new
+    let p = passed b ss n (station_of ss n parent) id name parent i e in
+    one_more ss n (stop_of id name (station_of ss n parent) i) id w p.room (held-id id name _ i p.id-fits)
+    (omega (arith, p.type-fits, kind-kept id name (station_of ss n parent) i)) p.new
     (parent-kept ss n id name parent i (omega (arith, w.few, w.long)))

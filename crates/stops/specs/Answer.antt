@@ -1,17 +1,18 @@
 -- Why a stop is sent back, in the scope's order: 15, 3, 5, 6, 7, 8, 4.
 use Rattle.refusal.specs.First.{Answer}
-use Rattle.std.specs.Prelude.{ℕ, List, [], ◌∷◌, Bool, true, false, not, cond, ◌&&◌, ◌||◌, length, take, ltb, leb, eqb, None, Option, Err, is_some}
+use Rattle.std.specs.Prelude.{ℕ, List, [], ◌∷◌, Bool, true, false, not, ◌&&◌, ◌||◌, length, take, ltb, leb, eqb, None, Option, Some, Err, is_some}
 use Rattle.refusal.specs.declared.Refusal.TheVariants.{AlreadySearched, IdLength, IdTaken, LocationType, ParentUnknown, NameUnusable, StopsFull}
 use Rattle.key.specs.Utf8.{points}
 use Rattle.key.specs.Name.{usable}
-use Rattle.place.specs.Positions.{position_of, is_usable}
+use Rattle.place.specs.Positions.{is_usable}
 use Rattle.stops.specs.declared.Stop.{Stop}
 use Rattle.stops.specs.declared.StopInput.{StopInput}
 use Rattle.stops.specs.Stops.{is_it, find_stop}
 
 -- the station of the load that is named as the parent, if one is named
-unfoldable pub station_of : List Stop → ℕ → Bool → List ℕ → Option ℕ
-station_of stops count has parent = cond has (find_stop (is_it true parent) (take count stops) 0) None
+unfoldable pub station_of : List Stop → ℕ → Option (List ℕ) → Option ℕ
+station_of stops count (Some parent) = find_stop (is_it true parent) (take count stops) 0
+station_of stops count None = None
 
 -- 3: empty, or over 32 bytes
 unfoldable pub id_wrong : List ℕ → Bool
@@ -26,25 +27,26 @@ unfoldable pub type_wrong : ℕ → Bool → Bool
 type_wrong kind parent = ltb 1 kind || (eqb kind 1 && parent)
 
 -- a needed name: type 0, no parent, usable position
-unfoldable pub name_needed : StopInput → Bool
-name_needed i = eqb i.location_type 0 && not i.has_parent && is_usable (position_of i.located i.degrees)
+unfoldable pub name_needed : Option (List ℕ) → StopInput → Bool
+name_needed parent i = eqb i.location_type 0 && not (is_some parent) && is_usable i.degrees
 
 -- without a word, with a control, ill-formed or with a code point above 255
 unfoldable pub unusable : List ℕ → Bool
 unusable s = not (usable (points s))
 
 -- 8: over 64 bytes; or needed and unusable, the id where no name
-unfoldable pub name_wrong : Bool → Bool → List ℕ → List ℕ → Bool
-name_wrong named needed id name = (named && ltb 64 (length name)) || (needed && unusable (cond named name id))
+unfoldable pub name_wrong : Option (List ℕ) → Bool → List ℕ → Bool
+name_wrong (Some name) needed id = ltb 64 (length name) || (needed && unusable name)
+name_wrong None needed id = needed && unusable id
 
 -- `searched` is the load's, of whose stops `count` are taken; `station` is the parent found
-unfoldable pub stop_tests : Bool → List Stop → ℕ → Option ℕ → List ℕ → List ℕ → StopInput → List (Bool × Answer)
-stop_tests searched stops count station id name i =
+unfoldable pub stop_tests : Bool → List Stop → ℕ → Option ℕ → List ℕ → Option (List ℕ) → Option (List ℕ) → StopInput → List (Bool × Answer)
+stop_tests searched stops count station id name parent i =
     (searched, Err AlreadySearched)
     ∷ (id_wrong id, Err IdLength)
     ∷ (is_known stops count id, Err IdTaken)
-    ∷ (type_wrong i.location_type i.has_parent, Err LocationType)
-    ∷ (i.has_parent && not (is_some station), Err ParentUnknown)
-    ∷ (name_wrong i.named (name_needed i) id name, Err NameUnusable)
+    ∷ (type_wrong i.location_type (is_some parent), Err LocationType)
+    ∷ (is_some parent && not (is_some station), Err ParentUnknown)
+    ∷ (name_wrong name (name_needed parent i) id, Err NameUnusable)
     ∷ (leb 128 count, Err StopsFull)
     ∷ []

@@ -1,10 +1,14 @@
 -- Stops of a load, numbered from 0 in the order taken, and the stop with an id.
-use Rattle.std.specs.Prelude.{ℕ, ◌+◌, List, [], ◌∷◌, Bool, true, false, cond, ◌&&◌, eqb, take, None, Option, Some}
+use Rattle.std.specs.Prelude.{ℕ, ◌+◌, List, [], ◌∷◌, Bool, true, false, cond, ◌&&◌, eqb, None, Option, Some, option_map}
+use Rattle.texts.specs.Texts.{bytes_of}
 use Rattle.stops.specs.declared.Stop.{Stop}
 use Rattle.stops.specs.Texts.{same_bytes_of}
 
 abbrev pub id_of : Stop → List ℕ
-id_of s = take s.id_len s.id
+id_of s = bytes_of s.id
+
+abbrev pub name_of : Stop → Option (List ℕ)
+name_of s = option_map bytes_of s.name
 
 -- of type 1, if a station is asked for
 abbrev pub type_fits : Bool → ℕ → Bool

@@ -1,10 +1,9 @@
 // A stop by its id.
-ghost use Rattle.std.specs.Prelude.{◌≡◌, ◌<◌, length, IfSome};
+ghost use Rattle.std.specs.Prelude.{◌≡◌, ◌<◌, length, IfSome, option_copied};
 ghost use Rattle.stops.specs.Texts.{same_bytes_of};
-ghost use Rattle.stops.specs.Stops.{id_of, type_fits, is_it, find_stop};
+ghost use Rattle.stops.specs.Stops.{id_of, name_of, type_fits, is_it, find_stop};
 
 use crate::Stop;
-use prefix::first;
 
 // Whether two texts are one.
 pub fn same_text(held: &[u8], id: &[u8]) -> bool
@@ -18,10 +17,21 @@ impl Stop {
     pub fn id(&self) -> &[u8]
         ensures { result.now ≡ id_of self.now }
     {
-        first(&self.id, usize::from(self.id_len))
+        self.id.bytes()
+    }
+
+    // The bytes of its name.
+    pub fn name(&self) -> Option<&[u8]>
+        ensures { option_copied result ≡ name_of self.now }
+    {
+        match &self.name {
+            Some(text) => Some(text.bytes()),
+            None => None,
+        }
     }
 }
 
+// `kind` is the stop's type, as it is held.
 fn type_fits(station: bool, kind: u8) -> bool
     ensures { result ≡ type_fits station kind }
 {

@@ -5,30 +5,23 @@ pub mod find;
 pub mod taken;
 
 use place::Degrees;
+use texts::Text;
 
-// A text is held with 0 past its length: the core has no heap. The parent is the number of a station, or 65535 where there is none, as C reads
-// it; `named` and `located` stand beside what they tell of for the same reason.
+// The parent is the number of a station. `location_type` is a number and no enum, as it is handed in.
 #[derive(Clone, Copy, Debug, PartialEq)]
 pub struct Stop {
-    pub id: [u8; 32],
-    pub id_len: u8,
-    pub name: [u8; 64],
-    pub name_len: u8,
-    pub named: bool,
-    pub parent: u16,
+    pub id: Text<32>,
+    pub name: Option<Text<64>>,
+    pub parent: Option<u16>,
     pub location_type: u8,
-    pub located: bool,
-    pub degrees: Degrees,
+    pub degrees: Option<Degrees>,
     pub members: u8,
 }
 
-// What is handed in beside the texts: id, name and parent's id.
+// What is handed in beside the texts: id, name and parent's id. Any `location_type` may be, and one above 1 is sent back.
 #[derive(Clone, Copy, Debug, PartialEq)]
 pub struct StopInput {
-    pub named: bool,
-    pub has_parent: bool,
     pub location_type: u8,
-    pub located: bool,
-    pub degrees: Degrees,
+    pub degrees: Option<Degrees>,
     pub members: u8,
 }

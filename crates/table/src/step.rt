@@ -10,7 +10,7 @@ use calls::{CallInput, Fitted, Table, Uncut};
 use refusal::{Accepted, Answer, Refusal};
 use settings::Settings;
 
-// Whether the load knows what the call names.
+// Whether the load knows what the call names. Trips go up to 65534.
 #[tactic(auto, unfolding(calls::specs::Calls::known))]
 pub fn is_known(stops: usize, input: CallInput) -> bool
     ensures { result ≡ known stops input }
@@ -73,7 +73,8 @@ fn uncut_view(settings: Settings, count: usize, h: u16, input: CallInput) -> Unc
     }
 }
 
-// A call step that cuts nothing, told without the table: of that only the count and the horizon are read.
+// A call step that cuts nothing, told without the table: of that only the count and the horizon are read. What it needs of a load is given
+// one by one, as a load is built above this.
 #[tactic(auto, unfolding(calls::specs::Uncut::uncut_on))]
 pub fn uncut(
     settings: Settings,

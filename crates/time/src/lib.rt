@@ -15,7 +15,7 @@ fn digit(b: u8) -> bool
     b.is_ascii_digit()
 }
 
-// The number that two digits stand for; 0 stands for any other byte below '0'.
+// The number that two digits stand for; 0 stands for any other byte below '0'. By hand: the library's `parse` takes a sign too.
 fn pair(a: u8, b: u8) -> u32
     ensures { result ≡ number (a ∷ b ∷ []) }
 {
@@ -30,7 +30,8 @@ fn below_sixty(a: u8, b: u8) -> bool
     digit(a) && digit(b) && pair(a, b) < 60
 }
 
-// The hours, which are all digits, and `rest`, the seconds past the hour. Hours past 1193046 are over u32, so reading ends there.
+// The hours, which are all digits, and `rest`, the seconds past the hour. Hours past 1193046 are over u32, so reading ends there: a loop,
+// which may be left at any digit.
 fn with_hours(hours: &[u8], rest: u32) -> Result<u32, Refusal>
     ensures { result ≡ with_hours 0 hours.now rest }
 {

@@ -1,4 +1,5 @@
 -- What a chosen rule gives, what holds of the rules of a sound load, and what a row decides.
+use Rattle.std.specs.Option.{unwrap_or}
 use Rattle.std.specs.Prelude.{None, Option, Some}
 use mathlib.Core.Path.{◌≡◌, refl, sym, ap, ◌∙◌}
 use mathlib.Core.Logic.{◌⊎◌, inl, inr}
@@ -109,4 +110,4 @@ row-joins rules parents places from change to arrival departure t h =
 
 pub parent-read : ParentRead
 unfolding parents_of
-parent-read stops k h = get_d-table (λ (j : ℕ). (stop_at stops j).parent) 65535 128 k h
+parent-read stops k h = get_d-table (λ (j : ℕ). unwrap_or (stop_at stops j).parent 65535) 65535 128 k h

@@ -1,5 +1,5 @@
 pub mod Laws
-pub mod Flat
+pub mod Made
 pub mod Choosing
 pub mod Claims
 pub mod Seconds

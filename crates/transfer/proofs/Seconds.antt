@@ -1,4 +1,5 @@
 -- The seconds of types 0 and 1 never decide: rules that differ in those alone are chosen alike, and give the same.
+use Rattle.std.specs.Option.{unwrap_or}
 use Rattle.std.specs.Prelude.{None, Option, Some}
 use mathlib.Core.Path.{◌≡◌, refl, ap, subst, ◌∙◌}
 use mathlib.Core.Bool.{Bool, true, false, cond, ◌&&◌}
@@ -53,13 +54,13 @@ module _ (e : Ends) where
 
 rule-same : (q r : Rule) (change : ℕ) → ButSeconds q r → rule_change q change ≡ rule_change r change
 rule-same q r change s =
-    ap (λ (t : ℕ). cond (eqb t 3) None (Some (cond (eqb t 2) (most q.seconds change) change))) s.kind
+    ap (λ (t : ℕ). cond (eqb t 3) None (Some (cond (eqb t 2) (most (unwrap_or q.seconds 0) change) change))) s.kind
     ∙ ap (λ (n : ℕ). cond (eqb r.transfer_type 3) None (Some n)) (go (eqb r.transfer_type 2) refl)
   where
-    go : (b : Bool) → eqb r.transfer_type 2 ≡ b → cond b (most q.seconds change) change ≡ cond b (most r.seconds change) change
+    go : (b : Bool) → eqb r.transfer_type 2 ≡ b → cond b (most (unwrap_or q.seconds 0) change) change ≡ cond b (most (unwrap_or r.seconds 0) change) change
     go true t =
         let two : r.transfer_type ≡ 2 = eqb-true r.transfer_type 2 t in
-        ap (λ (n : ℕ). most n change) (s.seconds (λ z. omega arith) (λ z. omega arith)).0
+        ap (λ (n : Option ℕ). most (unwrap_or n 0) change) (s.seconds (λ z. omega arith) (λ z. omega arith))
     go false t = refl
 
 change-same : (a b : Option Rule) (close : Bool) (change : ℕ) → Alike a b → change_of a close change ≡ change_of b close change

@@ -2,6 +2,7 @@
 -- max(seconds, that). "With no rule, same stop, same parent or same place gives" it; "else none."
 -- And "`join`: trip or day differs, and arrival + transfer seconds is at most departure."
 use Rattle.laws.specs.Bounds.{most}
+use Rattle.std.specs.Option.{unwrap_or}
 use Rattle.std.specs.Prelude.{Bool, not, false, cond, ◌&&◌, ◌||◌, List, ℕ, ◌+◌, leb, eqb, get_or, None, Option, Some}
 use Rattle.rules.specs.declared.Rule.{Rule}
 use Rattle.transfer.specs.declared.Ends.{Ends}
@@ -9,7 +10,7 @@ use Rattle.transfer.specs.Choice.{chosen}
 
 -- the seconds that a rule gives: its own count for type 2 alone; `change` is the settings' change time
 abbrev pub rule_seconds : Rule → ℕ → ℕ
-rule_seconds r change = cond (eqb r.transfer_type 2) (most r.seconds change) change
+rule_seconds r change = cond (eqb r.transfer_type 2) (most (unwrap_or r.seconds 0) change) change
 
 abbrev pub rule_change : Rule → ℕ → Option ℕ
 rule_change r change = cond (eqb r.transfer_type 3) None (Some (rule_seconds r change))

@@ -1,4 +1,5 @@
 -- What is proved of changes: which rule is chosen, what it gives, and that a row decides joins.
+use Rattle.std.specs.Option.{unwrap_or}
 use Rattle.std.specs.Prelude.{◌≡◌, true, false, ℕ, ◌+◌, ◌≤◌, ◌<◌, leb, get_or, take, None, Option, Some}
 use mathlib.Core.List.{List, [], ◌++◌, ◌∷◌, Memᴰ, Permᴰ}
 use Rattle.rules.specs.declared.Rule.{Rule}
@@ -50,7 +51,7 @@ pub record ButSeconds (q r : Rule) : Type 0 where
   pub from : q.from ≡ r.from
   pub to : q.to ≡ r.to
   pub kind : q.transfer_type ≡ r.transfer_type
-  pub seconds : (r.transfer_type ≡ 0 → ⊥) → (r.transfer_type ≡ 1 → ⊥) → (q.seconds ≡ r.seconds) × (q.timed ≡ r.timed)
+  pub seconds : (r.transfer_type ≡ 0 → ⊥) → (r.transfer_type ≡ 1 → ⊥) → q.seconds ≡ r.seconds
 
 pub data AllButSeconds : List Rule → List Rule → Type 0 where
   none : AllButSeconds [] []
@@ -97,4 +98,4 @@ RowJoins =
 
 -- the parent that is read for a stop is that of its record
 abbrev pub ParentRead : Type 0
-ParentRead = (stops : List Stop) (k : ℕ) → k < 128 → get_or (parents_of stops) k 65535 ≡ (stop_at stops k).parent
+ParentRead = (stops : List Stop) (k : ℕ) → k < 128 → get_or (parents_of stops) k 65535 ≡ unwrap_or (stop_at stops k).parent 65535

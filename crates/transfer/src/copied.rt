@@ -1,47 +1,26 @@
-// Rules and parents as plain numbers, copied once before a search.
-ghost use Rattle.std.specs.Prelude.{◌≡◌, ℕ, ◌≤◌, take};
-ghost use Rattle.transfer.specs.Choice.{bit};
-ghost use Rattle.transfer.specs.Copied.{flat_rules, rules_of, parents_of};
+// The parents of stops as plain numbers, copied once before a search.
+ghost use Rattle.std.specs.Prelude.{◌≡◌};
+ghost use Rattle.std.specs.Option.{unwrap_or};
+ghost use Rattle.stops.specs.Sound.{stop_at};
+ghost use Rattle.transfer.specs.Copied.{parents_of};
 
-use rules::Rule;
+use std::array;
 use stops::Stop;
 
-fn mark(b: bool) -> u16
-    ensures { result ≡ bit b }
+// The parent of the stop at place k, which is no count; 65535 where there is none, as in the arrays that C lends.
+#[tactic(auto, unfolding(stops::specs::Sound::stop_at))]
+fn parent_at(stops: &[Stop], k: usize) -> u16
+    ensures { result ≡ unwrap_or (stop_at stops.now k).parent 65535 }
 {
-    if b { 1 } else { 0 }
+    match stops.get(k) {
+        Some(stop) => stop.parent.unwrap_or(65535),
+        None => 65535,
+    }
 }
 
-// A rule is five numbers: from, to, type, seconds, and 1 if seconds were given. Read back, they are the rules.
-pub fn flat_rules(rules: [Rule; 128]) -> [u16; 640]
-    ensures value { result ≡ flat_rules rules }
-    ensures read { (n : ℕ) → n ≤ 128 → rules_of result n ≡ take n rules }
+// That of each of 128.
+pub fn parents_of(stops: &[Stop]) -> [u16; 128]
+    ensures { result ≡ parents_of stops.now }
 {
-    let mut flat = [0u16; 640];
-    let mut i: usize = 0;
-    while i < 128 {
-        let rule = rules[i];
-        let at = i * 5;
-        flat[at] = rule.from;
-        flat[at + 1] = rule.to;
-        flat[at + 2] = rule.transfer_type as u16;
-        flat[at + 3] = rule.seconds;
-        flat[at + 4] = mark(rule.timed);
-        i += 1;
-    }
-    flat
-}
-
-// The parent of each stop.
-pub fn parents_of(stops: [Stop; 128]) -> [u16; 128]
-    ensures { result ≡ parents_of stops }
-{
-    let mut parents = [0u16; 128];
-    let mut i: usize = 0;
-    while i < 128 {
-        let stop = stops[i];
-        parents[i] = stop.parent;
-        i += 1;
-    }
-    parents
+    array::from_fn(|k| parent_at(stops, k))
 }

@@ -1,6 +1,6 @@
 -- The verdict on a connection, by a load: there is none before a search is finished; else the first cause against it; else, if it is due
 -- by the horizon, where the list has it, one as good, or one that beats it.
-use Rattle.std.specs.Prelude.{Bool, cond, not, ◌&&◌, List, ◌++◌, ℕ, ◌+◌, ◌-◌, ◌*◌, eqb, leb, take, get_or}
+use Rattle.std.specs.Prelude.{Bool, cond, ◌&&◌, List, ◌++◌, ℕ, ◌+◌, ◌-◌, ◌*◌, eqb, leb, take, get_or, None, Option, Some, is_none}
 use Rattle.settings.specs.declared.Settings.{Settings}
 use Rattle.stops.specs.declared.Stop.{Stop}
 use Rattle.stops.specs.Sound.{stop_at}
@@ -15,12 +15,10 @@ use Rattle.load.specs.declared.Load.{Load}
 use Rattle.best.specs.Best.{kept_of}
 use Rattle.connection.specs.declared.Connection.{Connection}
 use Rattle.connection.specs.declared.Cause.{Cause}
-use Rattle.connection.specs.declared.Told.{Told}
-use Rattle.connection.specs.declared.Told.TheVariants.{Because, Free}
 use Rattle.connection.specs.declared.FoundLeg.{FoundLeg}
 use Rattle.connection.specs.declared.Way.{Way}
 use Rattle.connection.specs.Tests.{first_of, asking}
-use Rattle.connection.specs.Find.{way_of}
+use Rattle.connection.specs.Find.{way_of, boards, alights}
 use Rattle.connection.specs.Legs.{ride_tests, legs_tests}
 use Rattle.connection.specs.Ends.{end_tests, count_tests}
 use Rattle.connection.specs.Changes.{change_tests}
@@ -31,7 +29,7 @@ use Rattle.listing.specs.Listed.{judged_in}
 -- ---- the rides of n legs
 
 unfoldable pub ride_found : FoundLeg → Ride
-ride_found f = ride_of f.board.call f.alight.call
+ride_found f = ride_of (boards f) (alights f)
 
 unfoldable pub last_leg : ℕ → Way → FoundLeg
 last_leg n w = cond (eqb n 1) w.first (cond (eqb n 2) w.second w.third)
@@ -46,8 +44,8 @@ last_ride n w = cond (eqb n 1) no_ride (ride_found (last_leg n w))
 -- the journey of the calls found, by walks in minutes
 unfoldable pub journey_on : Settings → Connection → Way → Journey
 journey_on s c w = record {
-  leave = w.first.board.call.departure - get_or s.origin_walks c.origin 0 * 60;
-  arrival = (last_leg c.rides w).alight.call.arrival + get_or s.target_walks c.target 0 * 60;
+  leave = (boards w.first).departure - get_or s.origin_walks c.origin 0 * 60;
+  arrival = (alights (last_leg c.rides w)).arrival + get_or s.target_walks c.target 0 * 60;
   rides = c.rides;
   walk = get_or s.origin_walks c.origin 0;
   origin = c.origin;
@@ -63,18 +61,18 @@ journey_on s c w = record {
 unfoldable pub ends_asked : Settings → List Stop → Connection → Way → List (Bool × Cause)
 ends_asked s stops c w =
     end_tests s.origins s.targets c.origin c.target
-    (stop_at stops w.first.board.call.stop).members (stop_at stops (last_leg c.rides w).alight.call.stop).members
-    (get_or s.origin_walks c.origin 0) w.first.board.call.departure
+    (stop_at stops (boards w.first).stop).members (stop_at stops (alights (last_leg c.rides w)).stop).members
+    (get_or s.origin_walks c.origin 0) (boards w.first).departure
 
 -- each of the n − 1 changes can be made, by the rules and the change time
 unfoldable pub changes_asked : List Stop → ℕ → List Rule → ℕ → ℕ → Way → List (Bool × Cause)
 changes_asked stops count rules seconds n w =
     asking (leb 2 n)
     (change_tests 0 rules (parents_of stops) (places_of (take count stops)) seconds
-    w.first.board.call w.first.alight.call w.second.board.call)
+    (boards w.first) (alights w.first) (boards w.second))
     ++ asking (leb 3 n)
     (change_tests 1 rules (parents_of stops) (places_of (take count stops)) seconds
-    w.second.board.call w.second.alight.call w.third.board.call)
+    (boards w.second) (alights w.second) (boards w.third))
 
 -- how many rides; leg by leg; the ends; how many changes; change by change
 unfoldable pub causes_by : Settings → List Stop → ℕ → List Rule → Connection → Way → List (Bool × Cause)
@@ -87,13 +85,12 @@ causes_by s stops count rules c w =
 
 -- ---- of a load
 
--- its list can be marked by
-unfoldable pub finished_by : Bool → Bool → Bool
-finished_by searched stopped = searched && not stopped
+-- its list can be marked by: a search within a limit that was stopped is not finished (request 12)
+unfoldable pub finished_by : Bool → Option ℕ → Bool
+finished_by searched limit = searched && is_none limit
 
--- a search within a limit that was stopped is not finished (request 12)
 abbrev pub is_finished : Load → Bool
-is_finished l = finished_by l.searched l.stopped
+is_finished l = finished_by l.searched l.limit
 
 -- the calls that the connection names
 abbrev pub way_in : Load → Connection → Way
@@ -106,14 +103,14 @@ journey_in l c = journey_on l.settings c (way_in l c)
 abbrev pub causes : Load → Connection → List (Bool × Cause)
 causes l c = causes_by l.settings l.stops l.stop_count (take l.rule_count l.rules) c (way_in l c)
 
--- the first cause that holds; free if there is none
-abbrev pub cause_of : Load → Connection → Told
+-- the first cause that holds, if there is one
+abbrev pub cause_of : Load → Connection → Option Cause
 cause_of l c = first_of (causes l c)
 
 -- a cause decides; without one the list does
-abbrev pub judged_by : Told → Verdict → Verdict
-judged_by (Because x) v = Impossible x
-judged_by Free v = v
+abbrev pub judged_by : Option Cause → Verdict → Verdict
+judged_by (Some x) v = Impossible x
+judged_by None v = v
 
 unfoldable pub verdict_of : Load → Connection → Verdict
 verdict_of l c = cond (is_finished l) (judged_by (cause_of l c) (judged_in (kept_of l) l.horizon (journey_in l c))) NotFinished

@@ -1,116 +1,48 @@
 // The causes of a connection, in order: the number of rides, leg by leg, the ends, the number of changes, change by change.
 ghost use Rattle.std.specs.Prelude.{◌≡◌, take};
-ghost use Rattle.connection.specs.Tests.{first_of, first_then_of};
-ghost use Rattle.verdict.specs.Verdicts.{ends_asked, changes_asked, causes_by};
+ghost use Rattle.connection.specs.Tests.{first_of};
+ghost use Rattle.verdict.specs.Verdicts.{changes_asked, causes_by};
 
 use crate::figures::last_leg;
-use connection::changes::change_told;
-use connection::ends::{count_told, ends_told, members_at, walk_at};
-use connection::legs::{legs_told, rides_told};
-use connection::{Connection, Told, Way};
+use connection::changes::change_cause;
+use connection::ends::{count_cause, ends_cause};
+use connection::legs::{legs_cause, rides_cause};
+use connection::{Cause, Connection, Way};
+use load::Load;
 use places::group::group_places;
-use rules::Rule;
-use settings::Settings;
-use stops::Stop;
+use prefix::first;
+use transfer::Transfers;
 use transfer::copied::parents_of;
 
-fn changes_told(
-    stops: [Stop; 128],
-    stop_count: usize,
-    rules: [Rule; 128],
-    rule_count: usize,
-    seconds: u16,
-    n: u8,
-    way: Way,
-) -> Told
-    ensures { result ≡ first_of (changes_asked stops stop_count (take rule_count rules) seconds n way) }
+// Of the n - 1 changes.
+fn changes_cause(load: &Load, n: u8, way: &Way) -> Option<Cause>
+    ensures { result ≡ first_of (changes_asked load.now.stops load.now.stop_count (take load.now.rule_count load.now.rules)
+        load.now.settings.transfer_seconds n way.now) }
 {
-    let parents = parents_of(stops);
-    let places = group_places(stops, stop_count);
-    let first = way.first;
-    let second = way.second;
-    let third = way.third;
-    let later = change_told(
-        3 <= n,
-        1,
-        rules,
-        rule_count,
-        &parents,
-        &places,
-        seconds,
-        second.board.call,
-        second.alight.call,
-        third.board.call,
-        Told::Free,
-    );
-    change_told(
-        2 <= n,
-        0,
-        rules,
-        rule_count,
-        &parents,
-        &places,
-        seconds,
-        first.board.call,
-        first.alight.call,
-        second.board.call,
-        later,
-    )
-}
-
-fn start_told(
-    settings: Settings,
-    stops: [Stop; 128],
-    connection: Connection,
-    way: Way,
-    rest: Told,
-) -> Told
-    ensures { result ≡ first_then_of (ends_asked settings stops connection way) rest }
-{
-    let walks = settings.origin_walks;
-    let walk = walk_at(walks, connection.origin);
-    let start = way.first;
-    let end = last_leg(connection.rides, way);
-    let from = members_at(stops, start.board.call.stop);
-    let to = members_at(stops, end.alight.call.stop);
-    ends_told(
-        settings.origins,
-        settings.targets,
-        connection.origin,
-        connection.target,
-        from,
-        to,
-        walk,
-        start.board.call.departure,
-        rest,
-    )
+    let parents = parents_of(&load.stops);
+    let places = group_places(first(&load.stops, load.stop_count));
+    let transfers = Transfers {
+        rules: first(&load.rules, load.rule_count),
+        parents: &parents,
+        places: &places,
+        change: load.settings.transfer_seconds,
+    };
+    let earlier = change_cause(2 <= n, 0, &transfers, &way.first, &way.second);
+    let later = change_cause(3 <= n, 1, &transfers, &way.second, &way.third);
+    earlier.or(later)
 }
 
 // The first cause that holds, of the calls that were found.
-pub fn cause_of(
-    settings: Settings,
-    stops: [Stop; 128],
-    stop_count: usize,
-    rules: [Rule; 128],
-    rule_count: usize,
-    connection: Connection,
-    way: Way,
-) -> Told
-    ensures { result ≡ first_of (causes_by settings stops stop_count (take rule_count rules) connection way) }
+pub fn cause_of(load: &Load, connection: &Connection, way: &Way) -> Option<Cause>
+    ensures { result ≡ first_of (causes_by load.now.settings load.now.stops load.now.stop_count
+        (take load.now.rule_count load.now.rules) connection.now way.now) }
 {
     let n = connection.rides;
-    let legs = connection.legs;
-    let changes = changes_told(
-        stops,
-        stop_count,
-        rules,
-        rule_count,
-        settings.transfer_seconds,
-        n,
-        way,
-    );
-    let count = count_told(n, settings.max_transfers, changes);
-    let ends = start_told(settings, stops, connection, way, count);
-    let rides = legs_told(n, legs, way, ends);
-    rides_told(n, rides)
+    let start = way.first.boards();
+    let end = last_leg(n, way).alights();
+    rides_cause(n)
+        .or(legs_cause(n, connection.legs, way))
+        .or(ends_cause(load.settings, &load.stops, connection, &start, &end))
+        .or(count_cause(n, load.settings.max_transfers))
+        .or(changes_cause(load, n, way))
 }

@@ -5,56 +5,40 @@ ghost use Rattle.verdict.specs.Verdicts.{ride_found, last_leg, middle_ride, last
 use connection::{FoundLeg, Way};
 use profile::{Ride, no_ride};
 
-pub fn ride_of(found: FoundLeg) -> Ride
-    ensures { result ≡ ride_found found }
+#[tactic(auto, unfolding(crate::specs::Verdicts::ride_found))]
+pub fn ride_of(found: &FoundLeg) -> Ride
+    ensures { result ≡ ride_found found.now }
 {
-    let from = found.board;
-    let to = found.alight;
-    let b = from.call;
-    let a = to.call;
-    Ride {
-        trip: b.trip,
-        day: b.day,
-        from: b.stop,
-        to: a.stop,
-        departure: b.departure,
-        arrival: a.arrival,
-        board_request: b.board_request,
-        alight_request: a.alight_request,
+    read_back::ride_of(&found.boards(), &found.alights())
+}
+
+#[tactic(auto, unfolding(crate::specs::Verdicts::last_leg))]
+pub fn last_leg(n: u8, way: &Way) -> FoundLeg
+    ensures { result ≡ last_leg n way.now }
+{
+    match n {
+        1 => way.first,
+        2 => way.second,
+        _ => way.third,
     }
 }
 
-pub fn last_leg(n: u8, way: Way) -> FoundLeg
-    ensures { result ≡ last_leg n way }
-{
-    if n == 1 {
-        let first = way.first;
-        return first;
-    }
-    if n == 2 {
-        let second = way.second;
-        return second;
-    }
-    let third = way.third;
-    third
-}
-
-pub fn middle_ride(n: u8, way: Way) -> Ride
-    ensures { result ≡ middle_ride n way }
+#[tactic(auto, unfolding(crate::specs::Verdicts::middle_ride))]
+pub fn middle_ride(n: u8, way: &Way) -> Ride
+    ensures { result ≡ middle_ride n way.now }
 {
     if n == 3 {
-        let second = way.second;
-        return ride_of(second);
+        return ride_of(&way.second);
     }
     no_ride()
 }
 
-pub fn last_ride(n: u8, way: Way) -> Ride
-    ensures { result ≡ last_ride n way }
+#[tactic(auto, unfolding(crate::specs::Verdicts::last_ride))]
+pub fn last_ride(n: u8, way: &Way) -> Ride
+    ensures { result ≡ last_ride n way.now }
 {
     if n == 1 {
         return no_ride();
     }
-    let last = last_leg(n, way);
-    ride_of(last)
+    ride_of(&last_leg(n, way))
 }

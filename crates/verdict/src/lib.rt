@@ -5,110 +5,67 @@
 pub mod causes;
 pub mod figures;
 
-ghost use Rattle.std.specs.Prelude.{◌≡◌, take};
+ghost use Rattle.std.specs.Prelude.{◌≡◌};
+ghost use Rattle.best.specs.Best.{kept_of};
 ghost use Rattle.listing.specs.Listed.{judged_in};
-ghost use Rattle.verdict.specs.Verdicts.{finished_by, journey_on, judged_by, verdict_of};
+ghost use Rattle.verdict.specs.Verdicts.{is_finished, journey_on, verdict_of};
 
 use causes::cause_of;
 use connection::ends::walk_at;
 use connection::find::way_of;
-use connection::{Connection, Told, Way};
+use connection::{Connection, Way};
 use feed::{arrival_of, leave_of};
 use figures::{last_leg, last_ride, middle_ride, ride_of};
-use listing::{Verdict, judged};
+use listing::{Verdict, listed};
 use load::Load;
+use prefix::first;
 use profile::Journey;
-use settings::Settings;
 
 // By the list, of a connection that can be made.
-fn by_list(
-    settings: Settings,
-    journeys: [Journey; 64],
-    count: usize,
-    horizon: u16,
-    connection: Connection,
-    way: Way,
-) -> Verdict
-    ensures { result ≡ judged_in (take count journeys) horizon (journey_on settings connection way) }
+fn by_list(load: &Load, connection: &Connection, way: &Way) -> Verdict
+    ensures { result ≡ judged_in (kept_of load.now) load.now.horizon (journey_on load.now.settings connection.now way.now) }
 {
     let n = connection.rides;
-    let origins = settings.origin_walks;
-    let targets = settings.target_walks;
-    let walk = walk_at(origins, connection.origin);
-    let egress = walk_at(targets, connection.target);
-    let start = way.first;
-    let end = last_leg(n, way);
-    let due = arrival_of(egress as u16, end.alight.call.arrival);
-    let leave = leave_of(walk as u16, start.board.call.departure);
-    let first = ride_of(start);
-    let middle = middle_ride(n, way);
-    let last = last_ride(n, way);
-    judged(
-        journeys,
-        count,
-        horizon,
-        due,
-        leave,
-        n,
-        walk,
-        connection.origin,
-        connection.target,
-        first,
-        middle,
-        last,
-    )
-}
-
-// The cause, if there is one; else by the list.
-fn by_cause(told: Told, listed: Verdict) -> Verdict
-    ensures { result ≡ judged_by told listed }
-{
-    match told {
-        Told::Because(cause) => Verdict::Impossible(cause),
-        Told::Free => listed,
+    let walk = walk_at(&load.settings.origin_walks, connection.origin);
+    let egress = walk_at(&load.settings.target_walks, connection.target);
+    let departure = way.first.boards().departure;
+    let alighting = last_leg(n, way).alights().arrival;
+    let due = arrival_of(u16::from(egress), alighting);
+    if u32::from(load.horizon) < due {
+        return Verdict::Late;
     }
+    let journey = Journey {
+        leave: leave_of(u16::from(walk), departure),
+        arrival: due as u16,
+        rides: n,
+        walk,
+        origin: connection.origin,
+        target: connection.target,
+        first: ride_of(&way.first),
+        middle: middle_ride(n, way),
+        last: last_ride(n, way),
+    };
+    listed(first(&load.journeys, load.journey_count), journey)
 }
 
 // A search that was stopped is not finished.
-fn is_finished(searched: bool, stopped: bool) -> bool
-    ensures { result ≡ finished_by searched stopped }
+#[tactic(auto, unfolding(crate::specs::Verdicts::finished_by))]
+fn is_finished(load: &Load) -> bool
+    ensures { result ≡ is_finished load.now }
 {
-    if stopped {
-        return false;
-    }
-    searched
+    load.searched && load.limit.is_none()
 }
 
 // The verdict on a connection.
-pub fn verdict(load: Load, connection: Connection) -> Verdict
-    ensures { result ≡ verdict_of load connection }
+pub fn verdict(load: &Load, connection: &Connection) -> Verdict
+    ensures { result ≡ verdict_of load.now connection.now }
 {
-    if is_finished(load.searched, load.stopped) {
-        let calls = load.calls;
-        let legs = connection.legs;
-        let settings = load.settings;
-        let stops = load.stops;
-        let rules = load.rules;
-        let journeys = load.journeys;
-        let way = way_of(calls, load.call_count, legs);
-        let told = cause_of(
-            settings,
-            stops,
-            load.stop_count,
-            rules,
-            load.rule_count,
-            connection,
-            way,
-        );
-        let listed = by_list(
-            settings,
-            journeys,
-            load.journey_count,
-            load.horizon,
-            connection,
-            way,
-        );
-        return by_cause(told, listed);
+    if !is_finished(load) {
+        return Verdict::NotFinished;
     }
-    Verdict::NotFinished
+    let way = way_of(first(&load.calls, load.call_count), connection.legs);
+    match cause_of(load, connection, &way) {
+        Some(cause) => Verdict::Impossible(cause),
+        None => by_list(load, connection, &way),
+    }
 }

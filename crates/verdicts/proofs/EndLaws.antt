@@ -1,13 +1,14 @@
 -- What verdicts say after any list of steps with a finished search.
 use mathlib.Core.Path.{◌≡◌, sym, ap, subst, ◌∙◌}
 use mathlib.Core.Logic.{inl, inr}
-use mathlib.Core.Bool.{true, false}
+use mathlib.Core.Bool.{true}
 use mathlib.Core.List.Permᴰ
 use mathlib.Core.List.{List}
 use Prim.Native.Nat.{◌≤◌}
 use native.Mathlib.Omega.{arith}
 use lib.ListN.{take}
 use borrow.Author.Tests.{le-ltb}
+use Rattle.std.specs.Prelude.{None, Option, is_some}
 use Rattle.laws.specs.Sort.{Keyed}
 use Rattle.laws.proofs.Bools.{cond-by, cond-not}
 use Rattle.laws.proofs.Sort.{sort-perm}
@@ -35,8 +36,7 @@ use Rattle.steps.specs.Lists.{end_of, start_of}
 use Rattle.steps.proofs.HeldLaws.{searched-holds}
 use Rattle.steps.proofs.WithdrawnLaws.{end_kept, end-from}
 use Rattle.connection.specs.declared.Connection.{Connection}
-use Rattle.connection.specs.declared.Told.{Told}
-use Rattle.connection.specs.declared.Told.TheVariants.{Free}
+use Rattle.connection.specs.declared.Cause.{Cause}
 use Rattle.listing.specs.declared.Verdict.{Verdict}
 use Rattle.listing.specs.Listed.{listed_in_of, judged_in}
 use Rattle.verdict.specs.Verdicts.{is_finished, journey_in, cause_of, judged_by, verdict_of}
@@ -47,7 +47,7 @@ use Rattle.verdicts.proofs.SaysLaws.{says}
 use Rattle.verdicts.proofs.MakesLaws.{free-makes, makes-free}
 
 -- the calls of a load that is the finished search of its own table have distinct keys
-own-keyed : (l : Load) → Kept l → l.searched ≡ true → l.stopped ≡ false → Keyed earlier (take l.call_count l.calls)
+own-keyed : (l : Load) → Kept l → l.searched ≡ true → l.limit ≡ None → Keyed earlier (take l.call_count l.calls)
 unfolding outcome_of timetable_of unsearched_of
 own-keyed l k d e =
     let u = unsearched_of l in
@@ -69,7 +69,7 @@ start-admits o xs d j a =
 pub causes-admitted : CausesAdmitted
 causes-admitted o xs c f =
     let l = end_of o xs in
-    let (d, e) = finished-parts l.searched l.stopped f in
+    let (d, e) = finished-parts l.searched l.limit f in
     let keyed = own-keyed l (end_kept o xs) d e in
     record {
       makes = free-makes l c;
@@ -79,17 +79,17 @@ causes-admitted o xs c f =
     }
 
 -- a connection without a cause that is due: the verdict is the list's
-by-list : (l : Load) (c : Connection) → is_finished l ≡ true → cause_of l c ≡ Free → (journey_in l c).arrival ≤ l.horizon → verdict_of l c ≡ listed_in_of (kept_of l) (journey_in l c)
+by-list : (l : Load) (c : Connection) → is_finished l ≡ true → cause_of l c ≡ None → (journey_in l c).arrival ≤ l.horizon → verdict_of l c ≡ listed_in_of (kept_of l) (journey_in l c)
 unfolding verdict_of judged_in
 by-list l c d f h =
-    cond-by _ _ d ∙ ap (λ (t : Told). judged_by t (judged_in (kept_of l) l.horizon (journey_in l c))) f ∙ cond-not _ _ (le-ltb l.horizon (journey_in l c).arrival h)
+    cond-by _ _ d ∙ ap (λ (t : Option Cause). judged_by t (judged_in (kept_of l) l.horizon (journey_in l c))) f ∙ cond-not _ _ (le-ltb l.horizon (journey_in l c).arrival h)
 
 pub due-is-covered : DueIsCovered
 due-is-covered o xs c op d f h =
     let l = end_of o xs in
     let right = causes-admitted o xs c d in
-    let (p, q) = finished-parts l.searched l.stopped d in
-    let (k, m, e) = (searched-holds o xs op p q).complete (journey_in l c) (right.admitted (journey_in l c) (right.makes f)) h in
+    let (p, q) = finished-parts l.searched l.limit d in
+    let (k, m, e) = (searched-holds o xs op p (ap is_some q)).complete (journey_in l c) (right.admitted (journey_in l c) (right.makes f)) h in
     subst (Says (kept_of l) (journey_in l c)) (sym (by-list l c d f h)) (says (kept_of l) (journey_in l c) k m e)
 
 says_never : (ks : List Journey) (j : Journey) (v : Verdict) → Says ks j v → number v ≡ 5 → ⊥

@@ -1,7 +1,7 @@
 -- The calls that a leg names, and the ride between them.
 use mathlib.Core.Path.{◌≡◌, refl, sym, ap, subst, ◌∙◌}
 use mathlib.Core.Logic.{◌⊎◌, inl, inr}
-use mathlib.Core.Bool.{Bool, true, false, not, cond, ◌&&◌, false≢true}
+use mathlib.Core.Bool.{Bool, true, false, not, cond, ◌&&◌, true≢false}
 use mathlib.Core.List.{List, [], ◌∷◌, ◌++◌, Memᴰ}
 use Prim.Native.Nat.{ℕ, ◌-◌, ◌<◌}
 use native.Mathlib.Omega.{arith}
@@ -9,6 +9,7 @@ use lib.Dec.{eqb}
 use lib.ListN.{length, get_or}
 use lib.Seq.{get_or-append_seam}
 use borrow.Author.Tests.{eqb-true, eq-eqb, ltb-true, leb-false, lt-leb, not-false}
+use Rattle.std.specs.Prelude.{None, Option, Some, is_none, unwrap_or}
 use Rattle.laws.specs.Lists.{anyb}
 use Rattle.laws.specs.Sort.{Keyed}
 use Rattle.laws.proofs.Bools.{cond-not, and-true, and-true-left, and-true-right}
@@ -22,9 +23,8 @@ use Rattle.offers.specs.Order.{earlier, Run}
 use Rattle.offers.specs.Admitted.{Rides}
 use Rattle.offers.proofs.OrderLaws.{run-earlier}
 use Rattle.connection.specs.declared.Leg.{Leg}
-use Rattle.connection.specs.declared.FoundCall.{FoundCall}
 use Rattle.connection.specs.declared.FoundLeg.{FoundLeg}
-use Rattle.connection.specs.Find.{board_key, alight_key, no_call, find_in, find_leg}
+use Rattle.connection.specs.Find.{board_key, alight_key, boards, alights, find_in, find_leg}
 use Rattle.connection.specs.Legs.{leg_tests}
 use Rattle.verdicts.specs.Makes.{Names}
 use Rattle.verdicts.specs.Claims.{AllFail}
@@ -90,37 +90,38 @@ module _ (cs : List Call) (k : CallKey) where
         key = key-parts k (get_or cs (last_of (has_key k) cs - 1) blank_call) (ap (has_key k) at ∙ w.passes);
       }
 
-  found-there : (find_in cs k).there ≡ true → Found (find_in cs k).call
+  found-there : is_none (find_in cs k) ≡ false → Found (unwrap_or (find_in cs k) blank_call)
   unfolding find_in
   found-there e = go (eqb (last_of (has_key k) cs) 0) refl e
     where
-      held : FoundCall
-      held = record { there = true; call = get_or cs (last_of (has_key k) cs - 1) blank_call }
+      held : Option Call
+      held = Some (get_or cs (last_of (has_key k) cs - 1) blank_call)
 
-      go : (b : Bool) → eqb (last_of (has_key k) cs) 0 ≡ b → (cond b no_call held).there ≡ true → Found (cond b no_call held).call
-      go true q f = absurd (false≢true f)
+      go : (b : Bool) → eqb (last_of (has_key k) cs) 0 ≡ b → is_none (cond b None held) ≡ false → Found (unwrap_or (cond b None held) blank_call)
+      go true q f = absurd (true≢false f)
       go false q f = at_last (not-false (anyb (has_key k) cs) (sym (place-tells (has_key k) cs) ∙ q))
 
-  found-one : Keyed earlier cs → (c : Call) → Found c → find_in cs k ≡ record { there = true; call = c }
+  found-one : Keyed earlier cs → (c : Call) → Found c → find_in cs k ≡ Some c
   unfolding find_in
   found-one d c f =
       let some : anyb (has_key k) cs ≡ true = mem-anyb (has_key k) f.there (parts-key k c f.key) in
       let w = at_last some in
       cond-not _ _ (place-tells (has_key k) cs ∙ ap not some)
-      ∙ (λ i. record { there = true; call = one-call cs d k (get_or cs (last_of (has_key k) cs - 1) blank_call) c w.there f.there w.key f.key i })
+      ∙ (λ i. Some (one-call cs d k (get_or cs (last_of (has_key k) cs - 1) blank_call) c w.there f.there w.key f.key i))
 
 -- ---- a leg
 
 abbrev pub found : Call → Call → FoundLeg
-found b a = record { board = record { there = true; call = b }; alight = record { there = true; call = a } }
+found b a = record { board = Some b; alight = Some a }
 
 module _ (cs : List Call) (g : Leg) where
   -- a leg without a cause is a ride, of the calls that it names
-  pub leg-ride : (i : ℕ) → AllFail (leg_tests i g (find_leg cs g)) → Rides cs (find_leg cs g).board.call (find_leg cs g).alight.call × Names g (find_leg cs g).board.call (find_leg cs g).alight.call
+  pub leg-ride : (i : ℕ) → AllFail (leg_tests i g (find_leg cs g))
+      → Rides cs (boards (find_leg cs g)) (alights (find_leg cs g)) × Names g (boards (find_leg cs g)) (alights (find_leg cs g))
   unfolding find_leg
   leg-ride i f =
-      let b = found-there cs (board_key g) (not-false _ f.0) in
-      let a = found-there cs (alight_key g) (not-false _ f.1.0) in
+      let b = found-there cs (board_key g) f.0 in
+      let a = found-there cs (alight_key g) f.1.0 in
       let less : g.board < g.alight = leb-false g.alight g.board f.1.1.1.1.0 in (
         record {
           from = b.there;

@@ -1,5 +1,5 @@
 -- The ends and the changes: no cause against them exactly if the timetable starts, ends and joins there.
-use Rattle.std.specs.Prelude.{None, Option, Some}
+use Rattle.std.specs.Prelude.{None, Option, Some, is_none, unwrap_or}
 use mathlib.Core.Path.{◌≡◌, refl, sym, ap, ◌∙◌}
 use mathlib.Core.Bool.{Bool, true, false, not, cond, ◌&&◌, true≢false, false≢true}
 use mathlib.Core.List.{List}
@@ -24,7 +24,7 @@ use Rattle.load.specs.declared.Load.{Load}
 use Rattle.search.specs.Timetable.{change_in, joins_in, timetable_of}
 use Rattle.connection.specs.declared.Cause.{Cause}
 use Rattle.connection.specs.Ends.{low_digit, is_member_of, end_tests}
-use Rattle.connection.specs.Changes.{in_reach, forbids, is_never, needed, change_tests}
+use Rattle.connection.specs.Changes.{in_reach, forbids, change_tests}
 use Rattle.verdicts.specs.Claims.{AllFail}
 
 -- ---- members
@@ -63,11 +63,11 @@ module _ (l : Load) (b a : Call) (o k : ℕ) where
 
 -- ---- changes
 
-takes-some : (c : Option ℕ) (arrival departure : ℕ) → is_never c ≡ false → leb (arrival + needed c) departure ≡ true → joins_by c arrival departure ≡ true
+takes-some : (c : Option ℕ) (arrival departure : ℕ) → is_none c ≡ false → leb (arrival + unwrap_or c 0) departure ≡ true → joins_by c arrival departure ≡ true
 takes-some (Some s) arrival departure e f = f
 takes-some None arrival departure e f = absurd (true≢false e)
 
-some-takes : (c : Option ℕ) (arrival departure : ℕ) → joins_by c arrival departure ≡ true → (is_never c ≡ false) × (leb (arrival + needed c) departure ≡ true)
+some-takes : (c : Option ℕ) (arrival departure : ℕ) → joins_by c arrival departure ≡ true → (is_none c ≡ false) × (leb (arrival + unwrap_or c 0) departure ≡ true)
 some-takes (Some s) arrival departure e = (refl, e)
 some-takes None arrival departure e = absurd (false≢true e)
 
@@ -76,11 +76,11 @@ forbids-never : (r : Option Rule) (close : Bool) (s : ℕ) → forbids r ≡ tru
 forbids-never (Some r) close s e = cond-by _ _ e
 forbids-never None close s e = absurd (false≢true e)
 
-made-allowed : (r : Option Rule) (close : Bool) (s : ℕ) → is_never (change_of r close s) ≡ false → forbids r ≡ false
+made-allowed : (r : Option Rule) (close : Bool) (s : ℕ) → is_none (change_of r close s) ≡ false → forbids r ≡ false
 made-allowed r close s e = go (forbids r) refl
   where
     go : (b : Bool) → forbids r ≡ b → b ≡ false
-    go true q = absurd (true≢false (sym (ap is_never (forbids-never r close s q)) ∙ e))
+    go true q = absurd (true≢false (sym (ap is_none (forbids-never r close s q)) ∙ e))
     go false q = refl
 
 join-parts : (c : Option ℕ) (run : Bool) (arrival departure : ℕ) → join_of c run arrival departure ≡ true → (run ≡ false) × (joins_by c arrival departure ≡ true)

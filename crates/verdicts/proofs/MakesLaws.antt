@@ -2,8 +2,9 @@
 use mathlib.Core.Path.{◌≡◌, refl, sym, ap, subst, ◌∙◌}
 use mathlib.Core.Logic.{◌⊎◌, inl, inr}
 use mathlib.Core.Bool.{true}
-use Prim.Native.Nat.{ℕ, ◌-◌}
+use Prim.Native.Nat.{ℕ}
 use native.Mathlib.Omega.{arith}
+use Rattle.std.specs.Prelude.{None}
 use Rattle.laws.specs.Sort.{Keyed}
 use Rattle.calls.specs.declared.Call.{Call}
 use Rattle.profile.specs.declared.Journey.{Journey}
@@ -13,9 +14,8 @@ use Rattle.offers.specs.Admitted.{Rides, Starts, Ends}
 use Rattle.load.specs.declared.Load.{Load}
 use Rattle.search.specs.Timetable.{joins_in, timetable_of}
 use Rattle.connection.specs.declared.Connection.{Connection}
-use Rattle.connection.specs.declared.Told.TheVariants.{Free}
 use Rattle.connection.specs.declared.FoundLeg.{FoundLeg}
-use Rattle.connection.specs.Find.{leg_at}
+use Rattle.connection.specs.Find.{boards as boards_at, alights as alights_at, leg_at}
 use Rattle.connection.specs.Legs.{leg_tests}
 use Rattle.verdict.specs.Verdicts.{journey_in, causes, cause_of}
 use Rattle.verdicts.specs.Makes.{Names, ByOne, ByTwo, ByThree, Makes}
@@ -28,7 +28,7 @@ use Rattle.verdicts.proofs.JoinLaws.{asked, ends-right, right-ends, changes, joi
 module _ (l : Load) (c : Connection) where
   -- ---- no cause: a journey
 
-  pub free-makes : cause_of l c ≡ Free → Makes (timetable_of l) c (journey_in l c)
+  pub free-makes : cause_of l c ≡ None → Makes (timetable_of l) c (journey_in l c)
   unfolding timetable_of
   free-makes e = go (is_right c.rides (right_of l c f))
     where
@@ -123,8 +123,8 @@ module _ (l : Load) (c : Connection) where
         let e = ride-found (table l c) (leg_at c.legs i) d b a r n in
         record {
           free = ride-free (table l c) (leg_at c.legs i) d b a r n;
-          from = sym (ap (λ (f : FoundLeg). f.board.call) e);
-          to = sym (ap (λ (f : FoundLeg). f.alight.call) e);
+          from = sym (ap (λ (f : FoundLeg). boards_at f) e);
+          to = sym (ap (λ (f : FoundLeg). alights_at f) e);
         }
 
     ends-free : {b a : Call} {o k : ℕ} (i : ℕ) → b ≡ boards l c 0 → a ≡ alights l c i → o ≡ c.origin → k ≡ c.target → Starts (timetable_of l) b o → Ends (timetable_of l) a k
@@ -136,7 +136,7 @@ module _ (l : Load) (c : Connection) where
 
     -- the journey is without a cause, and is the one judged
     abbrev pub Judged : Journey → Type 0
-    Judged j = (cause_of l c ≡ Free) × (j ≡ journey_in l c)
+    Judged j = (cause_of l c ≡ None) × (j ≡ journey_in l c)
 
     made-1 : (j : Journey) → ByOne (timetable_of l) c j → Judged j
     unfolding timetable_of

@@ -18,7 +18,7 @@ use Rattle.connection.specs.declared.Connection.{Connection}
 use Rattle.connection.specs.declared.Cause.{Cause}
 use Rattle.connection.specs.declared.FoundLeg.{FoundLeg}
 use Rattle.connection.specs.Tests.{asking}
-use Rattle.connection.specs.Find.{leg_at, find_leg, way_of}
+use Rattle.connection.specs.Find.{boards as boards_at, alights as alights_at, leg_at, find_leg, way_of}
 use Rattle.connection.specs.Legs.{ride_right, ride_tests, leg_tests}
 use Rattle.connection.specs.Ends.{count_tests}
 use Rattle.verdict.specs.Verdicts.{ride_found, last_leg, middle_ride, last_ride, journey_on, ends_asked, changes_asked, causes_by, way_in, journey_in, causes}
@@ -56,17 +56,17 @@ module _ (l : Load) (c : Connection) where
   leg i = find_leg table (leg_at c.legs i)
 
   abbrev pub boards : ℕ → Call
-  boards i = (leg i).board.call
+  boards i = boards_at (leg i)
 
   abbrev pub alights : ℕ → Call
-  alights i = (leg i).alight.call
+  alights i = alights_at (leg i)
 
   -- ---- the journey judged, as one of n rides
 
   abbrev judged_as : ℕ → Journey
   judged_as n = record {
-    leave = (way_in l c).first.board.call.departure - get_or l.settings.origin_walks c.origin 0 * 60;
-    arrival = (last_leg n (way_in l c)).alight.call.arrival + get_or l.settings.target_walks c.target 0 * 60;
+    leave = (boards_at (way_in l c).first).departure - get_or l.settings.origin_walks c.origin 0 * 60;
+    arrival = (alights_at (last_leg n (way_in l c))).arrival + get_or l.settings.target_walks c.target 0 * 60;
     rides = n;
     walk = get_or l.settings.origin_walks c.origin 0;
     origin = c.origin;
@@ -147,7 +147,7 @@ module _ (l : Load) (c : Connection) where
           leg-0 = fails-left legs₀ legs₊ fl;
           leg-1 = λ h. fails-asked legs₁ (le-leb 2 c.rides h) (fails-left (asking (leb 2 c.rides) legs₁) (asking (leb 3 c.rides) legs₂) more);
           leg-2 = λ h. fails-asked legs₂ (le-leb 3 c.rides h) (fails-right (asking (leb 2 c.rides) legs₁) (asking (leb 3 c.rides) legs₂) more);
-          ends = subst (λ (x : FoundLeg). AllFail (asked l (boards 0) x.alight.call c.origin c.target)) e fe;
+          ends = subst (λ (x : FoundLeg). AllFail (asked l (boards 0) (alights_at x) c.origin c.target)) e fe;
           count = ltb-false (l.settings.max_transfers + 1) c.rides fc.0;
           change-0 = λ h. fails-asked first-change (le-leb 2 c.rides h) (fails-left (asking (leb 2 c.rides) first-change) (asking (leb 3 c.rides) second-change) g₄);
           change-1 = λ h. fails-asked second-change (le-leb 3 c.rides h) (fails-right (asking (leb 2 c.rides) first-change) (asking (leb 3 c.rides) second-change) g₄);
@@ -162,7 +162,7 @@ module _ (l : Load) (c : Connection) where
         (fails_both (asking (leb 2 c.rides) legs₁) (asking (leb 3 c.rides) legs₂)
         (fails-asking (leb 2 c.rides) legs₁ (λ q. w.leg-1 (leb-true 2 c.rides q))) (fails-asking (leb 3 c.rides) legs₂ (λ q. w.leg-2 (leb-true 3 c.rides q)))))
         (fails_both asked_ends (asked_count ++ asked_changes)
-        (subst (λ (x : FoundLeg). AllFail (asked l (boards 0) x.alight.call c.origin c.target)) (sym e) w.ends)
+        (subst (λ (x : FoundLeg). AllFail (asked l (boards 0) (alights_at x) c.origin c.target)) (sym e) w.ends)
         (fails_both asked_count asked_changes (le-ltb (l.settings.max_transfers + 1) c.rides w.count, tt)
         (fails_both (asking (leb 2 c.rides) first-change) (asking (leb 3 c.rides) second-change)
         (fails-asking (leb 2 c.rides) first-change (λ q. w.change-0 (leb-true 2 c.rides q)))

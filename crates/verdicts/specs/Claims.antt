@@ -1,6 +1,6 @@
 -- What is claimed of verdicts: of every load which of them is given when; of every list of steps with a finished search, that what they
 -- say is so.
-use Rattle.std.specs.Prelude.{◌≡◌, ◌↔◌, Bool, true, false, ℕ, ◌≤◌, ◌<◌, length, get_or, Some}
+use Rattle.std.specs.Prelude.{◌≡◌, ◌↔◌, Bool, true, false, ℕ, ◌≤◌, ◌<◌, length, get_or, None, Some}
 use mathlib.Core.List.{List, [], ◌∷◌, Memᴰ}
 use Rattle.profile.specs.declared.Journey.{Journey}
 use Rattle.profile.specs.Figures.{covers}
@@ -18,7 +18,6 @@ use Rattle.steps.specs.Steps.{Step}
 use Rattle.steps.specs.Lists.{end_of, Admitted}
 use Rattle.connection.specs.declared.Connection.{Connection}
 use Rattle.connection.specs.declared.Cause.{Cause}
-use Rattle.connection.specs.declared.Told.TheVariants.{Because, Free}
 use Rattle.connection.specs.Changes.{number_in}
 use Rattle.listing.specs.declared.Verdict.{Verdict}
 use Rattle.listing.specs.declared.Verdict.TheVariants.{NotFinished, Late, Listed, AsGood, Beaten, Uncovered, Impossible}
@@ -35,9 +34,9 @@ AllFail (t ∷ ts) = (t.0 ≡ false) × AllFail ts
 -- which verdict is given when. The causes are tests on the load and the connection; none reads the verdict
 pub record GivenWhen (l : Load) (c : Connection) : Type 0 where
   pub not_finished : is_finished l ≡ false ↔ verdict_of l c ≡ NotFinished
-  pub impossible : (x : Cause) → ((is_finished l ≡ true) × (cause_of l c ≡ Because x)) ↔ verdict_of l c ≡ Impossible x
-  pub late : ((is_finished l ≡ true) × (cause_of l c ≡ Free) × (l.horizon < (journey_in l c).arrival)) ↔ verdict_of l c ≡ Late
-  pub free : cause_of l c ≡ Free ↔ AllFail (causes l c)
+  pub impossible : (x : Cause) → ((is_finished l ≡ true) × (cause_of l c ≡ Some x)) ↔ verdict_of l c ≡ Impossible x
+  pub late : ((is_finished l ≡ true) × (cause_of l c ≡ None) × (l.horizon < (journey_in l c).arrival)) ↔ verdict_of l c ≡ Late
+  pub free : cause_of l c ≡ None ↔ AllFail (causes l c)
 
 abbrev pub AlwaysGiven : Type 0
 AlwaysGiven = (l : Load) (c : Connection) → GivenWhen l c
@@ -46,8 +45,8 @@ AlwaysGiven = (l : Load) (c : Connection) → GivenWhen l c
 
 -- no cause, exactly if the connection makes an admitted journey; and that is the one that is judged
 pub record CausesRight (o : Opening) (xs : List Step) (c : Connection) : Type 0 where
-  pub makes : cause_of (end_of o xs) c ≡ Free → Makes (timetable_of (end_of o xs)) c (journey_in (end_of o xs) c)
-  pub free : (j : Journey) → Makes (timetable_of (end_of o xs)) c j → cause_of (end_of o xs) c ≡ Free
+  pub makes : cause_of (end_of o xs) c ≡ None → Makes (timetable_of (end_of o xs)) c (journey_in (end_of o xs) c)
+  pub free : (j : Journey) → Makes (timetable_of (end_of o xs)) c j → cause_of (end_of o xs) c ≡ None
   pub only : (j : Journey) → Makes (timetable_of (end_of o xs)) c j → j ≡ journey_in (end_of o xs) c
   -- it is one of those that demands 2 and 3 speak of
   pub admitted : (j : Journey) → Makes (timetable_of (end_of o xs)) c j → Admitted o xs j
@@ -68,7 +67,7 @@ pub data Says (ks : List Journey) (j : Journey) : Verdict → Type 0 where
 
 -- a connection without a cause that is due by the horizon is listed, equalled or beaten, by a member of the list
 abbrev pub DueIsCovered : Type 0
-DueIsCovered = (o : Opening) (xs : List Step) (c : Connection) → Opens o → is_finished (end_of o xs) ≡ true → cause_of (end_of o xs) c ≡ Free
+DueIsCovered = (o : Opening) (xs : List Step) (c : Connection) → Opens o → is_finished (end_of o xs) ≡ true → cause_of (end_of o xs) c ≡ None
     → (journey_in (end_of o xs) c).arrival ≤ (end_of o xs).horizon → Says (kept_of (end_of o xs)) (journey_in (end_of o xs) c) (verdict_of (end_of o xs) c)
 
 -- so the one verdict that would contradict the list, a connection without a cause that is due and that nothing of the list equals or

@@ -1,8 +1,6 @@
 -- A small paper, and a connection for each verdict and each cause: what `verdict_of` says of them after its steps, by computation. So the
 -- premises of the claims can be met.
-use Rattle.std.specs.Prelude.{◌≡◌, true, false, List, [], ◌∷◌, map, ℕ, pos, None, Some}
-use Rattle.std.specs.Float.{binary64}
-use Rattle.std.specs.Float.Ieee.{of_bits}
+use Rattle.std.specs.Prelude.{◌≡◌, true, List, [], ◌∷◌, map, ℕ, pos, None, Some}
 use Rattle.settings.specs.declared.Settings.{Settings}
 use Rattle.load.specs.declared.Load.{Load}
 use Rattle.load.specs.Steps.{Opening, undated}
@@ -36,14 +34,7 @@ paper = undated paper_settings
 
 -- a station, which is of no place
 abbrev pub station : ℕ → ℕ → Step
-station id members = filling (stop (id ∷ []) [] [] (record {
-  named = false;
-  has_parent = false;
-  location_type = 1;
-  located = false;
-  degrees = record { latitude = of_bits binary64 0; longitude = of_bits binary64 0 };
-  members = members;
-}))
+station id members = filling (stop (id ∷ []) None None (record { location_type = 1; degrees = None; members = members }))
 
 -- trip, sequence, stop, time, pickup and drop-off
 abbrev pub call_at : ℕ → ℕ → ℕ → ℕ → ℕ → ℕ → Step

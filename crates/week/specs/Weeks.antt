@@ -1,14 +1,15 @@
 -- The dated part of a load: the dates of its days and its services. Why a service or an exception is sent back, what it leaves, and whether the
 -- service that a call names runs.
-use Rattle.std.specs.Prelude.{ℕ, suc, ◌+◌, ◌%◌, Bool, true, false, not, cond, ◌||◌, List, [], ◌∷◌, leb, length, get_or, take, set, replicate, Err}
+use Rattle.std.specs.Prelude.{ℕ, suc, ◌+◌, ◌%◌, Bool, true, false, not, cond, ◌||◌, List, [], ◌∷◌, leb, get_or, take, set, replicate, Err}
 use Rattle.laws.specs.Lists.{anyb}
 use Rattle.refusal.specs.declared.Refusal.TheVariants.{AlreadySearched, IdLength, IdTaken, DateWrong, ServiceUnknown, ServicesFull}
 use Rattle.refusal.specs.First.{first_answer, is_taken, Answer}
+use Rattle.texts.specs.Texts.{held, bytes_of}
 use Rattle.services.specs.declared.Service.{Service}
 use Rattle.services.specs.Runs.{runs_of}
 use Rattle.services.specs.Exceptions.{days_on, excepted_of}
 use Rattle.services.specs.Wrong.{span_wrong, exception_wrong}
-use Rattle.stops.specs.Texts.{same_bytes_of, held_text}
+use Rattle.stops.specs.Texts.{same_bytes_of}
 use Rattle.stops.specs.Answer.{id_wrong}
 use Rattle.week.specs.declared.Week.{Week}
 use Rattle.week.specs.declared.WeekStepped.{WeekStepped}
@@ -19,13 +20,12 @@ use Rattle.week.specs.declared.Running.TheVariants.{Unknown, Rests, Runs}
 
 -- what an unused slot holds
 abbrev pub blank_service : Service
-blank_service = record { name = replicate 32 0; name_len = 0; weekdays = 0; start = 0; end = 0; added = 0; removed = 0 }
+blank_service = record { name = held 32 []; weekdays = 0; start = 0; end = 0; added = 0; removed = 0 }
 
 -- a new service: its name, of at most 32 bytes, is held whole; seven weekday marks; no exception yet
 unfoldable pub service_of : List ℕ → ℕ → ℕ → ℕ → Service
 service_of name weekdays start end = record {
-  name = held_text 32 name;
-  name_len = length (take 32 name);
+  name = held 32 name;
   weekdays = weekdays % 128;
   start = start;
   end = end;
@@ -34,7 +34,7 @@ service_of name weekdays start end = record {
 }
 
 abbrev pub name_of : Service → List ℕ
-name_of s = take s.name_len s.name
+name_of s = bytes_of s.name
 
 -- the service has the name
 abbrev pub named : List ℕ → Service → Bool

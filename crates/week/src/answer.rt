@@ -4,21 +4,18 @@ ghost use Rattle.laws.specs.Lists.{anyb};
 ghost use Rattle.refusal.specs.First.{first_answer};
 ghost use Rattle.week.specs.Weeks.{blank_service, service_of, named, place_of, service_tests, exception_tests};
 
-use prefix::first;
 use refusal::{Accepted, Answer, Refusal};
 use services::{Service, exception_wrong, span_wrong};
 use stop_answer::id_wrong;
 use stops::find::same_text;
-use stops::taken::{length_to, text};
+use texts::Text;
 
-// What an unused slot holds.
+// What an unused slot holds. No `Default`: derived, its contract says nothing of a text.
 pub fn blank_service() -> Service
     ensures { result ≡ blank_service }
 {
-    let name = [0u8; 32];
     Service {
-        name,
-        name_len: 0,
+        name: Text::of(b""),
         weekdays: 0,
         start: 0,
         end: 0,
@@ -27,15 +24,13 @@ pub fn blank_service() -> Service
     }
 }
 
-// A new service: seven weekday marks, no exception yet.
+// A new service: seven weekday marks, no exception yet. Its three numbers come one by one, and a record of them would be taken apart here.
 #[tactic(auto, unfolding(crate::specs::Weeks::service_of))]
 pub fn service_of(name: &[u8], weekdays: u8, start: u32, end: u32) -> Service
     ensures { result ≡ service_of name.now weekdays start end }
 {
-    let held = text::<32>(name);
     Service {
-        name: held,
-        name_len: length_to(name, 32),
+        name: Text::of(name),
         weekdays: weekdays % 128,
         start,
         end,
@@ -47,7 +42,7 @@ pub fn service_of(name: &[u8], weekdays: u8, start: u32, end: u32) -> Service
 fn is_named(service: &Service, name: &[u8]) -> bool
     ensures { result ≡ named name.now service.now }
 {
-    same_text(first(&service.name, usize::from(service.name_len)), name)
+    same_text(service.name.bytes(), name)
 }
 
 // The place of the first service with the name; where none has it, how many there are.
@@ -64,7 +59,7 @@ pub fn is_known(services: &[Service], name: &[u8]) -> bool
     services.iter().any(|service| is_named(service, name))
 }
 
-// What a service is answered, by the services taken: 15, 3, 5, 20, 22.
+// What a service is answered, by the services taken: 15, 3, 5, 20, 22. Of its numbers two are read, so they come one by one.
 #[tactic(auto, unfolding(crate::specs::Weeks::service_tests, refusal::specs::First::first_answer))]
 pub fn service_answer(
     searched: bool,
@@ -94,7 +89,7 @@ pub fn service_answer(
     Ok(Accepted::Taken)
 }
 
-// The same of an exception: 15, 20, 21.
+// The same of an exception: 15, 20, 21. Its kind is a number and no enum: any may be handed in, and one that is not 1 or 2 is sent back.
 #[tactic(auto, unfolding(crate::specs::Weeks::exception_tests, refusal::specs::First::first_answer))]
 pub fn exception_answer(
     searched: bool,

@@ -11,7 +11,9 @@ use crate::answer::blank_service;
 use refusal::Answer;
 use services::Service;
 
-// A load opened without dates is not dated, and its services are closed from the start. A slot past the count holds the blank service.
+// A load opened without dates is not dated, and its services are closed from the start. `dated` stands beside `dates`, and no option: an
+// exception is taken only where there are dates, and would have to unwrap them again. `closed` tells of no other field. The services are an
+// array with a count, since the core has no heap: a slot past the count holds the blank service.
 #[derive(Clone, Copy, Debug, PartialEq, Eq)]
 pub struct Week {
     pub dated: bool,
@@ -21,14 +23,15 @@ pub struct Week {
     pub closed: bool,
 }
 
-// What a service or an exception is answered, and the week after it: the week given, where it is sent back.
+// What a service or an exception is answered, and the week after it: the week given, where it is sent back. No `Result`:
+// the week goes on after either.
 #[derive(Clone, Copy, Debug, PartialEq, Eq)]
 pub struct WeekStepped {
     pub answer: Answer,
     pub week: Week,
 }
 
-// Of the service that a call names, on the call's day.
+// Of the service that a call names, on the call's day: three ends, so no `Option`.
 #[derive(Clone, Copy, Debug, PartialEq, Eq)]
 pub enum Running {
     Unknown,
@@ -36,7 +39,7 @@ pub enum Running {
     Runs,
 }
 
-// The week of a load without dates.
+// The week of a load without dates. No `Default`: an array of 64 has none, and its services are closed.
 pub fn undated() -> Week
     ensures { result ≡ undated_week }
 {

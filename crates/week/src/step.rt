@@ -26,7 +26,8 @@ impl Week {
         self.services.get(at).copied().unwrap_or(blank_service())
     }
 
-    // A service is taken or sent back; `searched` is the load's.
+    // A service is taken or sent back; `searched` is the load's. Its numbers come one by one, as those of an exception do: a record would
+    // be made by the caller and taken apart here.
     pub fn service(
         self,
         searched: bool,
@@ -49,7 +50,7 @@ impl Week {
         WeekStepped { answer, week: self }
     }
 
-    // An exception is taken or sent back.
+    // An exception is taken or sent back; its kind may be any number, as it is handed in.
     pub fn exception(self, searched: bool, name: &[u8], date: u32, kind: u8) -> WeekStepped
         ensures { result ≡ exception_on self searched name.now date kind }
     {

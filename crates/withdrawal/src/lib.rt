@@ -23,6 +23,7 @@ pub fn is_known(key: CallKey) -> bool
     key.trip < 65535 && key.day <= 2
 }
 
+// Field by field: no call holds a key that could be compared as a whole.
 #[tactic(auto, unfolding(crate::specs::Removal::has_key))]
 fn has_key(call: Call, key: CallKey) -> bool
     ensures { result ≡ has_key key call }
@@ -34,17 +35,12 @@ fn has_key(call: Call, key: CallKey) -> bool
 pub fn last_of(calls: &[Call], key: CallKey) -> Option<usize>
     ensures { counted result ≡ last_of (has_key key) calls.now }
 {
-    let mut rest = calls;
-    while let Some((&call, before)) = rest.split_last() {
-        if has_key(call, key) {
-            return Some(before.len());
-        }
-        rest = before;
-    }
-    None
+    let mut from_last = calls.iter().rev();
+    let behind = from_last.position(|&call| has_key(call, key))?;
+    Some(calls.len() - 1 - behind)
 }
 
-// The calls without the one at the place: it is blanked, and those behind it move down before it.
+// The calls without the one at the place: it is blanked, and those behind it move down before it. By value, as a step hands the load on.
 pub fn without(calls: [Call; 512], at: usize) -> [Call; 512]
     ensures { result ≡ closed_up blank_call at calls }
 {

@@ -1,3 +1,4 @@
 pub mod NumberLaws
 pub mod PutLaws
+pub mod FileLaws
 pub mod ClaimLaws

@@ -4,13 +4,13 @@ use Rattle.std.specs.Prelude.{ℕ, Bool, cond, List, [], ◌∷◌, ◌++◌, ta
 use Rattle.laws.specs.Lists.{concat_map}
 use Rattle.settings.specs.declared.Settings.{Settings}
 use Rattle.stops.specs.declared.Stop.{Stop}
-use Rattle.stops.specs.Stops.{id_of}
+use Rattle.stops.specs.Stops.{id_of, name_of}
 use Rattle.rules.specs.declared.Rule.{Rule}
 use Rattle.calls.specs.declared.Call.{Call}
 use Rattle.load.specs.declared.Load.{Load}
 use Rattle.codec.specs.Shapes.{framed}
 use Rattle.codec.specs.Kinds.{settings_body, stop_body, rule_body, call_body, search_body}
-use Rattle.codec.specs.Parts.{at_start, name_of, parent_id_of, stop_input_of, rule_input_of, call_input_of}
+use Rattle.codec.specs.Parts.{at_start, parent_id_of, stop_input_of, call_input_of}
 
 -- the records, as `codec` describes their fields, each after its length
 unfoldable pub settings_file : Settings → List ℕ
@@ -20,7 +20,7 @@ unfoldable pub stop_file : List Stop → Stop → List ℕ
 stop_file stops s = framed (stop_body (id_of s) (name_of s) (parent_id_of stops s) (stop_input_of s))
 
 unfoldable pub rule_file : Rule → List ℕ
-rule_file r = framed (rule_body (rule_input_of r))
+rule_file r = framed (rule_body r)
 
 unfoldable pub call_file : Call → List ℕ
 call_file c = framed (call_body (call_input_of c))

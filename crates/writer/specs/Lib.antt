@@ -1,4 +1,3 @@
 pub mod File
 pub mod Wrote
-pub mod Parts
 pub mod Claims

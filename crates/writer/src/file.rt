@@ -1,94 +1,59 @@
 // The whole file of a load, and how long it is.
-ghost use Rattle.std.specs.Prelude.{◌≡◌, ◌+◌, ◌≤◌, length, take};
+ghost use Rattle.std.specs.Prelude.{◌≡◌, ◌*◌, ◌≤◌, ◌++◌, length, drop};
 ghost use Rattle.laws.specs.Lists.{concat_map};
-ghost use Rattle.stops.specs.Sound.{stop_at};
-ghost use Rattle.lines.specs.Buffer.{Put};
-ghost use Rattle.writer.specs.File.{stop_file, rule_file, call_file, write_spec_of};
+ghost use Rattle.buffer.specs.Put.{Put};
+ghost use Rattle.codec.specs.Shapes.{framed};
+ghost use Rattle.writer.specs.File.{write_spec_of};
 
-use crate::bytes::put_byte;
-use crate::records::{put_call, put_rule, put_search, put_settings, put_stop};
-use calls::Call;
+use crate::records::Record;
+use buffer::Buffer;
 use load::Load;
-use rules::Rule;
+use prefix::first;
 use stops::Stop;
-use stops::taken::blank_stop;
 
-// The stop of a number, blank where there is none.
-fn stop_at(stops: [Stop; 128], number: u16) -> Stop
-    ensures { result ≡ stop_at stops number }
+// A record behind the two bytes of its length, which are put once it is known.
+fn put_record<R: Record>(out: &mut Buffer<'_>, item: &R, stops: &[Stop])
+    ensures { Put 65537 (framed (R.body stops.now item.now)) out.old out.new }
 {
-    let k = number as usize;
-    if k < 128 {
-        return stops[k];
+    let start = out.len;
+    let from = start.saturating_add(2);
+    out.len = from;
+    item.put(out, stops);
+    let end = out.len;
+    out.len = start;
+    out.u16((end - from) as u16);
+    out.len = end;
+}
+
+fn put_records<R: Record>(out: &mut Buffer<'_>, items: &[R], stops: &[Stop])
+    ensures { Put (65537 * length items.now) (concat_map (λ r. framed (R.body stops.now r)) items.now) out.old out.new }
+{
+    for item in items {
+        put_record(out, item, stops);
     }
-    blank_stop()
 }
 
-fn put_stops(out: &mut [u8], at: usize, stops: [Stop; 128], count: usize) -> usize
-    requires { at + 101376 ≤ 1000000 }
-    ensures { Put 101376 (concat_map (stop_file stops) (take count stops)) at out.old result out.new }
+fn put_parts(out: &mut Buffer<'_>, load: &Load)
+    ensures { Put 50397957 (write_spec_of load.now) out.old out.new }
 {
-    let n: usize = if count < 128 { count } else { 128 };
-    let mut to = at;
-    let mut i: usize = 0;
-    while i < n {
-        let s = stops[i];
-        let station = stop_at(stops, s.parent);
-        to = put_stop(out, to, s, station);
-        i += 1;
+    let stops = &load.stops;
+    out.byte(2);
+    put_record(out, &load.settings, stops);
+    put_records(out, first(stops, load.stop_count), stops);
+    put_records(out, first(&load.rules, load.rule_count), stops);
+    put_records(out, first(&load.calls, load.call_count), stops);
+    if load.searched {
+        out.bytes(&[0, 1, 5]);
     }
-    to
 }
 
-fn put_rules(out: &mut [u8], at: usize, rules: [Rule; 128], count: usize) -> usize
-    requires { at + 1408 ≤ 1000000 }
-    ensures { Put 1408 (concat_map rule_file (take count rules)) at out.old result out.new }
+// How long the file is; if it has room, it stands at the start of the buffer.
+pub fn put_file(out: &mut [u8], load: &Load) -> usize
+    ensures size { result ≡ length (write_spec_of load.now) }
+    ensures out_after { length (write_spec_of load.now) ≤ length out.old
+        → out.new ≡ write_spec_of load.now ++ drop (length (write_spec_of load.now)) out.old }
 {
-    let n: usize = if count < 128 { count } else { 128 };
-    let mut to = at;
-    let mut i: usize = 0;
-    while i < n {
-        let r = rules[i];
-        to = put_rule(out, to, r);
-        i += 1;
-    }
-    to
-}
-
-fn put_calls(out: &mut [u8], at: usize, calls: [Call; 512], count: usize) -> usize
-    requires { at + 12288 ≤ 1000000 }
-    ensures { Put 12288 (concat_map call_file (take count calls)) at out.old result out.new }
-{
-    let n: usize = if count < 512 { count } else { 512 };
-    let mut to = at;
-    let mut i: usize = 0;
-    while i < n {
-        let c = calls[i];
-        to = put_call(out, to, c);
-        i += 1;
-    }
-    to
-}
-
-pub fn put_file(out: &mut [u8], load: Load) -> usize
-    ensures { Put 115626 (write_spec_of load) 0 out.old result out.new }
-{
-    let stops = load.stops;
-    let rules = load.rules;
-    let calls = load.calls;
-    let settings = load.settings;
-    let a = put_byte(out, 0, 2);
-    let b = put_settings(out, a, settings);
-    let c = put_stops(out, b, stops, load.stop_count);
-    let d = put_rules(out, c, rules, load.rule_count);
-    let e = put_calls(out, d, calls, load.call_count);
-    put_search(out, e, load.searched)
-}
-
-// Bytes past the end are left out, so that one byte lent for all tells how long the file is.
-pub fn file_length(load: Load) -> usize
-    ensures { result ≡ length (write_spec_of load) }
-{
-    let mut nothing = [0u8; 1];
-    put_file(&mut nothing, load)
+    let mut file = Buffer::new(out);
+    put_parts(&mut file, load);
+    file.len
 }

@@ -1,215 +1,196 @@
-// The records of a load, each put behind the two bytes of its length.
-ghost use Rattle.std.specs.Prelude.{◌≡◌, not, ◌+◌, ◌≤◌, eqb};
-ghost use Rattle.stops.specs.Stops.{id_of};
-ghost use Rattle.lines.specs.Buffer.{Put};
-ghost use Rattle.codec.specs.Shapes.{two, four, eight, number, text, option, both, write, framed};
-ghost use Rattle.codec.specs.Kinds.{given, degrees_value, stop_body};
-ghost use Rattle.codec.specs.Parts.{type_of, min_time_of, name_of, stop_input_of};
-ghost use Rattle.writer.specs.File.{settings_file, rule_file, call_file, search_file};
-ghost use Rattle.writer.specs.Parts.{settings_walks, starts, settings_rest, stop_texts, stop_rest, call_key, call_times};
+// The records of a load: of each the kind, then the fields.
+ghost use Rattle.std.specs.Prelude.{◌≡◌, ℕ, List, Some, option_map, option_copied};
+ghost use Rattle.stops.specs.declared.Stop.{Stop};
+ghost use Rattle.stops.specs.Stops.{id_of, name_of};
+ghost use Rattle.stops.specs.Sound.{stop_at};
+ghost use Rattle.texts.specs.Texts.{bytes_of};
+ghost use Rattle.buffer.specs.Put.{Put};
+ghost use Rattle.codec.specs.Shapes.{two, four, eight, number, text, option, both, write};
+ghost use Rattle.codec.specs.Kinds.{bits_of, degrees_value, settings_body, stop_body, rule_body, call_body};
+ghost use Rattle.codec.specs.Parts.{at_start, parent_id_of, stop_input_of, type_of, call_input_of};
 
-use crate::bytes::{
-    bits, put_byte, put_bytes, put_length, put_option_text, put_text, put_u16, put_u32, put_u64,
-    unsigned,
-};
+use buffer::Buffer;
 use calls::Call;
 use place::Degrees;
+use prefix::first;
 use rules::Rule;
 use settings::Settings;
 use stops::Stop;
+use stops::taken::blank_stop;
+use texts::Text;
+
+// What is a record of a load file. A stop names its station by the id that it has among the stops.
+pub trait Record {
+    ghost body: { List Stop → Self → List ℕ };
+
+    fn put(&self, out: &mut Buffer<'_>, stops: &[Stop])
+        ensures { Put 65535 (body stops.now self.now) out.old out.new };
+}
 
 // ---- settings
 
-fn put_settings_walks(out: &mut [u8], at: usize, s: Settings) -> usize
-    requires { at + 513 ≤ 1000000 }
-    ensures { Put 513 (settings_walks s) at out.old result out.new }
-{
-    let origins = s.origin_walks;
-    let targets = s.target_walks;
-    let a = put_byte(out, at, 1);
-    let b = put_byte(out, a, s.origins);
-    let c = put_byte(out, b, s.targets);
-    let d = put_bytes(out, c, &origins, s.origins);
-    put_bytes(out, d, &targets, s.targets)
-}
+impl Record for Settings {
+    ghost body = { λ _ s. settings_body (at_start s) };
 
-// The start, and it again for each epoch: held times count from it.
-fn put_starts(out: &mut [u8], at: usize, start: i64) -> usize
-    requires { at + 32 ≤ 1000000 }
-    ensures { Put 32 (starts start) at out.old result out.new }
-{
-    let n = unsigned(start);
-    let a = put_u64(out, at, n);
-    let b = put_u64(out, a, n);
-    let c = put_u64(out, b, n);
-    put_u64(out, c, n)
-}
-
-fn put_settings_rest(out: &mut [u8], at: usize, s: Settings) -> usize
-    requires { at + 35 ≤ 1000000 }
-    ensures { Put 35 (settings_rest s) at out.old result out.new }
-{
-    let a = put_u16(out, at, s.transfer_seconds);
-    let b = put_byte(out, a, s.max_transfers);
-    put_starts(out, b, s.now)
-}
-
-pub fn put_settings(out: &mut [u8], at: usize, s: Settings) -> usize
-    requires { at + 550 ≤ 1000000 }
-    ensures { Put 550 (settings_file s) at out.old result out.new }
-{
-    let a = put_settings_walks(out, at + 2, s);
-    let b = put_settings_rest(out, a, s);
-    put_length(out, at, b)
+    fn put(&self, out: &mut Buffer<'_>, _stops: &[Stop]) {
+        out.byte(1);
+        out.byte(self.origins);
+        out.byte(self.targets);
+        out.bytes(first(&self.origin_walks, usize::from(self.origins)));
+        out.bytes(first(&self.target_walks, usize::from(self.targets)));
+        out.u16(self.transfer_seconds);
+        out.byte(self.max_transfers);
+        let start = self.now.cast_unsigned();
+        out.u64(start);
+        // Held times count from the start, so it is each epoch too.
+        let epoch = start;
+        out.u64(epoch);
+        out.u64(epoch);
+        out.u64(epoch);
+    }
 }
 
 // ---- stop
 
-fn put_stop_texts(out: &mut [u8], at: usize, s: Stop) -> usize
-    requires { at + 514 ≤ 1000000 }
-    ensures { Put 514 (stop_texts s) at out.old result out.new }
+// A length byte, then as many bytes.
+fn put_text<const N: usize>(out: &mut Buffer<'_>, t: &Text<N>)
+    ensures { Put 256 (write text (bytes_of t.now)) out.old out.new }
 {
-    let id = s.id;
-    let name = s.name;
-    let a = put_byte(out, at, 2);
-    let b = put_text(out, a, &id, s.id_len);
-    put_option_text(out, b, s.named, &name, s.name_len)
+    let n = t.len;
+    let bytes = first(&t.bytes, usize::from(n));
+    out.byte(bytes.len() as u8);
+    out.bytes(bytes);
 }
 
-// The station's id, where the stop has a parent.
-fn put_parent(out: &mut [u8], at: usize, parent: u16, station: Stop) -> usize
-    requires { at + 257 ≤ 1000000 }
-    ensures { Put 257 (write (option text) (given (not (eqb parent 65535)) (id_of station))) at out.old result out.new }
+// A text after the byte 1, or the byte 0.
+fn put_option_text<const N: usize>(out: &mut Buffer<'_>, t: Option<&Text<N>>)
+    ensures { Put 257 (write (option text) (option_map bytes_of (option_copied t.entry))) out.old out.new }
 {
-    let id = station.id;
-    put_option_text(out, at, parent != 65535, &id, station.id_len)
+    match t {
+        Some(t) => {
+            out.byte(1);
+            put_text(out, t);
+        }
+        None => out.byte(0),
+    }
+}
+
+// The id of a stop, blank past the last.
+#[tactic(auto, unfolding(stops::specs::Sound::stop_at))]
+fn stop_id(stops: &[Stop], number: u16) -> Text<32>
+    ensures { result ≡ (stop_at stops.now number).id }
+{
+    match stops.get(usize::from(number)) {
+        Some(stop) => stop.id,
+        None => blank_stop().id,
+    }
+}
+
+fn station_id(stops: &[Stop], parent: Option<u16>) -> Option<Text<32>>
+    ensures { result ≡ option_map (λ p. (stop_at stops.now p).id) parent }
+{
+    parent.map(|p| stop_id(stops, p))
+}
+
+// A float's bits; the one NaN is 7ff8000000000000.
+fn bits(x: f64) -> u64
+    ensures { result ≡ bits_of x }
+{
+    if x.is_nan() {
+        return 0x7ff8000000000000;
+    }
+    x.to_bits()
 }
 
 // Both degrees after the byte 1, or the byte 0.
-fn put_degrees(out: &mut [u8], at: usize, located: bool, degrees: Degrees) -> usize
-    requires { at + 17 ≤ 1000000 }
-    ensures { Put 17 (write (option (both (number eight) (number eight))) (given located (degrees_value degrees))) at out.old result out.new }
+fn put_degrees(out: &mut Buffer<'_>, degrees: Option<Degrees>)
+    ensures { Put 17 (write (option (both (number eight) (number eight))) (option_map degrees_value degrees)) out.old out.new }
 {
-    if located {
-        let latitude = bits(degrees.latitude);
-        let longitude = bits(degrees.longitude);
-        let a = put_byte(out, at, 1);
-        let b = put_u64(out, a, latitude);
-        return put_u64(out, b, longitude);
+    match degrees {
+        Some(d) => {
+            out.byte(1);
+            out.u64(bits(d.latitude));
+            out.u64(bits(d.longitude));
+        }
+        None => out.byte(0),
     }
-    put_byte(out, at, 0)
 }
 
-fn put_stop_rest(out: &mut [u8], at: usize, s: Stop) -> usize
-    requires { at + 19 ≤ 1000000 }
-    ensures { Put 19 (stop_rest s) at out.old result out.new }
-{
-    let degrees = s.degrees;
-    let a = put_byte(out, at, s.location_type);
-    let b = put_degrees(out, a, s.located, degrees);
-    put_byte(out, b, s.members)
-}
+impl Record for Stop {
+    ghost body = { λ stops s. stop_body (id_of s) (name_of s) (parent_id_of stops s) (stop_input_of s) };
 
-pub fn put_stop(out: &mut [u8], at: usize, s: Stop, station: Stop) -> usize
-    requires { at + 792 ≤ 1000000 }
-    ensures { Put 792 (framed (stop_body (id_of s) (name_of s) (id_of station) (stop_input_of s))) at out.old result out.new }
-{
-    let a = put_stop_texts(out, at + 2, s);
-    let b = put_parent(out, a, s.parent, station);
-    let c = put_stop_rest(out, b, s);
-    put_length(out, at, c)
+    fn put(&self, out: &mut Buffer<'_>, stops: &[Stop]) {
+        out.byte(2);
+        put_text(out, &self.id);
+        put_option_text(out, self.name.as_ref());
+        put_option_text(out, station_id(stops, self.parent).as_ref());
+        out.byte(self.location_type);
+        put_degrees(out, self.degrees);
+        out.byte(self.members);
+    }
 }
 
 // ---- rule
 
-fn put_min_time(out: &mut [u8], at: usize, timed: bool, seconds: u16) -> usize
-    requires { at + 3 ≤ 1000000 }
-    ensures { Put 3 (write (option (number two)) (min_time_of timed seconds)) at out.old result out.new }
+// The seconds after the byte 1, or the byte 0.
+fn put_min_time(out: &mut Buffer<'_>, seconds: Option<u16>)
+    ensures { Put 3 (write (option (number two)) seconds) out.old out.new }
 {
-    if timed {
-        let from = put_byte(out, at, 1);
-        return put_u16(out, from, seconds);
+    match seconds {
+        Some(n) => {
+            out.byte(1);
+            out.u16(n);
+        }
+        None => out.byte(0),
     }
-    put_byte(out, at, 0)
 }
 
-pub fn put_rule(out: &mut [u8], at: usize, r: Rule) -> usize
-    requires { at + 11 ≤ 1000000 }
-    ensures { Put 11 (rule_file r) at out.old result out.new }
-{
-    let a = put_byte(out, at + 2, 4);
-    let b = put_u16(out, a, r.from);
-    let c = put_u16(out, b, r.to);
-    let d = put_byte(out, c, r.transfer_type);
-    let e = put_min_time(out, d, r.timed, r.seconds);
-    put_length(out, at, e)
+impl Record for Rule {
+    ghost body = { λ _ r. rule_body r };
+
+    fn put(&self, out: &mut Buffer<'_>, _stops: &[Stop]) {
+        out.byte(4);
+        out.u16(self.from);
+        out.u16(self.to);
+        out.byte(self.transfer_type);
+        put_min_time(out, self.seconds);
+    }
 }
 
 // ---- call
 
-// 1 where boarding or alighting is barred, 2 where it is on request, else 0.
+// The file's number for it: 1 where boarding or alighting is barred, 2 where it is on request, else 0.
+#[tactic(auto, unfolding(codec::specs::Parts::type_of))]
 fn type_of(may: bool, asked: bool) -> u8
     ensures { result ≡ type_of may asked }
 {
-    if may {
-        if asked {
-            return 2;
-        }
-        return 0;
+    match (may, asked) {
+        (false, _) => 1,
+        (true, false) => 0,
+        (true, true) => 2,
     }
-    1
 }
 
 // A time that is there.
-fn put_seconds(out: &mut [u8], at: usize, n: u16) -> usize
-    requires { at + 5 ≤ 1000000 }
-    ensures { Put 5 (write (option (number four)) (Some n)) at out.old result out.new }
+fn put_seconds(out: &mut Buffer<'_>, n: u16)
+    ensures { Put 5 (write (option (number four)) (Some n)) out.old out.new }
 {
-    let from = put_byte(out, at, 1);
-    put_u32(out, from, n as u32)
+    out.byte(1);
+    out.u32(u32::from(n));
 }
 
-fn put_call_key(out: &mut [u8], at: usize, c: Call) -> usize
-    requires { at + 10 ≤ 1000000 }
-    ensures { Put 10 (call_key c) at out.old result out.new }
-{
-    let a = put_byte(out, at, 3);
-    let b = put_u16(out, a, c.trip);
-    let d = put_byte(out, b, c.day);
-    let e = put_u32(out, d, c.sequence);
-    put_u16(out, e, c.stop)
-}
+impl Record for Call {
+    ghost body = { λ _ c. call_body (call_input_of c) };
 
-fn put_call_times(out: &mut [u8], at: usize, c: Call) -> usize
-    requires { at + 12 ≤ 1000000 }
-    ensures { Put 12 (call_times c) at out.old result out.new }
-{
-    let pickup = type_of(c.board, c.board_request);
-    let drop_off = type_of(c.alight, c.alight_request);
-    let a = put_seconds(out, at, c.arrival);
-    let b = put_seconds(out, a, c.departure);
-    let d = put_byte(out, b, pickup);
-    put_byte(out, d, drop_off)
-}
-
-pub fn put_call(out: &mut [u8], at: usize, c: Call) -> usize
-    requires { at + 24 ≤ 1000000 }
-    ensures { Put 24 (call_file c) at out.old result out.new }
-{
-    let a = put_call_key(out, at + 2, c);
-    let b = put_call_times(out, a, c);
-    put_length(out, at, b)
-}
-
-// ---- search
-
-pub fn put_search(out: &mut [u8], at: usize, searched: bool) -> usize
-    requires { at + 3 ≤ 1000000 }
-    ensures { Put 3 (search_file searched) at out.old result out.new }
-{
-    if searched {
-        let a = put_u16(out, at, 1);
-        return put_byte(out, a, 5);
+    fn put(&self, out: &mut Buffer<'_>, _stops: &[Stop]) {
+        out.byte(3);
+        out.u16(self.trip);
+        out.byte(self.day);
+        out.u32(self.sequence);
+        out.u16(self.stop);
+        put_seconds(out, self.arrival);
+        put_seconds(out, self.departure);
+        out.byte(type_of(self.board, self.board_request));
+        out.byte(type_of(self.alight, self.alight_request));
     }
-    at
 }

@@ -1,4 +1,5 @@
 -- The search, calls and withdrawals on any load, and so any list of steps, keep what a written load needs.
+use Rattle.std.specs.Prelude.{None, Option, Some}
 use Prim.Native.Nat.{ℕ}
 use mathlib.Core.Path.{◌≡◌, refl, sym, ap, subst}
 use mathlib.Core.Bool.{Bool, true, false, cond}
@@ -38,8 +39,8 @@ use Rattle.written.proofs.FillLaws.{open_kept, week-kept, fill-keeps}
 
 -- ---- the search
 
-sorted-kept : (l : Load) (ks : List Journey) (h m : ℕ) (b : Bool) (n : ℕ) → Kept l → Kept (with_found l ks h m b n)
-sorted-kept l ks h m b n w = record {
+sorted-kept : (l : Load) (ks : List Journey) (h m : ℕ) (n : Option ℕ) → Kept l → Kept (with_found l ks h m n)
+sorted-kept l ks h m n w = record {
   settings = w.settings;
   stops = w.stops;
   rules = w.rules;
@@ -53,15 +54,15 @@ pub search-keeps : SearchKeeps
 search-keeps l w = go (is_taken (search_spec l).answer) refl
   where
     go : (b : Bool) → is_taken (search_spec l).answer ≡ b → Kept (search_spec l).load
-    go true t = let f = taken-found l t in subst Kept (sym (ap (λ (r : Stepped). r.load) f.is)) (sorted-kept l f.kept f.to f.mark false 0 w)
+    go true t = let f = taken-found l t in subst Kept (sym (ap (λ (r : Stepped). r.load) f.is)) (sorted-kept l f.kept f.to f.mark None w)
     go false t = subst Kept (sym (untaken-stays l t)) w
 
 pub within-keeps : WithinKeeps
 within-keeps l n w = go (is_taken (within_spec l n).answer) refl
   where
-    left : (ks : List Journey) (h m : ℕ) (c : Bool) → Kept (cond c (with_journeys l ks h m) (with_found l ks h m true n))
-    left ks h m true = sorted-kept l ks h m false 0 w
-    left ks h m false = sorted-kept l ks h m true n w
+    left : (ks : List Journey) (h m : ℕ) (c : Bool) → Kept (cond c (with_journeys l ks h m) (with_found l ks h m (Some n)))
+    left ks h m true = sorted-kept l ks h m None w
+    left ks h m false = sorted-kept l ks h m (Some n) w
 
     go : (b : Bool) → is_taken (within_spec l n).answer ≡ b → Kept (within_spec l n).load
     go true t = let f = taken-within l n t in subst Kept (sym (ap (λ (r : Limited). r.load) f.is)) (left f.kept f.to f.mark (finishes_in l n))
@@ -71,12 +72,12 @@ within-keeps l n w = go (is_taken (within_spec l n).answer) refl
 
 again-keeps : (l : Load) (r : Stepped) → Kept l → Kept r.load → Kept (again l r).load
 unfolding again
-again-keeps l r w n = go (is_refused r.answer) (is_taken (researched l.stopped l.limit r.load).answer)
+again-keeps l r w n = go (is_refused r.answer) (is_taken (researched l.limit r.load).answer)
   where
     go : (b c : Bool) → Kept (cond {A = Stepped} b (record { answer = r.answer; load = l })
-        (cond {A = Stepped} c (record { answer = r.answer; load = (researched l.stopped l.limit r.load).load }) (record { answer = (researched l.stopped l.limit r.load).answer; load = l }))).load
+        (cond {A = Stepped} c (record { answer = r.answer; load = (researched l.limit r.load).load }) (record { answer = (researched l.limit r.load).answer; load = l }))).load
     go true c = w
-    go false true = research-cases l.stopped l.limit r.load (λ q. Kept q.load) (λ x. within-keeps r.load l.limit n) (search-keeps r.load n)
+    go false true = research-cases l.limit r.load (λ q. Kept q.load) (λ k x. within-keeps r.load k n) (search-keeps r.load n)
     go false false = w
 
 back-keeps : (l : Load) → Kept l → Kept (unsearched_of l)

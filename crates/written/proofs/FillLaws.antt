@@ -1,6 +1,6 @@
 -- Opening and the steps that fill a load give what a written load needs beside soundness.
 use Rattle.refusal.specs.declared.Accepted.TheVariants.{Taken}
-use Rattle.std.specs.Prelude.{Ok}
+use Rattle.std.specs.Prelude.{Option, Ok}
 use Prim.Native.Nat.{ℕ}
 use mathlib.Core.Path.{◌≡◌, refl}
 use mathlib.Core.Bool.{Bool, true, false, not, cond}
@@ -15,7 +15,7 @@ use Rattle.settings.specs.Settings.{over_counts, all_near, kept_walk, walks_of, 
 use Rattle.stops.specs.declared.StopInput.{StopInput}
 use Rattle.stops.specs.Taken.{stop_of}
 use Rattle.calls.specs.declared.CallInput.{CallInput}
-use Rattle.rules.specs.declared.RuleInput.{RuleInput}
+use Rattle.rules.specs.declared.Rule.{Rule}
 use Rattle.week.specs.declared.Week.{Week}
 use Rattle.week.specs.Weeks.{closed_week}
 use Rattle.load.specs.declared.Load.{Load}
@@ -26,7 +26,7 @@ use Rattle.load.specs.Filling.{stop, call, rule, service, exception}
 use Rattle.load.specs.Sound.{Sound}
 use Rattle.load.proofs.ClockLaws.{open-fails}
 use Rattle.load.proofs.StepLaws.{Called, without, goes_on, stays_out, sent_back, called}
-use Rattle.codec.specs.Kinds.{DegreesFit}
+use Rattle.codec.specs.Kinds.{DegreesHeld}
 use Rattle.written.specs.Kept.{Kept}
 use Rattle.written.specs.Keeps.{OpenKept, FillKeeps}
 use Rattle.written.proofs.StopLaws.{stop-keeps}
@@ -80,11 +80,11 @@ open_kept o w = record {
 pub week-kept : (l : Load) (w : Week) → Kept l → Kept (with_week l w)
 week-kept l w k = record { settings = k.settings; stops = k.stops; rules = k.rules; calls = k.calls }
 
-stop-kept : (l : Load) (id name parent : List ℕ) (i : StopInput) → Sound l → Kept l → DegreesFit i.degrees → Kept (stop_spec l id name parent i).load
+stop-kept : (l : Load) (id : List ℕ) (name parent : Option (List ℕ)) (i : StopInput) → Sound l → Kept l → DegreesHeld i.degrees → Kept (stop_spec l id name parent i).load
 unfolding stop_spec
 stop-kept l id name parent i s w d = go (is_taken (stop_answer l id name parent i)) refl
   where
-    go : (b : Bool) → is_taken (stop_answer l id name parent i) ≡ b → Kept (stop_load l (stop_of id name (station_in l parent i) i) (stop_answer l id name parent i))
+    go : (b : Bool) → is_taken (stop_answer l id name parent i) ≡ b → Kept (stop_load l (stop_of id name (station_in l parent) i) (stop_answer l id name parent i))
     go true e = rw e (record {
       settings = w.settings;
       stops = stop-keeps l.searched l.stops l.stop_count id name parent i s.stops (taken_is (stop_answer l id name parent i) e) d w.stops;
@@ -119,7 +119,7 @@ call_kept l name i s w = go _ (called l name i)
     go _ (stays_out d e) = week-kept l (closed_week l.week) w
     go _ (sent_back d r e) = w
 
-rule-kept : (l : Load) (i : RuleInput) → Sound l → Kept l → Kept (rule_spec l i).load
+rule-kept : (l : Load) (i : Rule) → Sound l → Kept l → Kept (rule_spec l i).load
 unfolding rule_spec
 rule-kept l i s w = go (is_taken (rule_answer l i)) refl
   where

@@ -1,9 +1,8 @@
 -- A rule that is taken can be handed in again, and so can those before it.
-use Rattle.std.specs.Option.{unwrap_or}
 use Rattle.refusal.specs.declared.Accepted.TheVariants.{Taken}
-use Rattle.std.specs.Prelude.{None, Option, Some, Ok, is_some}
+use Rattle.std.specs.Prelude.{Ok}
 use Prim.Native.Nat.{ℕ, ◌+◌, ◌<◌}
-use mathlib.Core.Path.{◌≡◌, refl, sym, subst, ◌∙◌}
+use mathlib.Core.Path.{◌≡◌, refl, sym, subst}
 use mathlib.Core.Bool.{Bool}
 use mathlib.Core.List.{List}
 use native.Mathlib.Omega.{arith}
@@ -14,40 +13,26 @@ use Rattle.laws.proofs.Slots.{below-cases}
 use Rattle.refusal.specs.First.{AllFail, first_answer}
 use Rattle.refusal.proofs.FirstLaws.{first_taken, answer-is-first}
 use Rattle.rules.specs.declared.Rule.{Rule}
-use Rattle.rules.specs.declared.RuleInput.{RuleInput}
-use Rattle.rules.specs.Rules.{blank_rule, type_right_of, rule_tests, rule_of}
+use Rattle.rules.specs.Rules.{blank_rule, rule_tests}
 use Rattle.rules.specs.Sound.{rule_at}
-use Rattle.codec.specs.Parts.{min_time_of, rule_input_of}
 use Rattle.written.specs.Kept.{RuleKept}
 
-rule-type : (k : ℕ) (m : Option ℕ) → type_right_of k (min_time_of (is_some m) (unwrap_or m 0)) ≡ type_right_of k m
-rule-type k (Some n) = refl
-rule-type k None = refl
-
-rule-whole : (i : RuleInput) → rule_of (rule_input_of (rule_of i)) ≡ rule_of i
-unfolding rule_input_of
-rule-whole i = go i.seconds
-  where
-    go : (m : Option ℕ) → rule_of (record { from = i.from; to = i.to; transfer_type = i.transfer_type; seconds = min_time_of (is_some m) (unwrap_or m 0) }) ≡ record { from = i.from; to = i.to; transfer_type = i.transfer_type; seconds = unwrap_or m 0; timed = is_some m }
-    go (Some n) = refl
-    go None = refl
-
-module _ (searched : Bool) (stops : ℕ) (rules : List Rule) (n : ℕ) (i : RuleInput) (taken : first_answer (rule_tests searched stops rules n i) ≡ Ok Taken) where
+module _ (searched : Bool) (stops : ℕ) (rules : List Rule) (n : ℕ) (i : Rule) (taken : first_answer (rule_tests searched stops rules n i) ≡ Ok Taken) where
   rule-tests : AllFail (rule_tests searched stops rules n i)
   unfolding rule_tests
   rule-tests = first_taken _ (rule_tests searched stops rules n i) refl (answer-is-first (rule_tests searched stops rules n i)) taken
 
-  new-rule : RuleKept (rule_of i)
+  new-rule : RuleKept i
   unfolding rule_tests
-  new-rule = record { type_right = rule-type i.transfer_type i.seconds ∙ not-false _ rule-tests.1.1.0; whole = rule-whole i }
+  new-rule = record { type_right = not-false _ rule-tests.1.1.0 }
 
   pub rule-room : n < 128
   unfolding rule_tests
   rule-room = leb-false 128 n rule-tests.1.1.1.1.0
 
-  pub rules-kept : n < length rules → ((k : ℕ) → k < n → RuleKept (rule_at rules k)) → (k : ℕ) → k < n + 1 → RuleKept (rule_at (set rules n (rule_of i)) k)
+  pub rules-kept : n < length rules → ((k : ℕ) → k < n → RuleKept (rule_at rules k)) → (k : ℕ) → k < n + 1 → RuleKept (rule_at (set rules n i) k)
   unfolding rule_at
   rules-kept h old k g =
-      below-cases (λ m. RuleKept (get_or (set rules n (rule_of i)) m blank_rule)) n k g
-      (λ less. subst RuleKept (sym (get_or-set_other rules n k (rule_of i) blank_rule (λ e. omega arith))) (old k less))
-      (subst RuleKept (sym (get_or-set_same rules n (rule_of i) blank_rule h)) new-rule)
+      below-cases (λ m. RuleKept (get_or (set rules n i) m blank_rule)) n k g
+      (λ less. subst RuleKept (sym (get_or-set_other rules n k i blank_rule (λ e. omega arith))) (old k less))
+      (subst RuleKept (sym (get_or-set_same rules n i blank_rule h)) new-rule)

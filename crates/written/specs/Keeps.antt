@@ -11,12 +11,12 @@ use Rattle.search.specs.Within.{within_spec}
 use Rattle.again.specs.Again.{add_spec_of, withdraw_spec}
 use Rattle.steps.specs.Steps.{Step, filling, withdraw, search, limited}
 use Rattle.steps.specs.Lists.{end_of}
-use Rattle.codec.specs.Kinds.{DegreesFit}
+use Rattle.codec.specs.Kinds.{DegreesHeld}
 use Rattle.written.specs.Kept.{Kept, Whole}
 
 -- the degrees handed in with a stop are f64s, as every float of the program is
 abbrev pub GivesHeld : Filling → Type 0
-GivesHeld (stop id name parent i) = DegreesFit i.degrees
+GivesHeld (stop id name parent i) = DegreesHeld i.degrees
 GivesHeld (call name i) = Unit {0}
 GivesHeld (rule i) = Unit {0}
 GivesHeld (service name weekdays start end) = Unit {0}

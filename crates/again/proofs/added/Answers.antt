@@ -8,12 +8,12 @@ returns-then-is_taken c =
     let a = c.args in
     added-taken a.load a.made _ c.searched_again.ensures (sym c.is_taken.ensures ∙ c.if-is_taken.true)
 
-pub returns-then-after-load : goal.returns-then-after-load
-returns-then-after-load c =
+pub returns-then-made-load : goal.returns-then-made-load
+returns-then-made-load c =
     let a = c.args in
-    added-stays a.load a.made (sym c.is_taken.ensures ∙ c.if-is_taken.false) c.if-after-load.true
+    added-stays a.load a.made (sym c.is_taken.ensures ∙ c.if-is_taken.false) c.if-made-load.true
 
 pub returns : goal.returns
 returns c =
     let a = c.args in
-    added-cut a.load a.made _ c.searched_again-2.ensures (sym c.is_taken.ensures ∙ c.if-is_taken.false) c.if-after-load.false
+    added-cut a.load a.made _ c.searched_again-2.ensures (sym c.is_taken.ensures ∙ c.if-is_taken.false) c.if-made-load.false

@@ -2,9 +2,6 @@
 use mathlib.Core.Path.{◌≡◌, refl, sym, ap, ◌∙◌}
 use native.Mathlib.Omega.{arith}
 use Prim.Native.Nat.{ℕ, suc, ◌-◌}
-use mathlib.Core.List.{List}
-use Rattle.std.specs.Prelude.{Option}
-use Rattle.calls.specs.declared.Call.{Call}
 use Rattle.calls.specs.Tables.{blank_call}
 use Rattle.withdrawal.specs.Removal.{counted, last_of, closed_up, has_key}
 use Rattle.again.proofs.CodeLaws.{out-unknown, out_none, out-there, counted as one-counted}

@@ -2,14 +2,14 @@
 use mathlib.Core.Path.{refl}
 use native.Mathlib.Omega.{arith}
 use Rattle.candidate.specs.Pieces.{Open, put_row}
-use Rattle.candidate.proofs.OfferLaws.{added-fits, added-open, added-too-many, added-long}
+use Rattle.candidate.proofs.OfferLaws.{added-fits, added-open, added-too-many}
 use Rattle.candidate.proofs.added.Goals as goal
 
 pub returns-then-n-lt64 : goal.returns-then-n-lt64
 unfolding Open put_row
 returns-then-n-lt64 c =
     let p = c.requires in
-    added-fits _ _ _ _ p.0 p.1 c.put_row.ensures _ (omega (arith, c.if-n-lt64.true)) refl
+    added-fits _ _ _ _ c.told-st p.0 c.put_row.ensures _ (omega (arith, c.if-n-lt64.true)) refl
 
 pub overflow-requires : goal.overflow-requires
 unfolding Open put_row
@@ -17,10 +17,10 @@ overflow-requires c =
     let p = c.requires in
     let a = c.args in
     let e = c.put_row.ensures in
-    (added-long a.st.now _ a.n a.o p.0 p.1 e, added-open a.st.now _ a.n a.o p.0 p.1 e p.2)
+    added-open a.st.now _ a.n a.o c.told-st p.0 e p.1
 
 pub returns : goal.returns
 unfolding Open put_row
 returns c =
     let p = c.requires in
-    added-too-many _ _ _ _ p.0 p.1 c.put_row.ensures _ p.2 (omega (arith, c.if-n-lt64.false)) c.overflow.ensures
+    added-too-many _ _ _ _ c.told-st p.0 c.put_row.ensures _ p.1 (omega (arith, c.if-n-lt64.false)) c.overflow.ensures

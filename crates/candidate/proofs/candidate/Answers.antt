@@ -16,7 +16,7 @@ pub consider-requires : goal.consider-requires
 unfolding Open due
 consider-requires c =
     let w = in_time _ _ _ c.too_late.ensures c.if-too_late.false in
-    (c.told-st, w.0, rw c.narrow-due.ensures w.1)
+    (w.0, rw c.narrow-due.ensures w.1)
 
 pub returns : goal.returns
 unfolding row_of

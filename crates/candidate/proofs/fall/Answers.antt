@@ -11,11 +11,11 @@ use Rattle.candidate.proofs.fall.Goals as goal
 pub overflow_cast-st : goal.overflow_cast-st
 unfolding in_time due
 overflow_cast-st c =
-    let w = c.pack-n.ensures (in_time c.args.h) (search rules) (packed_none _ _ c.requires.0) in
+    let w = c.pack-n.ensures (in_time c.args.h) (search rules) (packed_none _ _ c.told-st) in
     omega (arith, w.small)
 
 pub returns : goal.returns
 unfolding Open in_time due
 returns c =
     let p = c.requires in
-    fallen-all _ _ _ _ _ p.1 p.2 p.3 (c.pack-n.ensures (in_time c.args.h) (search rules) (packed_none _ _ p.0)) refl
+    fallen-all _ _ _ _ _ p.0 p.1 p.2 (c.pack-n.ensures (in_time c.args.h) (search rules) (packed_none _ _ c.told-st)) refl

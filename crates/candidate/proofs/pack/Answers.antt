@@ -12,7 +12,7 @@ pub store-requires : goal.store-requires
 store-requires g c =
     let i = c.loop-i.invariant in
     let p = c.requires in
-    (i.1, omega (arith, i.2, c.loop-i-test.true, p), row-got _ _ _ (omega (arith, c.loop-i-test.true, p)) c.row_at-k.ensures)
+    (omega (arith, i.2, c.loop-i-test.true, p), row-got _ _ _ (omega (arith, c.loop-i-test.true, p)) c.row_at-k.ensures)
 
 pub loop-i-preserved : goal.loop-i-preserved
 loop-i-preserved g c =

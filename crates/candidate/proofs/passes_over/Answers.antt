@@ -4,7 +4,7 @@ use Rattle.profile.specs.Journeys.{due, row_of}
 use Rattle.state.proofs.ViewLaws.{few}
 use Rattle.candidate.proofs.PassedLaws.{passed-late, passed-covered}
 use Rattle.candidate.proofs.TurnLaws.{end-is-ok}
-use Rattle.candidate.proofs.OfferLaws.{marked-long, marked-ends, marked-view, marked-passing}
+use Rattle.candidate.proofs.OfferLaws.{marked-ends, marked-view, marked-passing}
 use Rattle.candidate.proofs.passes_over.Goals as goal
 
 pub returns-then-too_late : goal.returns-then-too_late
@@ -12,13 +12,13 @@ unfolding row_of due
 returns-then-too_late c = (refl, passed-late _ _ _ c.too_late.ensures c.if-too_late.true)
 
 pub mark-requires : goal.mark-requires
-mark-requires c = (c.told-st, few _ _ c.count-c.ensures)
+mark-requires c = few _ _ c.count-c.ensures
 
 pub first_near-requires : goal.first_near-requires
 first_near-requires c =
     let n = c.count-c.ensures in
     let k = c.told-st in
-    (marked-long _ _ _ _ k n c.mark.ensures, few _ _ n, marked-ends _ _ _ _ k n c.mark.ensures _ refl)
+    (few _ _ n, marked-ends _ _ _ _ k n c.mark.ensures _ refl)
 
 pub returns : goal.returns
 unfolding row_of due

@@ -8,4 +8,4 @@ unfolding put_row
 returns-then-n-i c = c.put_row.ensures
 
 pub returns-else-n-i : goal.returns-else-n-i
-returns-else-n-i c = put-there _ _ _ _ c.if-n-i.false c.requires.2
+returns-else-n-i c = put-there _ _ _ _ c.if-n-i.false c.requires.1

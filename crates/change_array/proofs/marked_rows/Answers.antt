@@ -1,9 +1,6 @@
 -- Row after row.
-use Prim.Native.Nat.{ℕ}
 use native.Mathlib.Omega.{arith}
-use Rattle.laws.specs.Bounds.{least}
-use Rattle.transfer.specs.Copied.{rules_of}
-use Rattle.transfer.specs.Rows.{entry_of}
+use Rattle.transfer.specs.Lent.{entry_in}
 use Rattle.change_array.proofs.ChangeLaws.{rows_more}
 use Rattle.change_array.proofs.marked_rows.Goals as goal
 
@@ -13,7 +10,7 @@ loop-from-init c = λ i k h. absurd (omega arith)
 pub loop-from-preserved : goal.loop-from-preserved
 loop-from-preserved c =
     let a = c.args in
-    rows_more 128 (λ (f : ℕ). entry_of (rules_of a.rules.now (least a.count 128)) a.parents.now a.places.now f a.change) a.marks.now c.loop-from.changes _ c.loop-from.from c.loop-from.invariant c.put_marked.ensures
+    rows_more 128 (entry_in a.transfers.now) a.marks.now c.loop-from.changes _ c.loop-from.from c.loop-from.invariant c.put_marked.ensures
 
 pub returns : goal.returns
 returns c = λ from to h on b. c.loop-from.invariant from to (omega arith) on b

@@ -3,4 +3,4 @@ use Rattle.change_array.proofs.ChangeLaws.{row-region}
 use Rattle.change_array.proofs.put_changes.Goals as goal
 
 pub returns : goal.returns
-returns c = row-region _ _ _ _ _ _ _ _ _ c.change_row.ensures c.put_row.ensures
+returns c = row-region c.args.transfers.now c.args.from _ _ _ _ c.change_row.ensures (rw c.from.ensures at c.put_row.ensures)

@@ -5,7 +5,7 @@ use Rattle.display.proofs.best_of_group.Goals as goal
 
 pub returns-then-part : goal.returns-then-part
 returns-then-part c =
-    best-shown c.args.group c.args.part _ c.if-part.true (again c.ranges.second) (rw c.front-shown.ensures at c.first_leaving.ensures)
+    best-shown c.args.group c.args.part _ c.if-part.true (again c.ranges.second) (rw c.first-shown.ensures at c.first_leaving.ensures)
 
 pub returns : goal.returns
 returns c = best-absent c.args.group _ _ c.if-part.false

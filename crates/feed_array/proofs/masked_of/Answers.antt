@@ -6,4 +6,4 @@ use Rattle.feed_array.proofs.masked_of.Goals as goal
 
 pub returns : goal.returns
 unfolding masked_of
-returns c = ap₂ (λ (x y : ℕ). x + y * 16) c.digits_of-low.ensures.0 c.digits_of-high.ensures.0
+returns c = ap₂ (λ (x y : ℕ). x + y * 16) c.digits_of-low.ensures c.digits_of-high.ensures

@@ -4,12 +4,12 @@ use Prim.Native.Nat.{ℕ, zero, suc, ◌*◌, ◌%◌, ◌^◌, ◌≤◌, ◌<�
 use native.Mathlib.Omega.{arith}
 use Rattle.feed_array.proofs.power_of.Goals as goal
 
-powers : (m : ℕ) → m ≤ 4 → (1 * 2 ^ m % 256 ≡ 2 ^ m) × (0 < 1 * 2 ^ m % 256) × (1 * 2 ^ m % 256 ≤ 16)
-powers zero h = (refl, omega arith, omega arith)
-powers (suc zero) h = (refl, omega arith, omega arith)
-powers (suc (suc zero)) h = (refl, omega arith, omega arith)
-powers (suc (suc (suc zero))) h = (refl, omega arith, omega arith)
-powers (suc (suc (suc (suc zero)))) h = (refl, omega arith, omega arith)
+powers : (m : ℕ) → m ≤ 4 → (1 * 2 ^ m % 256 ≡ 2 ^ m) × (0 < 1 * 2 ^ m % 256)
+powers zero h = (refl, omega arith)
+powers (suc zero) h = (refl, omega arith)
+powers (suc (suc zero)) h = (refl, omega arith)
+powers (suc (suc (suc zero))) h = (refl, omega arith)
+powers (suc (suc (suc (suc zero)))) h = (refl, omega arith)
 powers (suc (suc (suc (suc (suc m))))) h = absurd (omega arith)
 
 pub returns : goal.returns

@@ -18,8 +18,8 @@ pub loop-k-preserved : goal.loop-k-preserved
 unfolding stop_at
 loop-k-preserved c =
     let a = c.args in
-    let n : length a.stops ≡ 128 = c.well_formed.1.0.1.0.1 in
-    let e = ap (λ (s : Stop). masked_of a.origins a.targets s.members) (get_d_any a.stops c.loop-k.k past blank_stop (omega arith)) in
+    let n : length a.stops.now ≡ 128 = c.told-stops in
+    let e = ap (λ (s : Stop). masked_of a.origins a.targets s.members) (get_d_any a.stops.now c.loop-k.k past blank_stop (omega arith)) in
     region-more _ 3072 _ c.loop-k.feed c.loop-k.k _ c.loop-k.invariant (omega arith) (c.masked_of.ensures ∙ e)
 
 pub returns : goal.returns

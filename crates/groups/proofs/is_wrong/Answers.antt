@@ -9,22 +9,22 @@ use Rattle.laws.proofs.Bools.{or-by, or-not}
 use Rattle.laws.proofs.Ints.{again}
 use Rattle.groups.proofs.RefusedLaws.{unlike-bits, wrong-first, wrong-last}
 use Rattle.groups.proofs.is_wrong.Goals as goal
-use Rattle.groups.proofs.is_wrong.Goals.{then-group-gt3, else-group-gt3}
+use Rattle.groups.proofs.is_wrong.Goals.{then-above, else-above}
 
 pub returns-then-not-group : goal.returns-then-not-group
 returns-then-not-group c =
     let g = c.args.group.now in
-    let is : c.if-group-gt3.value ≡ (ltb 3 g.number || not g.searched) = elim c.if-group-gt3.branch [
-      | then-group-gt3 w ↦ w.value-is ∙ lt-ltb 3 g.number w.if-group-gt3.true ∙ sym (or-by _ (lt-ltb 3 g.number w.if-group-gt3.true))
-      | else-group-gt3 w ↦ w.value-is ∙ sym (or-not _ (le-ltb 3 g.number w.if-group-gt3.false))
+    let is : c.if-above.value ≡ (ltb 3 g.number || not g.searched) = elim c.if-above.branch [
+      | then-above w ↦ w.value-is ∙ lt-ltb 3 g.number w.if-above.true ∙ sym (or-by _ (lt-ltb 3 g.number w.if-above.true))
+      | else-above w ↦ w.value-is ∙ sym (or-not _ (le-ltb 3 g.number w.if-above.false))
     ] in
     wrong-first c.args.low g is c.if-not-group.true
 
 pub returns-else-not-group : goal.returns-else-not-group
 returns-else-not-group c =
     let g = c.args.group.now in
-    let is : c.if-group-gt3.value ≡ (ltb 3 g.number || not g.searched) = elim c.if-group-gt3.branch [
-      | then-group-gt3 w ↦ w.value-is ∙ lt-ltb 3 g.number w.if-group-gt3.true ∙ sym (or-by _ (lt-ltb 3 g.number w.if-group-gt3.true))
-      | else-group-gt3 w ↦ w.value-is ∙ sym (or-not _ (le-ltb 3 g.number w.if-group-gt3.false))
+    let is : c.if-above.value ≡ (ltb 3 g.number || not g.searched) = elim c.if-above.branch [
+      | then-above w ↦ w.value-is ∙ lt-ltb 3 g.number w.if-above.true ∙ sym (or-by _ (lt-ltb 3 g.number w.if-above.true))
+      | else-above w ↦ w.value-is ∙ sym (or-not _ (le-ltb 3 g.number w.if-above.false))
     ] in
     wrong-last c.args.low g is c.if-not-group.false (unlike-bits g.now c.args.low (again {w = w64} (search rules)) (again c.ranges.low))

@@ -10,4 +10,4 @@ pub returns : goal.returns
 returns c =
     let a = c.args in
     let e = to_z-of_z c.ranges.second in
-    (rw e at c.best_over.ensures) ∙ ap (λ (l : List Journey). best_of_of l a.horizon a.second) c.front-lent.ensures
+    (rw e at c.best_over.ensures) ∙ ap (λ (l : List Journey). best_of_of l a.horizon a.second) c.first-lent.ensures

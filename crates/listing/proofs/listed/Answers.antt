@@ -1,24 +1,29 @@
 -- Listed, as good, beaten, none.
-use lib.ListN.{take}
+use mathlib.Core.Path.{sym, ◌∙◌}
 use Rattle.listing.proofs.ListedLaws.{said-listed, said-good, said-beaten, said-none}
 use Rattle.listing.proofs.listed.Goals as goal
 
-pub returns-then-same-gt0 : goal.returns-then-same-gt0
-returns-then-same-gt0 c =
+pub returns-in-Some : goal.returns-in-Some
+returns-in-Some c =
     let a = c.args in
-    said-listed (take a.count a.journeys) a.j _ c.first_place-same.ensures c.if-same-gt0.true
+    said-listed a.journeys.now a.j c.in-Some.at (sym c.place_of.ensures ∙ c.in-Some.is)
 
-pub returns-then-equal-gt0 : goal.returns-then-equal-gt0
-returns-then-equal-gt0 c =
+pub returns-in-Some-place_as_good : goal.returns-in-Some-place_as_good
+returns-in-Some-place_as_good c =
     let a = c.args in
-    said-good (take a.count a.journeys) a.j _ c.first_place-same.ensures c.if-same-gt0.false _ c.first_place-equal.ensures c.if-equal-gt0.true
+    said-good a.journeys.now a.j (sym c.place_of.ensures ∙ c.in_default.is)
+    c.in-Some-place_as_good.at (sym c.place_as_good.ensures ∙ c.in-Some-place_as_good.is)
 
-pub returns-then-over-gt0 : goal.returns-then-over-gt0
-returns-then-over-gt0 c =
+pub returns-in-Some-place_over : goal.returns-in-Some-place_over
+returns-in-Some-place_over c =
     let a = c.args in
-    said-beaten (take a.count a.journeys) a.j _ c.first_place-same.ensures c.if-same-gt0.false _ c.first_place-equal.ensures c.if-equal-gt0.false _ c.first_place-over.ensures c.if-over-gt0.true
+    said-beaten a.journeys.now a.j (sym c.place_of.ensures ∙ c.in_default.is)
+    (sym c.place_as_good.ensures ∙ c.in_default-place_as_good.is)
+    c.in-Some-place_over.at (sym c.place_over.ensures ∙ c.in-Some-place_over.is)
 
 pub returns : goal.returns
 returns c =
     let a = c.args in
-    said-none (take a.count a.journeys) a.j _ c.first_place-same.ensures c.if-same-gt0.false _ c.first_place-equal.ensures c.if-equal-gt0.false _ c.first_place-over.ensures c.if-over-gt0.false
+    said-none a.journeys.now a.j (sym c.place_of.ensures ∙ c.in_default.is)
+    (sym c.place_as_good.ensures ∙ c.in_default-place_as_good.is)
+    (sym c.place_over.ensures ∙ c.in_default-place_over.is)

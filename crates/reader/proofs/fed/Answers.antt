@@ -1,30 +1,23 @@
 -- What is left of the bytes gives what all of them give.
-use Prim.Native.Nat.{◌-◌}
+use mathlib.Core.Path.{sym, ◌∙◌}
 use native.Mathlib.Omega.{arith}
-use Rattle.runs.proofs.LeftLaws.{left-first, left-none}
+use Rattle.runs.proofs.LeftLaws.{left-none}
 use Rattle.reader.proofs.ReadLaws.{left-refused, left-stops, left-on}
 use Rattle.reader.proofs.fed.Goals as goal
-
-pub loop-at-init : goal.loop-at-init
-loop-at-init c = left-first _ _
-
-pub slice_bounds-turn-count : goal.slice_bounds-turn-count
-slice_bounds-turn-count c = omega arith
+use Rattle.reader.proofs.fed.Goals.{then-is_refused-via-then-is_refused, then-is_refused-via-else-is_refused+then-f-eq0}
 
 pub returns-then-is_refused : goal.returns-then-is_refused
-returns-then-is_refused c = left-refused c.loop-at.invariant c.turn-f.ensures c.is_refused.ensures c.if-is_refused.true
+returns-then-is_refused c =
+    elim c.then-is_refused.branch [
+      | then-is_refused-via-then-is_refused w ↦ left-refused c.loop-at.invariant c.in_default.ensures c.next-f.ensures (sym c.is_refused.ensures ∙ w.if-is_refused.true)
+      | then-is_refused-via-else-is_refused+then-f-eq0 w ↦ left-stops c.loop-at.invariant c.in_default.ensures c.next-f.ensures w.if-f-eq0.true
+    ]
 
-pub returns-then-used-eq0 : goal.returns-then-used-eq0
-returns-then-used-eq0 c = left-stops c.loop-at.invariant c.turn-f.ensures c.is_refused.ensures c.if-is_refused.false c.if-used-eq0.true
-
-pub overflow_add-at : goal.overflow_add-at
-overflow_add-at c = let room = (left-on c.loop-at.invariant c.turn-f.ensures c.is_refused.ensures c.if-is_refused.false).room in omega arith
-
-pub loop-at-smaller : goal.loop-at-smaller
-loop-at-smaller c = let room = (left-on c.loop-at.invariant c.turn-f.ensures c.is_refused.ensures c.if-is_refused.false).room in omega arith
+pub overflow_add-at-in-loop-at : goal.overflow_add-at-in-loop-at
+overflow_add-at-in-loop-at c = omega (arith, (left-on c.loop-at.invariant c.in_default.ensures c.next-f.ensures (sym c.is_refused.ensures ∙ c.if-is_refused.false)).room)
 
 pub loop-at-preserved : goal.loop-at-preserved
-loop-at-preserved c = left-on c.loop-at.invariant c.turn-f.ensures c.is_refused.ensures c.if-is_refused.false
+loop-at-preserved c = left-on c.loop-at.invariant c.in_default.ensures c.next-f.ensures (sym c.is_refused.ensures ∙ c.if-is_refused.false)
 
 pub returns : goal.returns
 returns c = left-none c.loop-at.invariant (omega arith)

@@ -11,4 +11,4 @@ closed second l = record { opened = false; second = second; load = l }
 
 pub returns : goal.returns
 unfolding fresh_reader closed
-returns c = ap (closed _) c.blank-load.ensures
+returns c = ap (closed _) c.blank.ensures

@@ -1,5 +1,11 @@
 -- Each return is a law of `SearchLaws` at the tests on its way.
-use Rattle.search.proofs.Known.{calls-long}
+use mathlib.Core.Path.{ap, ◌∙◌}
+use Rattle.load.specs.declared.Load.{Load}
+use Rattle.load.specs.declared.Stepped.{Stepped}
+use Rattle.refusal.specs.declared.Accepted.TheVariants.{Taken}
+use Rattle.std.specs.Prelude.{Ok}
+use Rattle.offers.specs.Order.{clashes}
+use Rattle.search.proofs.Known.{walks-small}
 use Rattle.search.proofs.SearchLaws.{returned-again, returned-clash, returned-falling, returned-found}
 use Rattle.search.proofs.search.Goals as goal
 
@@ -8,15 +14,15 @@ returns-then-load c = returned-again c.args.load c.if-load.true
 
 pub returns-then-neighbours_clash : goal.returns-then-neighbours_clash
 returns-then-neighbours_clash c =
-    returned-clash c.args.load _ c.sorted-calls.ensures (calls-long c.args.load _ c.well_formed.0) c.if-load.false _ c.neighbours_clash.ensures c.if-neighbours_clash.true
+    returned-clash c.args.load _ c.sorted-calls.ensures c.sorted-calls.type_inv.1.0.1 c.if-load.false _ (c.neighbours_clash.ensures ∙ ap clashes c.first.ensures) c.if-neighbours_clash.true
 
 pub returns-then-is_refused : goal.returns-then-is_refused
 returns-then-is_refused c =
-    returned-falling c.args.load _ c.sorted-calls.ensures (calls-long c.args.load _ c.well_formed.0) c.if-load.false _ c.neighbours_clash.ensures c.if-neighbours_clash.false
+    returned-falling c.args.load _ c.sorted-calls.ensures c.sorted-calls.type_inv.1.0.1 c.if-load.false _ (c.neighbours_clash.ensures ∙ ap clashes c.first.ensures) c.if-neighbours_clash.false
     _ _ c.offered-st.ensures c.is_refused.ensures c.if-is_refused.true
 
 pub returns : goal.returns
 returns c =
-    returned-found c.args.load _ c.sorted-calls.ensures (calls-long c.args.load _ c.well_formed.0) c.if-load.false _ c.neighbours_clash.ensures c.if-neighbours_clash.false
-    c.bytes.ensures _ _ _ _ _ c.offered-st.ensures c.journeys_of-journeys.ensures c.count.ensures c.horizon.ensures c.limits.ensures
-    _ c.is_refused.ensures c.if-is_refused.false
+    ap {B = Stepped} (λ (l : Load). record { answer = Ok Taken; load = l }) c.keep.ensures
+    ∙ returned-found c.args.load _ c.sorted-calls.ensures c.sorted-calls.type_inv.1.0.1 c.if-load.false _ (c.neighbours_clash.ensures ∙ ap clashes c.first.ensures) c.if-neighbours_clash.false
+    (walks-small c.args.load _ c.well_formed.0) _ c.offered-st.ensures _ c.is_refused.ensures c.if-is_refused.false

@@ -1,13 +1,27 @@
--- The loop looks for the key from the right.
-use mathlib.Core.Path.{sym, ◌∙◌}
-use Rattle.withdrawal.specs.Removal.{has_key}
-use Rattle.withdrawal.proofs.RemovalLaws.{last_end}
+-- The first call with the key from the right.
+use mathlib.Core.Path.{ap, ◌∙◌}
+use native.Mathlib.Omega.{arith}
+use Rattle.std.proofs.Common.{rules, tests}
+use Rattle.std.proofs.lemmas.Iterator.Adapters.{YieldsList-from_rev_slice}
+use Rattle.std.proofs.lemmas.Iterator.Search.{position_from_yields_List}
+use Rattle.withdrawal.specs.Removal.{counted, has_key}
+use Rattle.withdrawal.proofs.LastLaws.{behind-none, behind-within, behind-some}
 use Rattle.withdrawal.proofs.last_of.Goals as goal
 
-pub returns-then-has_key : goal.returns-then-has_key
-returns-then-has_key c =
-    sym (c.loop-call.invariant ∙ last_end (has_key c.args.key) _ _ _ c.in-Some.ensures.cases.0 ∙ rw (sym c.has_key.ensures ∙ c.if-has_key.true))
+pub overflow_sub-result : goal.overflow_sub-result
+overflow_sub-result c =
+    let p = has_key c.args.key in
+    let found = position_from_yields_List p _ _ c.position.result c.position.ensures.ran (YieldsList-from_rev_slice c.args.calls.now (search rules)) (λ x b q k. search (rules, tests)) in
+    omega (arith, behind-within p c.args.calls.now c.position.result found c.in_ok-behind.behind c.in_ok-behind.was)
 
-pub loop-call-preserved : goal.loop-call-preserved
-loop-call-preserved c =
-    c.loop-call.invariant ∙ last_end (has_key c.args.key) _ _ _ c.in-Some.ensures.cases.0 ∙ rw (sym c.has_key.ensures ∙ c.if-has_key.false)
+pub returns-in_err-behind : goal.returns-in_err-behind
+returns-in_err-behind c =
+    let p = has_key c.args.key in
+    let found = position_from_yields_List p _ _ c.position.result c.position.ensures.ran (YieldsList-from_rev_slice c.args.calls.now (search rules)) (λ x b q k. search (rules, tests)) in
+    ap counted c.from_residual.ensures ∙ behind-none p c.args.calls.now c.position.result found c.in_err-behind.was
+
+pub returns : goal.returns
+returns c =
+    let p = has_key c.args.key in
+    let found = position_from_yields_List p _ _ c.position.result c.position.ensures.ran (YieldsList-from_rev_slice c.args.calls.now (search rules)) (λ x b q k. search (rules, tests)) in
+    behind-some p c.args.calls.now c.position.result found c.in_ok-behind.behind c.in_ok-behind.was

@@ -1,27 +1,18 @@
 -- The place of the last call with the key, and the call there.
-use mathlib.Core.Path.{sym, ap, ◌∙◌}
-use mathlib.Core.List.{List}
-use native.Mathlib.Omega.{arith}
-use lib.ListN.{length, length-take}
-use Rattle.calls.specs.declared.Call.{Call}
-use Rattle.withdrawal.specs.Removal.{counted, last_of, has_key}
-use Rattle.connection.specs.Find.{find_in}
+use mathlib.Core.Path.{◌∙◌}
+use Rattle.std.proofs.Common.{rules}
 use Rattle.connection.proofs.FindLaws.{find_none, find-within, find-some}
 use Rattle.connection.proofs.find.find.Goals as goal
 
-pub returns-in_default : goal.returns-in_default
-returns-in_default c =
-    find_none _ c.args.key _ (sym (ap counted c.in_default.is) ∙ c.last_of.ensures ∙ ap (last_of (has_key c.args.key)) c.first-held.ensures) c.blank_call-none.ensures
+pub returns-in_err-at : goal.returns-in_err-at
+returns-in_err-at c = c.from_residual.ensures ∙ find_none c.args.calls.now c.args.key c.last_of.result c.last_of.ensures c.in_err-at.was
 
-pub offset_bounds-held-at : goal.offset_bounds-held-at
-offset_bounds-held-at c =
-    omega (arith, find-within c.first-held.result.now c.args.key c.in-Some.at (sym (ap counted c.in-Some.is) ∙ c.last_of.ensures), ap length c.first-held.ensures, length-take c.args.count c.args.calls)
+pub offset_bounds-calls-at : goal.offset_bounds-calls-at
+offset_bounds-calls-at c =
+    let h = find-within c.args.calls.now c.args.key c.last_of.result c.last_of.ensures c.in_ok-at.at c.in_ok-at.was in search rules
 
-pub bounds-held-at : goal.bounds-held-at
-bounds-held-at c =
-    find-within c.first-held.result.now c.args.key c.in-Some.at (sym (ap counted c.in-Some.is) ∙ c.last_of.ensures)
+pub bounds-calls-at : goal.bounds-calls-at
+bounds-calls-at c = find-within c.args.calls.now c.args.key c.last_of.result c.last_of.ensures c.in_ok-at.at c.in_ok-at.was
 
 pub returns : goal.returns
-returns c =
-    find-some c.first-held.result.now c.args.key c.in-Some.at (sym (ap counted c.in-Some.is) ∙ c.last_of.ensures)
-    ∙ ap (λ (cs : List Call). find_in cs c.args.key) c.first-held.ensures
+returns c = find-some c.args.calls.now c.args.key c.last_of.result c.last_of.ensures c.in_ok-at.at c.in_ok-at.was

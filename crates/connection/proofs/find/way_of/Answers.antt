@@ -4,4 +4,4 @@ use Rattle.connection.proofs.find.way_of.Goals as goal
 
 pub returns : goal.returns
 unfolding way_of
-returns c = λ i. record { first = c.find_leg-first.ensures i; second = c.find_leg-second.ensures i; third = c.find_leg-third.ensures i }
+returns c = λ i. record { first = c.find_leg.ensures i; second = c.find_leg-2.ensures i; third = c.find_leg-3.ensures i }

@@ -11,7 +11,7 @@ at_later-next-requires c = (omega arith, calls-next _ c.loop-j-test.true refl c.
 
 pub loop-j-preserved : goal.loop-j-preserved
 loop-j-preserved c =
-    calls-turn _ c.loop-j-test.true refl c.loop-j.invariant c.at_later-next.ensures c.at_boarding.ensures c.min-least.ensures
+    calls-turn _ c.loop-j-test.true refl c.loop-j.invariant c.at_later-next.ensures c.at_boarding.ensures c.sooner-least.ensures
 
 pub returns : goal.returns
 returns c = calls-done (omega arith) c.loop-j.invariant

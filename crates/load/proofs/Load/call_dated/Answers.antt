@@ -7,19 +7,19 @@ use Rattle.load.proofs.Load.call_dated.Goals as goal
 
 pub returns-then-is_refused : goal.returns-then-is_refused
 returns-then-is_refused c =
-    gate-refused c.args.self _ _ _ c.gate_answer-first.ensures (sym c.is_refused.ensures ∙ c.if-is_refused.true) ∙ ap (λ (r : Running). dated_call c.args.self r c.args.input) c.running-told.ensures
+    gate-refused c.args.self _ _ _ c.gate_answer-gate.ensures (sym c.is_refused.ensures ∙ c.if-is_refused.true) ∙ ap (λ (r : Running). dated_call c.args.self r c.args.input) c.running-told.ensures
 
 pub returns-then-is_refused-2 : goal.returns-then-is_refused-2
 returns-then-is_refused-2 c =
-    plain-refused c.args.self _ _ _ c.gate_answer-first.ensures (sym c.is_taken.ensures ∙ c.if-is_taken.true) _ c.call_by_cuts-s.ensures
+    plain-refused c.args.self _ _ _ c.gate_answer-gate.ensures (sym c.is_taken.ensures ∙ c.if-is_taken.true) _ c.call_by_cuts-called.ensures
     (sym c.is_refused-then-is_taken.ensures ∙ c.if-is_refused-2.true) ∙ ap (λ (r : Running). dated_call c.args.self r c.args.input) c.running-told.ensures
 
 pub returns-then-is_taken : goal.returns-then-is_taken
 returns-then-is_taken c =
-    plain-answered c.args.self _ _ _ c.gate_answer-first.ensures (sym c.is_taken.ensures ∙ c.if-is_taken.true) _ c.call_by_cuts-s.ensures
-    (sym c.is_refused-then-is_taken.ensures ∙ c.if-is_refused-2.false) _ c.closed-next.ensures ∙ ap (λ (r : Running). dated_call c.args.self r c.args.input) c.running-told.ensures
+    plain-answered c.args.self _ _ _ c.gate_answer-gate.ensures (sym c.is_taken.ensures ∙ c.if-is_taken.true) _ c.call_by_cuts-called.ensures
+    (sym c.is_refused-then-is_taken.ensures ∙ c.if-is_refused-2.false) _ c.closed-week.ensures ∙ ap (λ (r : Running). dated_call c.args.self r c.args.input) c.running-told.ensures
 
 pub returns : goal.returns
 returns c =
-    gate-outside c.args.self _ _ _ c.gate_answer-first.ensures (sym c.is_refused.ensures ∙ c.if-is_refused.false) (sym c.is_taken.ensures ∙ c.if-is_taken.false) _ c.closed-next-2.ensures
+    gate-outside c.args.self _ _ _ c.gate_answer-gate.ensures (sym c.is_refused.ensures ∙ c.if-is_refused.false) (sym c.is_taken.ensures ∙ c.if-is_taken.false) _ c.closed-week.ensures
     ∙ ap (λ (r : Running). dated_call c.args.self r c.args.input) c.running-told.ensures

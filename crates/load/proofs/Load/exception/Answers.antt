@@ -5,4 +5,4 @@ use Rattle.load.proofs.Load.exception.Goals as goal
 
 pub returns : goal.returns
 unfolding exception_spec
-returns c = rw c.exception-s.ensures refl
+returns c = rw c.exception-after.ensures refl

@@ -5,4 +5,4 @@ use Rattle.load.proofs.Load.service.Goals as goal
 
 pub returns : goal.returns
 unfolding service_spec
-returns c = rw c.service-s.ensures refl
+returns c = rw c.service-after.ensures refl

@@ -5,4 +5,4 @@ use Rattle.rides.proofs.reach.onward_times.Goals as goal
 pub returns : goal.returns
 returns c =
     let one = c.times_before-one.ensures 0 (c.target_times.ensures _) in
-    onward-made c.args.lent.now.calls.fits one (c.times_before-two.ensures 1 one) c.beside.ensures
+    onward-made one (c.times_before-two.ensures 1 one)

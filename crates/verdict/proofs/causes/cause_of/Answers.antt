@@ -1,10 +1,13 @@
 -- The parts in order.
 use lib.ListN.{take}
-use Rattle.verdict.proofs.CauseLaws.{cause-chain}
-use borrow.Author.Rules.{rules}
+use Rattle.verdict.proofs.CauseLaws.{ends-chain, cause-chain}
 use Rattle.verdict.proofs.causes.cause_of.Goals as goal
 
 pub returns : goal.returns
 returns c =
-    let a = c.args in
-    cause-chain a.settings a.stops a.stop_count (take a.rule_count a.rules) a.connection a.way _ _ _ _ _ c.changes_told-changes.ensures c.count_told-count.ensures c.start_told-ends.ensures c.legs_told-rides.ensures c.rides_told.ensures
+    let l = c.args.load.now in
+    let ends = ends-chain l.settings l.stops c.args.connection.now c.args.way.now _ _ _ _
+    c.boards-start.ensures c.last_leg.ensures c.alights-end.ensures c.ends_cause.ensures in
+    cause-chain l.settings l.stops c.args.connection.now c.args.way.now l.stop_count (take l.rule_count l.rules) _ _ _ _ _ _ _ _ _
+    c.rides_cause.ensures c.legs_cause.ensures c.or.ensures ends c.or-2.ensures c.count_cause.ensures c.or-3.ensures
+    c.changes_cause.ensures c.or-4.ensures

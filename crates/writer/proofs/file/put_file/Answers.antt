@@ -1,9 +1,11 @@
--- The version, then record after record.
-use Rattle.lines.proofs.BufferLaws.{put_then, put_as}
-use Rattle.writer.proofs.PutLaws.{file-parts}
+-- The file stands at the start of the buffer.
+use mathlib.Core.Path.{sym, ◌∙◌}
+use borrow.Author.Rules.{rules}
+use Rattle.buffer.proofs.PutLaws.{put-all}
 use Rattle.writer.proofs.file.put_file.Goals as goal
 
-pub returns : goal.returns
-returns c =
-    put_as (file-parts _)
-    (put_then c.put_byte-a.ensures (put_then c.put_settings-b.ensures (put_then c.put_stops-c.ensures (put_then c.put_rules-d.ensures (put_then c.put_calls-e.ensures c.put_search.ensures)))))
+pub returns-clause-out_after : goal.returns-clause-out_after
+returns-clause-out_after c h =
+    let s = sym c.new-file.ensures.same ∙ sym c.put_parts.ensures.same in
+    let e = rw c.new-file.ensures.bytes at (put-all c.put_parts.ensures c.new-file.ensures.empty (rw c.new-file.ensures.bytes h)) in
+    search (rules, s) ∙ e

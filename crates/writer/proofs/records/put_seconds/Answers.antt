@@ -1,6 +1,6 @@
--- The byte 1, then the number.
-use Rattle.lines.proofs.BufferLaws.{put_then}
+-- The byte 1, then the time.
+use Rattle.buffer.proofs.PutLaws.{put_then}
 use Rattle.writer.proofs.records.put_seconds.Goals as goal
 
 pub returns : goal.returns
-returns c = put_then c.put_byte-from.ensures c.put_u32.ensures
+returns c = rw c.from.ensures at (put_then c.byte.ensures c.u32.ensures)

@@ -1,0 +1,39 @@
+// The three texts of a stop's record, as parts of its bytes. The bytes and a place stay two parameters, as in `fields`.
+ghost use Rattle.std.specs.Prelude.{◌≡◌, ◌-◌, ◌≤◌, take, drop, option_copied};
+ghost use Rattle.fields.specs.Layout.{text_at, option_text_end, option_text_at, name_at, parent_at};
+
+use fields::layout::{has_at, name_at, parent_at, type_at};
+
+// What the bytes hold of a part; a record that is not filled may end before the part does.
+fn part(b: &[u8], from: usize, end: usize) -> &[u8]
+    ensures { result.now ≡ take (end - from) (drop from b.now) }
+{
+    let to = end.min(b.len());
+    &b[from.min(to)..to]
+}
+
+pub fn id_text(b: &[u8]) -> &[u8]
+    ensures { result.now ≡ text_at b.now 1 }
+{
+    part(b, 2, name_at(b))
+}
+
+// An optional text at a place, after its byte and its length; it ends where the next field begins.
+fn option_text(b: &[u8], at: usize, end: usize) -> Option<&[u8]>
+    requires { (at ≤ 2048) × (end ≡ option_text_end b.now at) }
+    ensures { option_copied result ≡ option_text_at b.now at }
+{
+    has_at(b, at).then_some(part(b, at + 2, end))
+}
+
+pub fn name_text(b: &[u8]) -> Option<&[u8]>
+    ensures { option_copied result ≡ option_text_at b.now (name_at b.now) }
+{
+    option_text(b, name_at(b), parent_at(b))
+}
+
+pub fn parent_text(b: &[u8]) -> Option<&[u8]>
+    ensures { option_copied result ≡ option_text_at b.now (parent_at b.now) }
+{
+    option_text(b, parent_at(b), type_at(b))
+}

@@ -1,5 +1,0 @@
--- Each call has a smaller number.
-use Rattle.lines.proofs.text.+put_decimal.Given as goal
-
-abbrev pub decreases-put_decimal : goal.decreases-put_decimal
-decreases-put_decimal l = l.n

@@ -1,0 +1,79 @@
+-- A step that the load takes, as a record of its reader, and as the bytes that are left after it.
+use Rattle.std.specs.Prelude.{Some}
+use Rattle.std.specs.Bool.{then_some}
+use mathlib.Core.Path.{◌≡◌, refl, sym, ap, ◌∙◌, subst}
+use mathlib.Core.Bool.{Bool, true, false}
+use mathlib.Core.List.{List, [], ◌∷◌}
+use Prim.Native.Nat.{ℕ, ◌+◌, ◌≤◌, ◌<◌}
+use native.Mathlib.Omega.{arith}
+use borrow.Author.Tests.{ne_eqb}
+use lib.Dec.{eqb}
+use lib.ListN.{length}
+use Rattle.refusal.specs.First.{first_answer, is_refused}
+use Rattle.fields.specs.Numbers.{byte_at}
+use Rattle.fields.specs.Layout.{text_at, option_text_at, name_at, parent_at, stop_filled_of, call_filled_of, rule_filled_of}
+use Rattle.fields.specs.Records.{stop_in, call_in, rule_in}
+use Rattle.load.specs.declared.Load.{Load}
+use Rattle.load.specs.declared.Stepped.{Stepped}
+use Rattle.load.specs.Steps.{stop_spec, call_spec, rule_spec}
+use Rattle.file.specs.declared.Reader.{Reader}
+use Rattle.file.specs.declared.Took.{Took}
+use Rattle.file.specs.Record.{open_reader, kind_right, record_tests, stepped_by, record_spec}
+use Rattle.file.specs.File.{size_of, body_of, whole_of}
+use Rattle.file.proofs.KindLaws.{filled_as, filled-as, stepped-stop, stepped-before, stepped-rule}
+use Rattle.file.proofs.RecordLaws.{taken}
+use Rattle.file.proofs.WholeLaws.{whole-tells}
+use Rattle.runs.specs.Runs.{Accepts, Stored, Taken, Takes, Left, Moved}
+use Rattle.runs.proofs.LeftLaws.{left_one}
+
+-- ---- a record of an opened reader that is filled, and that the load does not send back
+
+not-empty : (b : List ℕ) → (byte_at b 0 ≡ 0 → ⊥) → eqb (length b) 0 ≡ false
+not-empty [] n = absurd (n refl)
+not-empty (x ∷ b) n = ne_eqb (length (x ∷ b)) 0 (λ (e : length (x ∷ b) ≡ 0). omega arith)
+
+module _ (b : List ℕ) (k : ℕ) (k-is : byte_at b 0 ≡ k) (low : 2 ≤ k) (right : kind_right true k ≡ true) (l : Load) {s : Stepped} {new : Load} (h : Accepts (filled_as false k b) s new) where
+  passes : is_refused (first_answer (record_tests true false b)) ≡ false
+  unfolding record_tests first_answer
+  passes = rw (not-empty b (λ e. omega (arith, k-is, e, low)), ap (kind_right true) k-is ∙ right, filled-as false b k k-is ∙ h.full) refl
+
+  takes-by : s ≡ stepped_by (open_reader l) b → Taken l b new
+  takes-by s-is =
+      let q = taken (open_reader l) b refl refl s-is refl passes h.goes in
+      record { goes = ap (λ (t : Took). is_refused t.answer) (sym q) ∙ h.goes; leaves = ap (λ (t : Took). t.reader) (sym q) ∙ ap open_reader h.leaves }
+
+pub stop-takes : (l : Load) (b : List ℕ) (new : Load) (t : Bool) → byte_at b 0 ≡ 2
+    → Stored (stop_filled_of b) (stop_spec l (text_at b 1) (option_text_at b (name_at b)) (option_text_at b (parent_at b)) (stop_in b)) l new t → Takes l b new t
+unfolding kind_right
+stop-takes l b new true k h = takes-by b 2 k (omega arith) refl l h (stepped-stop (open_reader l) b refl k refl)
+stop-takes l b new false k h = h
+
+pub call-takes : (l : Load) (b : List ℕ) (new : Load) (t : Bool) → byte_at b 0 ≡ 3 → Stored (call_filled_of b) (call_spec l [] (call_in b)) l new t → Takes l b new t
+unfolding kind_right
+call-takes l b new true k h = takes-by b 3 k (omega arith) refl l h (stepped-before (open_reader l) b refl k refl h.goes)
+call-takes l b new false k h = h
+
+pub rule-takes : (l : Load) (b : List ℕ) (new : Load) (t : Bool) → byte_at b 0 ≡ 4 → Stored (rule_filled_of b) (rule_spec l (rule_in b)) l new t → Takes l b new t
+unfolding kind_right
+rule-takes l b new true k h = takes-by b 4 k (omega arith) refl l h (stepped-rule (open_reader l) b refl k refl refl)
+rule-takes l b new false k h = h
+
+-- ---- the bytes after it
+
+abbrev with_load : Reader → Load → Reader
+with_load r l = record { opened = r.opened; second = r.second; load = l }
+
+pub moved : (r : Reader) (xs : List ℕ) {b : List ℕ} (new : Load) {n : ℕ} (t : Bool) → r.opened ≡ true → r.second ≡ false → Some b ≡ whole_of xs → n ≡ 2 + length b
+    → Takes r.load b new t → Moved r xs (with_load r new) (then_some t n)
+moved r xs {b} new {n} true o s b-is n-is h =
+    let w = whole-tells xs b-is in
+    let same : (l : Load) → open_reader l ≡ with_load r l = λ (l : Load) k. record { opened = sym o k; second = sym s k; load = l } in
+    let e : (record_spec (open_reader r.load) (body_of xs)).reader ≡ open_reader new = ap (λ (ys : List ℕ). (record_spec (open_reader r.load) ys).reader) (sym w.is) ∙ h.leaves in
+    let g : is_refused (record_spec (open_reader r.load) (body_of xs)).answer ≡ false = ap (λ (ys : List ℕ). is_refused (record_spec (open_reader r.load) ys).answer) (sym w.is) ∙ h.goes in
+    let size : size_of xs ≡ n = sym (n-is ∙ w.size) in
+    let some : 0 < n = omega (arith, n-is) in (
+      some,
+      subst (λ (q : Reader). Left q xs (with_load r new) n) (same r.load) (subst (λ (m : ℕ). Left (open_reader r.load) xs (with_load r new) m) size
+          (subst (λ (q : Reader). Left (open_reader r.load) xs q (size_of xs)) (e ∙ same new) (left_one (open_reader r.load) _ xs w.starts refl g))),
+    )
+moved r xs new false o s b-is n-is h = ap (with_load r) h
