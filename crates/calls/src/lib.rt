@@ -37,7 +37,7 @@ pub struct Call {
 }
 
 // What becomes of a call for which nothing is cut: it goes in, or lies outside. `Other`: it is sent back, or the table is full. No
-// `Option`: a file's run of calls goes on past one that lies outside, and ends at another.
+// `Option`: one that lies outside is done with, another is left to the table.
 #[derive(Clone, Copy, Debug, PartialEq, Eq)]
 pub enum Uncut {
     In(Call),
@@ -45,7 +45,7 @@ pub enum Uncut {
     Other,
 }
 
-// An array with its count, since the core has no heap.
+// An array with its count, since the core has no heap. `limits` is a number, 1 or 0, as the scope has it and C lends it.
 #[derive(Clone, Copy, Debug, PartialEq, Eq)]
 pub struct Table {
     pub calls: [Call; 512],
@@ -68,7 +68,7 @@ pub struct Fitted {
     pub table: Table,
 }
 
-// What an unused slot holds.
+// What an unused slot holds: the default, by a name that contracts can give it.
 pub fn blank_call() -> Call
     ensures { result ≡ blank_call }
 {

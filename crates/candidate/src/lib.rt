@@ -75,7 +75,8 @@ fn latest(st: &State) -> u16
     m
 }
 
-// The horizon falls to h, and of the 65 rows those due later go.
+// The horizon falls to h, and of the 65 rows those due later go. That the search is open each function asks for itself: `candidate` tests
+// it first, and the state is an array that C lends, which holds no fact.
 fn fall(st: &mut State, h: u16)
     requires { Open st.old × (3600 ≤ h) × (latest_due (rows st.old) ≡ h + 1) }
     ensures { view st.new ≡ settled st.old (rows st.old) }
@@ -128,7 +129,8 @@ fn walked(st: &mut State, c: usize, o: Row) -> usize
     }
 }
 
-// Marks the end of the c kept rows for a walk: the slot behind them leaves when o does.
+// Marks the end of the c kept rows for a walk: the slot behind them leaves when o does. That c is at most 64 is asked, here and in the
+// walk, for the place behind the rows.
 fn mark(st: &mut State, c: usize, leave: u16)
     requires { c ≤ 64 }
     ensures { st.new ≡ set st.old (c * width) leave }

@@ -55,7 +55,7 @@ fn forbids_rule(rule: Option<Rule>) -> bool
     }
 }
 
-// The number of a rule that was chosen among these.
+// The number of a rule that was chosen among these; 0 where none was, and then not read: only `Forbidden` has it, where there is a rule.
 fn rule_number(rules: &[Rule], rule: Option<Rule>) -> usize
     ensures { result ≡ number_in rules.now rule }
 {
@@ -95,7 +95,7 @@ fn pair_cause(
     ])
 }
 
-// Of the change from one leg to the next, if it is asked.
+// Of the change from one leg to the next, if it is asked; the test stands here, so that the causes are one chain.
 pub fn change_cause(
     asked: bool,
     i: u8,

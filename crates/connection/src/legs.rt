@@ -19,7 +19,7 @@ pub fn rides_cause(n: u8) -> Option<Cause>
     first_of(&[(!ride_right(n), Cause::RideCount(n))])
 }
 
-// Of a leg, if it is asked.
+// Of a leg, if it is asked; the test stands here, so that `legs_cause` is one chain.
 pub fn leg_cause(asked: bool, i: u8, leg: Leg, found: &FoundLeg) -> Option<Cause>
     ensures { result ≡ first_of (asking asked (leg_tests i leg found.now)) }
 {

@@ -19,7 +19,7 @@ pub struct Leg {
     pub alight: u32,
 }
 
-// The first `rides` of the legs count.
+// The first `rides` of the legs count: an array with its count, since the core has no heap.
 #[derive(Clone, Copy, Debug, PartialEq, Eq)]
 pub struct Connection {
     pub origin: u8,

@@ -8,8 +8,8 @@ use prefix::first;
 use profile::Journey;
 use refusal::{Accepted, Answer, Refusal};
 
-// `shows` where the group has a display: then the first `count` of its list are shown, those due by the window. Otherwise both are
-// 0, and the answer is 11 where the window would fall below 3600. No `Result`: what is promised of a display reads these fields.
+// `shows` where the group has a display: then the first `count` of its list are shown, those due by the window. Otherwise both are 0, and
+// the answer is 11 where the window would fall below 3600. No `Result`: there are three ends, and `count` and `window` are read of each.
 #[derive(Clone, Copy, Debug, PartialEq, Eq)]
 pub struct Part {
     pub shows: bool,

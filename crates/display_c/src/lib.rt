@@ -42,7 +42,7 @@ fn full_group(number: u8, arrivals: &[u16; 64]) -> Group
     }
 }
 
-// The window of the last of four such groups: four lists are made, and a display is dealt from them.
+// The window of the last of four such groups: four lists are made, and a display is dealt from them. Four arrays, as C hands them in.
 #[unsafe(no_mangle)]
 pub extern "C" fn full_display(a: &[u16; 64], b: &[u16; 64], c: &[u16; 64], d: &[u16; 64]) -> u16
     ensures { result ≡ last_window a.now b.now c.now d.now }

@@ -44,7 +44,7 @@ impl<'a> Iterator for Records<'a> {
     }
 }
 
-// The first record and what follows it, if it is there whole.
+// The first record and what follows it, if it is there whole. `file: whole` gives the record alone.
 fn split(bytes: &[u8]) -> Option<(&[u8], &[u8])>
     ensures { IfSome result (λ parts. length parts.1.now < length bytes.now) }
 {
@@ -87,7 +87,8 @@ impl State {
         Ok(())
     }
 
-    // The record, without its length. A match, as each kind has arguments and a line of its own.
+    // The record, without its length. A match, as each kind has arguments and a line of its own. Output, load and fields are three
+    // parameters of the records: the first is written to, the second read, the third used up.
     fn record(&mut self, out: &mut Out, b: &[u8]) -> Result<(), Malformed> {
         let (kind, fields) = b.split_first().ok_or(Malformed)?;
         let fields = Fields::new(fields);

@@ -9,7 +9,7 @@ use load::Load;
 use refusal::Answer;
 
 // The load so far; before the settings are taken, the empty load of blank settings, and whether the file is of version 2.
-// A flag and no enum: programs show the load in either state, and `second` counts only in the first.
+// A flag and no enum: after a refusal callers take the load in either state, and `second` counts only in the first.
 #[derive(Clone, Copy, Debug, PartialEq)]
 pub struct Reader {
     pub opened: bool,

@@ -18,7 +18,8 @@ pub fn id_text(b: &[u8]) -> &[u8]
     part(b, 2, name_at(b))
 }
 
-// An optional text at a place, after its byte and its length; it ends where the next field begins.
+// An optional text at a place, after its byte and its length; it ends where the next field begins. The bound of
+// the place is asked for as in `fields`.
 fn option_text(b: &[u8], at: usize, end: usize) -> Option<&[u8]>
     requires { (at ≤ 2048) × (end ≡ option_text_end b.now at) }
     ensures { option_copied result ≡ option_text_at b.now at }

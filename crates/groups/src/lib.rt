@@ -91,7 +91,7 @@ fn has_number(given: &[Group], number: u8) -> bool
     given.iter().any(|group| group.number == number)
 }
 
-// Whether a group is given twice. A `while`, as each group is asked beside those behind it: a chain over the slice yields it alone.
+// Whether a group is given twice, by what is left of the slice: over places, the closure would need a bound on each.
 fn given_twice(given: &[Group]) -> bool
     ensures { result ≡ twice given.now }
 {

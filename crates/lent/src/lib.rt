@@ -9,6 +9,7 @@ use prefix::first;
 use profile::Journey;
 
 // Best over the first `count` of the lent journeys; over all of them, if `count` is more. The count is the caller's, who lends an array.
+// Horizon and second stand one by one, as in `best_over`.
 pub fn best_lent(journeys: &[Journey], count: usize, horizon: u16, second: i64) -> Option<Journey>
     ensures { result ≡ best_of_of (take count journeys.now) horizon second }
 {

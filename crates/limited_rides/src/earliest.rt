@@ -8,7 +8,7 @@ use feed::layout::Feed;
 use rides::bits::Digits;
 use rides::calls::Calls;
 
-// The sooner of two times, either of which may be missing.
+// The sooner of two times, either of which may be missing. The loops are those of `rides: bounds`, but with a time past 65535 as it is.
 #[tactic(auto, unfolding(crate::specs::Earliest::sooner))]
 fn sooner(a: Option<u32>, b: Option<u32>) -> Option<u32>
     ensures { result ≡ sooner a b }

@@ -10,7 +10,7 @@ use table::step::{call_on, is_known, uncut};
 use week::{Running, closed};
 
 // What a call on a dated load is answered by its service: 15, 9, 21, outside on a day when that doesn't run; taken where it goes on.
-// The load's two fields by value: the load whole would be copied. Each case of `told` has its answer here, and calls nothing.
+// Two fields of the load, as no more of it is read. Each case of `told` has its answer here, and calls nothing.
 #[tactic(auto, unfolding(crate::specs::Steps::gate_answer, refusal::specs::First::first_answer))]
 fn gate_answer(searched: bool, stops: usize, told: Running, input: CallInput) -> Answer
     ensures { result ≡ gate_answer searched stops told input }
@@ -118,7 +118,8 @@ impl Load {
     fn call_by_cuts(self, input: CallInput) -> Stepped
         ensures { result ≡ plain_call self input }
     {
-        // An array goes from one record to another by a variable: the borrow checker covers no shorter way.
+        // The load has these fields one by one, as most steps read one of them alone. An array goes from one record to another by a
+        // variable.
         let calls = self.calls;
         let table = Table {
             calls,

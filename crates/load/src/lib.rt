@@ -173,7 +173,8 @@ impl Load {
         }
     }
 
-    // An exception to a service is taken or sent back. Its kind is a number and no enum, as it comes from a file.
+    // An exception to a service is taken or sent back, of parameters as `service` has them. Its kind is a number and no enum, as it comes
+    // from a file.
     pub fn exception(self, name: &[u8], date: u32, kind: u8) -> Stepped
         ensures { result ≡ exception_spec self name.now date kind }
     {

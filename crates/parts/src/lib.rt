@@ -36,7 +36,7 @@ fn fill(stdin: Stdin, buf: &mut [u8]) -> io::Result<usize>
     Ok(n)
 }
 
-// The bytes from `from` up to `end` are moved to the start; how many they are.
+// The bytes from `from` up to `end` are moved to the start; how many they are. The bound is told, since `records` takes that part.
 fn move_down(buf: &mut [u8], from: usize, end: usize) -> usize
     requires start { from ≤ end }
     requires end { end ≤ length buf.old }

@@ -85,7 +85,7 @@ pub fn coordinates(p: Option<Degrees>) -> Option<Micro>
     p?.microdegrees()
 }
 
-// The key of a stop that has no place.
+// The key of a stop that has no place: the default, by a name that contracts can give it.
 pub fn no_place() -> PlaceKey
     ensures { result ≡ no_place }
 {
@@ -118,7 +118,8 @@ fn id_key(id: &[u8]) -> PlaceKey
     }
 }
 
-// The place key of a stop of type 0. The name is the id, folded as a name, where there is none.
+// The place key of a stop of type 0. The name is the id, folded as a name, where there is none. Texts and position come one by one: a
+// record of them would be made for this call and taken apart in it.
 pub fn place_key(
     parent: Option<&[u8]>,
     position: Option<Degrees>,

@@ -19,7 +19,8 @@ pub struct Ride {
     pub alight_request: bool,
 }
 
-// A kept journey. For one ride, `last` is the blank ride; for fewer than three, `middle` is.
+// A kept journey. For one ride, `last` is the blank ride; for fewer than three, `middle` is. No options beside `rides`, which says how many
+// count.
 #[derive(Clone, Copy, Debug, Default, PartialEq, Eq)]
 pub struct Journey {
     pub leave: u16,
@@ -35,7 +36,7 @@ pub struct Journey {
 
 // A journey while the search runs: its figures, its origin and target, and the numbers of the calls where it boards and
 // alights: of the first ride, the last and the middle one. For one ride, `board2` and `alight2` are 0, and for fewer than three those of
-// the middle ride.
+// the middle ride: 0 and no option, as a row is twelve numbers of the state's array.
 #[derive(Clone, Copy, Debug, Default, PartialEq, Eq)]
 pub struct Row {
     pub leave: u16,

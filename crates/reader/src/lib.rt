@@ -41,7 +41,7 @@ pub fn is_second(bytes: &[u8]) -> bool
     kind_of(bytes) == 2
 }
 
-// The record at the start of the bytes, if it is there whole.
+// The record at the start of the bytes, if it is there whole; none is 0 bytes used, since the reader goes on after either.
 pub fn next(reader: Reader, bytes: &[u8]) -> Fed
     ensures { result ≡ next_spec reader bytes.now }
 {

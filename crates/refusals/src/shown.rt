@@ -23,6 +23,7 @@ pub fn opened(rt: &impl Print, label: &str, stepped: Stepped) -> io::Result<()> 
     println!(rt; "open {label}: {}", Shown(stepped.answer))
 }
 
+// Handle, label and what is tried are parameters of each `told`, and a call's numbers those of `call`: a struct would be made for one call.
 pub fn then(
     rt: &impl Print,
     step: Step,

@@ -6,7 +6,7 @@ use prefix::first;
 use stdio::load_lines::{horizon, journeys, table};
 use stdio::out::Out;
 
-// Each stop's place; `-` for a stop that has none.
+// Each stop's place; `-` for a stop that has none, for which `group_places` gives 65535.
 fn places(out: &mut Out, load: Load) {
     let stops = first(&load.stops, load.stop_count);
     write!(out, "places");

@@ -71,7 +71,7 @@ fn put_bucket(bounds: &mut [u16; 1024], calls: &Calls, j: usize)
     }
 }
 
-// One more call, from the right.
+// One more call, from the right. Its number is what `reach` makes of the times at targets; here it goes into its bucket at once.
 fn put_call(bounds: &mut [u16; 1024], calls: &Calls, j: usize)
     requires { (j < calls.now.n) × Filled bounds.old calls.now.feed.now calls.now.n (j + 1) }
     ensures { Filled bounds.new calls.now.feed.now calls.now.n j }

@@ -8,7 +8,7 @@ use crate::bits::Digits;
 use feed::layout::Feed;
 use feed::{FeedCall, FirstRide, at_most_512, leave_of, origins_of, same_run, targets_of};
 
-// The first n calls of the feed.
+// The first n calls of the feed. The array whole beside the count: members and walks stand behind the calls.
 #[derive(Clone, Copy, Debug, PartialEq, Eq)]
 pub struct Calls<'a> {
     pub feed: &'a Feed,

@@ -1,9 +1,11 @@
 // The nested loops of a search over lent arrays of numbers: each journey by one ride, two or three is offered to the running state, in
 // order.
 //
-// A function that reads an array asks for a place below 512, one of an origin or target for a digit below 4, and one that goes on from a
-// ride for fewer than 3 changes left: each says so for itself, as a type for each number would be opened wherever the number is used.
-// State, first ride and ride are three parameters: the first is changed, the second stays for many of the third.
+// A function that reads an array asks for a place below 512, one of an origin or target for a digit below 4, one that goes on along a run
+// for a place among the calls, and one that goes on from a ride for fewer than 3 changes left: each says so for itself, as a type for
+// each number would be opened wherever the number is used. State, first ride and ride are three parameters: the first is changed, the
+// second stays for many of the third. The calls are a fourth: `LastRides` and `ThreeRides` lend them from their own fields, and the
+// direct journeys have neither.
 #![tactic(auto)]
 
 pub mod bits;

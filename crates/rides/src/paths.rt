@@ -70,7 +70,7 @@ fn three_pass(st: &mut State, three: &ThreeRides)
     ensures { Offered st.old st.new (pass_rows (sheet_in three.now.lent) (joins_in three.now.lent) 2 three.now.lent.calls.n) }
 {
     let calls = &three.lent.calls;
-    // Where a ride stands before the first one, nothing is read of it.
+    // Where a ride stands before the first one, nothing is read of it: so no option, which each later step would have to open.
     let none = Ride {
         board: 0,
         alight: 0,

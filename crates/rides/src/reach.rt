@@ -1,5 +1,5 @@
 // How early one can be at a target from where a ride alights, by so many further rides: 512 numbers for each number of changes left.
-// A time past 65535 is cut to it, which also stands where no target is reached.
+// A time past 65535 is cut to it, which also stands where no target is reached: a minimum begins with it, so it needs no option.
 ghost use Rattle.std.specs.Prelude.{◌≡◌, ◌+◌, ◌≤◌, ◌<◌};
 ghost use Rattle.rides.specs.Bounds.{AtCall};
 ghost use Rattle.rides.specs.Reach.{TargetTimes, TimesBefore, Onward, BoardAt, Least, JoinsAt, Each};

@@ -9,7 +9,7 @@ use load::Load;
 use order::sorted;
 
 // The earliest, walk included, of any ride that alights at a target, whether or not it boards at an origin. 0 where none does, and no
-// `None`: where the margin asks there is an answer, and so such a ride.
+// `None`: of any load with an answer a margin is promised (`margin_spec`), then the arrival itself.
 pub fn earliest_arrival(load: &Load) -> u32
     ensures { result ≡ earliest (timetable_of load.now) }
 {

@@ -1,5 +1,6 @@
 // The running state of a search, a lent array of numbers (`layout`): slots of a row each, the last of them spare, then the count, the
-// horizon, limits and refused. `view` says which state it is. It is made and read here.
+// horizon, limits and refused. `view` says which state it is. It is made and read here. Numbers at fixed places and no struct: C
+// lends the array, and a struct is copied at every offer (docs/SPEED.md).
 #![tactic(auto)]
 
 ghost use Rattle.std.specs.Prelude.{◌≡◌, not, [], ◌<◌, get_or};

@@ -13,7 +13,7 @@ pub fn zeros<const N: usize>() -> [u8; N]
 }
 
 // Reads until the buffer is full, the input ends or a read fails; how many bytes were put at its start. std's read_exact doesn't say how
-// many.
+// many. The bound is told, here and in `rest`, since callers take that part of the buffer.
 fn full(stdin: Stdin, buf: &mut [u8]) -> usize
     ensures { result ≤ length buf.new }
 {
@@ -29,6 +29,7 @@ fn full(stdin: Stdin, buf: &mut [u8]) -> usize
 }
 
 // The next four bytes of the input, put at the start of the buffer; how many of them there are. None are read into a shorter buffer.
+// No more than four, which is told for whoever reads on behind them.
 pub fn head(stdin: Stdin, buf: &mut [u8]) -> usize
     ensures { result ≤ 4 }
 {

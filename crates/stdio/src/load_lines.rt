@@ -1,4 +1,5 @@
-// The lines of a load: table, journeys, horizon and limits; and that of a refusal.
+// The lines of a load: table, journeys, horizon and limits; and that of a refusal. `lines` prints some of them too, as bytes of a proved
+// length; here they are printed among others by `write!`.
 use crate::out::Out;
 use calls::Call;
 use order::sorted;

@@ -7,7 +7,7 @@ pub mod taken;
 use place::Degrees;
 use texts::Text;
 
-// The parent is the number of a station. `location_type` is a number and no enum, as it is handed in.
+// The parent is the number of a station. `location_type` is a number and no enum: what is handed in beside the texts goes in as it is.
 #[derive(Clone, Copy, Debug, PartialEq)]
 pub struct Stop {
     pub id: Text<32>,

@@ -60,7 +60,8 @@ fn cut_to(t: Table, h: u16) -> Table
     }
 }
 
-// The call in the table, after as many cuts as it takes. A loop with three ways out, as no iterator has.
+// The call in the table, after as many cuts as it takes. A loop with three ways out, as no iterator has. The times a and d come
+// beside the call, as in `view_of`.
 pub fn fit(table: Table, a: Option<u64>, d: Option<u64>, input: CallInput) -> Fitted
     ensures { result ≡ fitted table a d input }
 {

@@ -42,7 +42,7 @@ fn call_check(searched: bool, stops: usize, input: CallInput) -> Answer
     Ok(Accepted::Taken)
 }
 
-// A time of the call, from the start.
+// A time of the call, from the start; 0 stands for one that is absent, which `call_check` sends outside before.
 fn time_of(settings: Settings, input: CallInput, time: Option<u32>) -> Option<u64>
     ensures { result ≡ call_time settings input time }
 {

@@ -23,6 +23,7 @@ pub fn last_leg(n: u8, way: &Way) -> FoundLeg
     }
 }
 
+// Which rides there are, by their number, `read_back` asks of a row, and here of calls: each makes its rides otherwise.
 #[tactic(auto, unfolding(crate::specs::Verdicts::middle_ride))]
 pub fn middle_ride(n: u8, way: &Way) -> Ride
     ensures { result ≡ middle_ride n way.now }

@@ -45,7 +45,8 @@ fn is_named(service: &Service, name: &[u8]) -> bool
     same_text(service.name.bytes(), name)
 }
 
-// The place of the first service with the name; where none has it, how many there are.
+// The place of the first service with the name; where none has it, how many there are. No option: the place
+// behind them all holds the blank service, which `service_in` then reads.
 pub fn place_of(services: &[Service], name: &[u8]) -> usize
     ensures { result ≡ place_of (named name.now) services.now }
 {

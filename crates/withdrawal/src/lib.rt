@@ -40,7 +40,8 @@ pub fn last_of(calls: &[Call], key: CallKey) -> Option<usize>
     Some(calls.len() - 1 - behind)
 }
 
-// The calls without the one at the place: it is blanked, and those behind it move down before it. By value, as a step hands the load on.
+// The calls without the one at the place: it is blanked, and those behind it move down before it. By value:
+// it is changed and handed back, so an array taken by reference would be copied here all the same.
 pub fn without(calls: [Call; 512], at: usize) -> [Call; 512]
     ensures { result ≡ closed_up blank_call at calls }
 {

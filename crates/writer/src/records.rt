@@ -62,7 +62,7 @@ fn put_text<const N: usize>(out: &mut Buffer<'_>, t: &Text<N>)
     out.bytes(bytes);
 }
 
-// A text after the byte 1, or the byte 0.
+// A text after the byte 1, or the byte 0. Each option has a match of its own: one for all would take a closure that writes to the buffer.
 fn put_option_text<const N: usize>(out: &mut Buffer<'_>, t: Option<&Text<N>>)
     ensures { Put 257 (write (option text) (option_map bytes_of (option_copied t.entry))) out.old out.new }
 {
