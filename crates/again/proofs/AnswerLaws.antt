@@ -16,7 +16,7 @@ use Rattle.refusal.proofs.FirstLaws.{answer-is-first, first_taken, first-append,
 use Rattle.calls.specs.declared.Call.{Call}
 use Rattle.calls.specs.declared.CallInput.{CallInput}
 use Rattle.calls.specs.declared.Table.{Table}
-use Rattle.calls.specs.declared.Fitted.{Fitted}
+use Rattle.calls.specs.Tried.{Tried}
 use Rattle.calls.specs.Windows.{outside, seen_call}
 use Rattle.calls.specs.Tables.{put}
 use Rattle.calls.specs.Calls.{known, field_tests, time_tests, call_tests, call_time, call_fit, call_on, ended, goes_on_of}
@@ -42,7 +42,7 @@ use Rattle.offers.specs.Offers.{sorted}
 use Rattle.search.specs.Timetable.{timetable_of}
 use Rattle.search.specs.Search.{would_fall}
 use Rattle.search.specs.Within.{would_fall_within}
-use Rattle.withdrawal.specs.declared.CallKey.{CallKey}
+use Rattle.calls.specs.declared.CallKey.{CallKey}
 use Rattle.withdrawal.specs.Removal.{has_key, key_known}
 use Rattle.again.specs.Again.{unsearched_of, researched, again, searched_as, leaves_table_of, added_to, add_spec_of, withdraw_tests, withdraw_answer, taken_out, withdraw_spec}
 use Rattle.again.specs.Causes.{no_room_of, search_tests, again_tests, later_tests, Answered, AddAnswered, WithdrawAnswered, falls_again}
@@ -145,11 +145,11 @@ withdraw-answered l k = go l.searched
 -- ---- call, on a searched load
 
 -- what the call step makes of its answer and table
-abbrev made : Load → Fitted → Stepped
+abbrev made : Load → Tried → Stepped
 made u f = record { answer = f.answer; load = call_load u f }
 
 -- what it comes to on the table r that the cuts of t reach, by whether the call is outside there and r has no room
-abbrev fits : Table → Table → Call → Bool → Bool → Fitted
+abbrev fits : Table → Table → Call → Bool → Bool → Tried
 fits t r c o f =
     let a = cond o (Ok Outside) (cond f (Err NoRoom) (Ok Taken)) in
     ended t (record { answer = a; table = cond (is_taken a) (put r c) r })
@@ -190,7 +190,7 @@ module _ (l : Load) (i : CallInput) where
 
   passed-by : first_answer tests ≡ Ok Taken → plain_call u i ≡ made u (fits (table_of l) r c (outside r.horizon a d) (no_room_of r))
   unfolding call_fit first_answer
-  passed-by e = sent (Ok Taken) e ∙ ap (λ (f : Fitted). made u (ended (table_of l) f)) (fitted-reached (table_of l) a d i)
+  passed-by e = sent (Ok Taken) e ∙ ap (λ (f : Tried). made u (ended (table_of l) f)) (fitted-reached (table_of l) a d i)
 
   -- an unsearched load has its table's horizon and mark
   same-table : with_table u (table_of l) ≡ u

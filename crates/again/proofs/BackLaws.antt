@@ -13,7 +13,7 @@ use Rattle.calls.specs.declared.Table.{Table}
 use Rattle.calls.specs.Tables.{put}
 use Rattle.calls.specs.Sound.{TableSound}
 use Rattle.calls.proofs.SoundLaws.{call-keeps-sound}
-use Rattle.withdrawal.specs.declared.CallKey.{CallKey}
+use Rattle.calls.specs.declared.CallKey.{CallKey}
 use Rattle.withdrawal.specs.Removal.{key_of, has_key, key_known}
 use Rattle.withdrawal.proofs.BackLaws.{put-there, put_back, call-entered}
 use Rattle.load.specs.declared.Load.{Load}

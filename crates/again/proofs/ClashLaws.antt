@@ -22,7 +22,7 @@ use Rattle.load.specs.Load.{table_of, with_table}
 use Rattle.load.specs.Sound.{Sound}
 use Rattle.search.specs.Timetable.{timetable_of}
 use Rattle.search.proofs.RunLaws.{sound-timed}
-use Rattle.withdrawal.specs.declared.CallKey.{CallKey}
+use Rattle.calls.specs.declared.CallKey.{CallKey}
 use Rattle.withdrawal.specs.Removal.{without_last, has_key, withdrawn}
 use Rattle.withdrawal.proofs.LeftLaws.{withdrawn-leaves}
 use Rattle.again.specs.Again.{unsearched_of, researched, taken_out}

@@ -15,7 +15,7 @@ use Rattle.calls.specs.declared.Call.{Call}
 use Rattle.calls.specs.declared.CallInput.{CallInput}
 use Rattle.calls.specs.Tables.{blank_call}
 use Rattle.calls.specs.Shown.{table_calls}
-use Rattle.withdrawal.specs.declared.CallKey.{CallKey}
+use Rattle.calls.specs.declared.CallKey.{CallKey}
 use Rattle.withdrawal.specs.Removal.{last_of, closed_up, has_key, key_known, withdrawn}
 use Rattle.withdrawal.proofs.RemovalLaws.{last-counted}
 use Rattle.withdrawal.proofs.LeftLaws.{place-tells}

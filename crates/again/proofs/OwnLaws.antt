@@ -26,10 +26,9 @@ use Rattle.load.specs.declared.Load.{Load}
 use Rattle.load.specs.declared.Stepped.{Stepped}
 use Rattle.load.specs.Load.{Seen, with_seen}
 use Rattle.load.specs.Sound.{Sound}
-use Rattle.search.specs.declared.Limited.{Limited}
 use Rattle.search.specs.Timetable.{timetable_of}
 use Rattle.search.specs.Search.{outcome_of, with_found, with_journeys, settled, search_spec}
-use Rattle.search.specs.Within.{outcome_within, finishes_in, ran_within, within_spec, step_of, WithinLeaves}
+use Rattle.search.specs.Within.{Answered, outcome_within, finishes_in, ran_within, within_spec, step_of, WithinLeaves}
 use Rattle.search.proofs.RunLaws.{search-runs, taken-found}
 use Rattle.search.proofs.WithinLaws.{within-runs, taken-within, within-clear, within-taken, finished-is-search}
 use Rattle.again.specs.Again.{unsearched_of, researched}
@@ -109,7 +108,7 @@ stopped-own : (m : Load) (n : ℕ) → Sound m → finishes_in m n ≡ false →
 stopped-own m n s f t d =
     let w = taken-within m n t in
     subst (λ (l : Load). researched l.limit (unsearched_of l) ≡ record { answer = Ok Taken; load = l })
-    (sym (ap (λ (r : Limited). r.load) w.is ∙ cond-not _ _ f))
+    (sym (ap (λ (r : Answered). r.load) w.is ∙ cond-not _ _ f))
     (stopped-is m n w.kept w.to w.mark s w.one w.outcome f)
 
 pub within-own : (m : Load) (n : ℕ) → Sound m → is_taken (within_spec m n).answer ≡ true → Own (within_spec m n).load

@@ -31,7 +31,7 @@ use Rattle.load.proofs.SoundLaws.{fill-keeps-sound}
 use Rattle.search.specs.Timetable.{timetable_of}
 use Rattle.search.specs.Search.{with_found}
 use Rattle.search.specs.Within.{finishes_in, step_of}
-use Rattle.withdrawal.specs.declared.CallKey.{CallKey}
+use Rattle.calls.specs.declared.CallKey.{CallKey}
 use Rattle.withdrawal.specs.Removal.{without_last, key_of, has_key, key_known}
 use Rattle.withdrawal.proofs.BackLaws.{left_back}
 use Rattle.again.specs.Again.{unsearched_of, researched, again, searched_as, leaves_table_of, added_to, add_spec_of, taken_out, withdraw_spec}

@@ -20,7 +20,7 @@ use Rattle.profile.specs.Figures.{lexb}
 use Rattle.calls.specs.declared.Call.{Call}
 use Rattle.offers.specs.Order.{earlier, in_order_of, sort_first, clashes, Rising}
 use Rattle.offers.proofs.OrderLaws.{strict_earlier, accepted-rising, accepted-keyed, sorted_front}
-use Rattle.withdrawal.specs.declared.CallKey.{CallKey}
+use Rattle.calls.specs.declared.CallKey.{CallKey}
 use Rattle.withdrawal.specs.Removal.{without_last, has_key}
 use Rattle.withdrawal.proofs.LeftLaws.{without-last}
 

@@ -8,7 +8,7 @@ use Rattle.laws.specs.Lists.{anyb}
 use Rattle.refusal.specs.declared.Refusal.TheVariants.{FieldRange, CallUnknown}
 use Rattle.refusal.specs.First.{first_answer}
 use Rattle.calls.specs.Shown.{table_calls}
-use Rattle.withdrawal.specs.declared.CallKey.{CallKey}
+use Rattle.calls.specs.declared.CallKey.{CallKey}
 use Rattle.withdrawal.specs.Removal.{has_key, key_known, withdrawn}
 use Rattle.withdrawal.proofs.LeftLaws.{withdrawn-leaves}
 use Rattle.load.specs.declared.Load.{Load}

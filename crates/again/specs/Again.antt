@@ -8,7 +8,7 @@ use Rattle.refusal.specs.First.{first_answer, is_refused, is_taken, Answer}
 use Rattle.profile.specs.Journeys.{no_journey}
 use Rattle.calls.specs.declared.CallInput.{CallInput}
 use Rattle.calls.specs.Shown.{table_calls}
-use Rattle.withdrawal.specs.declared.CallKey.{CallKey}
+use Rattle.calls.specs.declared.CallKey.{CallKey}
 use Rattle.withdrawal.specs.Removal.{has_key, key_known, withdrawn}
 use Rattle.load.specs.declared.Load.{Load}
 use Rattle.load.specs.declared.Stepped.{Stepped}

@@ -8,7 +8,7 @@ use Rattle.offers.specs.Offers.{Timetable, with_calls, sorted}
 use Rattle.load.specs.declared.Load.{Load}
 use Rattle.load.specs.Steps.{closed_load}
 use Rattle.load.specs.Sound.{Sound}
-use Rattle.withdrawal.specs.declared.CallKey.{CallKey}
+use Rattle.calls.specs.declared.CallKey.{CallKey}
 use Rattle.withdrawal.specs.Removal.{key_of}
 use Rattle.search.specs.Timetable.{timetable_of}
 use Rattle.search.specs.Search.{search_spec}

@@ -5,13 +5,13 @@
 ghost use Rattle.std.specs.Prelude.{◌≡◌};
 ghost use Rattle.again.specs.Again.{unsearched_of, researched, again, added_to, add_spec_of, taken_out, withdraw_spec};
 
-use calls::CallInput;
+use calls::{CallInput, CallKey};
 use load::{Load, Stepped};
 use prefix::first;
 use profile::no_journey;
 use refusal::{Accepted, Refusal, is_refused, is_taken};
 use search::{search, search_within};
-use withdrawal::{CallKey, is_known, last_of, without};
+use withdrawal::{close_up, is_known, last_of};
 
 // The load before its search: the calls as they stand, no journey, the table's horizon and mark.
 #[tactic(auto, unfolding(crate::specs::Again::unsearched_of))]
@@ -36,13 +36,7 @@ fn search_as(limit: Option<u64>, load: Load) -> Stepped
     ensures { result ≡ researched limit load }
 {
     match limit {
-        Some(n) if load.settings.max_transfers <= 1 => {
-            let within = search_within(load, n);
-            Stepped {
-                answer: within.answer,
-                load: within.load,
-            }
-        }
+        Some(n) if load.settings.max_transfers <= 1 => search_within(load, n).stepped(),
         _ => search(load),
     }
 }
@@ -108,10 +102,8 @@ fn taken_out(load: Load, key: CallKey) -> Stepped
                 load,
             };
         };
-        let calls = load.calls;
-        let left = without(calls, place);
         let mut next = load;
-        next.calls = left;
+        close_up(&mut next.calls, place);
         next.call_count = load.call_count - 1;
         next.horizon = load.table_horizon;
         next.limits = load.table_limits;

@@ -18,7 +18,7 @@ use Rattle.settings.specs.declared.Settings.{Settings}
 use Rattle.calls.specs.declared.Call.{Call}
 use Rattle.calls.specs.declared.CallInput.{CallInput}
 use Rattle.calls.specs.declared.Table.{Table}
-use Rattle.calls.specs.declared.Fitted.{Fitted}
+use Rattle.calls.specs.Tried.{Tried}
 use Rattle.calls.specs.declared.Uncut.TheVariants.{Outside as Beyond}
 use Rattle.calls.specs.Windows.{seen}
 use Rattle.calls.specs.Tables.{put}
@@ -114,10 +114,10 @@ module _ (s : Settings) (b : Bool) (n : ℕ) (t : Table) (i : CallInput) (k : Ca
   dep = call_time s i i.departure
 
   -- 11, or the horizon falls
-  abbrev Turned : Fitted → Type 0
+  abbrev Turned : Tried → Type 0
   Turned f = (f.answer ≡ Err NoRoom) ⊎ (f.table.horizon < t.horizon)
 
-  turns : seen t.horizon arr dep i ≡ Some k → 512 ≤ t.count → (f : Fitted) → Ends (Down t) arr dep i f → Turned (ended t f)
+  turns : seen t.horizon arr dep i ≡ Some k → 512 ≤ t.count → (f : Tried) → Ends (Down t) arr dep i f → Turned (ended t f)
   turns e h _ (stands u (inl q) o) = absurd (cc)
   turns e h _ (stands u (inr q) o) = inr q
   turns e h _ (enters u c (inl q) o m) = absurd (omega (arith, ap (λ (x : Table). x.count) q))

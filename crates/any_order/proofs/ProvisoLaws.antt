@@ -18,7 +18,7 @@ use Rattle.texts.specs.Texts.{held}
 use Rattle.calls.specs.declared.Call.{Call}
 use Rattle.calls.specs.declared.CallInput.{CallInput}
 use Rattle.calls.specs.declared.Table.{Table}
-use Rattle.calls.specs.declared.Fitted.{Fitted}
+use Rattle.calls.specs.Tried.{Tried}
 use Rattle.calls.specs.Windows.{time_after, seen_call, seen}
 use Rattle.calls.specs.Tables.{due_by, trim_all, cut, less, put, fitted}
 use Rattle.calls.specs.Calls.{known, call_tests, call_time, call_seen, call_fit, call_on}
@@ -63,8 +63,8 @@ module _ (s : Settings) (n : ℕ) (t : Table) (i : CallInput) (k : Call) (q : fi
       let c = cut (less t.horizon) t in
       let a = call_time s i i.arrival in
       let d = call_time s i i.departure in
-      let f : ◌≡◌ {A = Fitted} (record { answer = Ok Taken; table = put c j }) (call_fit s t i) = fit.room a d i c j o r ∙ fit.cuts a d i t k e full above in
-      sym (ap (λ (x : Fitted). x.answer) (changed s false n t i (record { answer = Ok Taken; table = put c j }) (sym q) f refl))
+      let f : ◌≡◌ {A = Tried} (record { answer = Ok Taken; table = put c j }) (call_fit s t i) = fit.room a d i c j o r ∙ fit.cuts a d i t k e full above in
+      sym (ap (λ (x : Tried). x.answer) (changed s false n t i (record { answer = Ok Taken; table = put c j }) (sym q) f refl))
 
   then-outside : call_seen s (less t.horizon) i ≡ None → (call_on s false n t i).answer ≡ Ok Outside
   unfolding call_fit cut
@@ -72,8 +72,8 @@ module _ (s : Settings) (n : ℕ) (t : Table) (i : CallInput) (k : Call) (q : fi
       let c = cut (less t.horizon) t in
       let a = call_time s i i.arrival in
       let d = call_time s i i.departure in
-      let f : ◌≡◌ {A = Fitted} (record { answer = Ok Outside; table = c }) (call_fit s t i) = fit.outside a d i c o ∙ fit.cuts a d i t k e full above in
-      sym (ap (λ (x : Fitted). x.answer) (changed s false n t i (record { answer = Ok Outside; table = c }) (sym q) f refl))
+      let f : ◌≡◌ {A = Tried} (record { answer = Ok Outside; table = c }) (call_fit s t i) = fit.outside a d i c o ∙ fit.cuts a d i t k e full above in
+      sym (ap (λ (x : Tried). x.answer) (changed s false n t i (record { answer = Ok Outside; table = c }) (sym q) f refl))
 
 -- ---- the load with one stop
 

@@ -21,9 +21,8 @@ use Rattle.load.specs.declared.Load.{Load}
 use Rattle.load.specs.declared.Stepped.{Stepped}
 use Rattle.load.specs.Load.{with_seen}
 use Rattle.search.specs.Timetable.{timetable_of}
-use Rattle.search.specs.declared.Limited.{Limited}
 use Rattle.search.specs.Search.{outcome_of, with_found, with_journeys, settled, search_spec}
-use Rattle.search.specs.Within.{outcome_within, finishes_in, sent_back_of, ran_within, within_spec, step_of}
+use Rattle.search.specs.Within.{Answered, outcome_within, finishes_in, sent_back_of, ran_within, within_spec, step_of}
 use Rattle.search.proofs.RunLaws.{search-again, search-runs}
 use Rattle.search.proofs.AnswerLaws.{search-answered}
 use Rattle.search.proofs.WithinLaws.{within-answered, within-clear}
@@ -107,7 +106,7 @@ module _ (a : Load) (cs : List Call) where
       either-load ks h m false e = found-load ks h m (Some j) e
 
       -- by its tests, of loads with one outcome
-      abbrev by : Load → Bool → Bool → Outcome → Limited
+      abbrev by : Load → Bool → Bool → Outcome → Answered
       by l b c o = cond b (sent_back_of l (Err AlreadySearched)) (cond c (sent_back_of l (Err SettingsRange)) (ran_within l j o))
 
       abbrev wide : Bool
@@ -140,14 +139,14 @@ module _ (a : Load) (cs : List Call) where
       limited-alike : Alike (λ l. step_of (within_spec l j)) a other
       limited-alike =
           let same : (within_spec a j).answer ≡ (within_spec other j).answer =
-          ap (λ (w : Limited). w.answer) of-first ∙ by_answer a.searched wide (outcome_within a j) ∙ sym (ap (λ (w : Limited). w.answer) of-second) in
+          ap (λ (w : Answered). w.answer) of-first ∙ by_answer a.searched wide (outcome_within a j) ∙ sym (ap (λ (w : Answered). w.answer) of-second) in
           record {
             answer = same;
             refused = λ e. ((within-answered a j).unchanged e, (within-answered other j).unchanged (ap is_refused (sym same) ∙ e));
             accepted = λ e.
-                ap (λ (w : Limited). w.load) of-first
-                ∙ by-load a.searched wide (outcome_within a j) refl (sym (ap (λ (w : Limited). is_refused w.answer) of-first) ∙ e)
-                ∙ sym (ap (λ (w : Limited). w.load) of-second);
+                ap (λ (w : Answered). w.load) of-first
+                ∙ by-load a.searched wide (outcome_within a j) refl (sym (ap (λ (w : Answered). is_refused w.answer) of-first) ∙ e)
+                ∙ sym (ap (λ (w : Answered). w.load) of-second);
           }
 
 pub limited-order-unread : LimitedOrderUnread

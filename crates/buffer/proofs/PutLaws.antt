@@ -73,23 +73,29 @@ put-within k h p = record { same = p.same; small = h; stored = p.stored; behind 
 
 module _ {A : Type 0} (f : A → List ℕ) (xs : List A) (i : ℕ) (d : A) (h : i < length xs) where
   pieces_more : concat_map f (take (suc i) xs) ≡ concat_map f (take i xs) ++ f (get_or xs i d)
-  pieces_more = rw (take-suc xs i d h) (concat_map-append f (take i xs) (get_or xs i d ∷ []) ∙ ap (λ (r : List ℕ). concat_map f (take i xs) ++ r) (append-nil (f (get_or xs i d))))
+  pieces_more =
+      rw (take-suc xs i d h) (concat_map-append f (take i xs) (get_or xs i d ∷ [])
+      ∙ ap (λ (r : List ℕ). concat_map f (take i xs) ++ r) (append-nil (f (get_or xs i d))))
 
   -- the pieces of one element more, at most k bytes each
-  pub put-turn : {k : ℕ} {a b c : Buffer} → Put (k * i) (concat_map f (take i xs)) a b → Put k (f (get_or xs i d)) b c → Put (k * (i + 1)) (concat_map f (take (i + 1) xs)) a c
+  pub put-turn : {k : ℕ} {a b c : Buffer} → Put (k * i) (concat_map f (take i xs)) a b → Put k (f (get_or xs i d)) b c
+      → Put (k * (i + 1)) (concat_map f (take (i + 1) xs)) a c
   put-turn {k} p q = rw (add-one i, mul-suc k i, pieces_more) (put_then p q)
 
   -- the element as a loop names it
-  pub put_item : {k : ℕ} {a b c : Buffer} → d ≡ get_or xs i d → Put (k * i) (concat_map f (take i xs)) a b → Put k (f d) b c → Put (k * (i + 1)) (concat_map f (take (i + 1) xs)) a c
+  pub put_item : {k : ℕ} {a b c : Buffer} → d ≡ get_or xs i d → Put (k * i) (concat_map f (take i xs)) a b → Put k (f d) b c
+      → Put (k * (i + 1)) (concat_map f (take (i + 1) xs)) a c
   put_item e p q = put-turn p (put_as (ap f e) q)
 
 -- the pieces of all elements
-pub put-each : {A : Type 0} (k : ℕ) (f : A → List ℕ) (xs : List A) (i : ℕ) {a b : Buffer} → i ≡ length xs → Put (k * i) (concat_map f (take i xs)) a b
+pub put-each : {A : Type 0} (k : ℕ) (f : A → List ℕ) (xs : List A) (i : ℕ) {a b : Buffer} → i ≡ length xs
+    → Put (k * i) (concat_map f (take i xs)) a b
     → Put (k * length xs) (concat_map f xs) a b
 put-each k f xs i e p = rw (← e) (put_as (ap (concat_map f) (take_all i xs (omega arith))) p)
 
 -- one byte more
-pub byte-turn : {a b c : Buffer} (xs : List ℕ) (i : ℕ) → i < length xs → Put i (take i xs) a b → Put 1 (get_or xs i 0 ∷ []) b c → Put (i + 1) (take (i + 1) xs) a c
+pub byte-turn : {a b c : Buffer} (xs : List ℕ) (i : ℕ) → i < length xs → Put i (take i xs) a b → Put 1 (get_or xs i 0 ∷ []) b c
+    → Put (i + 1) (take (i + 1) xs) a c
 byte-turn xs i h p q =
     let e : take (i + 1) xs ≡ take i xs ++ get_or xs i 0 ∷ [] = rw (add-one i) (take-suc xs i 0 h) in
     put_as (sym e) (put_then p q)

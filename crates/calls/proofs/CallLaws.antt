@@ -7,7 +7,7 @@ use Prim.Native.Nat.{ℕ}
 use mathlib.Core.Path.{◌≡◌, sym, ap, ◌∙◌}
 use mathlib.Core.Bool.{cond, Bool, false, true}
 use Rattle.calls.specs.declared.CallInput.{CallInput}
-use Rattle.calls.specs.declared.Fitted.{Fitted}
+use Rattle.calls.specs.Tried.{Tried}
 use Rattle.refusal.specs.declared.Refusal.{Refusal}
 use Rattle.calls.specs.declared.Table.{Table}
 use Rattle.settings.specs.declared.Settings.{Settings}
@@ -21,15 +21,18 @@ searched b stops i h = first-is-answer _ _ (hit h)
 
 -- the step on the table, by the answer of the tests
 module _ (s : Settings) (b : Bool) (n : ℕ) (t : Table) (i : CallInput) where
-  pub sent-outside : (a : Answer) → a ≡ first_answer (call_tests b n i) → a ≡ Ok Outside → ◌≡◌ {A = Fitted} (record { answer = a; table = t }) (call_on s b n t i)
+  pub sent-outside : (a : Answer) → a ≡ first_answer (call_tests b n i) → a ≡ Ok Outside
+      → ◌≡◌ {A = Tried} (record { answer = a; table = t }) (call_on s b n t i)
   unfolding call_on
   sent-outside a e q = (λ k. record { answer = q k; table = t }) ∙ ap (goes_on_of s t i) (sym q ∙ e)
 
-  pub sent_back : (a : Answer) (r : Refusal) → a ≡ first_answer (call_tests b n i) → a ≡ Err r → ◌≡◌ {A = Fitted} (record { answer = a; table = t }) (call_on s b n t i)
+  pub sent_back : (a : Answer) (r : Refusal) → a ≡ first_answer (call_tests b n i) → a ≡ Err r
+      → ◌≡◌ {A = Tried} (record { answer = a; table = t }) (call_on s b n t i)
   unfolding call_on
   sent_back a r e q = (λ k. record { answer = q k; table = t }) ∙ ap (goes_on_of s t i) (sym q ∙ e)
 
-  pub changed : (f : Fitted) → Ok Taken ≡ first_answer (call_tests b n i) → f ≡ call_fit s t i → is_refused f.answer ≡ false → f ≡ call_on s b n t i
+  pub changed : (f : Tried) → Ok Taken ≡ first_answer (call_tests b n i) → f ≡ call_fit s t i → is_refused f.answer ≡ false
+      → f ≡ call_on s b n t i
   unfolding call_on
   changed f e q r =
       let x : f ≡ ended t f = λ k. record { answer = f.answer; table = cond (sym r k) t f.table } in

@@ -10,7 +10,7 @@ use Rattle.settings.specs.declared.Settings.{Settings}
 use Rattle.calls.specs.declared.Call.{Call}
 use Rattle.calls.specs.declared.CallInput.{CallInput}
 use Rattle.calls.specs.declared.Table.{Table}
-use Rattle.calls.specs.declared.Fitted.{Fitted}
+use Rattle.calls.specs.Tried.{Tried}
 use Rattle.refusal.specs.declared.Refusal.TheVariants.{AlreadySearched, FieldRange, TimesReversed, NoRoom}
 use Rattle.calls.specs.Windows.{seen}
 use Rattle.calls.specs.Tables.{cut, less}
@@ -49,7 +49,8 @@ record Lower (s : Settings) (t : Table) (i : CallInput) (h : ℕ) : Type 0 where
   why : (h ≡ t.horizon) ⊎ Meets s t i
   low : h ≤ t.horizon
 
-came-ends : (s : Settings) (t : Table) (i : CallInput) → (let a = call_time s i i.arrival in let d = call_time s i i.departure in Ends (Came a d i t) a d i (call_fit s t i))
+came-ends : (s : Settings) (t : Table) (i : CallInput)
+    → (let a = call_time s i i.arrival in let d = call_time s i i.departure in Ends (Came a d i t) a d i (call_fit s t i))
 unfolding call_fit
 came-ends s t i =
     let a = call_time s i i.arrival in
@@ -70,13 +71,13 @@ module _ (s : Settings) (t : Table) (i : CallInput) (present : un_timed i ≡ fa
   why-of u (inl q) = inl (ap (λ (x : Table). x.horizon) q)
   why-of u (inr m) = inr (met m)
 
-  ended-lower : (f : Fitted) → Ends (Came a d i t) a d i f → Lower s t i (ended t f).table.horizon
+  ended-lower : (f : Tried) → Ends (Came a d i t) a d i f → Lower s t i (ended t f).table.horizon
   ended-lower _ (stands u p e) = record { why = why-of u p.how; low = p.low }
   ended-lower _ (enters u c p e h) = record { why = why-of u p.how; low = p.low }
   ended-lower _ (turned u c p e h m) = record { why = inl refl; low = omega arith }
 
   -- refused at a full table: the call met the first table full already
-  ended-full : (f : Fitted) → Ends (Came a d i t) a d i f → f.answer ≡ Err NoRoom → Meets s t i
+  ended-full : (f : Tried) → Ends (Came a d i t) a d i f → f.answer ≡ Err NoRoom → Meets s t i
   ended-full _ (stands u p e) q = let z : ◌≡◌ {A = ℕ} 0 1 = cc in absurd (omega arith)
   ended-full _ (enters u c p e h) q = let z : ◌≡◌ {A = ℕ} 0 1 = cc in absurd (omega arith)
   ended-full _ (turned u c p e h m) q = go p.how
@@ -112,7 +113,9 @@ tests-not-full : (b : Bool) (n : ℕ) (i : CallInput) → first_answer (call_tes
 unfolding call_tests first_answer
 tests-not-full b n i e = go b (not (known n i)) (un_timed i) (reversed i) e
   where
-    go : (b1 b2 b3 b4 : Bool) → cond b1 (Err AlreadySearched) (cond b2 (Err FieldRange) (cond b3 (Ok Outside) (cond b4 (Err TimesReversed) (Ok Taken)))) ≡ Err NoRoom → ⊥
+    go : (b1 b2 b3 b4 : Bool)
+        → cond b1 (Err AlreadySearched) (cond b2 (Err FieldRange) (cond b3 (Ok Outside) (cond b4 (Err TimesReversed) (Ok Taken))))
+        ≡ Err NoRoom → ⊥
     go true b2 b3 b4 q = let z : ◌≡◌ {A = ℕ} 0 1 = cc in omega arith
     go false true b3 b4 q = let z : ◌≡◌ {A = ℕ} 0 1 = cc in omega arith
     go false false true b4 q = let z : ◌≡◌ {A = ℕ} 0 1 = cc in omega arith
@@ -137,4 +140,4 @@ outside-same s b n t i o = go (first_answer (call_tests b n i)) refl
     go (Ok Outside) e = refl
     go (Ok Taken) e =
         let v : call_seen s t.horizon i ≡ None = sym (window-seen s t.horizon i (passed b n i e).present) ∙ o in
-        ap (λ (f : Fitted). (ended t f).table) (sym (outside (call_time s i i.arrival) (call_time s i i.departure) i t v))
+        ap (λ (f : Tried). (ended t f).table) (sym (outside (call_time s i i.arrival) (call_time s i i.departure) i t v))

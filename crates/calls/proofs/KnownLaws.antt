@@ -11,7 +11,7 @@ use lib.ListN.{take}
 use Rattle.calls.specs.declared.Call.{Call}
 use Rattle.calls.specs.declared.CallInput.{CallInput}
 use Rattle.calls.specs.declared.Table.{Table}
-use Rattle.calls.specs.declared.Fitted.{Fitted}
+use Rattle.calls.specs.Tried.{Tried}
 use Rattle.refusal.specs.First.{first_answer, Answer}
 use Rattle.calls.specs.Windows.{seen_call, seen}
 use Rattle.calls.specs.Tables.{due_by, trim, less}
@@ -45,7 +45,8 @@ held_keeps n a d i t c p e f l = record {
       (λ x q r. subst (λ (m : ℕ). m < n) (sym (trim-stop (less t.horizon) x)) q) (take t.count t.calls) p.known);
 }
 
-ended-known : (n : ℕ) (u : Table) (a d : Option ℕ) (i : CallInput) → i.stop < n → StopsKnown n u → (f : Fitted) → Ends (Held n) a d i f → StopsKnown n (ended u f).table
+ended-known : (n : ℕ) (u : Table) (a d : Option ℕ) (i : CallInput) → i.stop < n → StopsKnown n u → (f : Tried) → Ends (Held n) a d i f
+    → StopsKnown n (ended u f).table
 ended-known n u a d i k s _ (stands t p e) = p.known
 ended-known n u a d i k s _ (enters t c p e h) =
     subst (All (AtStop n)) (sym (put-calls t c p.sound h))

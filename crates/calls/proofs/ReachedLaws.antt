@@ -15,20 +15,21 @@ use Rattle.refusal.specs.First.{First, first_answer, Answer}
 use Rattle.refusal.proofs.FirstLaws.{answer-is-first, first-append, first_past}
 use Rattle.calls.specs.declared.CallInput.{CallInput}
 use Rattle.calls.specs.declared.Table.{Table}
-use Rattle.calls.specs.declared.Fitted.{Fitted}
+use Rattle.calls.specs.Tried.{Tried}
 use Rattle.calls.specs.Windows.{outside, seen}
 use Rattle.calls.specs.Tables.{cut, less, entered, fitted_in, fitted}
 use Rattle.calls.specs.Calls.{call_tests, call_time, call_fit, call_on, goes_on_of}
-use Rattle.calls.specs.Reached.{is_full, meets_full, reached_in, reached, ReachedFull, reached_tests, reached_fit, FittedReached, CallAnswered}
+use Rattle.calls.specs.Reached.{is_full, meets_full, reached_in, reached, ReachedFull, reached_tests, reached_fit, FittedReached}
+use Rattle.calls.specs.Reached.{CallAnswered}
 use Rattle.calls.proofs.FitLaws.{falls, spent}
 use Rattle.calls.proofs.SoundLaws.{call-tests-fail}
 
 module _ (a d : Option ℕ) (i : CallInput) where
-  abbrev no_room_of : Table → Fitted
+  abbrev no_room_of : Table → Tried
   no_room_of t = record { answer = Err NoRoom; table = t }
 
   -- at a table that is not cut
-  here : (t : Table) (more : Fitted) → (meets_full t a d ≡ true → more ≡ no_room_of t) → (meets_full t a d ≡ true → less t.horizon < 3600)
+  here : (t : Table) (more : Tried) → (meets_full t a d ≡ true → more ≡ no_room_of t) → (meets_full t a d ≡ true → less t.horizon < 3600)
       → entered t (seen t.horizon a d i) more ≡ reached_fit t a d i
   unfolding seen first_answer
   here t more f g = go (outside t.horizon a d) (is_full t) refl refl
@@ -41,7 +42,7 @@ module _ (a d : Option ℕ) (i : CallInput) where
       go false false p q = rw (p, lt-ltb t.count 512 (leb-false _ _ q), q) refl
 
   -- a full table passes the call on
-  past : (t : Table) (more : Fitted) → meets_full t a d ≡ true → entered t (seen t.horizon a d i) more ≡ more
+  past : (t : Table) (more : Tried) → meets_full t a d ≡ true → entered t (seen t.horizon a d i) more ≡ more
   unfolding seen
   past t more e = go (outside t.horizon a d) (is_full t) refl refl e
     where
@@ -56,14 +57,16 @@ module _ (a d : Option ℕ) (i : CallInput) where
   fitted-in zero t b = here t (no_room_of t) (λ e. refl) (λ e. spent t.horizon b)
   fitted-in (suc n) t b = go (meets_full t a d && leb 3600 (less t.horizon)) refl (fitted-in n (cut (less t.horizon) t))
     where
-      more : Fitted
+      more : Tried
       more = cond (ltb (less t.horizon) 3600) (no_room_of t) (fitted_in n (cut (less t.horizon) t) a d i)
 
       go : (c : Bool) → (meets_full t a d && leb 3600 (less t.horizon)) ≡ c
-          → (less t.horizon ≤ n → fitted_in n (cut (less t.horizon) t) a d i ≡ reached_fit (reached_in n (cut (less t.horizon) t) a d) a d i)
+          → (less t.horizon ≤ n
+          → fitted_in n (cut (less t.horizon) t) a d i ≡ reached_fit (reached_in n (cut (less t.horizon) t) a d) a d i)
           → entered t (seen t.horizon a d i) more ≡ reached_fit (cond c (reached_in n (cut (less t.horizon) t) a d) t) a d i
       go true e ih =
-          past t more (and-true-left _ _ e) ∙ cond-not _ _ (le-ltb (less t.horizon) 3600 (leb-true _ _ (and-true-right (meets_full t a d) _ e)))
+          past t more (and-true-left _ _ e)
+          ∙ cond-not _ _ (le-ltb (less t.horizon) 3600 (leb-true _ _ (and-true-right (meets_full t a d) _ e)))
           ∙ ih (falls t.horizon n b (leb-true _ _ (and-true-right (meets_full t a d) _ e)))
       go false e ih = here t more (λ f. cond-by _ _ (lt-ltb (less t.horizon) 3600 (low f))) low
         where
@@ -78,7 +81,8 @@ module _ (a d : Option ℕ) where
   stops-in (suc n) t p = go (meets_full t a d && leb 3600 (less t.horizon)) refl (stops-in n (cut (less t.horizon) t))
     where
       go : (c : Bool) → (meets_full t a d && leb 3600 (less t.horizon)) ≡ c
-          → (less t.horizon ≤ n → meets_full (reached_in n (cut (less t.horizon) t) a d) a d ≡ true → less (reached_in n (cut (less t.horizon) t) a d).horizon < 3600)
+          → (less t.horizon ≤ n → meets_full (reached_in n (cut (less t.horizon) t) a d) a d ≡ true
+          → less (reached_in n (cut (less t.horizon) t) a d).horizon < 3600)
           → (let r = cond c (reached_in n (cut (less t.horizon) t) a d) t in meets_full r a d ≡ true → less r.horizon < 3600)
       go true e ih = ih (falls t.horizon n p (leb-true _ _ (and-true-right (meets_full t a d) _ e)))
       go false e ih = λ f. leb-false _ _ (sym (and-by (leb 3600 (less t.horizon)) f) ∙ e)
@@ -96,7 +100,8 @@ module _ (s : Settings) (b : Bool) (n : ℕ) (t : Table) (i : CallInput) where
   tests = call_tests b n i
 
   abbrev then : List (Bool × Answer)
-  then = reached_tests (reached t (call_time s i i.arrival) (call_time s i i.departure)) (call_time s i i.arrival) (call_time s i i.departure)
+  then =
+      reached_tests (reached t (call_time s i i.arrival) (call_time s i i.departure)) (call_time s i i.arrival) (call_time s i i.departure)
 
   tested : (x : Answer) → first_answer tests ≡ x → First x tests
   tested x e = subst (λ (y : Answer). First y tests) e (answer-is-first tests)
@@ -104,7 +109,8 @@ module _ (s : Settings) (b : Bool) (n : ℕ) (t : Table) (i : CallInput) where
   fit-first : First (call_fit s t i).answer then
   unfolding call_fit
   fit-first =
-      subst (λ (f : Fitted). First f.answer then) (sym (fitted-reached t (call_time s i i.arrival) (call_time s i i.departure) i)) (answer-is-first then)
+      subst (λ (f : Tried). First f.answer then) (sym (fitted-reached t (call_time s i i.arrival) (call_time s i i.departure) i))
+      (answer-is-first then)
 
   on-first : (x : Answer) → first_answer tests ≡ x → First (goes_on_of s t i x).answer (tests ++ then)
   on-first (Err w) e = first-append (Err w) tests then (tested (Err w) e) (λ q. let z : ◌≡◌ {A = ℕ} 0 1 = cc in omega arith)

@@ -16,7 +16,7 @@ use lib.IntN.{ℤ, pos, negsuc, neg_ℤ, ◌+ℤ◌, ◌-ℤ◌, +ℤ_assoc, +�
 use Rattle.calls.specs.declared.Call.{Call}
 use Rattle.calls.specs.declared.CallInput.{CallInput}
 use Rattle.calls.specs.declared.Table.{Table}
-use Rattle.calls.specs.declared.Fitted.{Fitted}
+use Rattle.calls.specs.Tried.{Tried}
 use Rattle.calls.specs.Windows.{time_of, time_after, after, within, held, allowed, seen_call, seen}
 use Rattle.calls.specs.Tables.{blank_call, due_by, trim, trim_all, cut, less, put}
 use Rattle.laws.proofs.Bools.{and-true-left}
@@ -38,8 +38,13 @@ lowest : 3600 ≤ 2885 → ⊥
 lowest h = omega arith
 
 falls : (h : ℕ) → one_of h horizons ≡ true → Falls h
-falls h e = one-of h Falls horizons e
-    ((λ k. (refl, refl)), ((λ k. (refl, refl)), ((λ k. (refl, refl)), ((λ k. (refl, refl)), ((λ k. (refl, refl)), ((λ k. (refl, refl)), ((λ k. absurd (lowest k)), tt)))))))
+falls h e = one-of h Falls horizons e (
+  (λ k. (refl, refl)),
+  (
+    (λ k. (refl, refl)),
+    ((λ k. (refl, refl)), ((λ k. (refl, refl)), ((λ k. (refl, refl)), ((λ k. (refl, refl)), ((λ k. absurd (lowest k)), tt))))),
+  ),
+)
 
 -- ---- a call that a cut leaves
 trim-sound : (h g : ℕ) (c : Call) → CallSound h c → due_by g c ≡ true → CallSound g (trim g c)
@@ -58,7 +63,8 @@ trim-sound h g c s e = go (leb c.departure g) refl
       board_request = false;
       alight_request = c.alight_request;
     }))
-    go true q = record { ordered = s.ordered; due = leb-true c.departure g q; board_marked = s.board_marked; alight_marked = s.alight_marked }
+    go true q =
+        record { ordered = s.ordered; due = leb-true c.departure g q; board_marked = s.board_marked; alight_marked = s.alight_marked }
     go false q = record { ordered = leb-true c.arrival g e; due = omega arith; board_marked = λ x. x; alight_marked = s.alight_marked }
 
 module _ (h : ℕ) (t : Table) (s : TableSound t) where
@@ -79,9 +85,14 @@ module _ (h : ℕ) (t : Table) (s : TableSound t) where
   unfolding cut
   cut-sound o m = record {
     few = left-few;
-    long = length-append left (replicate (512 - length left) blank_call) ∙ rest (length left) (length (replicate (512 - length left) blank_call)) (length-replicate (512 - length left) blank_call) left-few;
+    long =
+        length-append left (replicate (512 - length left) blank_call)
+        ∙ rest (length left) (length (replicate (512 - length left) blank_call)) (length-replicate (512 - length left) blank_call) left-few;
     blank = drop-append_seam left (replicate (512 - length left) blank_call);
-    each = subst (All (CallSound h)) (sym cut-calls) (all-gather (CallSound t.horizon) (CallSound h) (due_by h) (trim h) (λ c x e. trim-sound t.horizon h c x e) (take t.count t.calls) s.each);
+    each =
+        subst (All (CallSound h)) (sym cut-calls)
+        (all-gather (CallSound t.horizon) (CallSound h) (due_by h) (trim h) (λ c x e. trim-sound t.horizon h c x e)
+        (take t.count t.calls) s.each);
     known = o;
     limited = m;
   }
@@ -108,7 +119,8 @@ module _ (t : Table) (c : Call) (s : TableSound t) (h : t.count < 512) where
         few = omega arith;
         long = length-set t.calls n c ∙ s.long;
         blank = drop-set-lt (n + 1) t.calls n c under ∙ ap (λ (m : ℕ). drop m t.calls) (add-one n) ∙ tail-eq_of_cons-eq split;
-        each = subst (All (CallSound t.horizon)) (sym put-calls) (all_append (CallSound t.horizon) (take n t.calls) (c ∷ []) s.each (x, tt));
+        each =
+            subst (All (CallSound t.horizon)) (sym put-calls) (all_append (CallSound t.horizon) (take n t.calls) (c ∷ []) s.each (x, tt));
         known = s.known;
         limited = s.limited;
       }
@@ -194,8 +206,13 @@ pub record Passed (b : Bool) (n : ℕ) (i : CallInput) : Type 0 where
 -- every test fails where the tests answer taken
 pub call-tests-fail : (b : Bool) (n : ℕ) (i : CallInput) → first_answer (call_tests b n i) ≡ Ok Taken → AllFail (call_tests b n i)
 unfolding call_tests
-call-tests-fail b n i e = taken-all-fail (call_tests b n i)
-    ((λ q. let z : ◌≡◌ {A = ℕ} 0 1 = cc in omega arith), ((λ q. let z : ◌≡◌ {A = ℕ} 0 1 = cc in omega arith), ((λ q. let z : ◌≡◌ {A = ℕ} 0 1 = cc in omega arith), ((λ q. let z : ◌≡◌ {A = ℕ} 0 1 = cc in omega arith), tt)))) e
+call-tests-fail b n i e = taken-all-fail (call_tests b n i) (
+  (λ q. let z : ◌≡◌ {A = ℕ} 0 1 = cc in omega arith),
+  (
+    (λ q. let z : ◌≡◌ {A = ℕ} 0 1 = cc in omega arith),
+    ((λ q. let z : ◌≡◌ {A = ℕ} 0 1 = cc in omega arith), ((λ q. let z : ◌≡◌ {A = ℕ} 0 1 = cc in omega arith), tt)),
+  ),
+) e
 
 first-true : (a b c d e : Bool) → (a && b && c && d && e) ≡ true → a ≡ true
 first-true true b c d e q = refl
@@ -210,13 +227,19 @@ unfolding call_tests known
 passed b n i e =
     let f = call-tests-fail b n i e in
     let k : known n i ≡ true = not-false (known n i) f.1.0 in
-    record { unsearched = f.0; at_stop = ltb-true i.stop n (first-true (ltb i.stop n) (ltb i.trip 65535) (leb i.day 2) (leb i.pickup 3) (leb i.drop_off 3) k); present = f.1.1.0; ordered = ltb-false (unwrap_or i.departure 0) (unwrap_or i.arrival 0) f.1.1.1.0 }
+    record {
+      unsearched = f.0;
+      at_stop = ltb-true i.stop n (first-true (ltb i.stop n) (ltb i.trip 65535) (leb i.day 2) (leb i.pickup 3) (leb i.drop_off 3) k);
+      present = f.1.1.0;
+      ordered = ltb-false (unwrap_or i.departure 0) (unwrap_or i.arrival 0) f.1.1.1.0;
+    }
 
 -- ---- the step
 pub sound-keeps : (a d : Option ℕ) (i : CallInput) → Keeps TableSound a d i
 sound-keeps a d i t c s e f l = let k = falls t.horizon s.known l in cut-sound (less t.horizon) t s k.0 k.1
 
-ended-sound : (u : Table) (a d : Option ℕ) (i : CallInput) → ((h : ℕ) → held h a ≤ held h d) → TableSound u → (f : Fitted) → Ends TableSound a d i f → TableSound (ended u f).table
+ended-sound : (u : Table) (a d : Option ℕ) (i : CallInput) → ((h : ℕ) → held h a ≤ held h d) → TableSound u → (f : Tried)
+    → Ends TableSound a d i f → TableSound (ended u f).table
 ended-sound u a d i o s _ (stands t p e) = p
 ended-sound u a d i o s _ (enters t c p e h) = put-sound t c p h (seen-sound t.horizon a d i c (o t.horizon) e)
 ended-sound u a d i o s _ (turned t c p e h m) = s

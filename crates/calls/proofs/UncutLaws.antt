@@ -11,7 +11,7 @@ use Rattle.refusal.specs.First.{first_answer, is_refused, Answer}
 use Rattle.settings.specs.declared.Settings.{Settings}
 use Rattle.calls.specs.declared.Call.{Call}
 use Rattle.calls.specs.declared.CallInput.{CallInput}
-use Rattle.calls.specs.declared.Fitted.{Fitted}
+use Rattle.calls.specs.Tried.{Tried}
 use Rattle.calls.specs.declared.Table.{Table}
 use Rattle.calls.specs.declared.Uncut.TheVariants.{In, Outside as Beyond, Other}
 use Rattle.calls.specs.Calls.{call_tests, call_time, call_seen, call_fit, call_on}
@@ -43,19 +43,24 @@ module _ (s : Settings) (b : Bool) (n : ℕ) (t : Table) (i : CallInput) where
   }
 
   -- a call that no test sends back
-  on-table : (f : Fitted) → first_answer (call_tests b n i) ≡ Ok Taken → f ≡ call_fit s t i → is_refused f.answer ≡ false → call_on s b n t i ≡ f
+  on-table : (f : Tried) → first_answer (call_tests b n i) ≡ Ok Taken → f ≡ call_fit s t i → is_refused f.answer ≡ false
+      → call_on s b n t i ≡ f
   on-table f q e r = sym (changed s b n t i f (sym q) e r)
 
-  told-view : first_answer (call_tests b n i) ≡ Ok Taken → (v : Option Call) → call_seen s t.horizon i ≡ v → Told s b n t i (uncut_view t.count v)
+  told-view : first_answer (call_tests b n i) ≡ Ok Taken → (v : Option Call) → call_seen s t.horizon i ≡ v
+      → Told s b n t i (uncut_view t.count v)
   unfolding call_fit
   told-view q None e = told-outside (on-table _ q (fit.outside (call_time s i i.arrival) (call_time s i i.departure) i t e) refl)
   told-view q (Some c) e = go (ltb t.count 512) refl
     where
       go : (k : Bool) → ltb t.count 512 ≡ k → Told s b n t i (cond k (In c) Other)
-      go true x = told_in c (ltb-true t.count 512 x) (on-table _ q (fit.room (call_time s i i.arrival) (call_time s i i.departure) i t c e (ltb-true t.count 512 x)) refl)
+      go true x =
+          told_in c (ltb-true t.count 512 x)
+          (on-table _ q (fit.room (call_time s i i.arrival) (call_time s i i.departure) i t c e (ltb-true t.count 512 x)) refl)
       go false x = told-other
 
-  told-answer : (a : Answer) → first_answer (call_tests b n i) ≡ a → Told s b n t i (uncut_by a (uncut_view t.count (call_seen s t.horizon i)))
+  told-answer : (a : Answer) → first_answer (call_tests b n i) ≡ a
+      → Told s b n t i (uncut_by a (uncut_view t.count (call_seen s t.horizon i)))
   told-answer (Ok Taken) q = told-view q (call_seen s t.horizon i) refl
   told-answer (Ok Outside) q = told-outside (sym (sent-outside s b n t i (Ok Outside) (sym q) refl))
   told-answer (Err r) q = told-other

@@ -8,7 +8,8 @@ use Rattle.refusal.specs.First.{first_answer, is_refused, Answer}
 use Rattle.settings.specs.declared.Settings.{Settings}
 use Rattle.calls.specs.declared.CallInput.{CallInput}
 use Rattle.calls.specs.declared.Table.{Table}
-use Rattle.calls.specs.declared.Fitted.{Fitted}
+use Rattle.calls.specs.declared.window.Timed.{Timed}
+use Rattle.calls.specs.Tried.{Tried}
 use Rattle.calls.specs.Windows.{time_after, seen}
 use Rattle.calls.specs.Tables.{fitted}
 
@@ -39,6 +40,10 @@ call_tests searched stops i = field_tests searched stops i ++ time_tests i
 abbrev pub call_time : Settings → CallInput → Option ℕ → Option ℕ
 call_time s i t = time_after (get_or s.epochs i.day (pos 0)) s.now (unwrap_or t 0)
 
+-- a call beside its times from the start
+abbrev pub timed_of : Settings → CallInput → Timed
+timed_of s i = record { input = i; arrival = call_time s i i.arrival; departure = call_time s i i.departure }
+
 -- a call with both times, as it is seen up to a horizon
 abbrev pub call_seen : Settings → ℕ → CallInput → Option Call
 call_seen s h i = seen h (call_time s i i.arrival) (call_time s i i.departure) i
@@ -48,18 +53,18 @@ unfoldable pub window : Settings → ℕ → CallInput → Option Call
 window s h i = cond (un_timed i) None (call_seen s h i)
 
 -- outside, 11, or taken, with the table that the cuts leave
-unfoldable pub call_fit : Settings → Table → CallInput → Fitted
+unfoldable pub call_fit : Settings → Table → CallInput → Tried
 call_fit s t i = fitted t (call_time s i i.arrival) (call_time s i i.departure) i
 
 -- a refusal leaves the table as it was given
-abbrev pub ended : Table → Fitted → Fitted
+abbrev pub ended : Table → Tried → Tried
 ended t f = record { answer = f.answer; table = cond (is_refused f.answer) t f.table }
 
-abbrev pub goes_on_of : Settings → Table → CallInput → Answer → Fitted
+abbrev pub goes_on_of : Settings → Table → CallInput → Answer → Tried
 goes_on_of s t i (Ok Taken) = ended t (call_fit s t i)
 goes_on_of s t i (Ok Outside) = record { answer = Ok Outside; table = t }
 goes_on_of s t i (Err r) = record { answer = Err r; table = t }
 
 -- the whole call step, on the table: `searched` and `stops` are the load's
-unfoldable pub call_on : Settings → Bool → ℕ → Table → CallInput → Fitted
+unfoldable pub call_on : Settings → Bool → ℕ → Table → CallInput → Tried
 call_on s searched stops t i = goes_on_of s t i (first_answer (call_tests searched stops i))

@@ -1,4 +1,5 @@
 pub mod Windows
+pub mod Tried
 pub mod Tables
 pub mod Calls
 pub mod Uncut

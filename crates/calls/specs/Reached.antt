@@ -6,7 +6,7 @@ use Rattle.refusal.specs.First.{First, first_answer, is_taken, Answer}
 use Rattle.settings.specs.declared.Settings.{Settings}
 use Rattle.calls.specs.declared.CallInput.{CallInput}
 use Rattle.calls.specs.declared.Table.{Table}
-use Rattle.calls.specs.declared.Fitted.{Fitted}
+use Rattle.calls.specs.Tried.{Tried}
 use Rattle.calls.specs.Windows.{outside, seen_call}
 use Rattle.calls.specs.Tables.{cut, less, put, fitted}
 use Rattle.calls.specs.Calls.{call_tests, call_time, call_on}
@@ -37,7 +37,7 @@ abbrev pub reached_tests : Table → Option ℕ → Option ℕ → List (Bool ×
 reached_tests r a d = (outside r.horizon a d, Ok Outside) ∷ (is_full r && ltb (less r.horizon) 3600, Err NoRoom) ∷ []
 
 -- if neither, the call goes in as it is seen up to that table's horizon
-abbrev pub reached_fit : Table → Option ℕ → Option ℕ → CallInput → Fitted
+abbrev pub reached_fit : Table → Option ℕ → Option ℕ → CallInput → Tried
 reached_fit r a d i = record {
   answer = first_answer (reached_tests r a d);
   table = cond (is_taken (first_answer (reached_tests r a d))) (put r (seen_call r.horizon a d i)) r;

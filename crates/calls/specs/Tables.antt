@@ -3,9 +3,9 @@ use Rattle.refusal.specs.declared.Accepted.TheVariants.{Taken, Outside}
 use Rattle.std.specs.Prelude.{ℕ, zero, suc, ◌+◌, ◌-◌, ◌/◌, List, Bool, false, cond, take, length, set, ltb, leb, None, Option, Some, Err, Ok}
 use Rattle.calls.specs.declared.Call.{Call}
 use Rattle.calls.specs.declared.CallInput.{CallInput}
-use Rattle.calls.specs.declared.Packed.{Packed}
+use Rattle.calls.specs.declared.CallKey.{CallKey}
 use Rattle.calls.specs.declared.Table.{Table}
-use Rattle.calls.specs.declared.Fitted.{Fitted}
+use Rattle.calls.specs.Tried.{Tried}
 use Rattle.refusal.specs.declared.Refusal.TheVariants.{NoRoom}
 use Rattle.laws.specs.Lists.{gather, padded}
 use Rattle.calls.specs.Windows.{seen}
@@ -24,6 +24,10 @@ blank_call = record {
   board_request = false;
   alight_request = false;
 }
+
+-- the key of a call
+abbrev pub held_key : Call → CallKey
+held_key c = record { trip = c.trip; day = c.day; sequence = c.sequence }
 
 -- a call that arrives no later
 abbrev pub due_by : ℕ → Call → Bool
@@ -48,14 +52,11 @@ trim h c = cond (leb c.departure h) c (record {
 abbrev pub trim_all : ℕ → List Call → List Call
 trim_all h l = gather (due_by h) (trim h) l
 
-abbrev pub packed : ℕ → List Call → Packed
-packed h l = record { calls = padded blank_call 512 (trim_all h l); held = length (trim_all h l) }
-
 -- the horizon falls to h: limits is 1, calls arriving later go, later departures are held
 unfoldable pub cut : ℕ → Table → Table
 cut h t = record {
-  calls = (packed h (take t.count t.calls)).calls;
-  count = (packed h (take t.count t.calls)).held;
+  calls = padded blank_call 512 (trim_all h (take t.count t.calls));
+  count = length (trim_all h (take t.count t.calls));
   horizon = h;
   limits = 1;
 }
@@ -69,17 +70,17 @@ abbrev pub put : Table → Call → Table
 put t c = record { calls = set t.calls t.count c; count = t.count + 1; horizon = t.horizon; limits = t.limits }
 
 -- a call that is seen so goes in where there is room; what else happens is handed in
-abbrev pub entered : Table → Option Call → Fitted → Fitted
+abbrev pub entered : Table → Option Call → Tried → Tried
 entered t None full = record { answer = Ok Outside; table = t }
 entered t (Some c) full = cond (ltb t.count 512) (record { answer = Ok Taken; table = put t c }) full
 
 -- a call put in, after at most n cuts: a full table is cut and the call tried anew, unless the horizon would fall below 3600
-abbrev pub fitted_in : ℕ → Table → Option ℕ → Option ℕ → CallInput → Fitted
+abbrev pub fitted_in : ℕ → Table → Option ℕ → Option ℕ → CallInput → Tried
 fitted_in zero t a d i = entered t (seen t.horizon a d i) (record { answer = Err NoRoom; table = t })
 fitted_in (suc n) t a d i =
     entered t (seen t.horizon a d i)
     (cond (ltb (less t.horizon) 3600) (record { answer = Err NoRoom; table = t }) (fitted_in n (cut (less t.horizon) t) a d i))
 
 -- each cut takes a second or more off the horizon, so there are no more than it has
-unfoldable pub fitted : Table → Option ℕ → Option ℕ → CallInput → Fitted
+unfoldable pub fitted : Table → Option ℕ → Option ℕ → CallInput → Tried
 fitted t a d i = fitted_in t.horizon t a d i

@@ -5,9 +5,9 @@
 pub mod window;
 
 ghost use Rattle.std.specs.Prelude.{◌≡◌};
-ghost use Rattle.calls.specs.Tables.{blank_call};
+ghost use Rattle.calls.specs.Tables.{blank_call, held_key};
 
-use refusal::Answer;
+use refusal::Accepted;
 
 // What is handed in. `pickup` and `drop_off` are bytes, as any may be handed in: 9 tells of those above 3.
 #[derive(Clone, Copy, Debug, PartialEq, Eq)]
@@ -22,6 +22,8 @@ pub struct CallInput {
     pub drop_off: u8,
 }
 
+// A call as the window shows it. `board` and `board_request` are two marks and no enum, as are those of alighting: the printed lines have
+// them apart, and each is read by itself.
 #[derive(Clone, Copy, Debug, Default, PartialEq, Eq)]
 pub struct Call {
     pub trip: u16,
@@ -36,6 +38,26 @@ pub struct Call {
     pub alight_request: bool,
 }
 
+// What names a call: a withdrawal is of the last call with a key. Keys come by trip, then day, then sequence.
+#[derive(Clone, Copy, Debug, PartialEq, Eq, PartialOrd, Ord)]
+pub struct CallKey {
+    pub trip: u16,
+    pub day: u8,
+    pub sequence: u32,
+}
+
+impl Call {
+    pub fn key(self) -> CallKey
+        ensures { result ≡ held_key self }
+    {
+        CallKey {
+            trip: self.trip,
+            day: self.day,
+            sequence: self.sequence,
+        }
+    }
+}
+
 // What becomes of a call for which nothing is cut: it goes in, or lies outside. `Other`: it is sent back, or the table is full. No
 // `Option`: one that lies outside is done with, another is left to the table.
 #[derive(Clone, Copy, Debug, PartialEq, Eq)]
@@ -45,7 +67,7 @@ pub enum Uncut {
     Other,
 }
 
-// An array with its count, since the core has no heap. `limits` is a number, 1 or 0, as the scope has it and C lends it.
+// An array with its count, as in `load: Load`. `limits` is a number, 1 or 0, as the scope has it and C lends it.
 #[derive(Clone, Copy, Debug, PartialEq, Eq)]
 pub struct Table {
     pub calls: [Call; 512],
@@ -54,17 +76,10 @@ pub struct Table {
     pub limits: u8,
 }
 
-// The calls of a smaller horizon, again with their count.
-#[derive(Clone, Copy, Debug, PartialEq, Eq)]
-pub struct Packed {
-    pub calls: [Call; 512],
-    pub held: usize,
-}
-
-// What a call is answered, and the table after it: the table by value, beside its answer, as the load goes through every step.
+// What becomes of a call that is not sent back, and the table after it: by value, as the load goes through every step.
 #[derive(Clone, Copy, Debug, PartialEq, Eq)]
 pub struct Fitted {
-    pub answer: Answer,
+    pub accepted: Accepted,
     pub table: Table,
 }
 

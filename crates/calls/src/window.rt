@@ -40,11 +40,7 @@ fn is_within(t: Option<u64>, h: u16) -> bool
 fn held_to(t: Option<u64>, h: u16) -> u16
     ensures { result ≡ held h t }
 {
-    match t {
-        None => 0,
-        Some(n) if n <= u64::from(h) => n as u16,
-        Some(_) => h,
-    }
+    t.map_or(0, |n| n.min(u64::from(h)) as u16)
 }
 
 // Of a kind, the byte that is handed in: 1 bars, 2 and 3 are on request.
@@ -60,34 +56,44 @@ fn on_request(may: bool, kind: u8) -> bool
     may && matches!(kind, 2 | 3)
 }
 
-#[tactic(auto, unfolding(crate::specs::Windows::seen_call))]
-fn call_of(h: u16, a: Option<u64>, d: Option<u64>, input: CallInput) -> Call
-    ensures { result ≡ seen_call h a d input }
-{
-    let board = may(is_within(d, h), input.pickup);
-    let alight = may(is_within(a, h), input.drop_off);
-    Call {
-        trip: input.trip,
-        day: input.day,
-        sequence: input.sequence,
-        stop: input.stop,
-        arrival: held_to(a, h),
-        departure: held_to(d, h),
-        board,
-        alight,
-        board_request: on_request(board, input.pickup),
-        alight_request: on_request(alight, input.drop_off),
-    }
+// A call that is handed in, with its times from the load's start; none for a time before it.
+#[derive(Clone, Copy, Debug, PartialEq, Eq)]
+pub struct Timed {
+    pub input: CallInput,
+    pub arrival: Option<u64>,
+    pub departure: Option<u64>,
 }
 
-// What the window shows of a call, none outside it. The times a and d, from the load's start, come beside the call, which holds those
-// that were handed in.
-#[tactic(auto, unfolding(crate::specs::Windows::seen))]
-pub fn view_of(h: u16, a: Option<u64>, d: Option<u64>, input: CallInput) -> Option<Call>
-    ensures { result ≡ seen h a d input }
-{
-    if d.is_none() || is_after(a, h) {
-        return None;
+impl Timed {
+    #[tactic(auto, unfolding(crate::specs::Windows::seen_call))]
+    fn call(self, h: u16) -> Call
+        ensures { result ≡ seen_call h self.arrival self.departure self.input }
+    {
+        let input = self.input;
+        let board = may(is_within(self.departure, h), input.pickup);
+        let alight = may(is_within(self.arrival, h), input.drop_off);
+        Call {
+            trip: input.trip,
+            day: input.day,
+            sequence: input.sequence,
+            stop: input.stop,
+            arrival: held_to(self.arrival, h),
+            departure: held_to(self.departure, h),
+            board,
+            alight,
+            board_request: on_request(board, input.pickup),
+            alight_request: on_request(alight, input.drop_off),
+        }
     }
-    Some(call_of(h, a, d, input))
+
+    // What the window shows of the call up to a horizon, none outside it.
+    #[tactic(auto, unfolding(crate::specs::Windows::seen))]
+    pub fn view(self, h: u16) -> Option<Call>
+        ensures { result ≡ seen h self.arrival self.departure self.input }
+    {
+        if self.departure.is_none() || is_after(self.arrival, h) {
+            return None;
+        }
+        Some(self.call(h))
+    }
 }

@@ -39,7 +39,8 @@ unfolding settled latest_due
 settled-refused l h =
     rw (lt-leb (length (rows l)) 64 (omega (arith, rows-length l)), lt-ltb (latest due (rows l) - 1) 3600 (omega arith)) refl
 
-settled-falls : (l : List ℕ) (h : ℕ) → 3600 ≤ h → latest_due (rows l) ≡ h + 1 → settled l (rows l) ≡ going (filterb (in_time h) (rows l)) h 1
+settled-falls : (l : List ℕ) (h : ℕ) → 3600 ≤ h → latest_due (rows l) ≡ h + 1
+    → settled l (rows l) ≡ going (filterb (in_time h) (rows l)) h 1
 unfolding settled latest_due in_time
 settled-falls l h lo e =
     let g : latest due (rows l) - 1 ≡ h = omega arith in
@@ -58,9 +59,11 @@ settled_same l m ks t = rw (t horizon_place (omega arith), t limits_place (omega
 
 -- ---- slots are to be kept
 
-pub refused_all : (l l' : List ℕ) (late : ℕ) → length l ≡ size → late ≡ latest_due (rows l) → late < 3601 → l' ≡ set l refused_place 1 → view l' ≡ settled l (rows l)
+pub refused_all : (l l' : List ℕ) (late : ℕ) → length l ≡ size → late ≡ latest_due (rows l) → late < 3601 → l' ≡ set l refused_place 1
+    → view l' ≡ settled l (rows l)
 refused_all l l' late long e h el =
-    let mark : get_or l' refused_place 0 ≡ 1 = ap (λ (ys : List ℕ). get_or ys refused_place 0) el ∙ get_or-set_same l refused_place 1 0 (omega arith) in
+    let mark : get_or l' refused_place 0 ≡ 1 =
+    ap (λ (ys : List ℕ). get_or ys refused_place 0) el ∙ get_or-set_same l refused_place 1 0 (omega arith) in
     view-refused l' (λ z. omega arith) ∙ sym (settled-refused l (omega arith))
 
 module _ (l m l' : List ℕ) (n h : ℕ) (mark : get_or l refused_place 0 ≡ 0) (lo : 3600 ≤ h) (late : latest_due (rows l) ≡ h + 1)
@@ -73,30 +76,39 @@ module _ (l m l' : List ℕ) (n h : ℕ) (mark : get_or l refused_place 0 ≡ 0)
 
   fallen-rows : rows l' ≡ rows m
   fallen-rows =
-      ap rows el ∙ rows-set (set (set m count_place n) horizon_place h) limits_place 1 (omega arith) ∙ rows-set (set m count_place n) horizon_place h (omega arith) ∙ rows-set m count_place n (omega arith)
+      ap rows el ∙ rows-set (set (set m count_place n) horizon_place h) limits_place 1 (omega arith)
+      ∙ rows-set (set m count_place n) horizon_place h (omega arith) ∙ rows-set m count_place n (omega arith)
 
   fallen₀ : get_or l' count_place 0 ≡ n
   fallen₀ =
       let a : ◌≢◌ {A = ℕ} count_place limits_place = λ e. omega arith in
       let b : ◌≢◌ {A = ℕ} count_place horizon_place = λ e. omega arith in
-      ap (λ (ys : List ℕ). get_or ys count_place 0) el ∙ get_or-set_other (set (set m count_place n) horizon_place h) limits_place count_place 1 0 a ∙ get_or-set_other (set m count_place n) horizon_place count_place h 0 b
+      ap (λ (ys : List ℕ). get_or ys count_place 0) el
+      ∙ get_or-set_other (set (set m count_place n) horizon_place h) limits_place count_place 1 0 a
+      ∙ get_or-set_other (set m count_place n) horizon_place count_place h 0 b
       ∙ get_or-set_same m count_place n 0 (omega (arith, t.long))
 
   fallen₁ : get_or l' horizon_place 0 ≡ h
   fallen₁ =
       let a : ◌≢◌ {A = ℕ} horizon_place limits_place = λ e. omega arith in
-      ap (λ (ys : List ℕ). get_or ys horizon_place 0) el ∙ get_or-set_other (set (set m count_place n) horizon_place h) limits_place horizon_place 1 0 a ∙ get_or-set_same (set m count_place n) horizon_place h 0 (omega (arith, t.long, length-set m count_place n))
+      ap (λ (ys : List ℕ). get_or ys horizon_place 0) el
+      ∙ get_or-set_other (set (set m count_place n) horizon_place h) limits_place horizon_place 1 0 a
+      ∙ get_or-set_same (set m count_place n) horizon_place h 0 (omega (arith, t.long, length-set m count_place n))
 
   fallen₂ : get_or l' limits_place 0 ≡ 1
   fallen₂ =
-      ap (λ (ys : List ℕ). get_or ys limits_place 0) el ∙ get_or-set_same (set (set m count_place n) horizon_place h) limits_place 1 0 (omega (arith, t.long, length-set m count_place n, length-set (set m count_place n) horizon_place h))
+      ap (λ (ys : List ℕ). get_or ys limits_place 0) el
+      ∙ get_or-set_same (set (set m count_place n) horizon_place h) limits_place 1 0
+      (omega (arith, t.long, length-set m count_place n, length-set (set m count_place n) horizon_place h))
 
   fallen₃ : get_or l' refused_place 0 ≡ 0
   fallen₃ =
       let a : ◌≢◌ {A = ℕ} refused_place limits_place = λ e. omega arith in
       let b : ◌≢◌ {A = ℕ} refused_place horizon_place = λ e. omega arith in
       let d : ◌≢◌ {A = ℕ} refused_place count_place = λ e. omega arith in
-      ap (λ (ys : List ℕ). get_or ys refused_place 0) el ∙ get_or-set_other (set (set m count_place n) horizon_place h) limits_place refused_place 1 0 a ∙ get_or-set_other (set m count_place n) horizon_place refused_place h 0 b
+      ap (λ (ys : List ℕ). get_or ys refused_place 0) el
+      ∙ get_or-set_other (set (set m count_place n) horizon_place h) limits_place refused_place 1 0 a
+      ∙ get_or-set_other (set m count_place n) horizon_place refused_place h 0 b
       ∙ get_or-set_other m count_place refused_place n 0 d ∙ t.tail refused_place (omega arith) ∙ mark
 
   pub fallen-all : view l' ≡ settled l (rows l)
@@ -115,7 +127,9 @@ module _ (l m : List ℕ) (n : ℕ) (o : Row) (long : length l ≡ size) (mark :
   added-tail h x b = ap (λ (ys : List ℕ). get_or ys x 0) em ∙ put-tail l n o long h x b
 
   added-take : n < slots → take (suc n) (rows m) ≡ take n (rows l) ++ o ∷ []
-  added-take h = ap (λ (ys : List ℕ). take (suc n) (rows ys)) em ∙ ap (take (suc n)) (rows-put l n o long h) ∙ take-suc-set (rows l) n o (omega (arith, rows-length l))
+  added-take h =
+      ap (λ (ys : List ℕ). take (suc n) (rows ys)) em ∙ ap (take (suc n)) (rows-put l n o long h)
+      ∙ take-suc-set (rows l) n o (omega (arith, rows-length l))
 
   module _ (l' : List ℕ) (room : n < 64) (el : l' ≡ set m count_place (n + 1)) where
     room' : n < slots
@@ -142,7 +156,8 @@ module _ (l m : List ℕ) (n : ℕ) (o : Row) (long : length l ≡ size) (mark :
     unfolding horizon_of limits_of
     added-fits =
         view-open l' (added-past refused_place (omega arith) ∙ mark)
-        ∙ rw (added-kept, added-past horizon_place (omega arith), added-past limits_place (omega arith)) (sym (settled-fits l (take n (rows l) ++ o ∷ []) added-few))
+        ∙ rw (added-kept, added-past horizon_place (omega arith), added-past limits_place (omega arith))
+        (sym (settled-fits l (take n (rows l) ++ o ∷ []) added-few))
 
   pub added-open : n ≤ 64 → Open m
   unfolding Open
@@ -170,10 +185,14 @@ Done l l' o r = (view l' ≡ offer_to (view l) o) × (r ≡ reads_to (view l) o)
 
 pub offered-late : (l : List ℕ) (o : Row) (b : Bool) → b ≡ too_late (view l) (due o) → b ≡ true → Done l l o 0
 unfolding offer_to reads_to due
-offered-late l o b e t =
-    (sym (walk-late (covᶠ row_figures) (dueᶠ row_figures) 64 3600 (view l) o (sym e ∙ t)), sym (reads-late (covᶠ row_figures) (dueᶠ row_figures) 64 3600 (view l) o (sym e ∙ t)))
+offered-late l o b e t = (
+  sym (walk-late (covᶠ row_figures) (dueᶠ row_figures) 64 3600 (view l) o (sym e ∙ t)),
+  sym
+      (reads-late (covᶠ row_figures) (dueᶠ row_figures) 64 3600 (view l) o (sym e ∙ t)),
+)
 
-module _ (l : List ℕ) (o : Row) (open' : Open l) (early : due o ≤ horizon_of l) (c : ℕ) (b : Bool) (ec : c ≡ count_of l) (eb : b ≡ passing o (take c (rows l))) where
+module _ (l : List ℕ) (o : Row) (open' : Open l) (early : due o ≤ horizon_of l) (c : ℕ) (b : Bool) (ec : c ≡ count_of l)
+    (eb : b ≡ passing o (take c (rows l))) where
   passing_kept : b ≡ passing o (kept_of l)
   unfolding kept_of
   passing_kept = eb ∙ ap (λ (j : ℕ). passing o (take j (rows l))) ec
@@ -182,14 +201,19 @@ module _ (l : List ℕ) (o : Row) (open' : Open l) (early : due o ≤ horizon_of
   unfolding offer_to reads_to passing near_at kept_of Open cov due
   offered-passed j t ej =
       let y : passes cov o (kept_of l) ≡ true = sym passing_kept ∙ t in
-      let e : suc j ≡ suc (near_at o (kept_of l)) = ap suc (ej ∙ ap (λ (i : ℕ). near_at o (take i (rows l))) ec) in
-      (rw (view-open l open', le-ltb (horizon_of l) (due o) early, y) refl, rw (view-open l open', le-ltb (horizon_of l) (due o) early, y) (add-one j ∙ e))
+      let e : suc j ≡ suc (near_at o (kept_of l)) = ap suc (ej ∙ ap (λ (i : ℕ). near_at o (take i (rows l))) ec) in (
+        rw (view-open l open', le-ltb (horizon_of l) (due o) early, y) refl,
+        rw (view-open l open', le-ltb (horizon_of l) (due o) early, y)
+            (add-one j ∙ e),
+      )
 
-  pub offered-added : (m l' : List ℕ) (n : ℕ) → b ≡ false → Packed (uncovered o) l m c n → view l' ≡ settled m (take n (rows m) ++ o ∷ []) → Done l l' o c
+  pub offered-added : (m l' : List ℕ) (n : ℕ) → b ≡ false → Packed (uncovered o) l m c n → view l' ≡ settled m (take n (rows m) ++ o ∷ [])
+      → Done l l' o c
   unfolding offer_to reads_to passing Open uncovered settled kept_of cov due
   offered-added m l' n t w s =
       let y : passes cov o (kept_of l) ≡ false = sym passing_kept ∙ t in
-      let ks : take n (rows m) ≡ filterb (λ k. not (cov o k)) (kept_of l) = w.list ∙ ap (λ (j : ℕ). filterb (λ k. not (cov o k)) (take j (rows l))) ec in (
+      let ks : take n (rows m) ≡ filterb (λ k. not (cov o k)) (kept_of l) =
+      w.list ∙ ap (λ (j : ℕ). filterb (λ k. not (cov o k)) (take j (rows l))) ec in (
         s ∙ settled_same l m (take n (rows m) ++ o ∷ []) w.tail ∙ ap (λ (zs : List Row). settled l (zs ++ o ∷ [])) ks
             ∙ sym (rw (view-open l open', le-ltb (horizon_of l) (due o) early, y) refl),
         ec ∙ sym (length-kept l) ∙ sym (rw (view-open l open', le-ltb (horizon_of l) (due o) early, y) refl),
@@ -208,7 +232,9 @@ module _ (l l' : List ℕ) (c v : ℕ) (long : length l ≡ size) (ec : c ≡ co
       ap (λ (ys : List ℕ). get_or ys x 0) el ∙ get_or-set_other l (c * width) x v 0 n
 
   marked_row : (k : ℕ) → k < c → row_at l' k ≡ row_at l k
-  marked_row k h = ap (λ (ys : List ℕ). row_at ys k) el ∙ seen l (set l (c * width) v) k (λ y a b. let n : y ≢ c * width = λ e. omega arith in get_or-set_other l (c * width) y v 0 n)
+  marked_row k h =
+      ap (λ (ys : List ℕ). row_at ys k) el
+      ∙ seen l (set l (c * width) v) k (λ y a b. let n : y ≢ c * width = λ e. omega arith in get_or-set_other l (c * width) y v 0 n)
 
   marked-rows : take c (rows l') ≡ take c (rows l)
   marked-rows =
@@ -244,4 +270,11 @@ module _ (l l' : List ℕ) (c v : ℕ) (long : length l ≡ size) (ec : c ≡ co
 
   pub marked-view : view l' ≡ view l
   unfolding view open_of horizon_of limits_of
-  marked-view = rw (marked-kept, marked-past horizon_place (omega arith), marked-past limits_place (omega arith), marked-past refused_place (omega arith)) refl
+  marked-view =
+      rw (
+        marked-kept,
+        marked-past horizon_place (omega arith),
+        marked-past limits_place (omega arith),
+        marked-past refused_place
+            (omega arith),
+      ) refl

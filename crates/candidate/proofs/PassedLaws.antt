@@ -32,7 +32,8 @@ passed-late (going ks h l) o b e t =
     rw y refl
 passed-late refused o b e t = refl
 
-pub passed-covered : (l : List ℕ) (o : Row) (b r : Bool) (c : ℕ) → b ≡ too_late (view l) (due o) → b ≡ false → c ≡ count_of l → r ≡ passing o (take c (rows l))
+pub passed-covered : (l : List ℕ) (o : Row) (b r : Bool) (c : ℕ) → b ≡ too_late (view l) (due o) → b ≡ false → c ≡ count_of l
+    → r ≡ passing o (take c (rows l))
     → r ≡ passed_over (view l) o
 unfolding passed_over kept_of
 passed-covered l o b r c e f ec er =

@@ -20,11 +20,14 @@ use Rattle.candidate.specs.Pieces.{put_row, Tail}
 
 -- ---- a row is seen by its numbers
 
-pub seen : (l l' : List ℕ) (k : ℕ) → ((y : ℕ) → k * width ≤ y → y < k * width + width → get_or l' y 0 ≡ get_or l y 0) → row_at l' k ≡ row_at l k
+pub seen : (l l' : List ℕ) (k : ℕ) → ((y : ℕ) → k * width ≤ y → y < k * width + width → get_or l' y 0 ≡ get_or l y 0)
+    → row_at l' k ≡ row_at l k
 unfolding row_at
 seen l l' k f =
-    λ t. row (f (k * width) (omega arith) (omega arith) t) (at 1 (omega arith) t) (at 2 (omega arith) t) (at 3 (omega arith) t) (at 4 (omega arith) t) (at 5 (omega arith) t)
-    (at 6 (omega arith) t) (at 7 (omega arith) t) (at 8 (omega arith) t) (at 9 (omega arith) t) (at 10 (omega arith) t) (at 11 (omega arith) t)
+    λ t. row (f (k * width) (omega arith) (omega arith) t) (at 1 (omega arith) t) (at 2 (omega arith) t) (at 3 (omega arith) t)
+    (at 4 (omega arith) t) (at 5 (omega arith) t)
+    (at 6 (omega arith) t) (at 7 (omega arith) t) (at 8 (omega arith) t) (at 9 (omega arith) t) (at 10 (omega arith) t)
+    (at 11 (omega arith) t)
   where
     at : (j : ℕ) → j < width → get_or l' (k * width + j) 0 ≡ get_or l (k * width + j) 0
     at j h = f (k * width + j) (omega arith) (omega arith)
@@ -33,7 +36,8 @@ seen l l' k f =
 
 module _ (l : List ℕ) (i : ℕ) (r : Row) where
   abbrev others : List ℕ
-  others = r.arrival ∷ r.rides ∷ r.walk ∷ r.origin ∷ r.target ∷ r.board ∷ r.alight ∷ r.board2 ∷ r.alight2 ∷ r.middle_board ∷ r.middle_alight ∷ []
+  others =
+      r.arrival ∷ r.rides ∷ r.walk ∷ r.origin ∷ r.target ∷ r.board ∷ r.alight ∷ r.board2 ∷ r.alight2 ∷ r.middle_board ∷ r.middle_alight ∷ []
 
   pub put-long : length (put_row l i r) ≡ length l
   unfolding put_row
@@ -63,7 +67,9 @@ module _ (l : List ℕ) (i : ℕ) (r : Row) where
 
     put_first : get_or (put_row l i r) (i * width) 0 ≡ r.leave
     unfolding put_row
-    put_first = puts_low others (set l (i * width) r.leave) (i * width) 1 (i * width) (omega arith) ∙ get_or-set_same l (i * width) r.leave 0 (omega arith)
+    put_first =
+        puts_low others (set l (i * width) r.leave) (i * width) 1 (i * width) (omega arith)
+        ∙ get_or-set_same l (i * width) r.leave 0 (omega arith)
 
     put_in : (j : ℕ) → j < 11 → get_or (put_row l i r) (i * width + (1 + j)) 0 ≡ get_or others j 0
     unfolding put_row
@@ -72,8 +78,10 @@ module _ (l : List ℕ) (i : ℕ) (r : Row) where
     pub put-here : row_at (put_row l i r) i ≡ r
     unfolding row_at
     put-here =
-        λ t. row (put_first t) (put_in 0 (omega arith) t) (put_in 1 (omega arith) t) (put_in 2 (omega arith) t) (put_in 3 (omega arith) t) (put_in 4 (omega arith) t)
-        (put_in 5 (omega arith) t) (put_in 6 (omega arith) t) (put_in 7 (omega arith) t) (put_in 8 (omega arith) t) (put_in 9 (omega arith) t) (put_in 10 (omega arith) t)
+        λ t. row (put_first t) (put_in 0 (omega arith) t) (put_in 1 (omega arith) t) (put_in 2 (omega arith) t) (put_in 3 (omega arith) t)
+        (put_in 4 (omega arith) t)
+        (put_in 5 (omega arith) t) (put_in 6 (omega arith) t) (put_in 7 (omega arith) t) (put_in 8 (omega arith) t)
+        (put_in 9 (omega arith) t) (put_in 10 (omega arith) t)
 
 -- a row stored where it stands
 pub put_same : (l : List ℕ) (i : ℕ) → put_row l i (row_at l i) ≡ l
@@ -92,10 +100,13 @@ rows_same l l' f =
 
 pub rows-put : (l : List ℕ) (i : ℕ) (r : Row) → length l ≡ size → i < slots → rows (put_row l i r) ≡ set (rows l) i r
 rows-put l i r long room =
-    ext_get_or no_row (rows (put_row l i r)) (set (rows l) i r) (rows-length (put_row l i r) ∙ sym (length-set (rows l) i r ∙ rows-length l))
-    (λ k h. let h' : k < slots = omega (arith, rows-length (put_row l i r)) in rows_get (put_row l i r) k h' ∙ go k h' (test (ltb k i)) (test (ltb i k)))
+    ext_get_or no_row (rows (put_row l i r)) (set (rows l) i r)
+    (rows-length (put_row l i r) ∙ sym (length-set (rows l) i r ∙ rows-length l))
+    (λ k h. let h' : k < slots = omega (arith, rows-length (put_row l i r)) in rows_get (put_row l i r) k h'
+    ∙ go k h' (test (ltb k i)) (test (ltb i k)))
   where
-    go : (k : ℕ) → k < slots → (ltb k i ≡ true) ⊎ (ltb k i ≡ false) → (ltb i k ≡ true) ⊎ (ltb i k ≡ false) → row_at (put_row l i r) k ≡ get_or (set (rows l) i r) k no_row
+    go : (k : ℕ) → k < slots → (ltb k i ≡ true) ⊎ (ltb k i ≡ false) → (ltb i k ≡ true) ⊎ (ltb i k ≡ false)
+        → row_at (put_row l i r) k ≡ get_or (set (rows l) i r) k no_row
     go k h (inl a) b =
         let n : k ≢ i = λ e. omega (arith, ltb-true k i a) in
         put-below l i r k (ltb-true k i a) ∙ sym (get_or-set_other (rows l) i k r no_row n ∙ rows_get l k h)

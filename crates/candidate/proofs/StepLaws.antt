@@ -34,23 +34,27 @@ module _ (l : List ℕ) (n i : ℕ) (o : Row) (few : n ≤ slots) (lt : i < n) w
       let b : i < length (take n (rows l)) = omega (arith, length-take n (rows l), rows-length l) in
       drop-cons (take n (rows l)) i no_row b ∙ ap (λ (x : Row). x ∷ drop (suc i) (take n (rows l))) (get_or-take n (rows l) i no_row lt)
 
-  near_next : near_at o (drop i (take n (rows l))) ≡ cond (near_to o (get_or (rows l) i no_row)) 0 (suc (near_at o (drop (suc i) (take n (rows l)))))
+  near_next : near_at o (drop i (take n (rows l))) ≡ cond (near_to o (get_or (rows l) i no_row)) 0
+      (suc (near_at o (drop (suc i) (take n (rows l)))))
   unfolding near_at near_to
   near_next = ap (place (λ k. near cov k o)) next
 
   -- a row that is near is the first
-  near-found : (k : Row) → k ≡ get_or (rows l) i no_row → near_to o k ≡ true → Skipped o (take n (rows l)) 0 i → i ≡ near_at o (take n (rows l))
+  near-found : (k : Row) → k ≡ get_or (rows l) i no_row → near_to o k ≡ true → Skipped o (take n (rows l)) 0 i
+      → i ≡ near_at o (take n (rows l))
   near-found k ek t s =
       let y : near_to o (get_or (rows l) i no_row) ≡ true = ap (near_to o) (sym ek) ∙ t in
       let z : near_at o (drop i (take n (rows l))) ≡ 0 = near_next ∙ rw y in
       omega (arith, s.same, z)
 
   -- one that is not is skipped
-  pub skip-turn : (j : ℕ) (k : Row) → k ≡ get_or (rows l) i no_row → near_to o k ≡ false → Skipped o (take n (rows l)) j i → Skipped o (take n (rows l)) j (i + 1)
+  pub skip-turn : (j : ℕ) (k : Row) → k ≡ get_or (rows l) i no_row → near_to o k ≡ false → Skipped o (take n (rows l)) j i
+      → Skipped o (take n (rows l)) j (i + 1)
   skip-turn j k ek f s =
       let y : near_to o (get_or (rows l) i no_row) ≡ false = ap (near_to o) (sym ek) ∙ f in
       let z : near_at o (drop i (take n (rows l))) ≡ suc (near_at o (drop (suc i) (take n (rows l)))) = near_next ∙ rw y in
-      let e : near_at o (drop (i + 1) (take n (rows l))) ≡ near_at o (drop (suc i) (take n (rows l))) = ap (λ (x : ℕ). near_at o (drop x (take n (rows l)))) (add-one i) in
+      let e : near_at o (drop (i + 1) (take n (rows l))) ≡ near_at o (drop (suc i) (take n (rows l))) =
+      ap (λ (x : ℕ). near_at o (drop x (take n (rows l)))) (add-one i) in
       record { same = omega (arith, s.same, z, e); up = omega (arith, s.up) }
 
 near_none : (l : List ℕ) (n i : ℕ) (o : Row) → n ≤ i → Skipped o (take n (rows l)) 0 i → i ≡ near_at o (take n (rows l))
@@ -84,9 +88,17 @@ module _ (l : List ℕ) (n j : ℕ) (o : Row) (few : n ≤ slots) (ej : j ≡ ne
   front-packed : length l ≡ size → Packed (uncovered o) l l j j
   unfolding near_at uncovered
   front-packed long =
-      let f = place-before (λ k. near cov k o) (λ k. not (cov o k)) (λ k e. ap not (or-false-right (cov k o) (cov o k) e)) (take n (rows l)) in
-      let g : take (near_at o (take n (rows l))) (take n (rows l)) ≡ take j (rows l) = ap (λ (i : ℕ). take i (take n (rows l))) (sym ej) ∙ take-take j n (rows l) near_le in
-      record { long = long; list = sym g ∙ sym f ∙ ap (filterb (λ k. not (cov o k))) g; small = omega arith; tail = λ x h. refl; upper = λ k h. refl }
+      let f =
+      place-before (λ k. near cov k o) (λ k. not (cov o k)) (λ k e. ap not (or-false-right (cov k o) (cov o k) e)) (take n (rows l)) in
+      let g : take (near_at o (take n (rows l))) (take n (rows l)) ≡ take j (rows l) =
+      ap (λ (i : ℕ). take i (take n (rows l))) (sym ej) ∙ take-take j n (rows l) near_le in
+      record {
+        long = long;
+        list = sym g ∙ sym f ∙ ap (filterb (λ k. not (cov o k))) g;
+        small = omega arith;
+        tail = λ x h. refl;
+        upper = λ k h. refl;
+      }
 
 -- what is packed from where the walk stops
 pub packs-from : (l : List ℕ) (c j : ℕ) (o : Row) → c ≡ count_of l → j ≡ near_at o (take c (rows l)) → length l ≡ size
@@ -96,7 +108,8 @@ packs-from l c j o ec ej long =
     (front-packed l c j o m ej long, near_le l c j o m ej, m)
 
 -- the walk ends at a row that is near, or behind the last
-pub found_at : (l : List ℕ) (n i : ℕ) (o : Row) → n ≤ slots → i < n → (k : Row) (b : Bool) → k ≡ get_or (rows l) i no_row → b ≡ cov k o → near_to o k ≡ true
+pub found_at : (l : List ℕ) (n i : ℕ) (o : Row) → n ≤ slots → i < n → (k : Row) (b : Bool) → k ≡ get_or (rows l) i no_row → b ≡ cov k o
+    → near_to o k ≡ true
     → Skipped o (take n (rows l)) 0 i → (i ≡ near_at o (take n (rows l))) × (b ≡ passing o (take n (rows l)))
 found_at l n i o few lt k b ek eb t s = let e = near-found l n i o few lt k ek t s in (e, passed-at l n i o few e lt k b ek eb)
 
@@ -112,9 +125,11 @@ unfolding latest_due due
 latest-turn l m m' i k h ek em inv =
     let b : i < length (rows l) = omega (arith, rows-length l) in
     let e : drop i (rows l) ≡ get_or (rows l) i no_row ∷ drop (suc i) (rows l) = drop-cons (rows l) i no_row b in
-    let f : latest due (drop i (rows l)) ≡ max (get_or (rows l) i no_row).arrival (latest due (drop (suc i) (rows l))) = ap (latest due) e in
+    let f : latest due (drop i (rows l)) ≡ max (get_or (rows l) i no_row).arrival (latest due (drop (suc i) (rows l))) =
+    ap (latest due) e in
     let g : k.arrival ≡ (get_or (rows l) i no_row).arrival = ap (λ (x : Row). x.arrival) ek in
-    let s : latest due (drop (i + 1) (rows l)) ≡ latest due (drop (suc i) (rows l)) = ap (λ (j : ℕ). latest due (drop j (rows l))) (add-one i) in
+    let s : latest due (drop (i + 1) (rows l)) ≡ latest due (drop (suc i) (rows l)) =
+    ap (λ (j : ℕ). latest due (drop j (rows l))) (add-one i) in
     omega (arith, inv, f, g, s, em)
 
 pub latest-done : (l : List ℕ) (m i : ℕ) → slots ≤ i → max m (latest_due (drop i (rows l))) ≡ latest_due (rows l) → m ≡ latest_due (rows l)
@@ -167,14 +182,16 @@ module _ (p : Row → Bool) (l m : List ℕ) (i n : ℕ) (h : i < slots) (s : Pa
       record {
         long = s.long;
         list =
-            s.list ∙ sym (append-nil (filterb p (take i (rows l)))) ∙ ap (λ (ys : List Row). filterb p (take i (rows l)) ++ ys) (sym none) ∙ sym more;
+            s.list ∙ sym (append-nil (filterb p (take i (rows l)))) ∙ ap (λ (ys : List Row). filterb p (take i (rows l)) ++ ys) (sym none)
+            ∙ sym more;
         small = omega (arith, s.small);
         tail = s.tail;
         upper = λ k b. s.upper k (omega arith);
       }
 
 -- by what a test answers of the row looked at
-module _ (p : Row → Bool) (l m m' : List ℕ) (i n : ℕ) (h : i < slots) (k : Row) {b : Bool} (ek : k ≡ get_or (rows m) i no_row) (eb : b ≡ p k) (s : Packed p l m i n) where
+module _ (p : Row → Bool) (l m m' : List ℕ) (i n : ℕ) (h : i < slots) (k : Row) {b : Bool} (ek : k ≡ get_or (rows m) i no_row)
+    (eb : b ≡ p k) (s : Packed p l m i n) where
   at_row : k ≡ row_at m i
   at_row = row-got m i k h ek
 

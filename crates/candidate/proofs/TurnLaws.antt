@@ -64,7 +64,8 @@ module _ (l : List ℕ) (at i c : ℕ) (o : Row) (le : i ≤ c) (e : at ≡ i * 
     row-covers : o.leave ≤ get_or l at 0 → b ≡ cov (row_at l i) o
     unfolding row_at
     row-covers h =
-        let f : b ≡ rank_by (get_or l (i * width + 1) 0) (get_or l (i * width + 2) 0) (get_or l (i * width + 3) 0) o.arrival o.rides o.walk =
+        let f : b ≡ rank_by (get_or l (i * width + 1) 0) (get_or l (i * width + 2) 0)
+        (get_or l (i * width + 3) 0) o.arrival o.rides o.walk =
         rw e at er in
         f ∙ sym (cov-rank (row_at l i) o (rw row-leaves h))
 
@@ -86,7 +87,8 @@ module _ (l : List ℕ) (at i c : ℕ) (o : Row) (le : i ≤ c) (e : at ≡ i * 
     offer-covers : get_or l at 0 ≤ o.leave → b ≡ cov o (row_at l i)
     unfolding row_at
     offer-covers h =
-        let f : b ≡ rank_by o.arrival o.rides o.walk (get_or l (i * width + 1) 0) (get_or l (i * width + 2) 0) (get_or l (i * width + 3) 0) =
+        let f : b ≡ rank_by o.arrival o.rides o.walk (get_or l (i * width + 1) 0) (get_or l (i * width + 2) 0)
+        (get_or l (i * width + 3) 0) =
         rw e at er in
         f ∙ sym (cov-rank o (row_at l i) (rw row-leaves h))
 
@@ -120,7 +122,8 @@ module _ (i c : ℕ) (o k : Row) {t : Turn} (e : t ≡ turn_of i c o k) where
   unfolding turn_of near_to
   turn_on q = go (ltb i c) refl (cov k o) refl (cov o k) refl (sym q ∙ e)
     where
-      go : (x : Bool) → ltb i c ≡ x → (y : Bool) → cov k o ≡ y → (z : Bool) → cov o k ≡ z → On ≡ cond x (cond y Covered (cond z Stops On)) Stops
+      go : (x : Bool) → ltb i c ≡ x → (y : Bool) → cov k o ≡ y → (z : Bool) → cov o k ≡ z
+          → On ≡ cond x (cond y Covered (cond z Stops On)) Stops
           → (i < c) × (near_to o k ≡ false)
       go true a true b z d w = absurd (On≢Covered w)
       go true a false b true d w = absurd (On≢Stops w)
@@ -142,7 +145,8 @@ module _ (i c : ℕ) (o k : Row) {t : Turn} (e : t ≡ turn_of i c o k) where
   unfolding turn_of near_to
   turn-stops q = go (ltb i c) refl (cov k o) refl (cov o k) refl (sym q ∙ e)
     where
-      go : (x : Bool) → ltb i c ≡ x → (y : Bool) → cov k o ≡ y → (z : Bool) → cov o k ≡ z → Stops ≡ cond x (cond y Covered (cond z Stops On)) Stops
+      go : (x : Bool) → ltb i c ≡ x → (y : Bool) → cov k o ≡ y → (z : Bool) → cov o k ≡ z
+          → Stops ≡ cond x (cond y Covered (cond z Stops On)) Stops
           → (c ≤ i) ⊎ ((i < c) × (cov k o ≡ false) × (near_to o k ≡ true))
       go true a true b z d w = absurd (Covered≢Stops (sym w))
       go true a false b true d w = inr (ltb-true i c a, b, rw (b, d))
@@ -175,7 +179,8 @@ end-ok o ks {r} {n} e q = go (passing o ks) (sym q ∙ e)
     go true w = (refl, ap number w)
     go false w = absurd (true≢false (ap is_ok w))
 
-pub end-err : (o : Row) (ks : List Row) {r : Result ℕ ℕ} {n : ℕ} → r ≡ walk_end o ks → r ≡ Err n → (false ≡ passing o ks) × (n ≡ near_at o ks * width)
+pub end-err : (o : Row) (ks : List Row) {r : Result ℕ ℕ} {n : ℕ} → r ≡ walk_end o ks → r ≡ Err n
+    → (false ≡ passing o ks) × (n ≡ near_at o ks * width)
 unfolding walk_end
 end-err o ks {r} {n} e q = go (passing o ks) (sym q ∙ e)
   where
@@ -201,7 +206,9 @@ module _ (l : List ℕ) (c i : ℕ) (o : Row) (few : c ≤ 64) {t : Turn} (e : t
   pub walk-covered : t ≡ Covered → Ok i ≡ walk_end o (take c (rows l))
   walk-covered q =
       let (lt, f) = turn-covered i c o (row_at l i) e q in
-      ended-ok o (take c (rows l)) i (found_at l c i o (omega arith) lt (row_at l i) true (sym (rows_get l i (omega arith))) (sym f) (near-covering (row_at l i) o f) s)
+      ended-ok o (take c (rows l)) i
+      (found_at l c i o (omega arith) lt (row_at l i) true (sym (rows_get l i (omega arith))) (sym f)
+      (near-covering (row_at l i) o f) s)
 
   pub walk-stops : (at : ℕ) → t ≡ Stops → at ≡ i * width → Err at ≡ walk_end o (take c (rows l))
   walk-stops at q a = ended-err o (take c (rows l)) i at a (go (turn-stops i c o (row_at l i) e q))

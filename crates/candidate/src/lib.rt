@@ -17,7 +17,8 @@ use profile::{Row, no_row};
 use state::layout::{COUNT, HORIZON, LIMITS, REFUSED, SLOTS, State, WIDTH};
 use state::{count, horizon, row_at, too_late};
 
-// Stores a row in slot i.
+// Stores a row in slot i. That there is such a slot is asked, here, in `store` and in `state: slot_at`: a place read from a type would be
+// opened at every use.
 fn put_row(st: &mut State, i: usize, r: Row)
     requires { i < slots }
     ensures { st.new ≡ stored st.old i r }
@@ -75,8 +76,8 @@ fn latest(st: &State) -> u16
     m
 }
 
-// The horizon falls to h, and of the 65 rows those due later go. That the search is open each function asks for itself: `candidate` tests
-// it first, and the state is an array that C lends, which holds no fact.
+// The horizon falls to h, and of the 65 rows those due later go. That the search is open each function asks for itself: no type holds it,
+// since `overflow` may refuse the search in the midst.
 fn fall(st: &mut State, h: u16)
     requires { Open st.old × (3600 ≤ h) × (latest_due (rows st.old) ≡ h + 1) }
     ensures { view st.new ≡ settled st.old (rows st.old) }
@@ -129,8 +130,8 @@ fn walked(st: &mut State, c: usize, o: Row) -> usize
     }
 }
 
-// Marks the end of the c kept rows for a walk: the slot behind them leaves when o does. That c is at most 64 is asked, here and in the
-// walk, for the place behind the rows.
+// Marks the end of the c kept rows for a walk: the slot behind them leaves when o does. `count` is read once for an offer; that c is at
+// most 64 each function asks, as a type would be opened at every use.
 fn mark(st: &mut State, c: usize, leave: u16)
     requires { c ≤ 64 }
     ensures { st.new ≡ set st.old (c * width) leave }

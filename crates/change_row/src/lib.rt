@@ -27,10 +27,7 @@ fn slot_of(to: u16) -> usize
 fn is_from(rule: Option<Rule>, from: u16) -> bool
     ensures { result ≡ is_from from rule }
 {
-    match rule {
-        Some(rule) => rule.from == from,
-        None => false,
-    }
+    rule.is_some_and(|rule| rule.from == from)
 }
 
 // One more rule. In its slot one from the stop itself comes before one from its parent, and of equals the later.

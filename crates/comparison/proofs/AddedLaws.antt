@@ -18,7 +18,7 @@ use Rattle.settings.specs.declared.Settings.{Settings}
 use Rattle.settings.specs.Settings.{canonical_of}
 use Rattle.calls.specs.declared.CallInput.{CallInput}
 use Rattle.calls.specs.declared.Call.{Call}
-use Rattle.calls.specs.declared.Fitted.{Fitted}
+use Rattle.calls.specs.Tried.{Tried}
 use Rattle.calls.specs.declared.Table.{Table}
 use Rattle.calls.specs.Calls.{known, un_timed, reversed, time_tests, call_time, call_fit}
 use Rattle.calls.specs.Tables.{put}
@@ -123,7 +123,7 @@ module _ (s : Settings) (o : Opened s) (l u : Load) (gs fs : List Filling) (w : 
 
   height-is : height ≡ r.horizon
   unfolding call_fit
-  height-is = ap (λ (f : Fitted). f.table.horizon) (fitted-reached (table_of u) ta td i) ∙ either-height (is_taken (first_answer (reached_tests r ta td))) r (seen_call r.horizon ta td i)
+  height-is = ap (λ (f : Tried). f.table.horizon) (fitted-reached (table_of u) ta td i) ∙ either-height (is_taken (first_answer (reached_tests r ta td))) r (seen_call r.horizon ta td i)
 
   start-made : Start s (call_spec u name i).load (gs ++ given u (call name i))
   start-made = fill_start s u (call name i) gs w

@@ -18,7 +18,7 @@ use Rattle.refusal.specs.First.{first_answer, Answer}
 use Rattle.settings.specs.declared.Settings.{Settings}
 use Rattle.settings.specs.Settings.{canonical_of}
 use Rattle.calls.specs.declared.CallInput.{CallInput}
-use Rattle.calls.specs.declared.Fitted.{Fitted}
+use Rattle.calls.specs.Tried.{Tried}
 use Rattle.calls.specs.declared.Table.{Table}
 use Rattle.calls.specs.Windows as windows
 use Rattle.calls.specs.Calls.{known, un_timed, reversed, time_tests, call_time, call_fit}
@@ -167,7 +167,7 @@ module _ (s : Settings) (l : Load) (fs : List Filling) (w : Start s l fs) (o : O
 
   fit-answer : (call_fit z t i).answer ≡ two out filled
   unfolding call_fit
-  fit-answer = ap (λ (f : Fitted). f.answer) (fitted-reached t a d i)
+  fit-answer = ap (λ (f : Tried). f.answer) (fitted-reached t a d i)
 
   module _ (present : un_timed i ≡ false) (day : i.day ≤ 2) where
     pub fitting : Fits s (calls_in fs) i t.horizon t.limits (two out filled) (call_fit z t i).table.horizon (call_fit z t i).table.limits

@@ -15,7 +15,7 @@ use Rattle.settings.specs.Settings.{canonical_of}
 use Rattle.calls.specs.declared.CallInput.{CallInput}
 use Rattle.calls.specs.declared.Call.{Call}
 use Rattle.calls.specs.Calls.{window}
-use Rattle.withdrawal.specs.declared.CallKey.{CallKey}
+use Rattle.calls.specs.declared.CallKey.{CallKey}
 use Rattle.withdrawal.specs.Removal.{without_last, has_key, key_known, shown_key, named_in, LastGoes}
 use Rattle.withdrawal.proofs.LeftLaws.{goes, none-gone}
 use Rattle.load.specs.Filling.{Filling, stop, call, rule, service, exception}

@@ -14,7 +14,7 @@ use Rattle.settings.specs.Settings.{canonical_of}
 use Rattle.calls.specs.declared.CallInput.{CallInput}
 use Rattle.calls.specs.declared.Call.{Call}
 use Rattle.calls.specs.declared.Table.{Table}
-use Rattle.calls.specs.declared.Fitted.{Fitted}
+use Rattle.calls.specs.Tried.{Tried}
 use Rattle.calls.specs.Windows.{seen}
 use Rattle.calls.specs.Tables.{cut}
 use Rattle.calls.specs.Calls.{un_timed, call_tests, call_time, window, call_fit, goes_on_of, call_on}
@@ -92,7 +92,7 @@ module _ (s : Settings) (o : Opened s) (is : List CallInput) (days : (j : CallIn
         on = λ x g n k. w.on x g n (cuts.cut (seen-so t c e) (table-shown t w.showing) (omega (arith, table-long t w.showing, f)) l k);
       }
 
-      ends-fits : (h m : ℕ) (f : Fitted) → Ends (Came h m) a d i f → Fits s is i h m f.answer f.table.horizon f.table.limits
+      ends-fits : (h m : ℕ) (f : Tried) → Ends (Came h m) a d i f → Fits s is i h m f.answer f.table.horizon f.table.limits
       ends-fits h m _ (stands t p e) = p.on (Ok Outside) t.horizon t.limits (cuts.outside (unseen s o t.horizon i day (seen-window t.horizon None e)))
       ends-fits h m _ (enters t c p e r) = p.on (Ok Taken) t.horizon t.limits (cuts.room (seen-so t c e) (table-shown t p.showing) (omega (arith, table-long t p.showing, r)))
       ends-fits h m _ (turned t c p e r l) =

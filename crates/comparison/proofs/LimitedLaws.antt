@@ -27,10 +27,9 @@ use Rattle.load.specs.Steps.{Opening}
 use Rattle.load.specs.Sound.{Opens, Sound}
 use Rattle.best.specs.Best.{answer_of, best_spec, kept_of}
 use Rattle.margin.specs.Stopped.{margin_from, margin_spec}
-use Rattle.search.specs.declared.Limited.{Limited}
 use Rattle.search.specs.Timetable.{timetable_of}
 use Rattle.search.specs.Search.{with_found, with_journeys, search_spec}
-use Rattle.search.specs.Within.{outcome_within, finishes_in, within_found, within_spec}
+use Rattle.search.specs.Within.{Answered, outcome_within, finishes_in, within_found, within_spec}
 use Rattle.search.proofs.WithinLaws.{FoundIn, taken-within, within-taken, within-sound, finished-is-search}
 use Rattle.again.specs.Again.{unsearched_of}
 use Rattle.again.specs.Claims.{Kept}
@@ -106,7 +105,7 @@ module _ (l : Load) (n : ℕ) (s : Sound l) (t : (within_spec l n).answer ≡ Ok
   w = taken-within l n (ap is_taken t)
 
   load_is : within_found l n w.kept w.to w.mark ≡ (within_spec l n).load
-  load_is = ap (λ (r : Limited). r.load) (sym w.is)
+  load_is = ap (λ (r : Answered). r.load) (sym w.is)
 
   kept-is : (b : Bool) → kept_of (cond b (with_journeys l w.kept w.to w.mark) (with_found l w.kept w.to w.mark (Some n))) ≡ w.kept
   kept-is true = found-kept l w.kept w.to w.mark None

@@ -29,9 +29,8 @@ use Rattle.load.specs.declared.Stepped.{Stepped}
 use Rattle.load.specs.Steps.{Opening}
 use Rattle.best.specs.Best.{kept_of}
 use Rattle.search.specs.Timetable.{timetable_of}
-use Rattle.search.specs.declared.Limited.{Limited}
 use Rattle.search.specs.Search.{with_found, search_spec}
-use Rattle.search.specs.Within.{outcome_within}
+use Rattle.search.specs.Within.{Answered, outcome_within}
 use Rattle.search.proofs.WithinLaws.{FoundIn, taken-within, within-clear}
 use Rattle.limited.specs.Limited.{offers_within}
 use Rattle.limited.proofs.LimitLaws.{within-by-offers, within-offer}
@@ -89,10 +88,10 @@ own-found l k d b =
 -- of a load that was stopped at the limit n
 module _ (l : Load) (k : Kept l) (n : ℕ) (e : l.limit ≡ Some n) where
   w : FoundIn (unsearched_of l) n
-  w = taken-within (unsearched_of l) n (ap (λ (r : Limited). is_taken r.answer) (own-stopped l k n e).is)
+  w = taken-within (unsearched_of l) n (ap (λ (r : Answered). is_taken r.answer) (own-stopped l k n e).is)
 
   load_is : with_found (unsearched_of l) w.kept w.to w.mark (Some n) ≡ l
-  load_is = sym (ap (λ (r : Limited). r.load) w.is ∙ cond-not _ _ (own-unfinished l k.sound (k.own (k.sound.stopped_search (ap is_some e))) n e)) ∙ ap (λ (r : Limited). r.load) (own-stopped l k n e).is
+  load_is = sym (ap (λ (r : Answered). r.load) w.is ∙ cond-not _ _ (own-unfinished l k.sound (k.own (k.sound.stopped_search (ap is_some e))) n e)) ∙ ap (λ (r : Answered). r.load) (own-stopped l k n e).is
 
   pub outcome-is : outcome_within (unsearched_of l) n ≡ found (kept_of l) l.horizon l.limits
   outcome-is =

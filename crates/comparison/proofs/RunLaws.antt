@@ -20,7 +20,7 @@ use Rattle.stops.specs.Taken.{stop_of}
 use Rattle.calls.specs.declared.CallInput.{CallInput}
 use Rattle.rules.specs.declared.Rule.{Rule}
 use Rattle.rules.specs.Rules.{rule_tests}
-use Rattle.withdrawal.specs.declared.CallKey.{CallKey}
+use Rattle.calls.specs.declared.CallKey.{CallKey}
 use Rattle.withdrawal.specs.Removal.{without_last}
 use Rattle.load.specs.declared.Load.{Load}
 use Rattle.load.specs.declared.Stepped.{Stepped}
@@ -33,8 +33,7 @@ use Rattle.laws.proofs.Sort.{perm-mem}
 use Rattle.services.specs.Exceptions.{days_on, excepted_of}
 use Rattle.week.specs.Weeks.{undated_week, dated_week, service_of, with_services, service_tests, service_answer, service_on, exception_tests, exception_answer, place_in, service_in, exception_on}
 use Rattle.search.specs.Search.{search_spec}
-use Rattle.search.specs.declared.Limited.{Limited}
-use Rattle.search.specs.Within.{within_spec}
+use Rattle.search.specs.Within.{Answered, within_spec}
 use Rattle.search.proofs.WithinLaws.{within-again}
 use Rattle.again.specs.Again.{unsearched_of, add_spec_of, taken_out, withdraw_spec}
 use Rattle.again.specs.Claims.{Kept}
@@ -279,7 +278,7 @@ module _ (s : Settings) (o : Opened s) (l : Load) (fs : List Filling) (v : Stand
   done-step (limited n) =
       let a : (within_spec l n).answer ≡ Err AlreadySearched = first_holds (step-answered l (limited n)).first e in
       left_step (limited n) (inl (e, a))
-      (subst (λ (m : Load). Leaves s l fs (limited n) (within_spec l n).answer m fs) (sym (ap (λ (r : Limited). r.load) (within-again l n e)))
+      (subst (λ (m : Load). Leaves s l fs (limited n) (within_spec l n).answer m fs) (sym (ap (λ (r : Answered). r.load) (within-again l n e)))
       (subst (λ (y : Answer). Leaves s l fs (limited n) y l fs) (sym a) (stays-so s l fs (limited n) AlreadySearched e w)))
 
 -- ---- the whole list

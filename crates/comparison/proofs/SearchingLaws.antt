@@ -30,8 +30,7 @@ use Rattle.load.specs.Filling.{Filling}
 use Rattle.search.specs.Timetable.{timetable_of}
 use Rattle.search.specs.Search as search
 use Rattle.search.specs.Search.{with_found, with_journeys, search_spec, is_never, would_fall}
-use Rattle.search.specs.declared.Limited.{Limited}
-use Rattle.search.specs.Within.{finishes_in, within_spec, would_fall_within, within_causes}
+use Rattle.search.specs.Within.{Answered, finishes_in, within_spec, would_fall_within, within_causes}
 use Rattle.search.proofs.RunLaws.{taken-found}
 use Rattle.search.proofs.WithinLaws.{FoundIn, taken-within}
 use Rattle.again.specs.Again.{researched}
@@ -213,7 +212,7 @@ module _ (limit : Option ℕ) (m : Load) (t : is_taken (researched limit m).answ
 
 -- a search within the limit n
 pub limit-within : (n : ℕ) (m : Load) → is_taken (within_spec m n).answer ≡ true → (within_spec m n).load.limit ≡ cond (finishes_in m n) None (Some n)
-limit-within n m t = ap (λ (w : Limited). w.load.limit) (taken-within m n t).is ∙ go (finishes_in m n) refl
+limit-within n m t = ap (λ (w : Answered). w.load.limit) (taken-within m n t).is ∙ go (finishes_in m n) refl
   where
     f : FoundIn m n
     f = taken-within m n t

@@ -17,7 +17,7 @@ use Rattle.load.specs.declared.Load.{Load}
 use Rattle.best.specs.Best.{kept_of}
 use Rattle.groups.specs.Groups.{group_of, group_at, start_or, lowest_start}
 use Rattle.groups.specs.Refused.{unlike, is_wrong, twice, turned_away}
-use Rattle.display.specs.Parts.{count_in}
+use Rattle.display.specs.Parts.{shows, count_in}
 use Rattle.display.specs.Display.{counts, share_of, display_of, part_of}
 use Rattle.display.proofs.PromiseLaws.{refused-alone}
 use Rattle.steps.specs.Lists.{end_of}
@@ -43,7 +43,7 @@ unfolding count_in group_at
 least l = (shares-right (counts (group_of 0 l ∷ [])) (omega arith)).least 0
 
 -- a searched load with 16 journeys or fewer, alone, has a display
-one-shown : (l : Load) → l.searched ≡ true → length (kept_of l) ≤ 16 → (part_of (display_of (group_of 0 l ∷ [])) 0).shows ≡ true
+one-shown : (l : Load) → l.searched ≡ true → length (kept_of l) ≤ 16 → shows (part_of (display_of (group_of 0 l ∷ [])) 0) ≡ true
 one-shown l e f =
     (refused-alone (group_of 0 l ∷ []) (group_of 0 l) (record { stands = one-stands l e; given = Memᴰ.head refl })).1 (λ (a, b). omega (arith, least l))
 

@@ -23,7 +23,7 @@ use Rattle.refusal.proofs.FirstLaws.{taken_is, answer-is-first, first_taken}
 use Rattle.settings.specs.declared.Settings.{Settings}
 use Rattle.calls.specs.declared.CallInput.{CallInput}
 use Rattle.calls.specs.declared.Table.{Table}
-use Rattle.calls.specs.declared.Fitted.{Fitted}
+use Rattle.calls.specs.Tried.{Tried}
 use Rattle.calls.specs.Calls.{known, un_timed, reversed, call_tests, goes_on_of, call_on}
 use Rattle.calls.specs.Shown.{windowed, table_calls, Shows, taken_of}
 use Rattle.calls.proofs.SoundLaws.{call-tests-fail}
@@ -289,7 +289,7 @@ module _ (l : Load) (fs : List Filling) (sound : Sound l) (w : Held l fs) where
   -- ---- a call
 
   module _ (name : List ℕ) (i : CallInput) where
-    abbrev fit : Fitted
+    abbrev fit : Tried
     fit = call_fitted l i
 
     abbrev cs : List Filling

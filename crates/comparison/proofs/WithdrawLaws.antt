@@ -23,7 +23,7 @@ use Rattle.load.specs.declared.Stepped.{Stepped}
 use Rattle.load.specs.Load.{table_of, with_table, stopped}
 use Rattle.load.specs.Filling.{Filling}
 use Rattle.load.specs.Sound.{Sound}
-use Rattle.withdrawal.specs.declared.CallKey.{CallKey}
+use Rattle.calls.specs.declared.CallKey.{CallKey}
 use Rattle.withdrawal.specs.Removal.{without_last, has_key, key_known, withdrawn, named_in}
 use Rattle.withdrawal.proofs.LeftLaws.{withdrawn-leaves}
 use Rattle.withdrawal.proofs.ShownLaws.{any-shown, shown-without}

@@ -6,7 +6,7 @@ use Rattle.std.specs.Prelude.{◌≡◌, ◌↔◌, true, List, [], ◌∷◌, �
 use Rattle.refusal.specs.declared.Refusal.TheVariants.{Neighbours, AlreadySearched, CallUnknown}
 use Rattle.settings.specs.declared.Settings.{Settings}
 use Rattle.calls.specs.declared.CallInput.{CallInput}
-use Rattle.withdrawal.specs.declared.CallKey.{CallKey}
+use Rattle.calls.specs.declared.CallKey.{CallKey}
 use Rattle.withdrawal.specs.Removal.{key_of}
 use Rattle.load.specs.Steps.{Opening}
 use Rattle.load.specs.Filling.{call}

@@ -19,7 +19,7 @@ use Rattle.stops.specs.declared.StopInput.{StopInput}
 use Rattle.stops.specs.Answer.{unusable}
 use Rattle.calls.specs.declared.CallInput.{CallInput}
 use Rattle.calls.specs.declared.Call.{Call}
-use Rattle.withdrawal.specs.declared.CallKey.{CallKey}
+use Rattle.calls.specs.declared.CallKey.{CallKey}
 use Rattle.rules.specs.declared.Rule.{Rule}
 use Rattle.profile.specs.declared.Journey.{Journey}
 use Rattle.load.specs.Steps.{Opening}

@@ -9,6 +9,7 @@ use Rattle.load.specs.Sound.{Opens}
 use Rattle.best.specs.Best.{answer_of}
 use Rattle.groups.specs.declared.Group.{Group}
 use Rattle.groups.specs.Groups.{group_of}
+use Rattle.display.specs.Parts.{shows, window_to}
 use Rattle.display.specs.Display.{display_of, part_of}
 use Rattle.display.specs.Queries.{best_of_group}
 use Rattle.display.specs.Promises.{read_none_of}
@@ -21,10 +22,10 @@ use Rattle.comparison.specs.Demands.{answer, Second, Alike, MatchedBy, Earlier}
 -- of the groups gs, group n is the load that the list of steps leaves, and has a display
 pub record Displayed (gs : List Group) (n : ℕ) (s : Opening) (xs : List Step) : Type 0 where
   pub given : Memᴰ (group_of n (end_of s xs)) gs
-  pub shows : (part_of (display_of gs) n).shows ≡ true
+  pub shows : shows (part_of (display_of gs) n) ≡ true
 
 abbrev pub window_in : List Group → ℕ → ℕ
-window_in gs n = (part_of (display_of gs) n).window
+window_in gs n = window_to (part_of (display_of gs) n)
 
 -- what the program's best by group answers
 abbrev pub answer_in : List Group → ℕ → Opening → List Step → ℤ → Option Journey

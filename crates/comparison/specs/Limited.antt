@@ -11,10 +11,9 @@ use Rattle.load.specs.declared.Load.{Load}
 use Rattle.load.specs.Steps.{Opening}
 use Rattle.load.specs.Sound.{Opens}
 use Rattle.best.specs.Best.{answer_of, best_spec}
-use Rattle.search.specs.declared.Limited.{Limited}
 use Rattle.margin.specs.Stopped.{margin_spec}
 use Rattle.search.specs.Search.{search_spec}
-use Rattle.search.specs.Within.{within_spec}
+use Rattle.search.specs.Within.{Answered, within_spec}
 use Rattle.again.specs.Again.{unsearched_of}
 use Rattle.steps.specs.Steps.{Step}
 use Rattle.steps.specs.Lists.{end_of}
@@ -36,7 +35,7 @@ pub record NoLater (l : Load) (j : Journey) : Type 0 where
   pub no_later : j'.arrival ≤ j.arrival
 
 -- a limited search of the load that a list of steps leaves
-abbrev pub limited_by : Opening → List Step → ℕ → Limited
+abbrev pub limited_by : Opening → List Step → ℕ → Answered
 limited_by o xs n = within_spec (end_of o xs) n
 
 -- "A stopped answer for second 0 also gives a margin: its arrival less the earliest arrival, walk included, of any ride in the table at a target,

@@ -8,7 +8,7 @@ use Rattle.refusal.specs.declared.Refusal.{Refusal}
 use Rattle.settings.specs.declared.Settings.{Settings}
 use Rattle.stops.specs.declared.StopInput.{StopInput}
 use Rattle.calls.specs.declared.CallInput.{CallInput}
-use Rattle.withdrawal.specs.declared.CallKey.{CallKey}
+use Rattle.calls.specs.declared.CallKey.{CallKey}
 use Rattle.rules.specs.declared.Rule.{Rule}
 use Rattle.profile.specs.declared.Journey.{Journey}
 use Rattle.load.specs.Steps.{Opening}

@@ -5,7 +5,7 @@ use mathlib.Core.List.{List, ◌∷◌, ◌++◌, Memᴰ}
 use Rattle.settings.specs.declared.Settings.{Settings}
 use Rattle.calls.specs.declared.CallInput.{CallInput}
 use Rattle.calls.specs.declared.Call.{Call}
-use Rattle.withdrawal.specs.declared.CallKey.{CallKey}
+use Rattle.calls.specs.declared.CallKey.{CallKey}
 use Rattle.load.specs.Filling.{Filling, call}
 use Rattle.comparison.specs.Taken.{calls_in, State, keeping}
 use Rattle.comparison.specs.Window.{Seen}

@@ -9,7 +9,7 @@ use Rattle.std.specs.Prelude.{None, Option, Some}
 use Rattle.laws.proofs.Bools.{cond-by, cond-not}
 use Rattle.calls.specs.declared.Call.{Call}
 use Rattle.calls.specs.Tables.{blank_call}
-use Rattle.withdrawal.specs.declared.CallKey.{CallKey}
+use Rattle.calls.specs.declared.CallKey.{CallKey}
 use Rattle.withdrawal.specs.Removal.{counted, last_of, has_key}
 use Rattle.withdrawal.proofs.RemovalLaws.{last-below}
 use Rattle.connection.specs.Find.{find_in}

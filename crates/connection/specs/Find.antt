@@ -2,7 +2,7 @@
 use Rattle.std.specs.Prelude.{cond, List, ℕ, ◌-◌, eqb, get_or, None, Option, Some, unwrap_or}
 use Rattle.calls.specs.declared.Call.{Call}
 use Rattle.calls.specs.Tables.{blank_call}
-use Rattle.withdrawal.specs.declared.CallKey.{CallKey}
+use Rattle.calls.specs.declared.CallKey.{CallKey}
 use Rattle.withdrawal.specs.Removal.{last_of, has_key}
 use Rattle.connection.specs.declared.Leg.{Leg}
 use Rattle.connection.specs.declared.FoundLeg.{FoundLeg}

@@ -10,7 +10,7 @@ ghost use Rattle.connection.specs.Changes.{in_reach, forbids, number_in, pair_te
 use crate::tests::first_of;
 use crate::{Cause, FoundLeg};
 use calls::Call;
-use rules::Rule;
+use rules::{Rule, same_pair};
 use transfer::Transfers;
 
 // A change from the ride that boards and alights at the first two calls to one that boards at the third.
@@ -22,7 +22,7 @@ struct Change {
 }
 
 impl Change {
-    // Whether it is to the trip and day that one comes by.
+    // Whether it is to the trip and day that one comes by. Trip and day one by one: `feed` compares them for its own record of a call.
     fn is_within_a_run(&self) -> bool
         ensures { result ≡ same_run self.now.board self.now.next }
     {
@@ -41,21 +41,17 @@ fn in_reach(from: u16, to: u16) -> bool
 fn pair_place(rules: &[Rule], from: u16, to: u16) -> Option<usize>
     ensures { counted result ≡ last_of (same_pair from to) rules.now }
 {
-    let mut from_last = rules.iter().rev();
-    let behind = from_last.position(|rule| rule.from == from && rule.to == to)?;
-    Some(rules.len() - 1 - behind)
+    rules.iter().rposition(|&rule| same_pair(rule, from, to))
 }
 
 fn forbids_rule(rule: Option<Rule>) -> bool
     ensures { result ≡ forbids rule }
 {
-    match rule {
-        Some(by) => by.transfer_type == 3,
-        None => false,
-    }
+    rule.is_some_and(|by| by.transfer_type == 3)
 }
 
-// The number of a rule that was chosen among these; 0 where none was, and then not read: only `Forbidden` has it, where there is a rule.
+// The number of a rule that was chosen among these; 0 where none was, which is then not read. No option, alone or with the rule:
+// `pair_cause` makes the cause `Forbidden` before it is known whether it holds, and would unwrap the option to 0 all the same.
 fn rule_number(rules: &[Rule], rule: Option<Rule>) -> usize
     ensures { result ≡ number_in rules.now rule }
 {

@@ -31,10 +31,7 @@ pub fn is_member(count: u8, k: u8, m: u8) -> bool
 pub fn members_at(stops: &[Stop], k: u16) -> u8
     ensures { result ≡ (stop_at stops.now k).members }
 {
-    match stops.get(usize::from(k)) {
-        Some(stop) => stop.members,
-        None => 0,
-    }
+    stops.get(usize::from(k)).map_or(0, |stop| stop.members)
 }
 
 // The minutes of the walk of a number, 0 past the last.

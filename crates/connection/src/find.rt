@@ -3,8 +3,8 @@ ghost use Rattle.std.specs.Prelude.{◌≡◌};
 ghost use Rattle.connection.specs.Find.{key_of, boards, alights, find_in, find_leg, way_of};
 
 use crate::{FoundLeg, Leg, Way};
-use calls::{Call, blank_call};
-use withdrawal::{CallKey, last_of};
+use calls::{Call, CallKey, blank_call};
+use withdrawal::last_of;
 
 impl Leg {
     // What its call of a sequence is found by.

@@ -63,7 +63,7 @@ pub struct FoundLeg {
     pub alight: Option<Call>,
 }
 
-// Those of three legs.
+// Those of three legs. No array, as it is read by how many rides there are: that may be any number, and the match on it would stay.
 #[derive(Clone, Copy, Debug, PartialEq, Eq)]
 pub struct Way {
     pub first: FoundLeg,

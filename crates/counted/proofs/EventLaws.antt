@@ -6,7 +6,8 @@ use mathlib.Core.List.{List, [], ◌∷◌, ◌++◌, map}
 use Prim.Native.Nat.{ℕ, zero, suc, ◌-◌, ◌≤◌, min}
 use native.Mathlib.Omega.{arith}
 use Rattle.laws.specs.Lists.{concat_map}
-use Rattle.counted.specs.Events.{Event, tested, offered, joins_of, offers_of, joins_in, up_to, past, finished, Stops, StopsAtJoin, CountIs, FinishedIf, FinishedIsAll, GoesOn}
+use Rattle.counted.specs.Events.{Event, tested, offered, joins_of, offers_of, joins_in, up_to, past, finished, Stops, StopsAtJoin, CountIs}
+use Rattle.counted.specs.Events.{FinishedIf, FinishedIsAll, GoesOn}
 
 pub offers-offered : (J : Type 0) {A : Type 0} (os : List A) → offers_of (map {B = Event J A} offered os) ≡ os
 offers-offered J [] = refl
@@ -29,7 +30,8 @@ module _ {J A : Type 0} where
   joins-offered [] = refl
   joins-offered (a ∷ os) = joins-offered os
 
-  pub offers-flat : {B : Type 0} (g : B → List (Event J A)) (xs : List B) → offers_of (concat_map g xs) ≡ concat_map (λ x. offers_of (g x)) xs
+  pub offers-flat : {B : Type 0} (g : B → List (Event J A)) (xs : List B)
+      → offers_of (concat_map g xs) ≡ concat_map (λ x. offers_of (g x)) xs
   offers-flat g [] = refl
   offers-flat g (x ∷ xs) = offers-append (g x) (concat_map g xs) ∙ ap (λ (r : List A). offers_of (g x) ++ r) (offers-flat g xs)
 

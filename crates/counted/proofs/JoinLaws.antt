@@ -16,7 +16,8 @@ use Rattle.ways.specs.Images.{leg_by, first_by, Images, Stand, RideIn}
 use Rattle.ways.proofs.RideLaws.{rides-mem, firsts-mem, listed_in}
 use Rattle.ways.proofs.ImageLaws.{rides-of-images, first-rides-of-images, directs-images}
 use Rattle.counted.specs.Events.{Event, tested, offered, joins_of, offers_of}
-use Rattle.counted.specs.Joins.{Join, join_of, join_events, change_events, events, pairs, event_by, OffersOfEvents, JoinsOfEvents, CountOfEvents, CountOfChanges, EventsOfImages}
+use Rattle.counted.specs.Joins.{Join, join_of, join_events, change_events, events, pairs, event_by, OffersOfEvents, JoinsOfEvents}
+use Rattle.counted.specs.Joins.{CountOfEvents, CountOfChanges, EventsOfImages}
 use Rattle.counted.proofs.EventLaws.{offers-append, joins-append, offers-offered, joins-offered, offers-flat, joins-flat}
 
 module _ {C A : Type 0} (N : Network C) (direct : First C → ℕ → A) (change : First C → Leg C → ℕ → A) (depth : ℕ) (s : List C) where
@@ -27,10 +28,12 @@ module _ {C A : Type 0} (N : Network C) (direct : First C → ℕ → A) (change
   change-joins f =
       joins-flat (join_events N direct change f) (rides N s)
       ∙ concat_map-cong (λ l. joins_of (join_events N direct change f l)) (λ l. join_of f l ∷ [])
-      (λ l. ap {B = List (Join C)} (λ r. join_of f l ∷ r) (joins-offered (cond (N.joins f.ride l.b) (map (change f l) (N.targets l.a)) []))) (rides N s)
+      (λ l. ap {B = List (Join C)} (λ r. join_of f l ∷ r) (joins-offered (cond (N.joins f.ride l.b) (map (change f l) (N.targets l.a)) [])))
+      (rides N s)
       ∙ flat-single (join_of f) (rides N s)
 
-  first-joins : (f : First C) → joins_of (map offered (directs N direct change f) ++ cond (eqb depth 1) (change_events N direct change s f) [])
+  first-joins : (f : First C)
+      → joins_of (map offered (directs N direct change f) ++ cond (eqb depth 1) (change_events N direct change s f) [])
       ≡ cond (eqb depth 1) (map (join_of f) (rides N s)) []
   first-joins f =
       joins-append (map offered (directs N direct change f)) (cond (eqb depth 1) (change_events N direct change s f) [])
@@ -43,7 +46,8 @@ module _ {C A : Type 0} (N : Network C) (direct : First C → ℕ → A) (change
   pub joins-of-events : JoinsOfEvents N direct change depth s
   unfolding events
   joins-of-events =
-      joins-flat (λ f. map offered (directs N direct change f) ++ cond (eqb depth 1) (change_events N direct change s f) []) (first_rides N s)
+      joins-flat (λ f. map offered (directs N direct change f) ++ cond (eqb depth 1) (change_events N direct change s f) [])
+      (first_rides N s)
       ∙ concat_map-cong _ (λ f. cond (eqb depth 1) (map (join_of f) (rides N s)) []) first-joins (first_rides N s)
       ∙ concat_map-cond (eqb depth 1) (λ f. map (join_of f) (rides N s)) (first_rides N s)
 
@@ -70,36 +74,43 @@ module _ {C A : Type 0} (N : Network C) (direct : First C → ℕ → A) (change
   unfolding change_events join_events changes joined_rides
   change-offers f =
       offers-flat (join_events N direct change f) (rides N s)
-      ∙ concat_map-cong (λ l. offers_of (join_events N direct change f l)) (λ l. cond (N.joins f.ride l.b) (map (change f l) (N.targets l.a)) [])
+      ∙ concat_map-cong (λ l. offers_of (join_events N direct change f l))
+      (λ l. cond (N.joins f.ride l.b) (map (change f l) (N.targets l.a)) [])
       (λ l. offers-offered (Join C) (cond (N.joins f.ride l.b) (map (change f l) (N.targets l.a)) [])) (rides N s)
       ∙ sym (concat_map-filterb (λ l. N.joins f.ride l.b) (λ l. map (change f l) (N.targets l.a)) (rides N s))
 
-  first-offers : (f : First C) → offers_of (map offered (directs N direct change f) ++ cond (eqb depth 1) (change_events N direct change s f) [])
+  first-offers : (f : First C)
+      → offers_of (map offered (directs N direct change f) ++ cond (eqb depth 1) (change_events N direct change s f) [])
       ≡ directs N direct change f ++ cond (eqb depth 1) (changes N direct change s f) []
   first-offers f =
       offers-append (map offered (directs N direct change f)) (cond (eqb depth 1) (change_events N direct change s f) [])
       ∙ rw (offers-offered (Join C) (directs N direct change f)) (go (eqb depth 1))
     where
-      go : (b : Bool) → directs N direct change f ++ offers_of (cond b (change_events N direct change s f) []) ≡ directs N direct change f ++ cond b (changes N direct change s f) []
+      go : (b : Bool) → directs N direct change f ++ offers_of (cond b (change_events N direct change s f) [])
+          ≡ directs N direct change f ++ cond b (changes N direct change s f) []
       go true = ap (λ (r : List A). directs N direct change f ++ r) (change-offers f)
       go false = refl
 
   pub offers-of-events : OffersOfEvents N direct change depth s
   unfolding events journeys
   offers-of-events =
-      offers-flat (λ f. map offered (directs N direct change f) ++ cond (eqb depth 1) (change_events N direct change s f) []) (first_rides N s)
-      ∙ concat_map-cong _ (λ f. directs N direct change f ++ cond (eqb depth 1) (changes N direct change s f) []) first-offers (first_rides N s)
+      offers-flat (λ f. map offered (directs N direct change f) ++ cond (eqb depth 1) (change_events N direct change s f) [])
+      (first_rides N s)
+      ∙ concat_map-cong _ (λ f. directs N direct change f ++ cond (eqb depth 1) (changes N direct change s f) []) first-offers
+      (first_rides N s)
 
 -- ---- events of images
 
 module _ {C D A B : Type 0} (N : Network C) (M : Network D) (h : C → D) (depth : ℕ) (s : List C) (w : Images N M h depth s)
-    (φ : A → B) (direct : First C → ℕ → A) (change : First C → Leg C → ℕ → A) (direct' : First D → ℕ → B) (change' : First D → Leg D → ℕ → B)
+    (φ : A → B) (direct : First C → ℕ → A) (change : First C → Leg C → ℕ → A) (direct' : First D → ℕ → B)
+    (change' : First D → Leg D → ℕ → B)
     (v : Stand N h depth s φ direct change direct' change') where
   offered-images : (os : List A) → map (event_by h φ) (map offered os) ≡ map offered (map φ os)
   offered-images os = map-map (event_by h φ) offered os ∙ sym (map-map offered φ os)
 
   module _ (f : First C) (p : RideIn s f.ride) (o : Memᴰ f.o (N.origins f.ride.b)) where
-    join-images : depth ≡ 1 → (l : Leg C) → RideIn s l → map (event_by h φ) (join_events N direct change f l) ≡ join_events M direct' change' (first_by h f) (leg_by h l)
+    join-images : depth ≡ 1 → (l : Leg C) → RideIn s l
+        → map (event_by h φ) (join_events N direct change f l) ≡ join_events M direct' change' (first_by h f) (leg_by h l)
     unfolding join_events
     join-images one l i =
         let e : map φ (cond (N.joins f.ride l.b) (map (change f l) (N.targets l.a)) [])
@@ -109,38 +120,54 @@ module _ {C D A B : Type 0} (N : Network C) (M : Network D) (h : C → D) (depth
         (ap (λ (r : List B). cond (N.joins f.ride l.b) r [])
         (map-agree (λ k. φ (change f l k)) (change' (first_by h f) (leg_by h l)) (N.targets l.a) (λ k n. v.changing one f l k p o i n))) in
         ap {B = List (Event (Join D) B)} (λ r. tested (join_of (first_by h f) (leg_by h l)) ∷ r)
-        (offered-images (cond (N.joins f.ride l.b) (map (change f l) (N.targets l.a)) []) ∙ ap {B = List (Event (Join D) B)} (map offered) e)
+        (offered-images (cond (N.joins f.ride l.b) (map (change f l) (N.targets l.a)) [])
+        ∙ ap {B = List (Event (Join D) B)} (map offered) e)
 
-    change-images : depth ≡ 1 → map (event_by h φ) (change_events N direct change s f) ≡ change_events M direct' change' (map h s) (first_by h f)
+    change-images : depth ≡ 1
+        → map (event_by h φ) (change_events N direct change s f) ≡ change_events M direct' change' (map h s) (first_by h f)
     unfolding change_events
     change-images one =
         map-concat_map (event_by h φ) (join_events N direct change f) (rides N s)
-        ∙ concat_map-agree (λ l. map (event_by h φ) (join_events N direct change f l)) (λ l. join_events M direct' change' (first_by h f) (leg_by h l)) (rides N s)
+        ∙ concat_map-agree (λ l. map (event_by h φ) (join_events N direct change f l))
+        (λ l. join_events M direct' change' (first_by h f) (leg_by h l)) (rides N s)
         (λ l m. join-images one l (listed_in N s l (rides-mem N s l m)))
         ∙ sym (concat_map-map (leg_by h) (join_events M direct' change' (first_by h f)) (rides N s))
         ∙ ap (concat_map (join_events M direct' change' (first_by h f))) (sym (rides-of-images N M h depth s w))
 
     first-images : map (event_by h φ) (map offered (directs N direct change f) ++ cond (eqb depth 1) (change_events N direct change s f) [])
-        ≡ map offered (directs M direct' change' (first_by h f)) ++ cond (eqb depth 1) (change_events M direct' change' (map h s) (first_by h f)) []
+        ≡ map offered (directs M direct' change' (first_by h f)) ++ cond (eqb depth 1)
+        (change_events M direct' change' (map h s) (first_by h f)) []
     first-images =
         map-append (event_by h φ) (map offered (directs N direct change f)) (cond (eqb depth 1) (change_events N direct change s f) [])
-        ∙ rw (offered-images (directs N direct change f), directs-images N M h depth s w φ direct change direct' change' v f p o) (go (eqb depth 1) refl)
+        ∙ rw (offered-images (directs N direct change f), directs-images N M h depth s w φ direct change direct' change' v f p o)
+        (go (eqb depth 1) refl)
       where
-        go : (b : Bool) → eqb depth 1 ≡ b → map offered (directs M direct' change' (first_by h f)) ++ map (event_by h φ) (cond b (change_events N direct change s f) [])
+        go : (b : Bool) → eqb depth 1 ≡ b
+            → map offered (directs M direct' change' (first_by h f)) ++ map (event_by h φ) (cond b (change_events N direct change s f) [])
             ≡ map offered (directs M direct' change' (first_by h f)) ++ cond b (change_events M direct' change' (map h s) (first_by h f)) []
-        go true e = ap (λ (r : List (Event (Join D) B)). map offered (directs M direct' change' (first_by h f)) ++ r) (change-images (eqb-true depth 1 e))
+        go true e =
+            ap (λ (r : List (Event (Join D) B)). map offered (directs M direct' change' (first_by h f)) ++ r)
+            (change-images (eqb-true depth 1 e))
         go false e = refl
 
   events-images : map (event_by h φ) (events N direct change depth s) ≡ events M direct' change' depth (map h s)
   unfolding events
   events-images =
-      map-concat_map (event_by h φ) (λ f. map offered (directs N direct change f) ++ cond (eqb depth 1) (change_events N direct change s f) []) (first_rides N s)
-      ∙ concat_map-agree _ (λ f. map offered (directs M direct' change' (first_by h f)) ++ cond (eqb depth 1) (change_events M direct' change' (map h s) (first_by h f)) []) (first_rides N s)
+      map-concat_map (event_by h φ)
+      (λ f. map offered (directs N direct change f) ++ cond (eqb depth 1) (change_events N direct change s f) []) (first_rides N s)
+      ∙ concat_map-agree _
+      (λ f. map offered (directs M direct' change' (first_by h f)) ++ cond (eqb depth 1)
+      (change_events M direct' change' (map h s) (first_by h f)) []) (first_rides N s)
       (λ f m. let (l, o) = firsts-mem N s f m in first-images f (listed_in N s f.ride l) o)
-      ∙ sym (concat_map-map (first_by h) (λ f. map offered (directs M direct' change' f) ++ cond (eqb depth 1) (change_events M direct' change' (map h s) f) []) (first_rides N s))
-      ∙ ap (concat_map (λ f. map offered (directs M direct' change' f) ++ cond (eqb depth 1) (change_events M direct' change' (map h s) f) [])) (sym (first-rides-of-images N M h depth s w))
+      ∙ sym (concat_map-map (first_by h)
+      (λ f. map offered (directs M direct' change' f) ++ cond (eqb depth 1) (change_events M direct' change' (map h s) f) [])
+      (first_rides N s))
+      ∙ ap (concat_map
+      (λ f. map offered (directs M direct' change' f) ++ cond (eqb depth 1) (change_events M direct' change' (map h s) f) []))
+      (sym (first-rides-of-images N M h depth s w))
 
-module _ {C D A B : Type 0} (N : Network C) (M : Network D) (h : C → D) (depth : ℕ) (s : List C) (φ : A → B) (direct : First C → ℕ → A) (change : First C → Leg C → ℕ → A)
+module _ {C D A B : Type 0} (N : Network C) (M : Network D) (h : C → D) (depth : ℕ) (s : List C) (φ : A → B) (direct : First C → ℕ → A)
+    (change : First C → Leg C → ℕ → A)
     (direct' : First D → ℕ → B) (change' : First D → Leg D → ℕ → B) where
   pub events-of-images : EventsOfImages N M h depth s φ direct change direct' change'
   events-of-images w v = events-images N M h depth s w φ direct change direct' change' v

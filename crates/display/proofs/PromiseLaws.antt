@@ -1,10 +1,8 @@
 -- The promises of specs/Promises.antt, each from the laws of lists in order and of the groups of a display.
-use Rattle.refusal.specs.First.{Answer}
-use Rattle.refusal.specs.declared.Accepted.TheVariants.{Taken}
 use Rattle.std.specs.Prelude.{None, Option, Some, Err, Ok}
 use mathlib.Core.Path.{◌≡◌, refl, sym, ap, subst, ◌∙◌}
 use mathlib.Core.Logic.{◌⊎◌, inl, inr}
-use mathlib.Core.Bool.{Bool, true, false, cond, true≢false}
+use mathlib.Core.Bool.{Bool, true, false, true≢false}
 use mathlib.Core.List.{List, [], ◌∷◌, Memᴰ}
 use Prim.Native.Nat.{ℕ, zero, suc, ◌+◌, ◌-◌, ◌≤◌, ◌<◌}
 use native.Mathlib.Omega.{arith}
@@ -15,7 +13,7 @@ use lib.Seq.{take-take}
 use borrow.Author.Tests.{ltb-true, ltb-false, lt-ltb, le-leb}
 use Rattle.laws.proofs.Bools.{cond-by, cond-not, and-true, and-true-left, and-true-right, test}
 use Rattle.laws.proofs.Lists.{filterb-all, length-filterb}
-use Rattle.refusal.specs.declared.Refusal.TheVariants.{DisplayGroups}
+use Rattle.refusal.specs.declared.Refusal.TheVariants.{DisplayGroups, NoRoom}
 use Rattle.shares.specs.Shares.{total, shares_of}
 use Rattle.shares.specs.Promises.{Shared}
 use Rattle.shares.proofs.ShareLaws.{shares-right}
@@ -28,36 +26,23 @@ use Rattle.groups.specs.declared.Group.{Group}
 use Rattle.groups.specs.Groups.{group_of, list_of, group_at}
 use Rattle.groups.specs.Refused.{turned_away}
 use Rattle.groups.proofs.RefusedLaws.{not-away, group-found, group-cases}
-use Rattle.display.specs.declared.part.Part.{Part}
-use Rattle.display.specs.declared.Display.{Display}
-use Rattle.display.specs.Parts.{no_part, refused_part, window_of, falls_below, is_due, shown_by, shown_part, part_in, count_in}
-use Rattle.display.specs.Display.{refused_display, counts, share_of, part_at, display_of, part_of}
+use Rattle.display.specs.Parts.{Part, shows, window_to, shown_count, window_of, falls_below, is_due, shown_by, shown_part, part_in, count_in}
+use Rattle.display.specs.Display.{Display, counts, share_of, part_at, display_of, part_of}
 use Rattle.display.specs.Queries.{best_of_group}
 use Rattle.display.specs.Promises.{group_part, Given, FallsBelow, RefusedWhole, RefusedAlone, ShownRight, SixteenShown, SixtyFour, read_none_of, BestByGroup}
 use Rattle.display.proofs.ListLaws.{window-fits, window-before, window-under, due-first, shown-fit, first_read}
 
 -- ---- the part of a group that is given
 
-parts-away : (gs : List Group) → turned_away gs ≡ true → (i : ℕ) → group_part gs i ≡ no_part
+parts-away : (gs : List Group) → turned_away gs ≡ true → (i : ℕ) → group_part gs i ≡ None
 unfolding display_of part_of
-parts-away gs e i = ap (λ (d : Display). cond (ltb i 4) (get_or d.parts i no_part) no_part) (cond-by _ _ e) ∙ go (ltb i 4) ∙ refl
-  where
-    blank : (i : ℕ) → get_or refused_display.parts i no_part ≡ no_part
-    blank zero = refl
-    blank (suc zero) = refl
-    blank (suc (suc zero)) = refl
-    blank (suc (suc (suc zero))) = refl
-    blank (suc (suc (suc (suc i)))) = refl
-
-    go : (b : Bool) → cond b (get_or refused_display.parts i no_part) no_part ≡ no_part
-    go true = blank i
-    go false = refl
+parts-away gs e i = ap (λ (d : Display). part_of d i) (cond-by _ _ e)
 
 part-stands : (gs : List Group) → turned_away gs ≡ false → (i : ℕ) → i ≤ 3 → group_part gs i ≡ part_at gs i
 unfolding display_of part_of
-part-stands gs e i l = ap (λ (d : Display). cond (ltb i 4) (get_or d.parts i no_part) no_part) (cond-not _ _ e) ∙ cond-by _ _ (lt-ltb i 4 (omega arith)) ∙ at i l
+part-stands gs e i l = ap (λ (d : Display). part_of d i) (cond-not _ _ e) ∙ at i l
   where
-    at : (i : ℕ) → i ≤ 3 → get_or (part_at gs 0 ∷ part_at gs 1 ∷ part_at gs 2 ∷ part_at gs 3 ∷ []) i no_part ≡ part_at gs i
+    at : (i : ℕ) → i ≤ 3 → get_or (part_at gs 0 ∷ part_at gs 1 ∷ part_at gs 2 ∷ part_at gs 3 ∷ []) i None ≡ part_at gs i
     at zero l = refl
     at (suc zero) l = refl
     at (suc (suc zero)) l = refl
@@ -71,7 +56,7 @@ module _ (gs : List Group) (g : Group) (w : Given gs g) where
   share : ℕ
   share = share_of gs g.number
 
-  pub given-part : group_part gs g.number ≡ shown_part (list_of g) (share_of gs g.number) g.horizon
+  pub given-part : group_part gs g.number ≡ Some (shown_part (list_of g) (share_of gs g.number) g.horizon)
   unfolding part_in
   given-part = part-stands gs w.stands g.number low ∙ ap (λ (s : Option Group). part_in s (share_of gs g.number)) (group-found gs g w.stands w.given)
 
@@ -94,12 +79,12 @@ shared gs = shares-right (counts gs) (omega arith)
 
 pub refused-whole : RefusedWhole
 unfolding display_of
-refused-whole gs = ((λ e. ap (λ (d : Display). d.answer) (cond-by _ _ e), λ q. go (turned_away gs) refl q), parts-away gs)
+refused-whole gs = ((λ e. cond-by _ _ e, λ q. go (turned_away gs) refl q), parts-away gs)
   where
-    go : (b : Bool) → turned_away gs ≡ b → (display_of gs).answer ≡ Err DisplayGroups → b ≡ true
+    go : (b : Bool) → turned_away gs ≡ b → display_of gs ≡ Err DisplayGroups → b ≡ true
     go true e q = refl
     go false e q =
-        let r : ◌≡◌ {A = Answer} (Ok Taken) (Err DisplayGroups) = sym (ap (λ (d : Display). d.answer) (cond-not _ _ e)) ∙ q in
+        let r : ◌≡◌ {A = Display} (Ok (part_at gs 0 ∷ part_at gs 1 ∷ part_at gs 2 ∷ part_at gs 3 ∷ [])) (Err DisplayGroups) = sym (cond-not _ _ e) ∙ q in
         absurd (let z : ◌≡◌ {A = ℕ} 0 1 = cc in omega arith)
 
 -- ---- 11
@@ -114,21 +99,21 @@ is_below ks share h e =
     let l = ltb-true share (length ks) (and-true-left _ _ e) in
     (l, let b = ltb-true (window_of ks share h) 3600 (and-true-right (ltb share (length ks)) _ e) in omega (arith, window-before ks share h l))
 
-refused-shows : (ks : List Journey) (share h : ℕ) → falls_below (length ks) share (window_of ks share h) ≡ true → shown_part ks share h ≡ refused_part
+refused-shows : (ks : List Journey) (share h : ℕ) → falls_below (length ks) share (window_of ks share h) ≡ true → ◌≡◌ {A = Part} (Some (shown_part ks share h)) (Some (Err NoRoom))
 unfolding shown_part
-refused-shows _ _ _ e = cond-by _ _ e
+refused-shows _ _ _ e = ap {B = Part} Some (cond-by _ _ e)
 
 shown-shows : (ks : List Journey) (share h : ℕ) → falls_below (length ks) share (window_of ks share h) ≡ false
-    → shown_part ks share h ≡ record { shows = true; answer = Ok Taken; window = window_of ks share h; count = length (shown_by (window_of ks share h) ks) }
+    → ◌≡◌ {A = Part} (Some (shown_part ks share h)) (Some (Ok (record { window = window_of ks share h; count = length (shown_by (window_of ks share h) ks) })))
 unfolding shown_part
-shown-shows _ _ _ e = cond-not _ _ e
+shown-shows _ _ _ e = ap {B = Part} Some (cond-not _ _ e)
 
 -- a part that shows isn't refused
-stays_up : (ks : List Journey) (share h : ℕ) → (shown_part ks share h).shows ≡ true → falls_below (length ks) share (window_of ks share h) ≡ false
+stays_up : (ks : List Journey) (share h : ℕ) → shows (Some (shown_part ks share h)) ≡ true → falls_below (length ks) share (window_of ks share h) ≡ false
 stays_up ks share h s = go (test (falls_below (length ks) share (window_of ks share h)))
   where
     go : (falls_below (length ks) share (window_of ks share h) ≡ true) ⊎ (falls_below (length ks) share (window_of ks share h) ≡ false) → falls_below (length ks) share (window_of ks share h) ≡ false
-    go (inl e) = absurd (true≢false (sym s ∙ ap (λ (p : Part). p.shows) (refused-shows ks share h e)))
+    go (inl e) = absurd (true≢false (sym s ∙ ap (λ (p : Part). shows p) (refused-shows ks share h e)))
     go (inr e) = e
 
 pub refused-alone : RefusedAlone
@@ -143,18 +128,18 @@ refused-alone gs g w = ((λ (l, b). given-part gs g w ∙ refused-shows ks s h (
     h : ℕ
     h = g.horizon
 
-    go : (falls_below (length ks) s (window_of ks s h) ≡ true) ⊎ (falls_below (length ks) s (window_of ks s h) ≡ false) → group_part gs g.number ≡ refused_part → FallsBelow gs g
+    go : (falls_below (length ks) s (window_of ks s h) ≡ true) ⊎ (falls_below (length ks) s (window_of ks s h) ≡ false) → group_part gs g.number ≡ Some (Err NoRoom) → FallsBelow gs g
     go (inl e) q = is_below ks s h e
-    go (inr e) q = absurd (true≢false (sym (ap (λ (p : Part). p.shows) (shown-shows ks s h e)) ∙ ap (λ (p : Part). p.shows) (sym (given-part gs g w) ∙ q)))
+    go (inr e) q = absurd (true≢false (sym (ap (λ (p : Part). shows p) (shown-shows ks s h e)) ∙ ap (λ (p : Part). shows p) (sym (given-part gs g w) ∙ q)))
 
-    up : (falls_below (length ks) s (window_of ks s h) ≡ true) ⊎ (falls_below (length ks) s (window_of ks s h) ≡ false) → (FallsBelow gs g → ⊥) → (group_part gs g.number).shows ≡ true
+    up : (falls_below (length ks) s (window_of ks s h) ≡ true) ⊎ (falls_below (length ks) s (window_of ks s h) ≡ false) → (FallsBelow gs g → ⊥) → shows (group_part gs g.number) ≡ true
     up (inl e) n = absurd (n (is_below ks s h e))
-    up (inr e) n = ap (λ (p : Part). p.shows) (given-part gs g w ∙ shown-shows ks s h e)
+    up (inr e) n = ap (λ (p : Part). shows p) (given-part gs g w ∙ shown-shows ks s h e)
 
 -- ---- what is shown
 
 pub shown-right : ShownRight
-shown-right gs g w o s = record { window = ap (λ (p : Part). p.window) part; shown = shown; fit = fit }
+shown-right gs g w o s = record { window = ap (λ (p : Part). window_to p) part; shown = shown; fit = fit }
   where
     ks : List Journey
     ks = list_of g
@@ -166,9 +151,9 @@ shown-right gs g w o s = record { window = ap (λ (p : Part). p.window) part; sh
     v = window_of ks n g.horizon
 
     up : falls_below (length ks) n v ≡ false
-    up = stays_up ks n g.horizon (sym (ap (λ (p : Part). p.shows) (given-part gs g w)) ∙ s)
+    up = stays_up ks n g.horizon (sym (ap (λ (p : Part). shows p) (given-part gs g w)) ∙ s)
 
-    part : group_part gs g.number ≡ record { shows = true; answer = Ok Taken; window = v; count = length (shown_by v ks) }
+    part : group_part gs g.number ≡ Some (Ok (record { window = v; count = length (shown_by v ks) }))
     part = given-part gs g w ∙ shown-shows ks n g.horizon up
 
     large : n < length ks → 3600 ≤ v
@@ -181,22 +166,22 @@ shown-right gs g w o s = record { window = ap (λ (p : Part). p.window) part; sh
     first : take (length (shown_by v ks)) g.journeys ≡ shown_by v ks
     first = sym (take-take (length (shown_by v ks)) g.count g.journeys (omega (arith, length-filterb (is_due v) ks, length-take g.count g.journeys))) ∙ due-first v ks o
 
-    shown : take (group_part gs g.number).count g.journeys ≡ shown_by (group_part gs g.number).window ks
-    shown = ap (λ (p : Part). take p.count g.journeys) part ∙ first ∙ sym (ap (λ (p : Part). shown_by p.window ks) part)
+    shown : take (shown_count (group_part gs g.number)) g.journeys ≡ shown_by (window_to (group_part gs g.number)) ks
+    shown = ap (λ (p : Part). take (shown_count p) g.journeys) part ∙ first ∙ sym (ap (λ (p : Part). shown_by (window_to p) ks) part)
 
-    fit : (group_part gs g.number).count ≤ n
-    fit = subst (λ (p : Part). p.count ≤ n) (sym part) (shown-fit ks n g.horizon o large)
+    fit : shown_count (group_part gs g.number) ≤ n
+    fit = subst (λ (p : Part). shown_count p ≤ n) (sym part) (shown-fit ks n g.horizon o large)
 
 -- where a group has a display, the whole isn't turned away
-pub not-shown-away : (gs : List Group) (i : ℕ) → (group_part gs i).shows ≡ true → turned_away gs ≡ false
+pub not-shown-away : (gs : List Group) (i : ℕ) → shows (group_part gs i) ≡ true → turned_away gs ≡ false
 not-shown-away gs i s = go (test (turned_away gs))
   where
     go : (turned_away gs ≡ true) ⊎ (turned_away gs ≡ false) → turned_away gs ≡ false
-    go (inl e) = absurd (true≢false (sym s ∙ ap (λ (p : Part). p.shows) (parts-away gs e i)))
+    go (inl e) = absurd (true≢false (sym s ∙ ap (λ (p : Part). shows p) (parts-away gs e i)))
     go (inr e) = e
 
-pub given-window : (gs : List Group) (g : Group) → Given gs g → Ordered journey_figures (list_of g) → (group_part gs g.number).shows ≡ true
-    → ((k : Journey) → Memᴰ k (list_of g) → k.arrival ≤ g.horizon) → (group_part gs g.number).window ≤ g.horizon
+pub given-window : (gs : List Group) (g : Group) → Given gs g → Ordered journey_figures (list_of g) → shows (group_part gs g.number) ≡ true
+    → ((k : Journey) → Memᴰ k (list_of g) → k.arrival ≤ g.horizon) → window_to (group_part gs g.number) ≤ g.horizon
 given-window gs g w o s f = subst (λ (v : ℕ). v ≤ g.horizon) (sym (shown-right gs g w o s).window) (window-under (list_of g) (share_of gs g.number) g.horizon f)
 
 -- ---- sixteen or fewer
@@ -204,7 +189,7 @@ given-window gs g w o s f = subst (λ (v : ℕ). v ≤ g.horizon) (sym (shown-ri
 pub sixteen-shown : SixteenShown
 sixteen-shown gs g w few due =
     given-part gs g w ∙ shown-shows ks n h (up (test (falls_below (length ks) n (window_of ks n h))))
-    ∙ (λ i. record { shows = true; answer = Ok Taken; window = whole i; count = (ap (λ (v : ℕ). length (shown_by v ks)) whole ∙ ap {A = List Journey} length all) i })
+    ∙ (λ i. Some (Ok (record { window = whole i; count = (ap (λ (v : ℕ). length (shown_by v ks)) whole ∙ ap {A = List Journey} length all) i })))
   where
     ks : List Journey
     ks = list_of g
@@ -230,30 +215,30 @@ sixteen-shown gs g w few due =
 
 -- ---- 64 in all
 
-refused-count : (gs : List Group) (g : Group) → Given gs g → Ordered journey_figures (list_of g) → (group_part gs g.number).count ≤ share_of gs g.number
-refused-count gs g w o = go (group_part gs g.number).shows refl
+refused-count : (gs : List Group) (g : Group) → Given gs g → Ordered journey_figures (list_of g) → shown_count (group_part gs g.number) ≤ share_of gs g.number
+refused-count gs g w o = go (shows (group_part gs g.number)) refl
   where
-    none-shown : (ks : List Journey) (share h : ℕ) → (shown_part ks share h).shows ≡ false → (shown_part ks share h).count ≡ 0
+    none-shown : (ks : List Journey) (share h : ℕ) → shows (Some (shown_part ks share h)) ≡ false → shown_count (Some (shown_part ks share h)) ≡ 0
     none-shown ks share h e = by (test (falls_below (length ks) share (window_of ks share h)))
       where
-        by : (falls_below (length ks) share (window_of ks share h) ≡ true) ⊎ (falls_below (length ks) share (window_of ks share h) ≡ false) → (shown_part ks share h).count ≡ 0
-        by (inl f) = ap (λ (p : Part). p.count) (refused-shows ks share h f)
-        by (inr f) = absurd (true≢false (sym (ap (λ (p : Part). p.shows) (shown-shows ks share h f)) ∙ e))
+        by : (falls_below (length ks) share (window_of ks share h) ≡ true) ⊎ (falls_below (length ks) share (window_of ks share h) ≡ false) → shown_count (Some (shown_part ks share h)) ≡ 0
+        by (inl f) = ap (λ (p : Part). shown_count p) (refused-shows ks share h f)
+        by (inr f) = absurd (true≢false (sym (ap (λ (p : Part). shows p) (shown-shows ks share h f)) ∙ e))
 
-    go : (b : Bool) → (group_part gs g.number).shows ≡ b → (group_part gs g.number).count ≤ share_of gs g.number
+    go : (b : Bool) → shows (group_part gs g.number) ≡ b → shown_count (group_part gs g.number) ≤ share_of gs g.number
     go true e = (shown-right gs g w o e).fit
     go false e =
         let q = given-part gs g w in
-        let z = none-shown (list_of g) (share_of gs g.number) g.horizon (sym (ap (λ (p : Part). p.shows) q) ∙ e) in
-        omega (arith, ap (λ (p : Part). p.count) q)
+        let z = none-shown (list_of g) (share_of gs g.number) g.horizon (sym (ap (λ (p : Part). shows p) q) ∙ e) in
+        omega (arith, ap (λ (p : Part). shown_count p) q)
 
-part_count : (gs : List Group) → turned_away gs ≡ false → ((g : Group) → Memᴰ g gs → Ordered journey_figures (list_of g)) → (i : ℕ) → i ≤ 3 → (group_part gs i).count ≤ share_of gs i
+part_count : (gs : List Group) → turned_away gs ≡ false → ((g : Group) → Memᴰ g gs → Ordered journey_figures (list_of g)) → (i : ℕ) → i ≤ 3 → shown_count (group_part gs i) ≤ share_of gs i
 unfolding part_in
 part_count gs e o i l = go (group-cases gs i)
   where
-    go : (group_at i gs ≡ None) ⊎ ((g : Group) × Memᴰ g gs × (g.number ≡ i)) → (group_part gs i).count ≤ share_of gs i
-    go (inl q) = omega (arith, ap (λ (p : Part). p.count) (part-stands gs e i l ∙ ap (λ (s : Option Group). part_in s (share_of gs i)) q))
-    go (inr (g, m, q)) = subst (λ (k : ℕ). (group_part gs k).count ≤ share_of gs k) q (refused-count gs g (record { stands = e; given = m }) (o g m))
+    go : (group_at i gs ≡ None) ⊎ ((g : Group) × Memᴰ g gs × (g.number ≡ i)) → shown_count (group_part gs i) ≤ share_of gs i
+    go (inl q) = omega (arith, ap (λ (p : Part). shown_count p) (part-stands gs e i l ∙ ap (λ (s : Option Group). part_in s (share_of gs i)) q))
+    go (inr (g, m, q)) = subst (λ (k : ℕ). shown_count (group_part gs k) ≤ share_of gs k) q (refused-count gs g (record { stands = e; given = m }) (o g m))
 
 four : (ns : List ℕ) → length ns ≡ 4 → get_or ns 0 0 + (get_or ns 1 0 + (get_or ns 2 0 + get_or ns 3 0)) ≡ total ns
 four [] e = absurd (omega arith)
@@ -266,9 +251,9 @@ four (a ∷ b ∷ c ∷ d ∷ f ∷ ns) e = absurd (omega arith)
 pub sixty_four : SixtyFour
 sixty_four gs o = go (turned_away gs) refl
   where
-    go : (b : Bool) → turned_away gs ≡ b → (group_part gs 0).count + ((group_part gs 1).count + ((group_part gs 2).count + (group_part gs 3).count)) ≤ 64
+    go : (b : Bool) → turned_away gs ≡ b → shown_count (group_part gs 0) + (shown_count (group_part gs 1) + (shown_count (group_part gs 2) + shown_count (group_part gs 3))) ≤ 64
     go true e =
-        omega (arith, ap (λ (p : Part). p.count) (parts-away gs e 0), ap (λ (p : Part). p.count) (parts-away gs e 1), ap (λ (p : Part). p.count) (parts-away gs e 2), ap (λ (p : Part). p.count) (parts-away gs e 3))
+        omega (arith, ap (λ (p : Part). shown_count p) (parts-away gs e 0), ap (λ (p : Part). shown_count p) (parts-away gs e 1), ap (λ (p : Part). shown_count p) (parts-away gs e 2), ap (λ (p : Part). shown_count p) (parts-away gs e 3))
     go false e =
         let s = shared gs in
         let t = four (shares_of (counts gs)) s.each in
@@ -284,22 +269,22 @@ back-again : (o : Option Journey) → answer_of o ≡ o
 back-again None = refl
 back-again (Some j) = refl
 
-best-is : (g : Group) (p : Part) (s : ℤ) → p.shows ≡ true → answer_of (best_of_group g p s) ≡ firstℤ journey_figures (take p.count g.journeys) p.window s
+best-is : (g : Group) (p : Part) (s : ℤ) → shows p ≡ true → answer_of (best_of_group g p s) ≡ firstℤ journey_figures (take (shown_count p) g.journeys) (window_to p) s
 unfolding best_of_group first_leaving
-best-is g p s e = ap answer_of (cond-by _ _ e) ∙ back-again (firstℤ journey_figures (take p.count g.journeys) p.window s)
+best-is g p s e = ap answer_of (cond-by _ _ e) ∙ back-again (firstℤ journey_figures (take (shown_count p) g.journeys) (window_to p) s)
 
 load-best : (l : Load) (s : ℤ) → l.searched ≡ true → answer_of (best_spec l s) ≡ firstℤ journey_figures (kept_of l) l.horizon s
 unfolding best_spec first_leaving
 load-best l s e = ap answer_of (cond-by _ _ e) ∙ back-again (firstℤ journey_figures (kept_of l) l.horizon s)
 
 -- best of a group is the first of those due by its window
-pub best-shown-by : (gs : List Group) (g : Group) → Given gs g → Ordered journey_figures (list_of g) → (group_part gs g.number).shows ≡ true → (s : ℤ)
-    → answer_of (best_of_group g (group_part gs g.number) s) ≡ firstℤ journey_figures (shown_by (group_part gs g.number).window (list_of g)) (group_part gs g.number).window s
+pub best-shown-by : (gs : List Group) (g : Group) → Given gs g → Ordered journey_figures (list_of g) → shows (group_part gs g.number) ≡ true → (s : ℤ)
+    → answer_of (best_of_group g (group_part gs g.number) s) ≡ firstℤ journey_figures (shown_by (window_to (group_part gs g.number)) (list_of g)) (window_to (group_part gs g.number)) s
 best-shown-by gs g w o e s =
     best-is g (group_part gs g.number) s e
-    ∙ ap (λ (ks : List Journey). firstℤ journey_figures ks (group_part gs g.number).window s) (shown-right gs g w o e).shown
+    ∙ ap (λ (ks : List Journey). firstℤ journey_figures ks (window_to (group_part gs g.number)) s) (shown-right gs g w o e).shown
 
 pub best-by-group : BestByGroup
 best-by-group gs n l w o a e h s =
-    best-shown-by gs (group_of n l) w o e s ∙ first_read (kept_of l) (group_part gs n).window l.horizon o a h s
-    ∙ ap (read_none_of (group_part gs n).window) (sym (load-best l s (not-away gs w.stands (group_of n l) w.given).searched))
+    best-shown-by gs (group_of n l) w o e s ∙ first_read (kept_of l) (window_to (group_part gs n)) l.horizon o a h s
+    ∙ ap (read_none_of (window_to (group_part gs n))) (sym (load-best l s (not-away gs w.stands (group_of n l) w.given).searched))

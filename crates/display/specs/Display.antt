@@ -1,17 +1,15 @@
 -- A display, dealt at once from the groups given: turned away with 23, or the part of each group by its number.
-use Rattle.refusal.specs.declared.Accepted.TheVariants.{Taken}
-use Rattle.std.specs.Prelude.{cond, List, [], ◌∷◌, ℕ, ltb, get_or, replicate, Err, Ok}
+use Rattle.std.specs.Prelude.{cond, List, [], ◌∷◌, ℕ, get_or, None, Err, Ok, Result}
+use Rattle.refusal.specs.declared.Refusal.{Refusal}
 use Rattle.refusal.specs.declared.Refusal.TheVariants.{DisplayGroups}
 use Rattle.shares.specs.Shares.{shares_of}
 use Rattle.groups.specs.declared.Group.{Group}
 use Rattle.groups.specs.Groups.{group_at}
 use Rattle.groups.specs.Refused.{turned_away}
-use Rattle.display.specs.declared.part.Part.{Part}
-use Rattle.display.specs.declared.Display.{Display}
-use Rattle.display.specs.Parts.{no_part, part_in, count_in}
+use Rattle.display.specs.Parts.{Part, part_in, count_in}
 
-abbrev pub refused_display : Display
-refused_display = record { answer = Err DisplayGroups; parts = replicate 4 no_part }
+abbrev pub Display : Type 0
+Display = Result (List Part) Refusal
 
 -- the lengths of the lists, by group number
 abbrev pub counts : List Group → List ℕ
@@ -26,9 +24,10 @@ part_at gs i = part_in (group_at i gs) (share_of gs i)
 
 unfoldable pub display_of : List Group → Display
 display_of gs =
-    cond (turned_away gs) refused_display
-    (record { answer = Ok Taken; parts = part_at gs 0 ∷ part_at gs 1 ∷ part_at gs 2 ∷ part_at gs 3 ∷ [] })
+    cond (turned_away gs) (Err DisplayGroups)
+    (Ok (part_at gs 0 ∷ part_at gs 1 ∷ part_at gs 2 ∷ part_at gs 3 ∷ []))
 
--- the part of a group; none above 3
+-- the part of a group; none above 3, and none where the display is turned away
 unfoldable pub part_of : Display → ℕ → Part
-part_of d i = cond (ltb i 4) (get_or d.parts i no_part) no_part
+part_of (Err r) i = None
+part_of (Ok ps) i = get_or ps i None

@@ -1,9 +1,8 @@
 -- What is claimed of a display, beside its definition: what is shown, of whom, and what best of a group answers.
-use Rattle.refusal.specs.declared.Accepted.TheVariants.{Taken}
 use Rattle.std.specs.Prelude.{◌≡◌, ◌↔◌, Bool, true, false, cond, ℕ, ◌+◌, ◌-◌, ◌≤◌, ◌<◌, leb, ltb, ℤ, length, take, get_or, None, Option, Some, Err, Ok}
 use mathlib.Core.List.{List, Memᴰ}
 use Rattle.laws.specs.Sort.{sort}
-use Rattle.refusal.specs.declared.Refusal.TheVariants.{DisplayGroups}
+use Rattle.refusal.specs.declared.Refusal.TheVariants.{DisplayGroups, NoRoom}
 use Rattle.profile.specs.declared.Journey.{Journey}
 use Rattle.profile.specs.Journeys.{no_journey, journey_figures}
 use Rattle.profile.specs.Best.{Ordered, Ahead}
@@ -12,8 +11,7 @@ use Rattle.best.specs.Best.{answer_of, kept_of, best_spec}
 use Rattle.groups.specs.declared.Group.{Group}
 use Rattle.groups.specs.Groups.{group_of, list_of}
 use Rattle.groups.specs.Refused.{turned_away}
-use Rattle.display.specs.declared.part.Part.{Part}
-use Rattle.display.specs.Parts.{no_part, refused_part, window_of, shown_by}
+use Rattle.display.specs.Parts.{Part, shows, window_to, shown_count, window_of, shown_by}
 use Rattle.display.specs.Display.{share_of, display_of, part_of}
 use Rattle.display.specs.Queries.{best_of_group}
 
@@ -44,33 +42,33 @@ FallsBelow gs g = (share_of gs g.number < length (list_of g)) × ((get_or (list_
 
 -- the whole display is refused with 23 exactly where its groups turn it away; then no group has a part
 abbrev pub RefusedWhole : Type 0
-RefusedWhole = (gs : List Group) → ((turned_away gs ≡ true) ↔ ((display_of gs).answer ≡ Err DisplayGroups)) × (turned_away gs ≡ true → (i : ℕ) → group_part gs i ≡ no_part)
+RefusedWhole = (gs : List Group) → ((turned_away gs ≡ true) ↔ (display_of gs ≡ Err DisplayGroups)) × (turned_away gs ≡ true → (i : ℕ) → group_part gs i ≡ None)
 
 -- a group's display is refused with 11 exactly where the window would fall below 3600; otherwise it shows those due by its window
 abbrev pub RefusedAlone : Type 0
 RefusedAlone = (gs : List Group) (g : Group) → Given gs g
-    → ((FallsBelow gs g) ↔ (group_part gs g.number ≡ refused_part))
-    × ((FallsBelow gs g → ⊥) → (group_part gs g.number).shows ≡ true)
+    → ((FallsBelow gs g) ↔ (group_part gs g.number ≡ Some (Err NoRoom)))
+    × ((FallsBelow gs g → ⊥) → shows (group_part gs g.number) ≡ true)
 
 -- what a group shows that has a display
 pub record Shows (gs : List Group) (g : Group) : Type 0 where
-  pub window : (group_part gs g.number).window ≡ window_of (list_of g) (share_of gs g.number) g.horizon
+  pub window : window_to (group_part gs g.number) ≡ window_of (list_of g) (share_of gs g.number) g.horizon
   -- the first so many of its list are those due by the window, at most its share
-  pub shown : take (group_part gs g.number).count g.journeys ≡ shown_by (group_part gs g.number).window (list_of g)
-  pub fit : (group_part gs g.number).count ≤ share_of gs g.number
+  pub shown : take (shown_count (group_part gs g.number)) g.journeys ≡ shown_by (window_to (group_part gs g.number)) (list_of g)
+  pub fit : shown_count (group_part gs g.number) ≤ share_of gs g.number
 
 abbrev pub ShownRight : Type 0
-ShownRight = (gs : List Group) (g : Group) → Given gs g → Ordered journey_figures (list_of g) → (group_part gs g.number).shows ≡ true → Shows gs g
+ShownRight = (gs : List Group) (g : Group) → Given gs g → Ordered journey_figures (list_of g) → shows (group_part gs g.number) ≡ true → Shows gs g
 
 -- "a group with 16 or fewer shows all of them whatever the others load", up to its own horizon
 abbrev pub SixteenShown : Type 0
 SixteenShown = (gs : List Group) (g : Group) → Given gs g → length (list_of g) ≤ 16 → ((k : Journey) → Memᴰ k (list_of g) → k.arrival ≤ g.horizon)
-    → group_part gs g.number ≡ record { shows = true; answer = Ok Taken; window = g.horizon; count = length (list_of g) }
+    → group_part gs g.number ≡ Some (Ok (record { window = g.horizon; count = length (list_of g) }))
 
 -- at most 64 are shown in all
 abbrev pub SixtyFour : Type 0
 SixtyFour = (gs : List Group) → ((g : Group) → Memᴰ g gs → Ordered journey_figures (list_of g))
-    → (group_part gs 0).count + ((group_part gs 1).count + ((group_part gs 2).count + (group_part gs 3).count)) ≤ 64
+    → shown_count (group_part gs 0) + (shown_count (group_part gs 1) + (shown_count (group_part gs 2) + shown_count (group_part gs 3))) ≤ 64
 
 -- an answer, read as none if it is due after w
 abbrev pub read_none_of : ℕ → Option Journey → Option Journey
@@ -80,5 +78,5 @@ read_none_of w (Some j) = cond (leb j.arrival w) (Some j) None
 -- best by group is best of the load, read as none past the window, at every second
 abbrev pub BestByGroup : Type 0
 BestByGroup = (gs : List Group) (n : ℕ) (l : Load) → Given gs (group_of n l) → Ordered journey_figures (kept_of l) → Ahead journey_figures (kept_of l)
-    → (group_part gs n).shows ≡ true → (group_part gs n).window ≤ l.horizon → (s : ℤ)
-    → answer_of (best_of_group (group_of n l) (group_part gs n) s) ≡ read_none_of (group_part gs n).window (answer_of (best_spec l s))
+    → shows (group_part gs n) ≡ true → window_to (group_part gs n) ≤ l.horizon → (s : ℤ)
+    → answer_of (best_of_group (group_of n l) (group_part gs n) s) ≡ read_none_of (window_to (group_part gs n)) (answer_of (best_spec l s))

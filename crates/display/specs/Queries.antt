@@ -3,11 +3,11 @@ use Rattle.std.specs.Prelude.{cond, ℤ, take, None, Option}
 use Rattle.profile.specs.declared.Journey.{Journey}
 use Rattle.best.specs.Best.{first_leaving, after_of}
 use Rattle.groups.specs.declared.Group.{Group}
-use Rattle.display.specs.declared.part.Part.{Part}
+use Rattle.display.specs.Parts.{Part, shows, window_to, shown_count}
 
 -- of the journeys shown, the first that leaves at the second or later; none before 0 and after the window
 unfoldable pub best_of_group : Group → Part → ℤ → Option Journey
-best_of_group g p s = cond p.shows (first_leaving (take p.count g.journeys) p.window s) None
+best_of_group g p s = cond (shows p) (first_leaving (take (shown_count p) g.journeys) (window_to p) s) None
 
 -- at the larger of the second and the given leave + 1
 unfoldable pub next_of_group : Group → Part → ℤ → Journey → Option Journey

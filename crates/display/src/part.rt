@@ -1,45 +1,22 @@
 // A group's part of a display: how many of its journeys are shown, up to which window, or why none is.
-ghost use Rattle.std.specs.Prelude.{◌≡◌, length};
+ghost use Rattle.std.specs.Prelude.{◌≡◌, length, option_copied};
 ghost use Rattle.groups.specs.Groups.{list_of};
-ghost use Rattle.display.specs.Parts.{no_part, refused_part, count_in, window_of, falls_below, shown_by, part_for, part_in};
+ghost use Rattle.display.specs.Parts.{count_in, window_of, falls_below, shown_by, part_for, part_in};
 
 use groups::Group;
 use prefix::first;
 use profile::Journey;
-use refusal::{Accepted, Answer, Refusal};
+use refusal::Refusal;
 
-// `shows` where the group has a display: then the first `count` of its list are shown, those due by the window. Otherwise both are 0, and
-// the answer is 11 where the window would fall below 3600. No `Result`: there are three ends, and `count` and `window` are read of each.
+// What a group shows: the first `count` of its list, those due by the window.
 #[derive(Clone, Copy, Debug, PartialEq, Eq)]
-pub struct Part {
-    pub shows: bool,
-    pub answer: Answer,
+pub struct Shown {
     pub window: u16,
     pub count: usize,
 }
 
-// The part of a group that isn't given. No `Default`: an answer has none.
-pub fn no_part() -> Part
-    ensures { result ≡ no_part }
-{
-    Part {
-        shows: false,
-        answer: Ok(Accepted::Taken),
-        window: 0,
-        count: 0,
-    }
-}
-
-fn refused_part() -> Part
-    ensures { result ≡ refused_part }
-{
-    Part {
-        shows: false,
-        answer: Err(Refusal::NoRoom),
-        window: 0,
-        count: 0,
-    }
-}
+// What a group shows, or 11 where the window would fall below 3600. None of a group that isn't given.
+pub type Part = Option<Result<Shown, Refusal>>;
 
 // The group's list.
 fn listed(group: &Group) -> &[Journey]
@@ -50,13 +27,10 @@ fn listed(group: &Group) -> &[Journey]
 
 // How long the list of a group is: 0 where it isn't given.
 #[tactic(auto, unfolding(crate::specs::Parts::count_in))]
-pub fn count_in(given: Option<Group>) -> usize
-    ensures { result ≡ count_in given }
+pub fn count_in(given: Option<&Group>) -> usize
+    ensures { result ≡ count_in (option_copied given.entry) }
 {
-    match given {
-        Some(group) => listed(&group).len(),
-        None => 0,
-    }
+    given.map_or(0, |group| listed(group).len())
 }
 
 // The window of a list that gets so large a share.
@@ -87,28 +61,23 @@ fn due_by(list: &[Journey], window: u16) -> usize
 }
 
 // The part of a group that gets such a share.
-fn part_for(group: Group, share: usize) -> Part
-    ensures { result ≡ part_for group share }
+fn part_for(group: &Group, share: usize) -> Result<Shown, Refusal>
+    ensures { result ≡ part_for group.entry.now share }
 {
-    let list = listed(&group);
+    let list = listed(group);
     let window = window_at(list, share, group.horizon);
     if falls_below(list.len(), share, window) {
-        return refused_part();
+        return Err(Refusal::NoRoom);
     }
-    Part {
-        shows: true,
-        answer: Ok(Accepted::Taken),
+    Ok(Shown {
         window,
         count: due_by(list, window),
-    }
+    })
 }
 
 #[tactic(auto, unfolding(crate::specs::Parts::part_in))]
-pub fn part_in(given: Option<Group>, share: usize) -> Part
-    ensures { result ≡ part_in given share }
+pub fn part_in(given: Option<&Group>, share: usize) -> Part
+    ensures { result ≡ part_in (option_copied given.entry) share }
 {
-    match given {
-        Some(group) => part_for(group, share),
-        None => no_part(),
-    }
+    Some(part_for(given?, share))
 }

@@ -4,6 +4,7 @@ use Rattle.laws.specs.Tables.{table}
 use Rattle.profile.specs.declared.Journey.{Journey}
 use Rattle.profile.specs.Journeys.{no_ride}
 use Rattle.groups.specs.declared.Group.{Group}
+use Rattle.display.specs.Parts.{window_to}
 use Rattle.display.specs.Display.{display_of, part_of}
 
 abbrev pub due_at : ℕ → Journey
@@ -21,4 +22,4 @@ four_full a b c d = full_group 0 a ∷ full_group 1 b ∷ full_group 2 c ∷ ful
 
 -- the window of the last of them, in a display of all four
 abbrev pub last_window : List ℕ → List ℕ → List ℕ → List ℕ → ℕ
-last_window a b c d = (part_of (display_of (four_full a b c d)) 3).window
+last_window a b c d = window_to (part_of (display_of (four_full a b c d)) 3)

@@ -2,8 +2,10 @@
 #![tactic(auto)]
 
 ghost use Rattle.std.specs.Prelude.{◌≡◌};
+ghost use Rattle.display.specs.Parts.{window_to};
 ghost use Rattle.display_c.specs.Full.{due_at, list_due, full_group, last_window};
 
+use display::part::Part;
 use display::{deal, part_of};
 use groups::Group;
 use profile::{Journey, no_journey};
@@ -42,6 +44,15 @@ fn full_group(number: u8, arrivals: &[u16; 64]) -> Group
     }
 }
 
+fn window_to(part: Part) -> u16
+    ensures { result ≡ window_to part }
+{
+    match part {
+        Some(Ok(shown)) => shown.window,
+        _ => 0,
+    }
+}
+
 // The window of the last of four such groups: four lists are made, and a display is dealt from them. Four arrays, as C hands them in.
 #[unsafe(no_mangle)]
 pub extern "C" fn full_display(a: &[u16; 64], b: &[u16; 64], c: &[u16; 64], d: &[u16; 64]) -> u16
@@ -53,5 +64,5 @@ pub extern "C" fn full_display(a: &[u16; 64], b: &[u16; 64], c: &[u16; 64], d: &
         full_group(2, c),
         full_group(3, d),
     ];
-    part_of(deal(&given), 3).window
+    window_to(part_of(deal(&given), 3))
 }

@@ -1,11 +1,10 @@
 // Calls, calls that name a service, and withdrawals, which a load takes before its search and after it.
 use crate::record_fields::{Fields, Malformed};
 use again::{add, withdraw};
-use calls::CallInput;
+use calls::{CallInput, CallKey};
 use fields::layout::{call_filled, pickup_at};
 use fields::records::call_in;
 use load::{Load, Stepped};
-use withdrawal::CallKey;
 
 fn call_of(b: &[u8]) -> Result<CallInput, Malformed> {
     if call_filled(b) {

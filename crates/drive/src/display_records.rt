@@ -2,52 +2,10 @@
 use crate::printed::found;
 use crate::record_fields::{Fields, Malformed};
 use display::{Display, best_of_group, deal, next_of_group, part_of};
-use groups::{Group, group_at, group_of, no_group};
+use groups::{Groups, group_at, group_of};
 use load::Load;
 use stdio::load_lines::refused;
 use stdio::out::Out;
-
-// Up to four groups: an array and a count, since there is no heap.
-#[derive(Clone, Copy, Debug, PartialEq, Eq)]
-struct Groups {
-    groups: [Group; 4],
-    count: usize,
-}
-
-// None. Not derived: a `Group` has no default, but a blank one by a function with a contract.
-impl Default for Groups {
-    fn default() -> Self {
-        Groups {
-            groups: [no_group(); 4],
-            count: 0,
-        }
-    }
-}
-
-impl Groups {
-    // A fifth can't be added.
-    fn add(&mut self, group: Group) -> Result<(), Malformed> {
-        if self.count >= 4 {
-            return Err(Malformed);
-        }
-        self.groups[self.count] = group;
-        self.count += 1;
-        Ok(())
-    }
-
-    fn given(&self) -> &[Group] {
-        &self.groups[..self.count.min(4)]
-    }
-
-    // The group of a number; the blank one where it isn't given.
-    fn at(&self, number: u8) -> Group {
-        group_at(self.given(), number).unwrap_or(no_group())
-    }
-
-    fn deal(&self) -> Display {
-        deal(self.given())
-    }
-}
 
 // The groups set aside for the next display, and the last display with its groups.
 #[derive(Clone, Copy, Debug, PartialEq, Eq)]
@@ -64,7 +22,7 @@ impl Default for Board {
         Board {
             aside: none,
             shown: none,
-            display: none.deal(),
+            display: deal(none.given()),
         }
     }
 }
@@ -78,7 +36,9 @@ impl Board {
     ) -> Result<(), Malformed> {
         let number = fields.u8()?;
         fields.end()?;
-        self.aside.add(group_of(number, load))?;
+        if !self.aside.add(group_of(number, load)) {
+            return Err(Malformed);
+        }
         writeln!(out, "aside");
         Ok(())
     }
@@ -88,8 +48,8 @@ impl Board {
         fields.end()?;
         self.shown = self.aside;
         self.aside = Groups::default();
-        self.display = self.shown.deal();
-        match self.display.answer {
+        self.display = deal(self.shown.given());
+        match self.display {
             Ok(_) => line(out, self.display),
             Err(r) => refused(out, r),
         }
@@ -102,7 +62,11 @@ impl Board {
         let second = fields.i64()?;
         fields.end()?;
         let part = part_of(self.display, number);
-        found(out, best_of_group(self.shown.at(number), part, second));
+        let group = group_at(self.shown.given(), number);
+        found(
+            out,
+            group.and_then(|group| best_of_group(group, part, second)),
+        );
         Ok(())
     }
 
@@ -114,9 +78,10 @@ impl Board {
         missed.leave = fields.u16()?;
         fields.end()?;
         let part = part_of(self.display, number);
+        let group = group_at(self.shown.given(), number);
         found(
             out,
-            next_of_group(self.shown.at(number), part, second, missed),
+            group.and_then(|group| next_of_group(group, part, second, missed)),
         );
         Ok(())
     }
@@ -126,17 +91,16 @@ impl Board {
 fn line(out: &mut Out, display: Display) {
     let mut between = "";
     for number in 0u8..4 {
-        let part = part_of(display, number);
-        if part.shows {
-            write!(
+        let Some(part) = part_of(display, number) else {
+            continue;
+        };
+        match part {
+            Ok(shown) => write!(
                 out,
                 "{between}group {number} window {} shown {}",
-                part.window, part.count
-            );
-        } else if let Err(r) = part.answer {
-            write!(out, "{between}group {number} refused {}", u8::from(r));
-        } else {
-            continue;
+                shown.window, shown.count
+            ),
+            Err(r) => write!(out, "{between}group {number} refused {}", u8::from(r)),
         }
         between = " ; ";
     }

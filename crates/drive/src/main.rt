@@ -22,11 +22,12 @@ use stdio::out::Out;
 // As long as the longest file.
 const MOST: usize = 1048576;
 
-// The whole input as one step file. If it fills the buffer, it may be longer: so the buffer is handed on with the size, and not its part.
-fn one(out: &mut Out, buf: &[u8], size: usize) {
-    match buf.split_at_checked(size) {
-        Some((file, [_, ..])) => run::file(out, file),
-        _ => writeln!(out, "{Malformed}"),
+// The whole input as one step file. If it fills the buffer, it may be longer.
+fn one(out: &mut Out, file: &[u8]) {
+    if file.len() < MOST {
+        run::file(out, file);
+    } else {
+        writeln!(out, "{Malformed}");
     }
     out.flush();
 }
@@ -38,8 +39,8 @@ fn batched(out: &mut Out, file: &[u8]) {
 
 // The files of a batch; the first one's length is in the buffer.
 fn batch(stdin: Stdin, out: &mut Out, buf: &mut [u8]) {
-    if let Some(size) = input::body(stdin, buf) {
-        batched(out, &buf[..size]);
+    if let Some(file) = input::body(stdin, buf) {
+        batched(out, file);
         input::each_file(stdin, buf, |file| batched(out, file));
     }
 }
@@ -51,8 +52,7 @@ fn main(rt: HostRuntime) {
     let buf: &mut [u8] = &mut bytes;
     let got = input::head(stdin, buf);
     if 0 < got && buf.first() == Some(&83) {
-        let size = input::rest(stdin, buf, got);
-        one(&mut out, buf, size);
+        one(&mut out, input::rest(stdin, buf, got));
     } else if got == 4 {
         batch(stdin, &mut out, buf);
     }

@@ -1,9 +1,10 @@
 // Best and next after of the open load, and searches of it within a limit on joins (request 12).
+// Output, load and fields one by one: a struct of them would be made at each arm of `record` and taken apart here.
 use crate::printed::found;
 use crate::record_fields::{Fields, Malformed};
 use load::Load;
 use margin::margin_of;
-use search::{Limited, search_within};
+use search::search_within;
 use stdio::load_lines::{Figures, refused};
 use stdio::out::Out;
 
@@ -34,9 +35,9 @@ pub fn limited(out: &mut Out, load: Load, mut fields: Fields<'_>) -> Result<Load
     let limit = fields.u64()?;
     fields.end()?;
     let w = search_within(load, limit);
-    match w.answer {
-        Ok(_) if w.finished => writeln!(out, "finished {}", w.joins),
-        Ok(_) => writeln!(out, "stopped {}", w.joins),
+    match w.tested {
+        Ok(tested) if tested.finished => writeln!(out, "finished {}", tested.joins),
+        Ok(tested) => writeln!(out, "stopped {}", tested.joins),
         Err(r) => refused(out, r),
     }
     Ok(w.load)

@@ -1,4 +1,5 @@
 // A load written into a buffer of so much room: how long the file is, and its hash; or the refusal.
+// Output, load and fields one by one: a struct of them would be made at each arm of `record` and taken apart here.
 use crate::record_fields::{Fields, Malformed};
 use key::key;
 use load::Load;

@@ -108,11 +108,7 @@ pub fn can_walk(walk: u16, departure: u16) -> bool
 pub fn leave_of(walk: u16, departure: u16) -> u16
     ensures { result ≡ leave_of walk departure }
 {
-    let seconds = walk as u32 * 60;
-    if seconds <= departure as u32 {
-        return departure - seconds as u16;
-    }
-    0
+    u32::from(departure).saturating_sub(u32::from(walk) * 60) as u16
 }
 
 #[tactic(auto, unfolding(crate::specs::Feed::arrival_of))]

@@ -37,7 +37,9 @@ alight-flag false false = refl
 pub six-region : (l : List ℕ) (i : ℕ) (c : Call) (s g : ℕ) → s ≡ stop_number c.stop → g ≡ flags_of c.board c.alight → i * 6 + 6 ≤ length l
     → Region (λ k. get_or (six_of c) k 0) (i * 6) 6 l (puts (set l (i * 6) c.trip) (i * 6) 1 (c.day ∷ s ∷ c.arrival ∷ c.departure ∷ g ∷ []))
 unfolding six_of
-six-region l i c s g es eg h = rw (es, eg) (region-puts l (i * 6) c.trip (c.day ∷ stop_number c.stop ∷ c.arrival ∷ c.departure ∷ flags_of c.board c.alight ∷ []) (omega arith))
+six-region l i c s g es eg h =
+    rw (es, eg) (region-puts l (i * 6) c.trip (c.day ∷ stop_number c.stop ∷ c.arrival ∷ c.departure ∷ flags_of c.board c.alight ∷ [])
+    (omega arith))
 
 -- ---- members
 
@@ -90,8 +92,12 @@ module _ (calls : List Call) (stops : List Stop) (s : Settings) (l₀ l₁ l₂ 
       stop = λ i h. number i 2 h (omega arith);
       arrival = λ i h. number i 3 h (omega arith);
       departure = λ i h. number i 4 h (omega arith);
-      board = λ i h. ap (λ (x : ℕ). eqb (x % 2) 1) (number i 5 h (omega arith)) ∙ board-flag (get_or calls i blank_call).board (get_or calls i blank_call).alight;
-      alight = λ i h. ap (λ (x : ℕ). eqb (x / 2 % 2) 1) (number i 5 h (omega arith)) ∙ alight-flag (get_or calls i blank_call).board (get_or calls i blank_call).alight;
+      board =
+          λ i h. ap (λ (x : ℕ). eqb (x % 2) 1) (number i 5 h (omega arith))
+          ∙ board-flag (get_or calls i blank_call).board (get_or calls i blank_call).alight;
+      alight =
+          λ i h. ap (λ (x : ℕ). eqb (x / 2 % 2) 1) (number i 5 h (omega arith))
+          ∙ alight-flag (get_or calls i blank_call).board (get_or calls i blank_call).alight;
       origins = λ k h. ap (λ (x : ℕ). x % 16) (member k h) ∙ (masked s.origins s.targets (stop_at stops k).members).0;
       targets = λ k h. ap (λ (x : ℕ). x / 16 % 16) (member k h) ∙ (masked s.origins s.targets (stop_at stops k).members).1;
       past = past-end;

@@ -14,7 +14,7 @@ use feed::layout::{
 use settings::Settings;
 use stops::Stop;
 
-// A stop past the 128th is 65535.
+// A stop past the 128th is 65535: that is no stop in the feed, which C lends.
 #[tactic(auto, unfolding(crate::specs::Feeds::stop_number))]
 fn stop_number(stop: u16) -> u16
     ensures { result ≡ stop_number stop }

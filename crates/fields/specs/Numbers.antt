@@ -2,9 +2,14 @@
 use Rattle.std.specs.Prelude.{ℕ, ◌+◌, ◌*◌, ◌-◌, cond, List, ltb, ℤ, pos, negsuc, get_or, Float}
 use Rattle.std.specs.Float.{binary64}
 use Rattle.std.specs.Float.Ieee.{of_bits}
+use Rattle.laws.specs.Tables.{table}
 
 abbrev pub byte_at : List ℕ → ℕ → ℕ
 byte_at b at = get_or b at 0
+
+-- so many bytes
+unfoldable pub bytes_at : ℕ → List ℕ → ℕ → List ℕ
+bytes_at n b at = table n (λ i. byte_at b (at + i))
 
 unfoldable pub u16_at : List ℕ → ℕ → ℕ
 u16_at b at = byte_at b at * 256 + byte_at b (at + 1)

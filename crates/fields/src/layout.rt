@@ -1,5 +1,5 @@
-// Where the fields of a record stand, and whether they fill it. Fields are read by their places and not in order, so the bytes and a place
-// stay two parameters: a cursor would be made anew for each field. Bounds of places are clauses of their own: sums of places must fit.
+// Where the fields of a record stand, and whether they fill it. By place, as specs/ says where each field stands: a cursor would have to
+// show at each field that it stands there. Bounds of places are clauses of their own: sums of places must fit.
 ghost use Rattle.std.specs.Prelude.{◌≡◌, ◌+◌, ◌≤◌};
 ghost use Rattle.fields.specs.Numbers.{byte_at, u16_at};
 ghost use Rattle.fields.specs.Layout.{
@@ -97,7 +97,8 @@ pub fn minutes_at(b: &[u8]) -> usize
     3 + usize::from(byte_at(b, 1)) + usize::from(byte_at(b, 2))
 }
 
-// By whether the file is of version 2, where there is a byte more.
+// By whether the file is of version 2, where there is a byte more. A bool, as `is_second` in specs/ says it: an enum would be made of that
+// bool for each contract.
 #[tactic(auto, unfolding(crate::specs::Layout::settings_filled_of, crate::specs::Second::second_settings_filled_of))]
 pub fn settings_filled_by(second: bool, b: &[u8]) -> bool
     ensures { result ≡ settings_filled_by second b.now }

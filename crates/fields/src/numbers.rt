@@ -1,9 +1,11 @@
 // Big-endian numbers of a record. A byte past the record's end reads as 0.
 // A number is read only near a record's start, so the places of its bytes fit. The bytes and a place stay two parameters, as in `layout`.
-ghost use Rattle.std.specs.Prelude.{◌≡◌, ◌≤◌};
+ghost use Rattle.std.specs.Prelude.{◌≡◌, ◌+◌, ◌≤◌};
 ghost use Rattle.std.specs.Float.{binary64};
 ghost use Rattle.std.specs.Float.Ieee.{nan_bits};
-ghost use Rattle.fields.specs.Numbers.{byte_at, u16_at, u32_at, u64_at, i64_at, f64_at};
+ghost use Rattle.fields.specs.Numbers.{byte_at, bytes_at, u16_at, u32_at, u64_at, i64_at, f64_at};
+
+use std::array;
 
 pub fn byte_at(b: &[u8], at: usize) -> u8
     ensures { result ≡ byte_at b.now at }
@@ -11,42 +13,36 @@ pub fn byte_at(b: &[u8], at: usize) -> u8
     b.get(at).copied().unwrap_or(0)
 }
 
-#[tactic(auto, unfolding(crate::specs::Numbers::u16_at))]
+// So many bytes from a place on.
+pub fn bytes_at<const N: usize>(b: &[u8], at: usize) -> [u8; N]
+    requires { at + N ≤ 4098 }
+    ensures { result ≡ bytes_at N b.now at }
+{
+    array::from_fn(|i| byte_at(b, at + i))
+}
+
+#[tactic(auto, unfolding(crate::specs::Numbers::bytes_at, laws::specs::Tables::table, crate::specs::Numbers::u16_at))]
 pub fn u16_at(b: &[u8], at: usize) -> u16
     requires { at ≤ 4096 }
     ensures { result ≡ u16_at b.now at }
 {
-    u16::from_be_bytes([byte_at(b, at), byte_at(b, at + 1)])
+    u16::from_be_bytes(bytes_at(b, at))
 }
 
-#[tactic(auto, unfolding(crate::specs::Numbers::u16_at, crate::specs::Numbers::u32_at))]
+#[tactic(auto, unfolding(crate::specs::Numbers::bytes_at, laws::specs::Tables::table, crate::specs::Numbers::u16_at, crate::specs::Numbers::u32_at))]
 pub fn u32_at(b: &[u8], at: usize) -> u32
     requires { at ≤ 4094 }
     ensures { result ≡ u32_at b.now at }
 {
-    u32::from_be_bytes([
-        byte_at(b, at),
-        byte_at(b, at + 1),
-        byte_at(b, at + 2),
-        byte_at(b, at + 3),
-    ])
+    u32::from_be_bytes(bytes_at(b, at))
 }
 
-#[tactic(auto, unfolding(crate::specs::Numbers::u16_at, crate::specs::Numbers::u32_at, crate::specs::Numbers::u64_at))]
+#[tactic(auto, unfolding(crate::specs::Numbers::bytes_at, laws::specs::Tables::table, crate::specs::Numbers::u16_at, crate::specs::Numbers::u32_at, crate::specs::Numbers::u64_at))]
 pub fn u64_at(b: &[u8], at: usize) -> u64
     requires { at ≤ 4090 }
     ensures { result ≡ u64_at b.now at }
 {
-    u64::from_be_bytes([
-        byte_at(b, at),
-        byte_at(b, at + 1),
-        byte_at(b, at + 2),
-        byte_at(b, at + 3),
-        byte_at(b, at + 4),
-        byte_at(b, at + 5),
-        byte_at(b, at + 6),
-        byte_at(b, at + 7),
-    ])
+    u64::from_be_bytes(bytes_at(b, at))
 }
 
 // Two's complement.

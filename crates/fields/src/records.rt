@@ -7,25 +7,19 @@ ghost use Rattle.fields.specs.Second.{settings_by};
 use crate::layout::{
     departure_at, has_at, members_at, minutes_at, pickup_at, target_walks_at, type_at,
 };
-use crate::numbers::{byte_at, f64_at, i64_at, u16_at, u32_at};
+use crate::numbers::{byte_at, bytes_at, f64_at, i64_at, u16_at, u32_at};
 use calls::CallInput;
 use place::Degrees;
 use rules::Rule;
 use settings::Settings;
 use stops::StopInput;
 
-// Four bytes from a place on.
-#[tactic(auto, unfolding(crate::specs::Records::walks_at))]
+#[tactic(auto, unfolding(crate::specs::Records::walks_at, crate::specs::Numbers::bytes_at, laws::specs::Tables::table))]
 fn walks_at(b: &[u8], at: usize) -> [u8; 4]
     requires { at ≤ 1024 }
     ensures { result ≡ walks_at b.now at }
 {
-    [
-        byte_at(b, at),
-        byte_at(b, at + 1),
-        byte_at(b, at + 2),
-        byte_at(b, at + 3),
-    ]
+    bytes_at(b, at)
 }
 
 // The seconds to change at a place, by whether the file is of version 2: that has two bytes of them, version 1 one of minutes.

@@ -23,6 +23,7 @@ use Rattle.file.specs.declared.Fed.{Fed}
 use Rattle.file.specs.Record.{fresh_reader, open_reader, step_in, stepped_by, record_spec}
 use Rattle.file.specs.File.{starts_whole, size_of, body_of, version_answer, is_second, fed_spec, end_answer, ended_by, read_spec_of}
 use Rattle.file.specs.Handed.{bodies_by, ReadHands}
+use Rattle.file.proofs.FramedLaws.{bodies-stop, bodies-on}
 use Rattle.file.proofs.FedLaws.{none-whole, whole_room, fed-stops, fed-refuses, fed-goes-on}
 use Rattle.file.proofs.RecordLaws.{taken-settled}
 
@@ -51,15 +52,6 @@ opens r b o k =
     ((not-sent-back (settings_by r.second b) f, tt), t.1 ∙ rw (o, f) refl)
 
 -- ---- the bodies
-
-bodies-stop : (n : ℕ) (xs : List ℕ) → starts_whole xs ≡ false → bodies_by n xs ≡ []
-unfolding bodies_by
-bodies-stop zero xs e = refl
-bodies-stop (suc n) xs e = rw e refl
-
-bodies-on : (n : ℕ) (xs : List ℕ) → starts_whole xs ≡ true → bodies_by (suc n) xs ≡ body_of xs ∷ bodies_by n (drop (size_of xs) xs)
-unfolding bodies_by
-bodies-on n xs e = rw e refl
 
 -- the rest of a file, once a load is opened: each body is handed to it
 abbrev Hands : ℕ → Reader → List ℕ → Fed → Type 0

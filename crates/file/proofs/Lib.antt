@@ -7,3 +7,4 @@ pub mod HandedLaws
 pub mod ListedLaws
 pub mod MinutesLaws
 pub mod WholeLaws
+pub mod FramedLaws

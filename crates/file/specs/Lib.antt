@@ -1,5 +1,6 @@
 pub mod Record
 pub mod File
 pub mod Handed
+pub mod Framed
 pub mod Answered
 pub mod Minutes

@@ -7,14 +7,14 @@ ghost use Rattle.load.specs.Steps.{stop_spec};
 ghost use Rattle.again.specs.Again.{add_spec_of};
 ghost use Rattle.file.specs.Record.{kind_right, filled, record_tests, stepped_by, record_spec};
 
-use crate::stop_texts::{id_text, name_text, parent_text};
+use crate::stop_texts::new_stop;
 use crate::{Reader, Took};
 use again::add;
 use calls::CallInput;
 use fields::layout::{
     call_filled, kind_of, rule_filled, search_filled, settings_filled_by, stop_filled,
 };
-use fields::records::{call_in, rule_in, settings_by, stop_in};
+use fields::records::{call_in, rule_in, settings_by};
 use load::{Load, Stepped};
 use refusal::{Accepted, Answer, Refusal, is_refused};
 use search::search;
@@ -63,7 +63,7 @@ fn record_answer(opened: bool, second: bool, b: &[u8]) -> Answer
 fn stop_record(load: Load, b: &[u8]) -> Stepped
     ensures { result ≡ stop_spec load (text_at b.now 1) (option_text_at b.now (name_at b.now)) (option_text_at b.now (parent_at b.now)) (stop_in b.now) }
 {
-    load.stop(id_text(b), name_text(b), parent_text(b), stop_in(b))
+    load.stop(new_stop(b))
 }
 
 // A call of a file names no service; after the search record it has the load searched again.

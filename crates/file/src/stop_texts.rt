@@ -1,8 +1,11 @@
-// The three texts of a stop's record, as parts of its bytes. The bytes and a place stay two parameters, as in `fields`.
+// The stop that its record hands in, its three texts parts of the bytes. The bytes and a place stay two parameters, as in `fields`.
 ghost use Rattle.std.specs.Prelude.{◌≡◌, ◌-◌, ◌≤◌, take, drop, option_copied};
 ghost use Rattle.fields.specs.Layout.{text_at, option_text_end, option_text_at, name_at, parent_at};
+ghost use Rattle.fields.specs.Records.{stop_in};
 
 use fields::layout::{has_at, name_at, parent_at, type_at};
+use fields::records::stop_in;
+use stops::NewStop;
 
 // What the bytes hold of a part; a record that is not filled may end before the part does.
 fn part(b: &[u8], from: usize, end: usize) -> &[u8]
@@ -12,7 +15,7 @@ fn part(b: &[u8], from: usize, end: usize) -> &[u8]
     &b[from.min(to)..to]
 }
 
-pub fn id_text(b: &[u8]) -> &[u8]
+fn id_text(b: &[u8]) -> &[u8]
     ensures { result.now ≡ text_at b.now 1 }
 {
     part(b, 2, name_at(b))
@@ -27,14 +30,28 @@ fn option_text(b: &[u8], at: usize, end: usize) -> Option<&[u8]>
     has_at(b, at).then_some(part(b, at + 2, end))
 }
 
-pub fn name_text(b: &[u8]) -> Option<&[u8]>
+fn name_text(b: &[u8]) -> Option<&[u8]>
     ensures { option_copied result ≡ option_text_at b.now (name_at b.now) }
 {
     option_text(b, name_at(b), parent_at(b))
 }
 
-pub fn parent_text(b: &[u8]) -> Option<&[u8]>
+fn parent_text(b: &[u8]) -> Option<&[u8]>
     ensures { option_copied result ≡ option_text_at b.now (parent_at b.now) }
 {
     option_text(b, parent_at(b), type_at(b))
+}
+
+pub fn new_stop(b: &[u8]) -> NewStop<'_>
+    ensures id { result.id.now ≡ text_at b.now 1 }
+    ensures name { option_copied result.name ≡ option_text_at b.now (name_at b.now) }
+    ensures parent { option_copied result.parent ≡ option_text_at b.now (parent_at b.now) }
+    ensures input { result.input ≡ stop_in b.now }
+{
+    NewStop {
+        id: id_text(b),
+        name: name_text(b),
+        parent: parent_text(b),
+        input: stop_in(b),
+    }
 }

@@ -95,10 +95,26 @@ twice-out (g ∷ gs) e = go (λ h. twice-out gs h) (or-true-cases (anyb (has_num
     go f (inl h) =
         let (q, m, p) = anyb-mem (has_number g.number) gs h in
         let (xs, ys, s) = apart q gs m in
-        record { before = []; one = g; between = xs; other = q; behind = ys; are = ap {B = List Group} (λ l. g ∷ l) s; same = eqb-true q.number g.number p }
+        record {
+          before = [];
+          one = g;
+          between = xs;
+          other = q;
+          behind = ys;
+          are = ap {B = List Group} (λ l. g ∷ l) s;
+          same = eqb-true q.number g.number p;
+        }
     go f (inr h) =
         let w = f h in
-        record { before = g ∷ w.before; one = w.one; between = w.between; other = w.other; behind = w.behind; are = ap {B = List Group} (λ l. g ∷ l) w.are; same = w.same }
+        record {
+          before = g ∷ w.before;
+          one = w.one;
+          between = w.between;
+          other = w.other;
+          behind = w.behind;
+          are = ap {B = List Group} (λ l. g ∷ l) w.are;
+          same = w.same;
+        }
 
 mem-append : (q : Group) (xs ys : List Group) → Memᴰ q (xs ++ q ∷ ys)
 mem-append q [] ys = Memᴰ.head refl
@@ -115,7 +131,8 @@ first_some : (p : Group → Bool) (gs : List Group) (g : Group) → find p gs �
 first_some p [] g e = absurd (let z : ◌≡◌ {A = ℕ} 0 1 = cc in omega arith)
 first_some p (x ∷ gs) g e = go (λ r. first_some p gs g r) (p x) refl e
   where
-    go : (find p gs ≡ Some g → Memᴰ g gs × (p g ≡ true)) → (b : Bool) → p x ≡ b → cond b (Some x) (find p gs) ≡ Some g → Memᴰ g (x ∷ gs) × (p g ≡ true)
+    go : (find p gs ≡ Some g → Memᴰ g gs × (p g ≡ true)) → (b : Bool) → p x ≡ b → cond b (Some x) (find p gs) ≡ Some g
+        → Memᴰ g (x ∷ gs) × (p g ≡ true)
     go f true q r = let s : x ≡ g = cc in (Memᴰ.head (sym s), subst (λ (y : Group). p y ≡ true) s q)
     go f false q r = let (m, t) = f r in (Memᴰ.tail m, t)
 
@@ -123,7 +140,8 @@ first-none : (p : Group → Bool) (gs : List Group) → find p gs ≡ None → (
 first-none p [] e g m = absurd (Memᴰ.not-nil m)
 first-none p (x ∷ gs) e g m = go (λ r n. first-none p gs r g n) (p x) refl e (Memᴰ.cases_cons m)
   where
-    go : (find p gs ≡ None → Memᴰ g gs → p g ≡ false) → (b : Bool) → p x ≡ b → cond b (Some x) (find p gs) ≡ None → (g ≡ x) ⊎ Memᴰ g gs → p g ≡ false
+    go : (find p gs ≡ None → Memᴰ g gs → p g ≡ false) → (b : Bool) → p x ≡ b → cond b (Some x) (find p gs) ≡ None → (g ≡ x) ⊎ Memᴰ g gs
+        → p g ≡ false
     go f true q r s = absurd (let z : ◌≡◌ {A = ℕ} 0 1 = cc in omega arith)
     go f false q r (inl s) = subst (λ (y : Group). p y ≡ false) (sym s) q
     go f false q r (inr n) = f r n
@@ -152,15 +170,18 @@ module _ (gs : List Group) where
   lowest-starts : (g : Group) → Memᴰ g gs → g.number ≤ 3 → Starts (lowest_start gs)
   unfolding lowest_start
   lowest-starts g m h =
-      start-at 0 _ (λ q n. omega arith) (λ f₁. start-at 1 _ f₁ (λ f₂. start-at 2 _ f₂ (λ f₃. start-at 3 _ f₃ (λ f₄. absurd (omega (arith, f₄ g m))))))
+      start-at 0 _ (λ q n. omega arith)
+      (λ f₁. start-at 1 _ f₁ (λ f₂. start-at 2 _ f₂ (λ f₃. start-at 3 _ f₃ (λ f₄. absurd (omega (arith, f₄ g m))))))
 
 -- ---- the four causes
 
-wrong-cases : (gs : List Group) (g : Group) → Memᴰ g gs → is_wrong (lowest_start gs) g ≡ true → Above gs ⊎ (Twice gs ⊎ (Unsearched gs ⊎ Unlike gs))
+wrong-cases : (gs : List Group) (g : Group) → Memᴰ g gs → is_wrong (lowest_start gs) g ≡ true
+    → Above gs ⊎ (Twice gs ⊎ (Unsearched gs ⊎ Unlike gs))
 unfolding is_wrong
 wrong-cases gs g m e = go (ltb 3 g.number) refl g.searched refl e
   where
-    go : (a : Bool) → ltb 3 g.number ≡ a → (b : Bool) → g.searched ≡ b → (a || (not b || unlike g.now (lowest_start gs))) ≡ true → Above gs ⊎ (Twice gs ⊎ (Unsearched gs ⊎ Unlike gs))
+    go : (a : Bool) → ltb 3 g.number ≡ a → (b : Bool) → g.searched ≡ b → (a || (not b || unlike g.now (lowest_start gs))) ≡ true
+        → Above gs ⊎ (Twice gs ⊎ (Unsearched gs ⊎ Unlike gs))
     go true p b q r = inl (g, m, ltb-true 3 g.number p)
     go false p false q r = inr (inr (inl (g, m, q)))
     go false p true q r =
@@ -189,7 +210,8 @@ pub not-away : (gs : List Group) → turned_away gs ≡ false → (g : Group) �
 unfolding turned_away is_wrong
 not-away gs e g m = go (ltb 3 g.number) refl g.searched refl (anyb-not (is_wrong (lowest_start gs)) (or-false-right (twice gs) _ e) m)
   where
-    go : (a : Bool) → ltb 3 g.number ≡ a → (b : Bool) → g.searched ≡ b → (a || (not b || unlike g.now (lowest_start gs))) ≡ false → Fine gs g
+    go : (a : Bool) → ltb 3 g.number ≡ a → (b : Bool) → g.searched ≡ b → (a || (not b || unlike g.now (lowest_start gs))) ≡ false
+        → Fine gs g
     go true p b q r = absurd (true≢false r)
     go false p false q r = absurd (true≢false r)
     go false p true q r = record { low = ltb-false 3 g.number p; searched = q; start = like-same g.now (lowest_start gs) r }

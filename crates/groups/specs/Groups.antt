@@ -1,13 +1,10 @@
 -- What a display reads of a group's load, and the group of a number among those given.
-use Rattle.std.specs.Prelude.{Bool, false, List, ℕ, eqb, ℤ, pos, take, replicate, None, Option, Some}
+use Rattle.std.specs.Prelude.{Bool, cond, List, ℕ, ◌+◌, eqb, ltb, ℤ, pos, take, set, None, Option, Some}
 use Rattle.std.specs.List.{find}
 use Rattle.profile.specs.declared.Journey.{Journey}
-use Rattle.profile.specs.Journeys.{no_journey}
 use Rattle.load.specs.declared.Load.{Load}
 use Rattle.groups.specs.declared.Group.{Group}
-
-abbrev pub no_group : Group
-no_group = record { number = 0; searched = false; now = pos 0; horizon = 0; count = 0; journeys = replicate 64 no_journey }
+use Rattle.groups.specs.declared.Groups.{Groups}
 
 -- a load, given for the group of a number
 abbrev pub group_of : ℕ → Load → Group
@@ -23,6 +20,13 @@ group_of n l = record {
 -- the group's list
 abbrev pub list_of : Group → List Journey
 list_of g = take g.count g.journeys
+
+-- those given, of up to four; with one more, where there is room
+abbrev pub given_in : Groups → List Group
+given_in gs = take gs.count gs.groups
+
+unfoldable pub with_group : Groups → Group → Groups
+with_group gs g = cond (ltb gs.count 4) (record { groups = set gs.groups gs.count g; count = gs.count + 1 }) gs
 
 abbrev pub has_number : ℕ → Group → Bool
 has_number i g = eqb g.number i

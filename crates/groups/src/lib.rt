@@ -1,17 +1,18 @@
 // The groups of a display (request 08): what is read of each one's load, the group of a number, and why a display is turned away.
 #![tactic(auto)]
 
-ghost use Rattle.std.specs.Prelude.{◌≡◌, eqb};
+ghost use Rattle.std.specs.Prelude.{◌≡◌, eqb, ltb, option_copied};
 ghost use Rattle.laws.specs.Lists.{anyb};
-ghost use Rattle.groups.specs.Groups.{no_group, group_of, has_number, group_at, lowest_start};
+ghost use Rattle.groups.specs.Groups.{group_of, given_in, with_group, has_number, group_at, lowest_start};
 ghost use Rattle.groups.specs.Refused.{is_wrong, twice, turned_away};
 
 use load::Load;
-use profile::{Journey, no_journey};
+use prefix::first;
+use profile::Journey;
 
-// What a display reads of a load, which is given for the group of a number. Its list stands by value, as in the load: no heap. `searched`
-// is one of the fields that are read, and says of no other whether it holds.
-#[derive(Clone, Copy, Debug, PartialEq, Eq)]
+// What a display reads of a load, which is given for the group of a number. Its list stands by value: the load that it is read from is
+// gone when the display is dealt. `searched` is one of the fields that are read, and says of no other whether it holds.
+#[derive(Clone, Copy, Debug, Default, PartialEq, Eq)]
 pub struct Group {
     pub number: u8,
     pub searched: bool,
@@ -19,20 +20,6 @@ pub struct Group {
     pub horizon: u16,
     pub count: usize,
     pub journeys: [Journey; 64],
-}
-
-// The blank group, which stands where there is none. No `Default`: an array of 64 has none.
-pub fn no_group() -> Group
-    ensures { result ≡ no_group }
-{
-    Group {
-        number: 0,
-        searched: false,
-        now: 0,
-        horizon: 0,
-        count: 0,
-        journeys: [no_journey(); 64],
-    }
 }
 
 // A load, given for the group of a number. By its fields, as most of a load is not read.
@@ -50,25 +37,51 @@ pub fn group_of(number: u8, load: Load) -> Group
     }
 }
 
+// Up to four groups, as they are given: an array and a count, since there is no heap.
+#[derive(Clone, Copy, Debug, Default, PartialEq, Eq)]
+pub struct Groups {
+    groups: [Group; 4],
+    count: usize,
+}
+
+impl Groups {
+    pub fn given(&self) -> &[Group]
+        ensures { result.now ≡ given_in self.now }
+    {
+        first(&self.groups, self.count)
+    }
+
+    // Whether there is room for one more: a fifth is left out.
+    #[tactic(auto, unfolding(crate::specs::Groups::with_group))]
+    pub fn add(&mut self, group: Group) -> bool
+        ensures room { result ≡ ltb self.old.count 4 }
+        ensures added { self.new ≡ with_group self.old group }
+    {
+        if self.count >= 4 {
+            return false;
+        }
+        self.groups[self.count] = group;
+        self.count += 1;
+        true
+    }
+}
+
 // The first of the groups that has the number.
-pub fn group_at(given: &[Group], number: u8) -> Option<Group>
-    ensures { result ≡ group_at number given.now }
+pub fn group_at(given: &[Group], number: u8) -> Option<&Group>
+    ensures { option_copied result ≡ group_at number given.now }
 {
-    given.iter().find(|group| group.number == number).copied()
+    given.iter().find(|group| group.number == number)
 }
 
 // The start of the lowest group.
 fn lowest_start(given: &[Group]) -> i64
     ensures { result ≡ lowest_start given.now }
 {
-    let lowest = group_at(given, 0)
+    group_at(given, 0)
         .or(group_at(given, 1))
         .or(group_at(given, 2))
-        .or(group_at(given, 3));
-    match lowest {
-        Some(group) => group.now,
-        None => 0,
-    }
+        .or(group_at(given, 3))
+        .map_or(0, |group| group.now)
 }
 
 // Whether a group turns the display away, where the lowest group starts so.
@@ -91,18 +104,15 @@ fn has_number(given: &[Group], number: u8) -> bool
     given.iter().any(|group| group.number == number)
 }
 
-// Whether a group is given twice, by what is left of the slice: over places, the closure would need a bound on each.
+// Whether a group is given twice. The recursion is not deep: a number is a byte, so one of the first 257 groups stands again behind itself.
+// Not by `any` over places, whose proof did not close: of a closure that reads `given[i + 1..]` no more is told than that it returned.
 fn given_twice(given: &[Group]) -> bool
     ensures { result ≡ twice given.now }
 {
-    let mut rest = given;
-    while let [group, behind @ ..] = rest {
-        if has_number(behind, group.number) {
-            return true;
-        }
-        rest = behind;
+    match given {
+        [group, behind @ ..] => has_number(behind, group.number) || given_twice(behind),
+        [] => false,
     }
-    false
 }
 
 // Whether the groups turn the display away, with 23.

@@ -2,11 +2,13 @@
 use Rattle.key.specs.declared.NameError.{NameError}
 use Rattle.key.specs.declared.NameError.TheVariants.{Control, NoWord, NotLatin}
 use Rattle.std.specs.Prelude.{Err, Ok, Result}
-use Rattle.std.proofs.Common.{◌≡◌, ℕ, Bool, true, false, cond, eqb, List, [], ◌∷◌, ◌++◌, map, sym, refl, ap, ◌∙◌, ap₂, inl, inr, arith, ltb-true, lt-ltb}
+use Rattle.std.proofs.Common.{◌≡◌, ℕ, Bool, true, false, cond, eqb, List, [], ◌∷◌, ◌++◌, map, sym, refl, ap, ◌∙◌, ap₂, inl, inr, arith}
+use Rattle.std.proofs.Common.{ltb-true, lt-ltb}
 use Rattle.laws.specs.Lists.{filterb}
 use Rattle.key.specs.Hash.{step_of, key_of}
 use Rattle.key.specs.Utf8.{encoded_of, utf8, point_of, is_pair, pair_of, is_latin}
-use Rattle.key.specs.Name.{is_space, is_control, is_capital, is_bad, lower_of, on_first, pieces, full, words, spaced, joined, normalized, points_key, name_key, usable, answer}
+use Rattle.key.specs.Name.{is_space, is_control, is_capital, is_bad, lower_of, on_first, pieces, full, words, spaced, joined, normalized}
+use Rattle.key.specs.Name.{points_key, name_key, usable, answer}
 use Rattle.key.specs.Promises.{AllAscii, AsciiRead, AsciiAnswered, AccentCounts}
 use Rattle.key.proofs.Points.{lower-low}
 use Rattle.key.proofs.Decoding.{points-low, written_low}

@@ -1,5 +1,6 @@
 -- The code point at the front of a text, and what is left; what is written is read back.
-use Rattle.std.proofs.Common.{◌≡◌, ℕ, ◌+◌, ◌/◌, ◌%◌, ◌<◌, ◌≤◌, Bool, true, false, cond, ◌&&◌, ltb, leb, List, [], ◌∷◌, ◌++◌, get_or, refl, ap, ◌∙◌, subst, ap₂, arith, ltb-false, le-ltb, le-leb, leb-true}
+use Rattle.std.proofs.Common.{◌≡◌, ℕ, ◌+◌, ◌/◌, ◌%◌, ◌<◌, ◌≤◌, Bool, true, false, cond, ◌&&◌, ltb, leb, List, [], ◌∷◌, ◌++◌, get_or, refl}
+use Rattle.std.proofs.Common.{ap, ◌∙◌, subst, ap₂, arith, ltb-false, le-ltb, le-leb, leb-true}
 use Rattle.laws.proofs.Bools.{and-true-left, and-true-right}
 use Rattle.key.specs.Utf8.{encoded_of, utf8, unread, is_pair, pair_of, point_of, points}
 use Rattle.key.specs.Promises.{AllLatin, Decoded, Encoded}
@@ -44,7 +45,8 @@ unfolding point_of
 points-low b [] e = rw e refl
 points-low b (next ∷ bs) e = rw e refl
 
-pub points-pair : (b next : ℕ) (bs : List ℕ) → ltb b 128 ≡ false → is_pair b next ≡ true → points (b ∷ next ∷ bs) ≡ pair_of b next ∷ points bs
+pub points-pair : (b next : ℕ) (bs : List ℕ) → ltb b 128 ≡ false → is_pair b next ≡ true
+    → points (b ∷ next ∷ bs) ≡ pair_of b next ∷ points bs
 points-pair b next bs e f = rw (e, f) refl
 
 pub points_none : (b : ℕ) (bs : List ℕ) → ltb b 128 ≡ false → is_pair b (get_or bs 0 0) ≡ false → points (b ∷ bs) ≡ unread ∷ []
@@ -76,7 +78,8 @@ unfolding encoded_of
 decoded [] h = refl
 decoded (p ∷ ps) h = step (ltb p 128) refl (decoded ps h.1)
   where
-    step : (x : Bool) → ltb p 128 ≡ x → points (utf8 ps) ≡ ps → points (cond x (p ∷ []) ((192 + p / 64) ∷ (128 + p % 64) ∷ []) ++ utf8 ps) ≡ p ∷ ps
+    step : (x : Bool) → ltb p 128 ≡ x → points (utf8 ps) ≡ ps
+        → points (cond x (p ∷ []) ((192 + p / 64) ∷ (128 + p % 64) ∷ []) ++ utf8 ps) ≡ p ∷ ps
     step true e q = points-low p (utf8 ps) e ∙ ap (λ (s : List ℕ). p ∷ s) q
     step false e q =
         points-pair (192 + p / 64) (128 + p % 64) (utf8 ps) (le-ltb (192 + p / 64) 128 (omega arith))

@@ -1,4 +1,5 @@
 pub mod Points
+pub mod Products
 pub mod Decoding
 pub mod Fronts
 pub mod Stream

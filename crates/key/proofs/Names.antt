@@ -2,7 +2,8 @@
 use Rattle.key.specs.declared.NameError.{NameError}
 use Rattle.key.specs.declared.NameError.TheVariants.{Control, NoWord, NotLatin}
 use Rattle.std.specs.Prelude.{Some, Err, Ok, Result}
-use Rattle.std.proofs.Common.{◌≡◌, ℕ, ◌*◌, ◌^◌, ◌<◌, Bool, true, false, cond, not, ◌&&◌, ◌||◌, List, [], ◌∷◌, ◌++◌, map, sym, refl, ap, ◌∙◌, ap₂, inl, inr, append-nil, mod-lt, arith}
+use Rattle.std.proofs.Common.{◌≡◌, ℕ, ◌*◌, ◌^◌, ◌<◌, Bool, true, false, cond, not, ◌&&◌, ◌||◌, List, [], ◌∷◌, ◌++◌, map, sym, refl, ap, ◌∙◌}
+use Rattle.std.proofs.Common.{ap₂, inl, inr, append-nil, mod-lt, arith}
 use borrow.Author.Tests.{not-true}
 use lib.Bits.{bit_xor}
 use Rattle.laws.specs.Lists.{anyb, firstb}
@@ -10,8 +11,10 @@ use Rattle.laws.proofs.Bools.{or-false-left, or-false-right, and-true-left, and-
 use Rattle.key.specs.Hash.{prime, step_of, key_of}
 use Rattle.key.specs.Utf8.{encoded_of, utf8, points, is_latin}
 use Rattle.key.specs.Folding.{parting, barred, to, fold_of}
-use Rattle.key.specs.Name.{is_space, is_bad, reason_of, lower_of, full, words, joined, normalized, unless_bad, points_key, name_key, usable, answer}
-use Rattle.key.specs.Promises.{HashFits, Answered, FirstBad, Wordless, Keyed, Idempotent, OneKey, Alike, CaseBlind, SpaceBlind, RunBlind, StartBlind, EndBlind, AllLatin, ByPoints, OneName, IllFormed, alone_of_of, Alone}
+use Rattle.key.specs.Name.{is_space, is_bad, reason_of, lower_of, full, words, joined, normalized, unless_bad, points_key, name_key, usable}
+use Rattle.key.specs.Name.{answer}
+use Rattle.key.specs.Promises.{HashFits, Answered, FirstBad, Wordless, Keyed, Idempotent, OneKey, Alike, CaseBlind, SpaceBlind, RunBlind}
+use Rattle.key.specs.Promises.{StartBlind, EndBlind, AllLatin, ByPoints, OneName, IllFormed, alone_of_of, Alone}
 use Rattle.key.proofs.Points.{lower-bad, lower-reason, space-good, good-latin}
 use Rattle.key.proofs.Decoding.{decoded, encoded}
 use Rattle.key.proofs.Words.{words_append, words-start, words-lower, normalized-lower, normalized-joined}
@@ -47,7 +50,8 @@ judged-bad : (s : List ℕ) (k : Result ℕ NameError) → anyb is_bad s ≡ tru
 judged-bad [] k e = let z : ◌≡◌ {A = ℕ} 0 1 = cc in absurd (omega arith)
 judged-bad (b ∷ s) k e = go (is_bad b) (judged-bad s k) e
   where
-    go : (x : Bool) → (anyb is_bad s ≡ true → answer (judged s k) ≡ inr 8) → (x || anyb is_bad s) ≡ true → answer (unless_bad (cond x (Some b) (firstb is_bad s)) k) ≡ inr 8
+    go : (x : Bool) → (anyb is_bad s ≡ true → answer (judged s k) ≡ inr 8) → (x || anyb is_bad s) ≡ true
+        → answer (unless_bad (cond x (Some b) (firstb is_bad s)) k) ≡ inr 8
     go true more e = refused b
     go false more e = more e
 
@@ -56,7 +60,8 @@ unfolding points_key usable
 answered s = go (anyb is_bad s) refl (full (words s))
   where
     go : (x : Bool) → anyb is_bad s ≡ x → (y : Bool)
-        → answer (judged s (cond y (Ok (key_of (utf8 (normalized s)))) (Err NoWord))) ≡ cond (not x && y) (inl (key_of (utf8 (normalized s)))) (inr 8)
+        → answer (judged s (cond y (Ok (key_of (utf8 (normalized s)))) (Err NoWord)))
+        ≡ cond (not x && y) (inl (key_of (utf8 (normalized s)))) (inr 8)
     go true e y = judged-bad s (cond y (Ok (key_of (utf8 (normalized s)))) (Err NoWord)) e
     go false e true = ap answer (judged-good s (Ok (key_of (utf8 (normalized s)))) e)
     go false e false = ap answer (judged-good s (Err NoWord) e)
@@ -79,7 +84,8 @@ judged-lower : (s : List ℕ) (k : Result ℕ NameError) → judged (map lower_o
 judged-lower [] k = refl
 judged-lower (b ∷ s) k = rw (lower-bad b) (go (is_bad b) (judged-lower s k))
   where
-    go : (x : Bool) → judged (map lower_of s) k ≡ judged s k → unless_bad (cond x (Some (lower_of b)) (firstb is_bad (map lower_of s))) k ≡ unless_bad (cond x (Some b) (firstb is_bad s)) k
+    go : (x : Bool) → judged (map lower_of s) k ≡ judged s k
+        → unless_bad (cond x (Some (lower_of b)) (firstb is_bad (map lower_of s))) k ≡ unless_bad (cond x (Some b) (firstb is_bad s)) k
     go true more = lower-reason b
     go false more = more
 
@@ -91,7 +97,9 @@ name-key-lower : (s : List ℕ) → points_key (map lower_of s) ≡ points_key s
 unfolding points_key
 name-key-lower s =
     judged-lower s (cond (full (words (map lower_of s))) (Ok (key_of (utf8 (normalized (map lower_of s))))) (Err NoWord))
-    ∙ ap (judged s) (ap₂ (λ (x : Bool) (bytes : List ℕ). cond x (Ok (key_of (utf8 bytes))) (Err NoWord)) (ap full (words-lower s) ∙ full-map (words s)) (normalized-lower s))
+    ∙ ap (judged s)
+    (ap₂ (λ (x : Bool) (bytes : List ℕ). cond x (Ok (key_of (utf8 bytes))) (Err NoWord)) (ap full (words-lower s) ∙ full-map (words s))
+    (normalized-lower s))
 
 pub case-blind : CaseBlind
 case-blind s t e = record {
@@ -104,7 +112,8 @@ judged-append : (s t : List ℕ) (k : Result ℕ NameError) → judged (s ++ t) 
 judged-append [] t k = refl
 judged-append (b ∷ s) t k = go (is_bad b) (judged-append s t k)
   where
-    go : (x : Bool) → judged (s ++ t) k ≡ judged s (judged t k) → unless_bad (cond x (Some b) (firstb is_bad (s ++ t))) k ≡ unless_bad (cond x (Some b) (firstb is_bad s)) (judged t k)
+    go : (x : Bool) → judged (s ++ t) k ≡ judged s (judged t k)
+        → unless_bad (cond x (Some b) (firstb is_bad (s ++ t))) k ≡ unless_bad (cond x (Some b) (firstb is_bad s)) (judged t k)
     go true more = refl
     go false more = more
 
@@ -158,7 +167,8 @@ one_name ps qs h g a = by-points ps h ∙ a.key ∙ sym (by-points qs g)
 
 good-all : (ps : List ℕ) → anyb is_bad ps ≡ false → AllLatin ps
 good-all [] e = tt
-good-all (p ∷ ps) e = (good-latin p (or-false-left (is_bad p) (anyb is_bad ps) e), good-all ps (or-false-right (is_bad p) (anyb is_bad ps) e))
+good-all (p ∷ ps) e =
+    (good-latin p (or-false-left (is_bad p) (anyb is_bad ps) e), good-all ps (or-false-right (is_bad p) (anyb is_bad ps) e))
 
 pub ill-formed : IllFormed
 unfolding name_key usable

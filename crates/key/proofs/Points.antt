@@ -1,5 +1,7 @@
--- Kinds of code points, and the folding rule. Lower case changes no letter to a code point of another kind, and done twice changes nothing more.
-use Rattle.std.proofs.Common.{◌≡◌, ℕ, ◌+◌, ◌<◌, ◌≤◌, Bool, true, false, cond, not, ◌&&◌, ◌||◌, eqb, ltb, leb, ◌⊎◌, sym, refl, ◌∙◌, inl, inr, ⊎_elim, arith, ltb-true, le-ltb, lt-ltb, ne_eqb, eqb-true, le-leb, leb-true}
+-- Kinds of code points, and the folding rule. Lower case changes no letter to a code point of another kind, and done twice changes nothing
+-- more.
+use Rattle.std.proofs.Common.{◌≡◌, ℕ, ◌+◌, ◌<◌, ◌≤◌, Bool, true, false, cond, not, ◌&&◌, ◌||◌, eqb, ltb, leb, ◌⊎◌, sym, refl, ◌∙◌, inl, inr}
+use Rattle.std.proofs.Common.{⊎_elim, arith, ltb-true, le-ltb, lt-ltb, ne_eqb, eqb-true, le-leb, leb-true}
 use borrow.Author.Tests.{lt-leb, eqb-false, not-true}
 use Rattle.laws.proofs.Bools.{or-true-cases, and-true-left, and-true-right}
 use Rattle.key.specs.Utf8.{is_latin}
@@ -30,12 +32,27 @@ plain-space n p =
 below-bad : (n : ℕ) → 33 ≤ n → n < 127 → is_bad n ≡ false
 unfolding is_bad is_latin is_control
 below-bad n h k =
-    rw (lt-ltb n 256 (omega arith), le-ltb n 9 (omega arith), le-leb 14 n (omega arith), le-ltb n 32 (omega arith), lt-leb 127 n (omega arith)) refl
+    rw (
+      lt-ltb n 256 (omega arith),
+      le-ltb n 9 (omega arith),
+      le-leb 14 n (omega arith),
+      le-ltb n 32 (omega arith),
+      lt-leb 127 n
+          (omega arith),
+    ) refl
 
 above-bad : (n : ℕ) → 161 ≤ n → n < 256 → is_bad n ≡ false
 unfolding is_bad is_latin is_control
 above-bad n h k =
-    rw (lt-ltb n 256 (omega arith), le-ltb n 9 (omega arith), le-leb 14 n (omega arith), le-ltb n 32 (omega arith), le-leb 127 n (omega arith), le-ltb n 160 (omega arith)) refl
+    rw (
+      lt-ltb n 256 (omega arith),
+      le-ltb n 9 (omega arith),
+      le-leb 14 n (omega arith),
+      le-ltb n 32 (omega arith),
+      le-leb 127 n
+          (omega arith),
+      le-ltb n 160 (omega arith),
+    ) refl
 
 plain-bad : (n : ℕ) → Plain n → is_bad n ≡ false
 plain-bad n = ⊎_elim (λ h. below-bad n h.0 h.1) (λ h. above-bad n h.0 h.1)
@@ -47,7 +64,8 @@ Capital n = ((65 ≤ n) × (n < 91)) ⊎ ((192 ≤ n) × (n < 223) × (n ≡ 215
 
 capital : (n : ℕ) → is_capital n ≡ true → Capital n
 unfolding is_capital
-capital n e = ⊎_elim (λ h. inl (low h)) (λ h. inr (high h)) (or-true-cases (leb 65 n && ltb n 91) (leb 192 n && ltb n 223 && not (eqb n 215)) e)
+capital n e =
+    ⊎_elim (λ h. inl (low h)) (λ h. inr (high h)) (or-true-cases (leb 65 n && ltb n 91) (leb 192 n && ltb n 223 && not (eqb n 215)) e)
   where
     low : (leb 65 n && ltb n 91) ≡ true → (65 ≤ n) × (n < 91)
     low h = (leb-true 65 n (and-true-left (leb 65 n) (ltb n 91) h), ltb-true n 91 (and-true-right (leb 65 n) (ltb n 91) h))
@@ -65,11 +83,20 @@ raised : (n : ℕ) → Capital n → is_capital (n + 32) ≡ false
 unfolding is_capital
 raised n c = ⊎_elim low high c
   where
-    low : (65 ≤ n) × (n < 91) → ((leb 65 (n + 32) && ltb (n + 32) 91) || (leb 192 (n + 32) && ltb (n + 32) 223 && not (eqb (n + 32) 215))) ≡ false
+    low : (65 ≤ n) × (n < 91) → ((leb 65 (n + 32) && ltb (n + 32) 91) || (leb 192 (n + 32) && ltb (n + 32) 223 && not (eqb (n + 32) 215)))
+        ≡ false
     low h = rw (le-leb 65 (n + 32) (omega arith), le-ltb (n + 32) 91 (omega arith), lt-leb 192 (n + 32) (omega arith)) refl
 
-    high : (192 ≤ n) × (n < 223) × (n ≡ 215 → ⊥) → ((leb 65 (n + 32) && ltb (n + 32) 91) || (leb 192 (n + 32) && ltb (n + 32) 223 && not (eqb (n + 32) 215))) ≡ false
-    high h = rw (le-leb 65 (n + 32) (omega arith), le-ltb (n + 32) 91 (omega arith), le-leb 192 (n + 32) (omega arith), le-ltb (n + 32) 223 (omega arith)) refl
+    high : (192 ≤ n) × (n < 223) × (n ≡ 215 → ⊥)
+        → ((leb 65 (n + 32) && ltb (n + 32) 91) || (leb 192 (n + 32) && ltb (n + 32) 223 && not (eqb (n + 32) 215))) ≡ false
+    high h =
+        rw (
+          le-leb 65 (n + 32) (omega arith),
+          le-ltb (n + 32) 91 (omega arith),
+          le-leb 192 (n + 32) (omega arith),
+          le-ltb (n + 32) 223
+              (omega arith),
+        ) refl
 
 plain-capital : (n : ℕ) → Capital n → Plain n
 plain-capital n = ⊎_elim (λ h. inl (omega arith, omega arith)) (λ h. inr (omega arith, omega arith))
@@ -92,7 +119,8 @@ unfolding lower_of
 lower-twice = by-lower lower_of (λ n e. rw (raised n (capital n e), e) refl)
 
 pub lower-space : (n : ℕ) → is_space (lower_of n) ≡ is_space n
-lower-space = by-lower is_space (λ n e. plain-space (n + 32) (plain-raised n (capital n e)) ∙ sym (plain-space n (plain-capital n (capital n e))))
+lower-space =
+    by-lower is_space (λ n e. plain-space (n + 32) (plain-raised n (capital n e)) ∙ sym (plain-space n (plain-capital n (capital n e))))
 
 pub lower-bad : (n : ℕ) → is_bad (lower_of n) ≡ is_bad n
 lower-bad = by-lower is_bad (λ n e. plain-bad (n + 32) (plain-raised n (capital n e)) ∙ sym (plain-bad n (plain-capital n (capital n e))))

@@ -24,7 +24,8 @@ puts-high (v ∷ vs) l a k x h =
     let n : x ≢ a + k = λ e. omega arith in
     puts-high vs (set l (a + k) v) a (suc k) x (omega arith) ∙ get_or-set_other l (a + k) x v 0 n
 
-pub puts-in : (vs l : List ℕ) (a k j : ℕ) → j < length vs → a + k + length vs ≤ length l → get_or (puts l a k vs) (a + (k + j)) 0 ≡ get_or vs j 0
+pub puts-in : (vs l : List ℕ) (a k j : ℕ) → j < length vs → a + k + length vs ≤ length l
+    → get_or (puts l a k vs) (a + (k + j)) 0 ≡ get_or vs j 0
 puts-in [] l a k j h r = absurd (omega arith)
 puts-in (v ∷ vs) l a k zero h r =
     let e : a + (k + 0) ≡ a + k = omega arith in

@@ -1,10 +1,11 @@
--- `AtMost x b`: x is finite, and at most the whole number b in size. What is rounded keeps such a bound if rounding leaves b as it is, since rounding keeps the order;
--- so does a product of binary64, and a cut toward zero.
+-- `AtMost x b`: x is finite, and at most the whole number b in size. What is rounded keeps such a bound if rounding leaves b as it is,
+-- since rounding keeps the order; so does a product of binary64, and a cut toward zero.
 use mathlib.Core.Path.{sym, subst}
 use mathlib.Core.Logic.{inl, inr, ◌⊎◌}
 use mathlib.Core.Bool.{Bool, true, false, not, cond, ◌&&◌, ◌||◌, true≢false}
 use Prim.Native.Nat.{ℕ, zero, suc, ◌+◌, ◌-◌, ◌*◌, ◌/◌, ◌^◌, ◌≤◌, ◌<◌, min}
-use native.Mathlib.Nat.{le_refl, le_trans, le_of_eq, le_of_lt, lt_of_lt_of_le, lt_of_le_of_lt, mul-one, mul-mul-mul_comm, mul-le-mul, mul-lt-mul_of_pos_right, mul-pos, div-lt_iff_lt-mul}
+use native.Mathlib.Nat.{le_refl, le_trans, le_of_eq, le_of_lt, lt_of_lt_of_le, lt_of_le_of_lt, mul-one, mul-mul-mul_comm, mul-le-mul}
+use native.Mathlib.Nat.{mul-lt-mul_of_pos_right, mul-pos, div-lt_iff_lt-mul}
 use native.Mathlib.Omega.{arith}
 use lib.Dec.{T, ltb, eqb, ltb→lt, eqb→eq, lit<, lit≤}
 use lib.Pow.{pow_pos}
@@ -50,7 +51,9 @@ or_split true b t = inl tt
 or_split false b t = inr t
 
 pub lt-or-eq : (a b : ℕ) → T (ltb a b || (eqb a b && true)) → a ≤ b
-lt-or-eq a b t = elim (or_split (ltb a b) (eqb a b && true) t) [ inl u ↦ le_of_lt (ltb→lt a b u) | inr u ↦ le_of_eq (eqb→eq a b (and_l (eqb a b) true u)) ]
+lt-or-eq a b t =
+    elim (or_split (ltb a b) (eqb a b && true) t)
+    [ inl u ↦ le_of_lt (ltb→lt a b u) | inr u ↦ le_of_eq (eqb→eq a b (and_l (eqb a b) true u)) ]
 
 at-most-of-le : (x y : Float) (b : ℕ) → T (plus x) → HasValue y false b 1 → T (le x y) → AtMost x b
 unfolding le
@@ -84,7 +87,8 @@ plain a c b C B h =
 
 pub round-at-most : (s : Bool) (a c b : ℕ) → 0 < c → Stays b → a ≤ b * c → AtMost (round binary64 s a c) b
 round-at-most false a c b C B h = plain a c b C B h
-round-at-most true a c b C B h = subst (λ (x : Float). AtMost x b) (sym (round-neg binary64 a c)) (neg-at-most (round binary64 false a c) b (plain a c b C B h))
+round-at-most true a c b C B h =
+    subst (λ (x : Float). AtMost x b) (sym (round-neg binary64 a c)) (neg-at-most (round binary64 false a c) b (plain a c b C B h))
 
 pub mul-at-most : (x y : Float) (a b : ℕ) → Stays (a * b) → AtMost x a → AtMost y b → AtMost (mul binary64 x y) (a * b)
 unfolding mul

@@ -23,7 +23,8 @@ bits-mem (suc n) b m {k} w = step (eqb (m % 2) 1) refl (λ v. bits-mem n (suc b)
     next : Later → Memᴰ k (bits_from n (suc b) (m / 2)) → (i : ℕ) × (i < suc n) × (k ≡ b + i) × (digit i m ≡ true)
     next ih v = let (i, h, e, d) = ih v in (suc i, omega arith, omega arith, d)
 
-    found : eqb (m % 2) 1 ≡ true → Later → (k ≡ b) ⊎ Memᴰ k (bits_from n (suc b) (m / 2)) → (i : ℕ) × (i < suc n) × (k ≡ b + i) × (digit i m ≡ true)
+    found : eqb (m % 2) 1 ≡ true → Later → (k ≡ b) ⊎ Memᴰ k (bits_from n (suc b) (m / 2))
+        → (i : ℕ) × (i < suc n) × (k ≡ b + i) × (digit i m ≡ true)
     found e ih (inl q) = (0, omega arith, omega arith, e)
     found e ih (inr v) = next ih v
 
@@ -40,7 +41,8 @@ mem-bits (suc n) b m (suc i) h d = step (eqb (m % 2) 1) (rw q (mem-bits n (suc b
     q : b + suc i ≡ suc b + i
     q = omega arith
 
-    step : (c : Bool) → Memᴰ (b + suc i) (bits_from n (suc b) (m / 2)) → Memᴰ (b + suc i) (cond c (b ∷ bits_from n (suc b) (m / 2)) (bits_from n (suc b) (m / 2)))
+    step : (c : Bool) → Memᴰ (b + suc i) (bits_from n (suc b) (m / 2))
+        → Memᴰ (b + suc i) (cond c (b ∷ bits_from n (suc b) (m / 2)) (bits_from n (suc b) (m / 2)))
     step true v = Memᴰ.tail v
     step false v = v
 

@@ -2,20 +2,13 @@
 use mathlib.Core.Path.{◌≡◌, refl, sym, ap, ◌∙◌}
 use mathlib.Core.Bool.{Bool, true, false, cond}
 use mathlib.Core.List.{List, [], ◌∷◌}
-use Prim.Native.Nat.{ℕ, zero, suc, ◌≤◌, ◌<◌, min}
+use Prim.Native.Nat.{ℕ, zero, suc, ◌<◌, min}
 use native.Mathlib.Omega.{arith}
 use lib.Dec.{leb}
 use lib.ListN.{length, get_or, take}
 use lib.Seq.{take_all}
 use borrow.Author.Tests.{leb-true, leb-false}
 use Rattle.laws.specs.Bounds.{least}
-
-pub least_under : (a b : ℕ) → least a b ≤ b
-least_under a b = go (leb a b) refl
-  where
-    go : (t : Bool) → leb a b ≡ t → cond t a b ≤ b
-    go true e = leb-true a b e
-    go false e = omega arith
 
 pub least-min : (a b : ℕ) → least a b ≡ min a b
 least-min a b = go (leb a b) refl
@@ -38,6 +31,3 @@ module _ {A : Type 0} where
       go : (b : Bool) → leb m n ≡ b → take (min m n) l ≡ take m l
       go true e = let k = leb-true m n e in let q : min m n ≡ m = omega arith in ap (λ (j : ℕ). take j l) q
       go false e = let k = leb-false m n e in take_all (min m n) l (omega arith) ∙ sym (take_all m l (omega arith))
-
-  pub take-least : (l : List A) (m n k : ℕ) → k ≡ least m n → length l ≡ n → take k l ≡ take m l
-  take-least l m n k e h = ap (λ (j : ℕ). take j l) (e ∙ least-min m n) ∙ take_min l m n h

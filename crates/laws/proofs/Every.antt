@@ -14,7 +14,8 @@ pub all_append : {A : Type 0} (P : A → Type 0) (xs ys : List A) → All P xs �
 all_append P [] ys p q = q
 all_append P (x ∷ xs) ys p q = (p.0, all_append P xs ys p.1 q)
 
-pub all-gather : {A B : Type 0} (P : A → Type 0) (Q : B → Type 0) (p : A → Bool) (f : A → B) → ((x : A) → P x → p x ≡ true → Q (f x)) → (xs : List A) → All P xs → All Q (gather p f xs)
+pub all-gather : {A B : Type 0} (P : A → Type 0) (Q : B → Type 0) (p : A → Bool) (f : A → B) → ((x : A) → P x → p x ≡ true → Q (f x))
+    → (xs : List A) → All P xs → All Q (gather p f xs)
 all-gather P Q p f k [] h = tt
 all-gather P Q p f k (x ∷ xs) h = go (all-gather P Q p f k xs h.1) (p x) refl
   where

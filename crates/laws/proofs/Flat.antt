@@ -13,11 +13,13 @@ module _ {A B : Type 0} where
   map-agree f g [] e = refl
   map-agree f g (x ∷ xs) e = rw (e x (Memᴰ.head refl), map-agree f g xs (λ y m. e y (Memᴰ.tail m)))
 
-  pub tails-agree : (f g : B → List B → List A) (xs : List B) → ((x : B) (l : List B) → Tail x l xs → f x l ≡ g x l) → over_tails f xs ≡ over_tails g xs
+  pub tails-agree : (f g : B → List B → List A) (xs : List B) → ((x : B) (l : List B) → Tail x l xs → f x l ≡ g x l)
+      → over_tails f xs ≡ over_tails g xs
   tails-agree f g [] e = refl
   tails-agree f g (x ∷ xs) e = rw (e x xs (inl (refl, refl)), tails-agree f g xs (λ y l t. e y l (inr t)))
 
-  pub concat_map-filterb : (p : B → Bool) (g : B → List A) (xs : List B) → concat_map g (filterb p xs) ≡ concat_map (λ x. cond (p x) (g x) []) xs
+  pub concat_map-filterb : (p : B → Bool) (g : B → List A) (xs : List B)
+      → concat_map g (filterb p xs) ≡ concat_map (λ x. cond (p x) (g x) []) xs
   concat_map-filterb p g [] = refl
   concat_map-filterb p g (x ∷ xs) = go (p x) (concat_map-filterb p g xs)
     where
@@ -39,9 +41,11 @@ module _ {A B C : Type 0} where
   map-tails f g [] = refl
   map-tails f g (x ∷ xs) = map-append f (g x xs) (over_tails g xs) ∙ ap (λ (r : List B). map f (g x xs) ++ r) (map-tails f g xs)
 
-  pub flat-tails : (f : B → List A) (g : C → List C → List B) (xs : List C) → concat_map f (over_tails g xs) ≡ over_tails (λ x l. concat_map f (g x l)) xs
+  pub flat-tails : (f : B → List A) (g : C → List C → List B) (xs : List C)
+      → concat_map f (over_tails g xs) ≡ over_tails (λ x l. concat_map f (g x l)) xs
   flat-tails f g [] = refl
-  flat-tails f g (x ∷ xs) = concat_map-append f (g x xs) (over_tails g xs) ∙ ap (λ (r : List A). concat_map f (g x xs) ++ r) (flat-tails f g xs)
+  flat-tails f g (x ∷ xs) =
+      concat_map-append f (g x xs) (over_tails g xs) ∙ ap (λ (r : List A). concat_map f (g x xs) ++ r) (flat-tails f g xs)
 
   pub flat-flat : (f : B → List A) (g : C → List B) (xs : List C) → concat_map f (concat_map g xs) ≡ concat_map (λ x. concat_map f (g x)) xs
   flat-flat f g [] = refl

@@ -19,7 +19,8 @@ module _ {A S : Type 0} where
 module _ {A B : Type 0} where
   pub concat_map-append : (g : B → List A) (xs ys : List B) → concat_map g (xs ++ ys) ≡ concat_map g xs ++ concat_map g ys
   concat_map-append g [] ys = refl
-  concat_map-append g (x ∷ xs) ys = ap (λ (r : List A). g x ++ r) (concat_map-append g xs ys) ∙ sym (append_assoc (g x) (concat_map g xs) (concat_map g ys))
+  concat_map-append g (x ∷ xs) ys =
+      ap (λ (r : List A). g x ++ r) (concat_map-append g xs ys) ∙ sym (append_assoc (g x) (concat_map g xs) (concat_map g ys))
 
 -- ---- who is in such a list
 
@@ -28,7 +29,8 @@ module _ {A B : Type 0} where
   concat_map-mem g [] m = absurd (Memᴰ.not-nil m)
   concat_map-mem g {x} (y ∷ ys) m = go (Memᴰ.append_cases (g y) m) (λ n. concat_map-mem g ys n)
     where
-      go : Memᴰ x (g y) ⊎ Memᴰ x (concat_map g ys) → (Memᴰ x (concat_map g ys) → (z : B) × Memᴰ z ys × Memᴰ x (g z)) → (z : B) × Memᴰ z (y ∷ ys) × Memᴰ x (g z)
+      go : Memᴰ x (g y) ⊎ Memᴰ x (concat_map g ys) → (Memᴰ x (concat_map g ys) → (z : B) × Memᴰ z ys × Memᴰ x (g z))
+          → (z : B) × Memᴰ z (y ∷ ys) × Memᴰ x (g z)
       go (inl n) ih = (y, Memᴰ.head refl, n)
       go (inr n) ih = let (z, i, k) = ih n in (z, Memᴰ.tail i, k)
 

@@ -6,7 +6,6 @@ pub mod Sort
 pub mod Ints
 pub mod Signs
 pub mod Within
-pub mod Turns
 pub mod Slots
 pub mod AtMost
 pub mod Tests
@@ -17,8 +16,8 @@ pub mod Tails
 pub mod Flat
 pub mod Bits
 pub mod Places
-pub mod Insertion
 pub mod Tables
+pub mod Made
 pub mod Order
 pub mod Bounds
 pub mod Every

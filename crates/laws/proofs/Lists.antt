@@ -15,7 +15,8 @@ module _ {A : Type 0} where
   anyb-mem p [] e = absurd (false≢true e)
   anyb-mem p (x ∷ xs) e = step (or-true-cases (p x) (anyb p xs) e) (λ f. anyb-mem p xs f)
     where
-      step : (p x ≡ true) ⊎ (anyb p xs ≡ true) → (anyb p xs ≡ true → (y : A) × Memᴰ y xs × (p y ≡ true)) → (y : A) × Memᴰ y (x ∷ xs) × (p y ≡ true)
+      step : (p x ≡ true) ⊎ (anyb p xs ≡ true) → (anyb p xs ≡ true → (y : A) × Memᴰ y xs × (p y ≡ true))
+          → (y : A) × Memᴰ y (x ∷ xs) × (p y ≡ true)
       step (inl f) ih = (x, Memᴰ.head refl, f)
       step (inr f) ih = ((ih f).0, Memᴰ.tail (ih f).1, (ih f).2)
 
@@ -41,11 +42,13 @@ module _ {A : Type 0} where
   filterb-mem p [] m = absurd (Memᴰ.not-nil m)
   filterb-mem p {y} (x ∷ xs) m = step (p x) refl (λ k. filterb-mem p xs k) m
     where
-      found : p x ≡ true → (Memᴰ y (filterb p xs) → Memᴰ y xs × (p y ≡ true)) → (y ≡ x) ⊎ Memᴰ y (filterb p xs) → Memᴰ y (x ∷ xs) × (p y ≡ true)
+      found : p x ≡ true → (Memᴰ y (filterb p xs) → Memᴰ y xs × (p y ≡ true)) → (y ≡ x) ⊎ Memᴰ y (filterb p xs)
+          → Memᴰ y (x ∷ xs) × (p y ≡ true)
       found e ih (inl q) = (Memᴰ.head q, ap p q ∙ e)
       found e ih (inr k) = (Memᴰ.tail (ih k).0, (ih k).1)
 
-      step : (b : Bool) → p x ≡ b → (Memᴰ y (filterb p xs) → Memᴰ y xs × (p y ≡ true)) → Memᴰ y (cond b (x ∷ filterb p xs) (filterb p xs)) → Memᴰ y (x ∷ xs) × (p y ≡ true)
+      step : (b : Bool) → p x ≡ b → (Memᴰ y (filterb p xs) → Memᴰ y xs × (p y ≡ true)) → Memᴰ y (cond b (x ∷ filterb p xs) (filterb p xs))
+          → Memᴰ y (x ∷ xs) × (p y ≡ true)
       step true e ih k = found e ih (Memᴰ.cases_cons k)
       step false e ih k = (Memᴰ.tail (ih k).0, (ih k).1)
 
@@ -73,7 +76,8 @@ module _ {A : Type 0} where
   filterb-append p [] ys = refl
   filterb-append p (x ∷ xs) ys = step (p x) (filterb-append p xs ys)
     where
-      step : (b : Bool) → filterb p (xs ++ ys) ≡ filterb p xs ++ filterb p ys → cond b (x ∷ filterb p (xs ++ ys)) (filterb p (xs ++ ys)) ≡ cond b (x ∷ filterb p xs) (filterb p xs) ++ filterb p ys
+      step : (b : Bool) → filterb p (xs ++ ys) ≡ filterb p xs ++ filterb p ys
+          → cond b (x ∷ filterb p (xs ++ ys)) (filterb p (xs ++ ys)) ≡ cond b (x ∷ filterb p xs) (filterb p xs) ++ filterb p ys
       step true e = ap {B = List A} (λ r. x ∷ r) e
       step false e = e
 
@@ -89,7 +93,8 @@ module _ {A : Type 0} where
   pub length-filterb-lt : (p : A → Bool) {y : A} {xs : List A} → Memᴰ y xs → p y ≡ false → length (filterb p xs) < length xs
   length-filterb-lt p (Memᴰ.head {x = x} {xs = ys} q) e = step (p x) (ap p (sym q) ∙ e) (length-filterb p ys)
     where
-      step : (b : Bool) → b ≡ false → length (filterb p ys) ≤ length ys → length (cond b (x ∷ filterb p ys) (filterb p ys)) < suc (length ys)
+      step : (b : Bool) → b ≡ false → length (filterb p ys) ≤ length ys
+          → length (cond b (x ∷ filterb p ys) (filterb p ys)) < suc (length ys)
       step true f h = absurd (true≢false f)
       step false f h = omega arith
   length-filterb-lt p (Memᴰ.tail {x = x} {xs = ys} m) e = step (p x) (length-filterb-lt p m e)

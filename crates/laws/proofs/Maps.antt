@@ -5,7 +5,8 @@ use mathlib.Core.List.{List, [], ◌∷◌, map, Memᴰ}
 use Rattle.laws.specs.Lists.{filterb, anyb}
 
 module _ {A B : Type 0} (f : A → B) where
-  pub filterb-map : (p : A → Bool) (q : B → Bool) (xs : List A) → ((x : A) → Memᴰ x xs → q (f x) ≡ p x) → filterb q (map f xs) ≡ map f (filterb p xs)
+  pub filterb-map : (p : A → Bool) (q : B → Bool) (xs : List A) → ((x : A) → Memᴰ x xs → q (f x) ≡ p x)
+      → filterb q (map f xs) ≡ map f (filterb p xs)
   filterb-map p q [] e = refl
   filterb-map p q (x ∷ xs) e = rw (e x (Memᴰ.head refl), filterb-map p q xs (λ y m. e y (Memᴰ.tail m))) (go (p x))
     where

@@ -1,5 +1,5 @@
 -- Values of an `Option` tell which they are.
-use Rattle.std.specs.Prelude.{◌≡◌, Option, Some, None, unwrap_or, is_none}
+use Rattle.std.specs.Prelude.{◌≡◌, Some, None, unwrap_or, is_none}
 use mathlib.Core.Path.{ap, sym}
 use mathlib.Core.Bool.{true≢false}
 

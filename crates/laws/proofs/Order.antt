@@ -1,16 +1,14 @@
--- The order of byte strings is strict; and a loop over two held texts compares them byte by byte.
+-- The order of byte strings is strict.
 use mathlib.Core.Path.{◌≡◌, refl, sym, ◌∙◌}
 use mathlib.Core.Logic.{◌⊎◌, inl, inr}
 use mathlib.Core.Bool.{Bool, true, false, true≢false, false≢true}
 use mathlib.Core.List.{List, [], ◌∷◌}
-use Prim.Native.Nat.{ℕ, ◌+◌, ◌≤◌, ◌<◌}
+use Prim.Native.Nat.{ℕ, ◌≤◌, ◌<◌}
 use native.Mathlib.Omega.{arith}
 use lib.Dec.{ltb}
-use lib.ListN.{length, get_or, take, drop, length-take}
 use borrow.Author.Tests.{lt-ltb, le-ltb, ltb-true, ltb-false}
 use Rattle.laws.specs.Sort.{Strict}
 use Rattle.laws.specs.Order.{by_first_of, less_bytes}
-use Rattle.laws.proofs.Turns.{drop-take-cons, drop-take-nil}
 
 pub by_first-less : (a b : ℕ) (r : Bool) → a < b → by_first_of a b r ≡ true
 by_first-less a b r h = rw (lt-ltb a b h)
@@ -45,7 +43,8 @@ bytes-pass (x ∷ a) [] c p q = absurd (true≢false p)
 bytes-pass (x ∷ a) (y ∷ b) [] p q = absurd (true≢false q)
 bytes-pass (x ∷ a) (y ∷ b) (z ∷ c) p q = go (tri x y) (tri y z) (bytes-pass a b c)
   where
-    go : (x < y) ⊎ ((x ≡ y) ⊎ (y < x)) → (y < z) ⊎ ((y ≡ z) ⊎ (z < y)) → (less_bytes b a ≡ false → less_bytes c b ≡ false → less_bytes c a ≡ false)
+    go : (x < y) ⊎ ((x ≡ y) ⊎ (y < x)) → (y < z) ⊎ ((y ≡ z) ⊎ (z < y))
+        → (less_bytes b a ≡ false → less_bytes c b ≡ false → less_bytes c a ≡ false)
         → by_first_of z x (less_bytes c a) ≡ false
     go (inr (inr h)) k ih = absurd (true≢false (sym (by_first-less y x _ h) ∙ p))
     go (inl h) (inr (inr k)) ih = absurd (true≢false (sym (by_first-less z y _ k) ∙ q))
@@ -60,31 +59,3 @@ bytes-pass (x ∷ a) (y ∷ b) (z ∷ c) p q = go (tri x y) (tri y z) (bytes-pas
 -- by the bytes that f gives
 pub strict-bytes : {A : Type 0} (f : A → List ℕ) → Strict (λ (a b : A). less_bytes (f a) (f b))
 strict-bytes f = record { asym = λ a b. bytes-asym (f a) (f b); pass = λ a b c. bytes-pass (f a) (f b) (f c) }
-
--- ---- a loop over the first m of a and the first n of b, at the k-th byte of each
-
-module _ (a b : List ℕ) (m n k : ℕ) where
-  -- what is left to compare
-  abbrev pub left : Bool
-  left = less_bytes (drop k (take m a)) (drop k (take n b))
-
-  pub left-none : (n ≤ k) ⊎ (length b ≤ k) → left ≡ false
-  left-none (inl h) = rw (drop-take-nil b n k (simp length-take (omega arith)))
-  left-none (inr h) = rw (drop-take-nil b n k (simp length-take (omega arith)))
-
-  module _ (in_b : k < n) (long-b : k < length b) where
-    pub left-whole : m ≤ k → left ≡ true
-    left-whole h = rw (drop-take-nil a m k (simp length-take (omega arith)), drop-take-cons b n k 0 in_b long-b)
-
-    module _ (in-a : k < m) (long-a : k < length a) where
-      turn : left ≡ by_first_of (get_or a k 0) (get_or b k 0) (less_bytes (drop (k + 1) (take m a)) (drop (k + 1) (take n b)))
-      turn = rw (drop-take-cons a m k 0 in-a long-a, drop-take-cons b n k 0 in_b long-b)
-
-      pub turn-less : get_or a k 0 < get_or b k 0 → left ≡ true
-      turn-less h = turn ∙ by_first-less _ _ _ h
-
-      pub turn_more : get_or b k 0 < get_or a k 0 → left ≡ false
-      turn_more h = turn ∙ by_first-more _ _ _ h
-
-      pub turn-same : get_or b k 0 ≤ get_or a k 0 → get_or a k 0 ≤ get_or b k 0 → left ≡ less_bytes (drop (k + 1) (take m a)) (drop (k + 1) (take n b))
-      turn-same g h = turn ∙ by_first-same _ _ _ g h

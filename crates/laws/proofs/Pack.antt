@@ -6,7 +6,7 @@ use mathlib.Core.Bool.{Bool, true, false, cond}
 use native.Mathlib.Numerals.{add-one}
 use native.Mathlib.Omega.{arith}
 use lib.ListN.{length, get_or, take, set, replicate, length-append}
-use lib.Seq.{take-suc, take_all, set_at}
+use lib.Seq.{take-suc, set_at}
 use Rattle.laws.specs.Lists.{gather, padded}
 
 module _ {A B : Type 0} (p : A → Bool) (f : A → B) where
@@ -14,7 +14,8 @@ module _ {A B : Type 0} (p : A → Bool) (f : A → B) where
   gather_append [] m = refl
   gather_append (x ∷ xs) m = go (gather_append xs m) (p x)
     where
-      go : gather p f (xs ++ m) ≡ gather p f xs ++ gather p f m → (b : Bool) → cond b (f x ∷ gather p f (xs ++ m)) (gather p f (xs ++ m)) ≡ cond b (f x ∷ gather p f xs) (gather p f xs) ++ gather p f m
+      go : gather p f (xs ++ m) ≡ gather p f xs ++ gather p f m → (b : Bool)
+          → cond b (f x ∷ gather p f (xs ++ m)) (gather p f (xs ++ m)) ≡ cond b (f x ∷ gather p f xs) (gather p f xs) ++ gather p f m
       go e true = ap (λ ys. f x ∷ ys) e
       go e false = e
 
@@ -56,11 +57,6 @@ pub record Packs {A B : Type 0} (p : A → Bool) (f : A → B) (b : B) (k : ℕ)
   pub list : out ≡ padded b k (gather p f (take i l))
 
 module _ {A B : Type 0} (p : A → Bool) (f : A → B) (b : B) (k : ℕ) (l : List A) where
-  pub packs-none : Packs p f b k l 0 0 (replicate k b)
-  packs-none =
-      let e : k - 0 ≡ k = omega arith in
-      record { small = omega arith; count = refl; list = rw e refl }
-
   -- a turn at the element x, which is kept or passed over; n' and out' are what the turn leaves
   module _ (d : A) (i n n' : ℕ) (out out' : List B) (x : A) (h : i < length l) (at : get_or l i d ≡ x) (s : Packs p f b k l i n out) where
     pub packs-keep : i < k → p x ≡ true → n' ≡ n + 1 → out' ≡ set out n (f x) → Packs p f b k l (i + 1) n' out'
@@ -69,13 +65,12 @@ module _ {A B : Type 0} (p : A → Bool) (f : A → B) (b : B) (k : ℕ) (l : Li
         record {
           small = omega (arith, s.small);
           count = en ∙ rw (m, length-append, s.count) refl;
-          list = eo ∙ ap (λ (ys : List B). set ys n (f x)) s.list ∙ padded-more b (gather p f (take i l)) (f x) n k (sym s.count) (omega (arith, s.small)) ∙ ap (padded b k) (sym m);
+          list =
+              eo ∙ ap (λ (ys : List B). set ys n (f x)) s.list
+              ∙ padded-more b (gather p f (take i l)) (f x) n k (sym s.count) (omega (arith, s.small)) ∙ ap (padded b k) (sym m);
         }
 
     pub packs-drop : p x ≡ false → n' ≡ n → out' ≡ out → Packs p f b k l (i + 1) n' out'
     packs-drop e en eo =
         let m = gather-less p f d l i h (rw at e) in
         record { small = omega (arith, s.small); count = en ∙ s.count ∙ ap length (sym m); list = eo ∙ s.list ∙ ap (padded b k) (sym m) }
-
-  pub packs-all : (i n : ℕ) (out : List B) → length l ≤ i → Packs p f b k l i n out → (n ≡ length (gather p f l)) × (out ≡ padded b k (gather p f l))
-  packs-all i n out h s = (rw (take_all i l h) at s.count, rw (take_all i l h) at s.list)

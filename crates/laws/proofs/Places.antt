@@ -21,7 +21,8 @@ module _ {A B : Type 0} where
   concat_map-cond false g (x ∷ xs) = concat_map-cond false g xs
 
 -- each of the numbers up to n, with those after it
-pub tails-span : {A : Type 0} (g : ℕ → List ℕ → List A) (n k i : ℕ) → n ≡ i + k → over_tails g (span i k) ≡ concat_map (λ m. g m (span (m + 1) (n - (m + 1)))) (span i k)
+pub tails-span : {A : Type 0} (g : ℕ → List ℕ → List A) (n k i : ℕ) → n ≡ i + k
+    → over_tails g (span i k) ≡ concat_map (λ m. g m (span (m + 1) (n - (m + 1)))) (span i k)
 tails-span g n zero i e = refl
 tails-span g n (suc k) i e =
     let q : n - (i + 1) ≡ k = omega arith in
@@ -46,7 +47,8 @@ module _ {A B : Type 0} where
   take_while-map f p [] = refl
   take_while-map f p (x ∷ xs) = go (p (f x)) (take_while-map f p xs)
     where
-      go : (b : Bool) → take_while p (map f xs) ≡ map f (take_while (λ x. p (f x)) xs) → cond b (f x ∷ take_while p (map f xs)) [] ≡ map f (cond b (x ∷ take_while (λ x. p (f x)) xs) [])
+      go : (b : Bool) → take_while p (map f xs) ≡ map f (take_while (λ x. p (f x)) xs)
+          → cond b (f x ∷ take_while p (map f xs)) [] ≡ map f (cond b (x ∷ take_while (λ x. p (f x)) xs) [])
       go true e = ap {B = List A} (λ r. f x ∷ r) e
       go false e = refl
 
@@ -55,7 +57,8 @@ module _ {B : Type 0} where
   pub take_places : (l : List B) (d : B) (n : ℕ) → n ≤ length l → take n l ≡ map (λ i. get_or l i d) (span 0 n)
   take_places l d n h = from l n h (λ i. get_or l i d) 0 (λ i. ap (λ (k : ℕ). get_or l k d) (omega arith))
     where
-      from : (m : List B) (n : ℕ) → n ≤ length m → (at : ℕ → B) (k : ℕ) → ((i : ℕ) → at (k + i) ≡ get_or m i d) → take n m ≡ map at (span k n)
+      from : (m : List B) (n : ℕ) → n ≤ length m → (at : ℕ → B) (k : ℕ) → ((i : ℕ) → at (k + i) ≡ get_or m i d)
+          → take n m ≡ map at (span k n)
       from m zero h at k e = refl
       from [] (suc n) h at k e = absurd (omega arith)
       from (x ∷ m) (suc n) h at k e =

@@ -17,10 +17,13 @@ module _ (f : ℕ → ℕ) (a : ℕ) (first : List ℕ) where
   pub region-none : Region f a 0 first first
   region-none = record { long = refl; here = below_none _; low = λ x h. refl; high = λ x h. refl }
 
-  pub region-more : (l : List ℕ) (i x : ℕ) → Region f a i first l → a + i < length first → x ≡ f i → Region f a (i + 1) first (set l (a + i) x)
+  pub region-more : (l : List ℕ) (i x : ℕ) → Region f a i first l → a + i < length first → x ≡ f i
+      → Region f a (i + 1) first (set l (a + i) x)
   region-more l i x r h e = record {
     long = length-set l (a + i) x ∙ r.long;
-    here = below_more (λ (k : ℕ). get_or (set l (a + i) x) (a + k) 0 ≡ f k) i (λ k b. other (a + k) (omega arith) ∙ r.here k b) (get_or-set_same l (a + i) x 0 (omega (arith, r.long)) ∙ e);
+    here =
+        below_more (λ (k : ℕ). get_or (set l (a + i) x) (a + k) 0 ≡ f k) i (λ k b. other (a + k) (omega arith) ∙ r.here k b)
+        (get_or-set_same l (a + i) x 0 (omega (arith, r.long)) ∙ e);
     low = λ y b. other y (omega arith) ∙ r.low y b;
     high = λ y b. other y (omega arith) ∙ r.high y (omega arith);
   }
@@ -33,11 +36,13 @@ module _ (f : ℕ → ℕ) (a : ℕ) (first : List ℕ) where
   region-all l b i n r e q = rw (← e, ← q) r
 
 -- another way to say what stands there
-pub region-as : {f : ℕ → ℕ} {a n : ℕ} {first last : List ℕ} (g : ℕ → ℕ) → ((k : ℕ) → k < n → f k ≡ g k) → Region f a n first last → Region g a n first last
+pub region-as : {f : ℕ → ℕ} {a n : ℕ} {first last : List ℕ} (g : ℕ → ℕ) → ((k : ℕ) → k < n → f k ≡ g k) → Region f a n first last
+    → Region g a n first last
 region-as g e r = record { long = r.long; here = λ k h. r.here k h ∙ e k h; low = r.low; high = r.high }
 
 -- the first number at a, the others from a + 1 on
-pub region-puts : (l : List ℕ) (a v : ℕ) (vs : List ℕ) → a + (1 + length vs) ≤ length l → Region (λ k. get_or (v ∷ vs) k 0) a (suc (length vs)) l (puts (set l a v) a 1 vs)
+pub region-puts : (l : List ℕ) (a v : ℕ) (vs : List ℕ) → a + (1 + length vs) ≤ length l
+    → Region (λ k. get_or (v ∷ vs) k 0) a (suc (length vs)) l (puts (set l a v) a 1 vs)
 region-puts l a v vs h = record {
   long = length-puts vs (set l a v) a 1 ∙ length-set l a v;
   here = within;
@@ -75,7 +80,9 @@ module _ (w : ℕ) (f : ℕ → ℕ → ℕ) (first : List ℕ) where
   pub blocks_more : (l m : List ℕ) (n : ℕ) → Blocks w f n first l → Region (f n) (n * w) w l m → Blocks w f (n + 1) first m
   blocks_more l m n s r = record {
     long = r.long ∙ s.long;
-    here = λ i k h b. below-cases (λ (j : ℕ). get_or m (j * w + k) 0 ≡ f j k) n i h (λ u. r.low (i * w + k) (block-below w i k n u b) ∙ s.here i k u b) (r.here k b);
+    here =
+        λ i k h b. below-cases (λ (j : ℕ). get_or m (j * w + k) 0 ≡ f j k) n i h (λ u. r.low (i * w + k) (block-below w i k n u b)
+        ∙ s.here i k u b) (r.here k b);
     high = λ x h. r.high x (omega (arith, next)) ∙ s.high x (omega (arith, next));
   }
     where

@@ -24,7 +24,8 @@ units-neg : (f : Format) (q k : ℕ) → units f true q k ≡ neg (units f false
 unfolding units neg
 units-neg f q k = go (ltb (q * 2 ^ k) (2 ^ (low f + suc (emax f))))
   where
-    go : (b : Bool) → cond b (odd (suc (prec f)) true q k (low f)) (inf true) ≡ neg (cond b (odd (suc (prec f)) false q k (low f)) (inf false))
+    go : (b : Bool)
+        → cond b (odd (suc (prec f)) true q k (low f)) (inf true) ≡ neg (cond b (odd (suc (prec f)) false q k (low f)) (inf false))
     go true = odd-neg (suc (prec f)) q k (low f)
     go false = refl
 
@@ -54,7 +55,9 @@ mul-neg f (inf s) (inf t) = ap inf (unlike-not s t)
 mul-neg f (inf s) (fin t n d) = ap (λ (b : Bool). cond (eqb n 0) nan (inf b)) (unlike-not s t) ∙ inf-or-nan (eqb n 0) (unlike s t)
 mul-neg f (fin s m e) nan = refl
 mul-neg f (fin s m e) (inf t) = ap (λ (b : Bool). cond (eqb m 0) nan (inf b)) (unlike-not s t) ∙ inf-or-nan (eqb m 0) (unlike s t)
-mul-neg f (fin s m e) (fin t n d) = ap (λ (b : Bool). round f b (m * up e * (n * up d)) (down e * down d)) (unlike-not s t) ∙ round-not f (unlike s t) (m * up e * (n * up d)) (down e * down d)
+mul-neg f (fin s m e) (fin t n d) =
+    ap (λ (b : Bool). round f b (m * up e * (n * up d)) (down e * down d)) (unlike-not s t)
+    ∙ round-not f (unlike s t) (m * up e * (n * up d)) (down e * down d)
 
 -- a square has no sign
 pub square-neg : (f : Format) (x : Float) → mul f (neg x) (neg x) ≡ mul f x x

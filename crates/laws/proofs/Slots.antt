@@ -14,11 +14,13 @@ use Rattle.laws.proofs.Bools.{or-false-left, or-false-right}
 
 module _ {A : Type 0} (b : A) (size : ℕ) where
   -- a store at the first blank slot leaves the others blank
-  pub blank-set : (l : List A) (n : ℕ) (x : A) → length l ≡ size → n < size → drop n l ≡ replicate (size - n) b → drop (n + 1) (set l n x) ≡ replicate (size - (n + 1)) b
+  pub blank-set : (l : List A) (n : ℕ) (x : A) → length l ≡ size → n < size → drop n l ≡ replicate (size - n) b
+      → drop (n + 1) (set l n x) ≡ replicate (size - (n + 1)) b
   blank-set l n x long room blank =
       let k : n < length l = omega arith in
       let more : size - n ≡ suc (size - (n + 1)) = omega arith in
-      let split : get_or l n b ∷ drop (suc n) l ≡ b ∷ replicate (size - (n + 1)) b = sym (drop-cons l n b k) ∙ blank ∙ ap (λ (m : ℕ). replicate m b) more in
+      let split : get_or l n b ∷ drop (suc n) l ≡ b ∷ replicate (size - (n + 1)) b =
+      sym (drop-cons l n b k) ∙ blank ∙ ap (λ (m : ℕ). replicate m b) more in
       let under : n < n + 1 = omega arith in
       drop-set-lt (n + 1) l n x under ∙ ap (λ (m : ℕ). drop m l) (add-one n) ∙ tail-eq_of_cons-eq split
 

@@ -5,8 +5,8 @@ use mathlib.Core.Bool.{Bool, true, false, cond}
 use mathlib.Core.List.{List, [], ◌∷◌, map}
 use Prim.Native.Nat.{ℕ, zero, suc, ◌+◌, ◌≤◌, ◌<◌}
 use native.Mathlib.Omega.{arith}
-use lib.ListN.{length, get_or, take, set, length-set}
-use lib.Seq.{get_or-set_same, get_or-set_other, get_or-take, length-take-le, ext_get_or}
+use lib.ListN.{length, get_or, set, length-set}
+use lib.Seq.{get_or-set_same, get_or-set_other, ext_get_or}
 use borrow.Author.Count.{below_none, below_more}
 use Rattle.laws.specs.Lists.{span}
 use Rattle.laws.specs.Sort.{insert_by, sort}
@@ -43,18 +43,14 @@ module _ {A : Type 0} (f : ℕ → A) where
     pub filled_more : (now : List A) (i : ℕ) (x : A) → Filled d n first now i → i < n → x ≡ f i → Filled d n first (set now i x) (i + 1)
     filled_more now i x g h e = record {
       long = length-set now i x ∙ g.long;
-      done = below_more (λ (k : ℕ). get_or (set now i x) k d ≡ f k) i (λ k b. other k (omega arith) ∙ g.done k b) (get_or-set_same now i x d (omega (arith, g.long)) ∙ e);
+      done =
+          below_more (λ (k : ℕ). get_or (set now i x) k d ≡ f k) i (λ k b. other k (omega arith) ∙ g.done k b)
+          (get_or-set_same now i x d (omega (arith, g.long)) ∙ e);
       rest = λ k b. other k (omega arith) ∙ g.rest k (omega arith);
     }
       where
         other : (k : ℕ) → k ≢ i → get_or (set now i x) k d ≡ get_or now k d
         other k ne = get_or-set_other now i k x d ne
-
-    pub filled-front : (now : List A) (i : ℕ) → Filled d n first now i → i ≤ n → take i now ≡ table i f
-    filled-front now i g h =
-        let l : length (take i now) ≡ i = length-take-le i now (omega (arith, g.long)) in
-        ext_get_or d (take i now) (table i f) (l ∙ sym (length-table i))
-        (λ k b. get_or-take i now k d (omega (arith, l)) ∙ g.done k (omega (arith, l)) ∙ sym (get_d-table d i k (omega (arith, l))))
 
     pub filled-all : (now : List A) (i : ℕ) → Filled d n first now i → n ≤ i → now ≡ table n f
     filled-all now i g h =
@@ -68,7 +64,8 @@ module _ {A B : Type 0} (lt : B → B → Bool) (f : A → B) where
   insert_by-map x (y ∷ l) = go (lt (f y) (f x)) (insert_by-map x l)
     where
       go : (b : Bool) → map f (insert_by (λ a b. lt (f a) (f b)) x l) ≡ insert_by lt (f x) (map f l)
-          → map f (cond b (y ∷ insert_by (λ a b. lt (f a) (f b)) x l) (x ∷ y ∷ l)) ≡ cond b (f y ∷ insert_by lt (f x) (map f l)) (f x ∷ f y ∷ map f l)
+          → map f (cond b (y ∷ insert_by (λ a b. lt (f a) (f b)) x l) (x ∷ y ∷ l)) ≡ cond b (f y ∷ insert_by lt (f x) (map f l))
+          (f x ∷ f y ∷ map f l)
       go true e = ap {B = List B} (λ r. f y ∷ r) e
       go false e = refl
 

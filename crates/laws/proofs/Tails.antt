@@ -34,11 +34,13 @@ module _ {B : Type 0} where
   take_while-mem p [] m = absurd (Memᴰ.not-nil m)
   take_while-mem p {x} (y ∷ ys) m = step (p y) refl (λ k. take_while-mem p ys k) m
     where
-      found : p y ≡ true → (Memᴰ x (take_while p ys) → Memᴰ x ys × (p x ≡ true)) → (x ≡ y) ⊎ Memᴰ x (take_while p ys) → Memᴰ x (y ∷ ys) × (p x ≡ true)
+      found : p y ≡ true → (Memᴰ x (take_while p ys) → Memᴰ x ys × (p x ≡ true)) → (x ≡ y) ⊎ Memᴰ x (take_while p ys)
+          → Memᴰ x (y ∷ ys) × (p x ≡ true)
       found e ih (inl q) = (Memᴰ.head q, ap p q ∙ e)
       found e ih (inr k) = (Memᴰ.tail (ih k).0, (ih k).1)
 
-      step : (b : Bool) → p y ≡ b → (Memᴰ x (take_while p ys) → Memᴰ x ys × (p x ≡ true)) → Memᴰ x (cond b (y ∷ take_while p ys) []) → Memᴰ x (y ∷ ys) × (p x ≡ true)
+      step : (b : Bool) → p y ≡ b → (Memᴰ x (take_while p ys) → Memᴰ x ys × (p x ≡ true)) → Memᴰ x (cond b (y ∷ take_while p ys) [])
+          → Memᴰ x (y ∷ ys) × (p x ≡ true)
       step true e ih k = found e ih (Memᴰ.cases_cons k)
       step false e ih k = absurd (Memᴰ.not-nil k)
 
@@ -47,7 +49,8 @@ module _ {A B : Type 0} (g : B → List B → List A) where
   over_tails-mem [] m = absurd (Memᴰ.not-nil m)
   over_tails-mem {j} (y ∷ ys) m = go (Memᴰ.append_cases (g y ys) m) (λ k. over_tails-mem ys k)
     where
-      go : Memᴰ j (g y ys) ⊎ Memᴰ j (over_tails g ys) → (Memᴰ j (over_tails g ys) → (x : B) × (xs : List B) × Tail x xs ys × Memᴰ j (g x xs))
+      go : Memᴰ j (g y ys) ⊎ Memᴰ j (over_tails g ys)
+          → (Memᴰ j (over_tails g ys) → (x : B) × (xs : List B) × Tail x xs ys × Memᴰ j (g x xs))
           → (x : B) × (xs : List B) × Tail x xs (y ∷ ys) × Memᴰ j (g x xs)
       go (inl k) ih = (y, ys, inl (refl, refl), k)
       go (inr k) ih = let (x, xs, t, n) = ih k in (x, xs, inr t, n)

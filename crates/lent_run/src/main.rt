@@ -9,7 +9,7 @@ use profile::Journey;
 use std::fmt;
 
 // An answer of best.
-#[derive(Clone, Copy)]
+#[derive(Clone, Copy, Debug, PartialEq, Eq)]
 struct Shown(Option<Journey>);
 
 impl fmt::Display for Shown {

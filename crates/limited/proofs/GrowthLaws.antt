@@ -1,4 +1,5 @@
--- Of unbeaten journeys of few kinds few arrive together; of more than 64 one arrives before the latest, so that the least arrival is never cut.
+-- Of unbeaten journeys of few kinds few arrive together; of more than 64 one arrives before the latest, so that the least arrival is never
+-- cut.
 use Rattle.std.specs.Prelude.{None, Option, Some}
 use mathlib.Core.Path.{◌≡◌, refl, sym, ap, ◌∙◌}
 use mathlib.Core.Logic.{◌⊎◌, inl, inr}
@@ -38,7 +39,9 @@ module _ {A : Type 0} (kind : A → ℕ) where
   others-all : (n : ℕ) (xs : List A) → ((y : A) → Memᴰ y xs → eqb n (kind y) ≡ false) → others n xs ≡ xs
   others-all n xs f =
       filterb-all (λ y. not (eqb (kind y) n)) xs
-      (λ y m. ap not (not-true (eqb (kind y) n) (λ e. let q : n ≡ kind y = sym (eqb-true (kind y) n e) in false≢true (sym (f y m) ∙ eq-eqb n (kind y) q))))
+      (λ y m. ap not
+      (not-true (eqb (kind y) n)
+      (λ e. let q : n ≡ kind y = sym (eqb-true (kind y) n e) in false≢true (sym (f y m) ∙ eq-eqb n (kind y) q))))
 
   differ-others : (n : ℕ) (xs : List A) → Differ xs → Differ (others n xs)
   differ-others n [] d = tt
@@ -52,7 +55,8 @@ module _ {A : Type 0} (kind : A → ℕ) where
   one_less n [] d = omega arith
   one_less n (x ∷ xs) d = go (eqb (kind x) n) refl (one_less n xs d.1)
     where
-      go : (b : Bool) → eqb (kind x) n ≡ b → length xs ≤ suc (length (others n xs)) → suc (length xs) ≤ suc (length (cond (not b) (x ∷ others n xs) (others n xs)))
+      go : (b : Bool) → eqb (kind x) n ≡ b → length xs ≤ suc (length (others n xs))
+          → suc (length xs) ≤ suc (length (cond (not b) (x ∷ others n xs) (others n xs)))
       go true e ih =
           let q : kind x ≡ n = eqb-true (kind x) n e in
           let w : others n xs ≡ xs = others-all n xs (λ y m. rw q at (d.0 y m)) in
@@ -95,16 +99,21 @@ antichain-part {A} cov p (x ∷ xs) (f, w) = go (p x) (antichain-part cov p xs w
 
 module _ {A : Type 0} (fig : A → Figures) (kind : A → ℕ) where
   -- of two that arrive together, with as many rides and the same walk, the one that leaves later covers the other
-  together-covers : (a b : A) → (fig a).arrival ≡ (fig b).arrival → (fig a).rides ≡ (fig b).rides → (fig a).walk ≡ (fig b).walk → (fig b).leave ≤ (fig a).leave → covᶠ fig a b ≡ true
+  together-covers : (a b : A) → (fig a).arrival ≡ (fig b).arrival → (fig a).rides ≡ (fig b).rides → (fig a).walk ≡ (fig b).walk
+      → (fig b).leave ≤ (fig a).leave → covᶠ fig a b ≡ true
   together-covers a b ea er ew l =
       and-true _ _ (le-leb (fig b).leave (fig a).leave l)
-      (lexb-eq (fig a).arrival (fig b).arrival _ ea (lexb-eq (fig a).rides (fig b).rides _ er (le-leb (fig a).walk (fig b).walk (omega arith))))
+      (lexb-eq (fig a).arrival (fig b).arrival _ ea
+      (lexb-eq (fig a).rides (fig b).rides _ er (le-leb (fig a).walk (fig b).walk (omega arith))))
 
   module _ (n : ℕ) (os : List A) (few : Kinds fig kind n os) where
     differ : (d : ℕ) (xs : List A) → Antichain (covᶠ fig) xs → ((x : A) → Memᴰ x xs → Memᴰ x os × ((fig x).arrival ≡ d)) → Differ kind xs
     differ d [] a f = tt
-    differ d (x ∷ xs) a f =
-        ((λ y m. not-true (eqb (kind x) (kind y)) (λ e. never y m (eqb-true (kind x) (kind y) e))), differ d xs a.1 (λ y m. f y (mathlib.Core.List.Memᴰ.tail m)))
+    differ d (x ∷ xs) a f = (
+      (λ y m. not-true (eqb (kind x) (kind y)) (λ e. never y m (eqb-true (kind x) (kind y) e))),
+      differ d xs a.1
+          (λ y m. f y (mathlib.Core.List.Memᴰ.tail m)),
+    )
       where
         never : (y : A) → Memᴰ y xs → kind x ≡ kind y → ⊥
         never y m e =
@@ -116,7 +125,8 @@ module _ {A : Type 0} (fig : A → Figures) (kind : A → ℕ) where
             let v = or-false-right (covᶠ fig x y) (covᶠ fig y x) (a.0 y m) in
             go er ew p q u v (test (leb (fig y).leave (fig x).leave))
           where
-            go : (fig x).rides ≡ (fig y).rides → (fig x).walk ≡ (fig y).walk → (fig x).arrival ≡ d → (fig y).arrival ≡ d → covᶠ fig x y ≡ false → covᶠ fig y x ≡ false
+            go : (fig x).rides ≡ (fig y).rides → (fig x).walk ≡ (fig y).walk → (fig x).arrival ≡ d → (fig y).arrival ≡ d
+                → covᶠ fig x y ≡ false → covᶠ fig y x ≡ false
                 → (leb (fig y).leave (fig x).leave ≡ true) ⊎ (leb (fig y).leave (fig x).leave ≡ false) → ⊥
             go er ew p q u v (inl t) = true≢false (sym (together-covers x y (p ∙ sym q) er ew (leb-true (fig y).leave (fig x).leave t)) ∙ u)
             go er ew p q u v (inr t) =
@@ -126,7 +136,8 @@ module _ {A : Type 0} (fig : A → Figures) (kind : A → ℕ) where
     at_most : (h a : ℕ) → length (filterb (λ o. eqb (fig o).arrival a) (front (covᶠ fig) (dueᶠ fig) h os)) ≤ n
     at_most h a =
         few-differ kind n (filterb (λ o. eqb (fig o).arrival a) fr)
-        (differ a (filterb (λ o. eqb (fig o).arrival a) fr) (antichain-part (covᶠ fig) (λ o. eqb (fig o).arrival a) fr (front-antichain (covᶠ fig) (dueᶠ fig) h os)) here)
+        (differ a (filterb (λ o. eqb (fig o).arrival a) fr)
+        (antichain-part (covᶠ fig) (λ o. eqb (fig o).arrival a) fr (front-antichain (covᶠ fig) (dueᶠ fig) h os)) here)
         (λ x m. few.small x (here x m).0)
       where
         fr : List A
@@ -149,12 +160,16 @@ module _ {A : Type 0} (fig : A → Figures) (kind : A → ℕ) where
         g = latest (dueᶠ fig) fr - 1
 
         all-late : filterb (λ x. leb (fig x).arrival g) fr ≡ [] → (x : A) → Memᴰ x fr → g < (fig x).arrival
-        all-late e x m = leb-false (fig x).arrival g (not-true (leb (fig x).arrival g) (λ t. mathlib.Core.List.Memᴰ.not-nil (rw e at (mem-filterb (λ x. leb (fig x).arrival g) m t))))
+        all-late e x m =
+            leb-false (fig x).arrival g
+            (not-true (leb (fig x).arrival g)
+            (λ t. mathlib.Core.List.Memᴰ.not-nil (rw e at (mem-filterb (λ x. leb (fig x).arrival g) m t))))
 
         none-less : filterb (λ x. leb (fig x).arrival g) fr ≡ [] → length fr ≤ n
         none-less e =
             let all : filterb (λ o. eqb (fig o).arrival (suc g)) fr ≡ fr =
-            filterb-all (λ o. eqb (fig o).arrival (suc g)) fr (λ x m. eq-eqb (fig x).arrival (suc g) (omega (arith, all-late e x m, latest-over (dueᶠ fig) fr x m))) in
+            filterb-all (λ o. eqb (fig o).arrival (suc g)) fr
+            (λ x m. eq-eqb (fig x).arrival (suc g) (omega (arith, all-late e x m, latest-over (dueᶠ fig) fr x m))) in
             rw all at (at_most h (suc g))
 
         go : (ys : List A) → filterb (λ x. leb (fig x).arrival g) fr ≡ ys → (x : A) × Memᴰ x fr × ((fig x).arrival ≤ g)
@@ -195,7 +210,8 @@ module _ {A : Type 0} (fig : A → Figures) (kind : A → ℕ) where
     settle-has : (a h l : ℕ) (os : List A) → Kinds fig kind n os → (k : A) → Memᴰ k (front (covᶠ fig) (dueᶠ fig) h os) → (fig k).arrival ≤ a
         → Has a (settle (dueᶠ fig) 64 3600 (front (covᶠ fig) (dueᶠ fig) h os) h l)
     settle-has a h l os few k m le =
-        settle-elim (dueᶠ fig) 64 3600 (Has a) (front (covᶠ fig) (dueᶠ fig) h os) h l (λ fits. (k, m, le)) (λ more. tt) (λ more low. cut more (test (leb (fig k).arrival g)))
+        settle-elim (dueᶠ fig) 64 3600 (Has a) (front (covᶠ fig) (dueᶠ fig) h os) h l (λ fits. (k, m, le)) (λ more. tt)
+        (λ more low. cut more (test (leb (fig k).arrival g)))
       where
         g : ℕ
         g = latest (dueᶠ fig) (front (covᶠ fig) (dueᶠ fig) h os) - 1
@@ -207,7 +223,8 @@ module _ {A : Type 0} (fig : A → Figures) (kind : A → ℕ) where
             let (x, i, d) = one-before n os few h (omega (arith, at64)) in
             (x, mem-filterb (λ z. leb (dueᶠ fig z) g) i (le-leb (fig x).arrival g d), omega (arith, leb-false (fig k).arrival g t))
 
-    offer-has : (a h₀ : ℕ) (os : List A) (o : A) (s : St A) → Kinds fig kind n (os ++ o ∷ []) → Holds (covᶠ fig) (dueᶠ fig) 64 h₀ os s → Has a s → Has a (offer (covᶠ fig) (dueᶠ fig) 64 3600 s o)
+    offer-has : (a h₀ : ℕ) (os : List A) (o : A) (s : St A) → Kinds fig kind n (os ++ o ∷ []) → Holds (covᶠ fig) (dueᶠ fig) 64 h₀ os s
+        → Has a s → Has a (offer (covᶠ fig) (dueᶠ fig) 64 3600 s o)
     offer-has a h₀ os o refused few w has = tt
     offer-has a h₀ os o (going ks h l) few (e, len, le) (k, m, d) =
         let len' : length (front (covᶠ fig) (dueᶠ fig) h os) ≤ 64 = rw e at len in
@@ -224,13 +241,16 @@ module _ {A : Type 0} (fig : A → Figures) (kind : A → ℕ) where
         let few' : Kinds fig kind n ((xs ++ y ∷ []) ++ ys) = rw q at few in
         let one : Has a (search h₀ l₀ (xs ++ y ∷ [])) =
         rw (foldl-append (offer (covᶠ fig) (dueᶠ fig) 64 3600) (going [] h₀ l₀) xs (y ∷ []))
-        (offer-has a h₀ xs y (search h₀ l₀ xs) (kinds-part n (xs ++ y ∷ []) ys few') (run_holds (figures-order fig) 64 3600 (omega arith) h₀ l₀ xs) has) in
+        (offer-has a h₀ xs y (search h₀ l₀ xs) (kinds-part n (xs ++ y ∷ []) ys few')
+        (run_holds (figures-order fig) 64 3600 (omega arith) h₀ l₀ xs) has) in
         rw q (goes-on-has a h₀ l₀ (xs ++ y ∷ []) ys few' one)
 
-    offer-left : (h₀ : ℕ) (os : List A) (o : A) (s : St A) → Kinds fig kind n (os ++ o ∷ []) → Holds (covᶠ fig) (dueᶠ fig) 64 h₀ os s → Left h₀ s → Left h₀ (offer (covᶠ fig) (dueᶠ fig) 64 3600 s o)
+    offer-left : (h₀ : ℕ) (os : List A) (o : A) (s : St A) → Kinds fig kind n (os ++ o ∷ []) → Holds (covᶠ fig) (dueᶠ fig) 64 h₀ os s
+        → Left h₀ s → Left h₀ (offer (covᶠ fig) (dueᶠ fig) 64 3600 s o)
     offer-left h₀ os o refused few w x = tt
     offer-left h₀ os o (going ks h l) few w (inr (k, m)) =
-        has_left h₀ (fig k).arrival (offer (covᶠ fig) (dueᶠ fig) 64 3600 (going ks h l) o) (offer-has (fig k).arrival h₀ os o (going ks h l) few w (k, m, omega arith))
+        has_left h₀ (fig k).arrival (offer (covᶠ fig) (dueᶠ fig) 64 3600 (going ks h l) o)
+        (offer-has (fig k).arrival h₀ os o (going ks h l) few w (k, m, omega arith))
     offer-left h₀ os o (going ks h l) few (e, len, up) (inl le) =
         let len' : length (front (covᶠ fig) (dueᶠ fig) h os) ≤ 64 = rw e at len in
         rw (e, offer-settles (figures-order fig) 64 3600 (omega arith) h l os o len')
@@ -250,7 +270,8 @@ module _ {A : Type 0} (fig : A → Figures) (kind : A → ℕ) where
     run-left : (h₀ l₀ : ℕ) (os : List A) → Kinds fig kind n os → Left h₀ (search h₀ l₀ os)
     run-left h₀ l₀ os = snoc-ind (λ xs. Kinds fig kind n xs → Left h₀ (search h₀ l₀ xs)) (λ few. inl (omega arith))
         (λ xs x ih few. rw (foldl-append (offer (covᶠ fig) (dueᶠ fig) 64 3600) (going [] h₀ l₀) xs (x ∷ []))
-        (offer-left h₀ xs x (search h₀ l₀ xs) few (run_holds (figures-order fig) 64 3600 (omega arith) h₀ l₀ xs) (ih (kinds-part n xs (x ∷ []) few)))) os
+        (offer-left h₀ xs x (search h₀ l₀ xs) few (run_holds (figures-order fig) 64 3600 (omega arith) h₀ l₀ xs)
+        (ih (kinds-part n xs (x ∷ []) few)))) os
 
 -- ---- best at second 0
 
@@ -259,9 +280,12 @@ module _ {A : Type 0} (fig : A → Figures) where
   few-together kind n os few h a = at_most fig kind n os few h a
 
   best-zero : (ks : List A) (h : ℕ) → best fig ks h 0 ≡ pick fig ks
-  best-zero ks h = rw (le-ltb h 0 (omega arith)) (ap (pick fig) (filterb-all (λ k. leb 0 (fig k).leave) ks (λ k m. le-leb 0 (fig k).leave (omega arith))))
+  best-zero ks h =
+      rw (le-ltb h 0 (omega arith))
+      (ap (pick fig) (filterb-all (λ k. leb 0 (fig k).leave) ks (λ k m. le-leb 0 (fig k).leave (omega arith))))
 
-  least : (ks : List A) (a : ℕ) (k : A) → Memᴰ k ks → (fig k).arrival ≤ a → (r : Option A) → Picked fig ks r → (j : A) × (r ≡ Some j) × ((fig j).arrival ≤ a)
+  least : (ks : List A) (a : ℕ) (k : A) → Memᴰ k ks → (fig k).arrival ≤ a → (r : Option A) → Picked fig ks r
+      → (j : A) × (r ≡ Some j) × ((fig j).arrival ≤ a)
   least ks a k m d None w = absurd (w k m)
   least ks a k m d (Some j) (i, w) = (j, refl, omega (arith, prefer-arrival (fig j) (fig k) (w k m)))
 
@@ -276,7 +300,8 @@ module _ {A : Type 0} (fig : A → Figures) where
   pub never-later : NeverLater fig
   never-later kind n h₀ l₀ xs ys ks ks' h h' l l' at64 few e e' j b =
       let has : Has fig kind (fig j).arrival (going ks h l) = (j, best-mem ks h j b, omega arith) in
-      let after : Has fig kind (fig j).arrival (going ks' h' l') = rw e' at (goes-on-has fig kind n at64 (fig j).arrival h₀ l₀ xs ys few (rw e has)) in
+      let after : Has fig kind (fig j).arrival (going ks' h' l') =
+      rw e' at (goes-on-has fig kind n at64 (fig j).arrival h₀ l₀ xs ys few (rw e has)) in
       let (k, m, d) = after in
       let (j', p, q) = least ks' (fig j).arrival k m d (pick fig ks') (pick-picked fig ks') in
       (j', best-zero ks' h' ∙ p, q)
@@ -290,7 +315,8 @@ module _ {A : Type 0} (fig : A → Figures) where
       -- cut before the offer: what is kept is due by the horizon
       before : h < (fig o).arrival → Left fig kind h₀ (going ks h l) → (k : A) × Memᴰ k ks × ((fig k).arrival ≤ (fig o).arrival)
       before lt (inl le) = absurd (omega (arith, d))
-      before lt (inr (k, i)) = let (j, due) = (run-kept (figures-order fig) 64 3600 (omega arith) h₀ l₀ os ks h l e).3 k i in (k, i, omega (arith, due))
+      before lt (inr (k, i)) =
+          let (j, due) = (run-kept (figures-order fig) 64 3600 (omega arith) h₀ l₀ os ks h l e).3 k i in (k, i, omega (arith, due))
 
       go : (leb (fig o).arrival h ≡ true) ⊎ (leb (fig o).arrival h ≡ false) → (k : A) × Memᴰ k ks × ((fig k).arrival ≤ (fig o).arrival)
       go (inl t) =

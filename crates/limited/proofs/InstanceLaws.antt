@@ -10,7 +10,8 @@ use Rattle.limited.specs.Margin.{alightings, target_arrivals, earliest, margin_w
 use Rattle.limited.specs.Instances.{WithinLimits}
 
 pub within-limits : WithinLimits
-unfolding lexb clash rides first_rides joined_rides directs changes network_of join_events change_events events events_of offers_within joins_within finished_within search_within alightings target_arrivals earliest margin_within
+unfolding lexb clash rides first_rides joined_rides directs changes network_of join_events change_events events events_of offers_within
+    joins_within finished_within search_within alightings target_arrivals earliest margin_within
 within-limits = record {
   zero_kept = refl;
   zero_stopped = refl;

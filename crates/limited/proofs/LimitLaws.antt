@@ -1,4 +1,5 @@
--- A search within a limit: its joins and their count, that a finished one is the full search, and what its answer for second 0 owes to a larger limit.
+-- A search within a limit: its joins and their count, that a finished one is the full search, and what its answer for second 0 owes to a
+-- larger limit.
 use Rattle.std.specs.Prelude.{Some}
 use mathlib.Core.Path.{◌≡◌, refl, sym, ap, ◌∙◌}
 use mathlib.Core.Logic.{◌⊎◌, inl, inr}
@@ -34,7 +35,9 @@ use Rattle.counted.specs.Joins.{Join, join_of, events, pairs}
 use Rattle.counted.proofs.EventLaws.{offers-append, stops, count-is, finished-if, finished-is-all, goes_on}
 use Rattle.counted.proofs.JoinLaws.{offers-of-events, joins-of-events, count-of-events}
 use Rattle.limited.specs.Growth.{Kinds}
-use Rattle.limited.specs.Limited.{events_of, offers_within, joins_within, finished_within, search_within, all_joins, OneChange, EventOffers, Pairs, EventJoins, CountWithin, FinishedWithin, NoChange, FinishedIsFull, WithinByOffers, EightTogether, LargerNeverLater, WithinInAnyOrder}
+use Rattle.limited.specs.Limited.{events_of, offers_within, joins_within, finished_within, search_within, all_joins, OneChange, EventOffers}
+use Rattle.limited.specs.Limited.{Pairs, EventJoins, CountWithin, FinishedWithin, NoChange, FinishedIsFull, WithinByOffers, EightTogether}
+use Rattle.limited.specs.Limited.{LargerNeverLater, WithinInAnyOrder}
 use Rattle.limited.proofs.GrowthLaws.{few-together, never-later}
 
 -- ---- the events: their offers and their joins
@@ -48,11 +51,13 @@ module _ (t : Timetable) (e : Clear t) (one : t.max_transfers ≡ 1) (j : Join C
   unfolding events_of
   all-pairs =
       joins-of-events (network_of t) (direct_by t) (change_by t) t.max_transfers (sorted t)
-      ∙ ap (λ (b : Bool). cond b (pairs (first_rides (network_of t) (sorted t)) (rides (network_of t) (sorted t))) []) (eq-eqb t.max_transfers 1 one)
+      ∙ ap (λ (b : Bool). cond b (pairs (first_rides (network_of t) (sorted t)) (rides (network_of t) (sorted t))) [])
+      (eq-eqb t.max_transfers 1 one)
 
   join-pairs : Memᴰ j (joins_of (events_of t)) → Pairs t j
   join-pairs m =
-      let (f, i, n) = concat_map-mem (λ f. map (join_of f) (rides (network_of t) (sorted t))) (first_rides (network_of t) (sorted t)) (rw all-pairs at m) in
+      let (f, i, n) =
+      concat_map-mem (λ f. map (join_of f) (rides (network_of t) (sorted t))) (first_rides (network_of t) (sorted t)) (rw all-pairs at m) in
       let (l, k, q) = Memᴰ.of_map (join_of f) (rides (network_of t) (sorted t)) n in
       let (w, o) = firsts-mem (network_of t) (sorted t) f i in
       rw (← q) (record {
@@ -102,7 +107,9 @@ all-within n t one e = ap offers_of ((finished-is-all n (events_of t)).0 e) ∙ 
 
 pub finished-is-full : FinishedIsFull
 unfolding search_within search_of
-finished-is-full n t h l one e = ap (λ (os : List Journey). cond (clashes (sorted t)) clashing (found_by (searched journey_figures 64 3600 h l os))) (all-within n t one e)
+finished-is-full n t h l one e =
+    ap (λ (os : List Journey). cond (clashes (sorted t)) clashing (found_by (searched journey_figures 64 3600 h l os)))
+    (all-within n t one e)
 
 -- ---- by the offers before the stop
 
@@ -110,7 +117,8 @@ pub within-by-offers : WithinByOffers
 unfolding search_within
 within-by-offers n t h l =
     ap (λ (s : St Journey). cond (clashes (sorted t)) clashing (found_by s)) (search-is-fall journey_figures h l (offers_within n t))
-    ∙ ap (λ (f : Outcome). cond (clashes (sorted t)) clashing f) (keeping-ends (offers_within n t) (fall (covᶠ journey_figures) (dueᶠ journey_figures) 64 3600 h l [] (offers_within n t)))
+    ∙ ap (λ (f : Outcome). cond (clashes (sorted t)) clashing f)
+    (keeping-ends (offers_within n t) (fall (covᶠ journey_figures) (dueᶠ journey_figures) 64 3600 h l [] (offers_within n t)))
 
 -- what was found was kept, and put in order
 pub within-found : (n : ℕ) (t : Timetable) (h₀ l₀ h l : ℕ) (ks : List Journey) → search_within n t h₀ l₀ ≡ found ks h l
@@ -118,16 +126,19 @@ pub within-found : (n : ℕ) (t : Timetable) (h₀ l₀ h l : ℕ) (ks : List Jo
 unfolding search_within
 within-found n t h₀ l₀ h l ks e = go (clashes (sorted t)) refl (searched journey_figures 64 3600 h₀ l₀ (offers_within n t)) refl e
   where
-    go : (b : Bool) → clashes (sorted t) ≡ b → (s : St Journey) → searched journey_figures 64 3600 h₀ l₀ (offers_within n t) ≡ s → cond b clashing (found_by s) ≡ found ks h l
+    go : (b : Bool) → clashes (sorted t) ≡ b → (s : St Journey) → searched journey_figures 64 3600 h₀ l₀ (offers_within n t) ≡ s
+        → cond b clashing (found_by s) ≡ found ks h l
         → Clear t × (ks' : List Journey) × Keeps journey_figures h₀ l₀ (offers_within n t) ks' h l × (ks ≡ ordered journey_figures ks')
     go true p s q r = absurd (false≢true cc)
     go false p refused q r = absurd (false≢true cc)
     go false p (going ks' h' l') q r = (p, ks', cc, cc)
 
 -- best of the list in order is best of what was kept
-pub best-ordered : (ks : List Journey) (h : ℕ) (z : ℤ) → bestℤ journey_figures (ordered journey_figures ks) h z ≡ bestℤ journey_figures ks h z
+pub best-ordered : (ks : List Journey) (h : ℕ) (z : ℤ)
+    → bestℤ journey_figures (ordered journey_figures ks) h z ≡ bestℤ journey_figures ks h z
 best-ordered ks h z =
-    sym (best-in-order journey_figures (ordered journey_figures ks) (put-in-order journey_figures ks).0 h z) ∙ ordered-best journey_figures ks h z
+    sym (best-in-order journey_figures (ordered journey_figures ks) (put-in-order journey_figures ks).0 h z)
+    ∙ ordered-best journey_figures ks h z
 
 -- ---- the offers of at most so many rides are of four times as many kinds, by rides and origin
 
@@ -147,11 +158,17 @@ journeys_of t = journeys (network_of t) (direct_by t) (change_by t) t.max_transf
 journey-kind : (t : Timetable) (j : Journey) → Memᴰ j (journeys_of t) → Kind 2 t j
 journey-kind t j m = go (journeys-mem (network_of t) (direct_by t) (change_by t) t.max_transfers (sorted t) j m)
   where
-    go : Alone (network_of t) (direct_by t) (change_by t) t.max_transfers (sorted t) j ⊎ Changing (network_of t) (direct_by t) (change_by t) t.max_transfers (sorted t) j → Kind 2 t j
-    go (inl w) = let x = starts-set t w.f.ride.b w.origin in rw w.is (record { some-ride = omega arith; rides = omega arith; origin = omega (arith, x.count); walk = refl })
-    go (inr w) = let x = starts-set t w.f.ride.b w.origin in rw w.is (record { some-ride = omega arith; rides = omega arith; origin = omega (arith, x.count); walk = refl })
+    go : Alone (network_of t) (direct_by t) (change_by t) t.max_transfers (sorted t) j
+        ⊎ Changing (network_of t) (direct_by t) (change_by t) t.max_transfers (sorted t) j → Kind 2 t j
+    go (inl w) =
+        let x = starts-set t w.f.ride.b w.origin in
+        rw w.is (record { some-ride = omega arith; rides = omega arith; origin = omega (arith, x.count); walk = refl })
+    go (inr w) =
+        let x = starts-set t w.f.ride.b w.origin in
+        rw w.is (record { some-ride = omega arith; rides = omega arith; origin = omega (arith, x.count); walk = refl })
 
-pub kinds : (most : ℕ) (t : Timetable) (os : List Journey) → ((j : Journey) → Memᴰ j os → Kind most t j) → Kinds journey_figures kind (most * 4) os
+pub kinds : (most : ℕ) (t : Timetable) (os : List Journey) → ((j : Journey) → Memᴰ j os → Kind most t j)
+    → Kinds journey_figures kind (most * 4) os
 unfolding kind
 kinds most t os f = record {
   small = λ j m. let k = f j m in omega (arith, k.some-ride, k.rides, k.origin);
@@ -182,8 +199,11 @@ eight-together n t h a = few-together journey_figures kind 8 (offers_within n t)
 
 within-goes-on : (n m : ℕ) (t : Timetable) → n ≤ m → (ys : List Journey) × (offers_within m t ≡ offers_within n t ++ ys)
 unfolding offers_within
-within-goes-on n m t h =
-    (offers_of (up_to (m - n) (past n (events_of t))), ap offers_of (goes_on n m (events_of t) h) ∙ offers-append (up_to n (events_of t)) (up_to (m - n) (past n (events_of t))))
+within-goes-on n m t h = (
+  offers_of (up_to (m - n) (past n (events_of t))),
+  ap offers_of (goes_on n m (events_of t) h)
+      ∙ offers-append (up_to n (events_of t)) (up_to (m - n) (past n (events_of t))),
+)
 
 pub larger-never-later : LargerNeverLater
 larger-never-later n m t h₀ l₀ ks ks' h h' l l' le e e' j b =
@@ -212,6 +232,7 @@ within-in-any-order n t ys h l p = record {
     by : Timetable → Outcome
     by u = found_by (searched journey_figures 64 3600 h l (offers_of (up_to n (events_of u))))
 
-    go : (b : Bool) → clashes (sorted t) ≡ b → cond (clashes (sorted t)) clashing (by t) ≡ cond (clashes (sorted (with_calls t ys))) clashing (by (with_calls t ys))
+    go : (b : Bool) → clashes (sorted t) ≡ b
+        → cond (clashes (sorted t)) clashing (by t) ≡ cond (clashes (sorted (with_calls t ys))) clashing (by (with_calls t ys))
     go true e = rw (← clashes-any-order t.calls ys p, e)
     go false e = rw (← clashes-any-order t.calls ys p, e, events-any-order t ys p e)

@@ -25,9 +25,11 @@ use Rattle.offers.specs.Admitted.{Rides, Ends, Clear}
 use Rattle.offers.specs.Search.{Outcome, clashing, falling, found}
 use Rattle.offers.proofs.FoundLaws.{rides-found, found-rides, ends_set, set-ends}
 use Rattle.limited.specs.Limited.{finished_within, search_within, all_joins}
-use Rattle.limited.specs.Margin.{alightings, target_arrivals, least_of, earliest, answer_at0, margin_of, margin_within, Earliest, EarliestIs, AnswerAfter, WithinMargin}
+use Rattle.limited.specs.Margin.{alightings, target_arrivals, least_of, earliest, answer_at0, margin_of, margin_within, Earliest}
+use Rattle.limited.specs.Margin.{EarliestIs, AnswerAfter, WithinMargin}
 use Rattle.limited.proofs.GrowthLaws.{best-mem}
-use Rattle.limited.proofs.LimitLaws.{finished-within, finished-is-full, within-found, best-ordered, journeys_of, within-offer, larger-never-later}
+use Rattle.limited.proofs.LimitLaws.{finished-within, finished-is-full, within-found, best-ordered, journeys_of, within-offer}
+use Rattle.limited.proofs.LimitLaws.{larger-never-later}
 
 -- ---- the least of a list
 
@@ -49,7 +51,8 @@ least-mem [] x m = absurd (Memᴰ.not-nil m)
 least-mem (y ∷ []) x m = Memᴰ.head refl
 least-mem (y ∷ z ∷ zs) x m = go (test (leb y (least_of (z ∷ zs)))) (least-mem (z ∷ zs) z (Memᴰ.head refl))
   where
-    go : (leb y (least_of (z ∷ zs)) ≡ true) ⊎ (leb y (least_of (z ∷ zs)) ≡ false) → Memᴰ (least_of (z ∷ zs)) (z ∷ zs) → Memᴰ (min y (least_of (z ∷ zs))) (y ∷ z ∷ zs)
+    go : (leb y (least_of (z ∷ zs)) ≡ true) ⊎ (leb y (least_of (z ∷ zs)) ≡ false) → Memᴰ (least_of (z ∷ zs)) (z ∷ zs)
+        → Memᴰ (min y (least_of (z ∷ zs))) (y ∷ z ∷ zs)
     go (inl e) ih = let q : min y (least_of (z ∷ zs)) ≡ y = omega (arith, leb-true y (least_of (z ∷ zs)) e) in Memᴰ.head q
     go (inr e) ih =
         let q : min y (least_of (z ∷ zs)) ≡ least_of (z ∷ zs) = omega (arith, leb-false y (least_of (z ∷ zs)) e) in
@@ -71,9 +74,11 @@ module _ (t : Timetable) (e : Clear t) where
   arrival-mem : (b a : Call) (k : ℕ) → Rides t.calls b a → Ends t a k → Memᴰ (arrival_of t k a.arrival) (target_arrivals t)
   unfolding target_arrivals
   arrival-mem b a k r x =
-      mem-concat_map (λ a. map (λ k. arrival_of t k a.arrival) ((network_of t).targets a)) (alight-mem b a r) (Memᴰ.map (λ k. arrival_of t k a.arrival) (set-ends t a k x))
+      mem-concat_map (λ a. map (λ k. arrival_of t k a.arrival) ((network_of t).targets a)) (alight-mem b a r)
+      (Memᴰ.map (λ k. arrival_of t k a.arrival) (set-ends t a k x))
 
-  mem-arrival : (x : ℕ) → Memᴰ x (target_arrivals t) → (b : Call) × (a : Call) × (k : ℕ) × Rides t.calls b a × Ends t a k × (arrival_of t k a.arrival ≡ x)
+  mem-arrival : (x : ℕ) → Memᴰ x (target_arrivals t)
+      → (b : Call) × (a : Call) × (k : ℕ) × Rides t.calls b a × Ends t a k × (arrival_of t k a.arrival ≡ x)
   unfolding target_arrivals
   mem-arrival x m =
       let (a, i, n) = concat_map-mem (λ a. map (λ k. arrival_of t k a.arrival) ((network_of t).targets a)) (alightings t) m in
@@ -84,7 +89,8 @@ module _ (t : Timetable) (e : Clear t) where
   earliest-at : (b a : Call) (k : ℕ) → Rides t.calls b a → Ends t a k → Earliest t (earliest t)
   unfolding earliest
   earliest-at b a k r x =
-      let (c, d, i, u, v, q) = mem-arrival (least_of (target_arrivals t)) (least-mem (target_arrivals t) (arrival_of t k a.arrival) (arrival-mem b a k r x)) in
+      let (c, d, i, u, v, q) =
+      mem-arrival (least_of (target_arrivals t)) (least-mem (target_arrivals t) (arrival_of t k a.arrival) (arrival-mem b a k r x)) in
       record {
         b = c;
         a = d;
@@ -99,7 +105,8 @@ module _ (t : Timetable) (e : Clear t) where
   offer-after : (j : Journey) → Memᴰ j (journeys_of t) → Earliest t (earliest t) × (earliest t ≤ j.arrival)
   offer-after j m = go (journeys-mem (network_of t) (direct_by t) (change_by t) t.max_transfers (sorted t) j m)
     where
-      last : (r : Leg Call) (k : ℕ) → Listed (network_of t) (sorted t) r → Memᴰ k ((network_of t).targets r.a) → j.arrival ≡ arrival_of t k r.a.arrival
+      last : (r : Leg Call) (k : ℕ) → Listed (network_of t) (sorted t) r → Memᴰ k ((network_of t).targets r.a)
+          → j.arrival ≡ arrival_of t k r.a.arrival
           → Earliest t (earliest t) × (earliest t ≤ j.arrival)
       last r k l m q =
           let u = rides-found t e r.b r.a l in
@@ -108,7 +115,8 @@ module _ (t : Timetable) (e : Clear t) where
           let h = w.least r.b r.a k u x in
           (w, omega (arith, h))
 
-      go : Alone (network_of t) (direct_by t) (change_by t) t.max_transfers (sorted t) j ⊎ Changing (network_of t) (direct_by t) (change_by t) t.max_transfers (sorted t) j
+      go : Alone (network_of t) (direct_by t) (change_by t) t.max_transfers (sorted t) j
+          ⊎ Changing (network_of t) (direct_by t) (change_by t) t.max_transfers (sorted t) j
           → Earliest t (earliest t) × (earliest t ≤ j.arrival)
       go (inl w) = last w.f.ride w.k w.ride w.target (ap (λ (i : Journey). i.arrival) w.is)
       go (inr w) = last w.l w.k w.last w.target (ap (λ (i : Journey). i.arrival) w.is)
@@ -118,13 +126,15 @@ earliest-is t e b a k r x = earliest-at t e b a k r x
 
 -- ---- answers
 
-answered : (o : Outcome) (j : Journey) → answer_at0 o ≡ Some j → (ks : List Journey) × (h : ℕ) × (l : ℕ) × (o ≡ found ks h l) × (bestℤ journey_figures ks h (pos 0) ≡ Some j)
+answered : (o : Outcome) (j : Journey) → answer_at0 o ≡ Some j
+    → (ks : List Journey) × (h : ℕ) × (l : ℕ) × (o ≡ found ks h l) × (bestℤ journey_figures ks h (pos 0) ≡ Some j)
 answered clashing j e = absurd (false≢true cc)
 answered falling j e = absurd (false≢true cc)
 answered (found ks h l) j e = (ks, h, l, refl, e)
 
 -- an answer of a search within a limit is one of its offers
-answer-after : (n : ℕ) (t : Timetable) (h₀ l₀ h l : ℕ) (ks : List Journey) (j : Journey) → search_within n t h₀ l₀ ≡ found ks h l → bestℤ journey_figures ks h (pos 0) ≡ Some j
+answer-after : (n : ℕ) (t : Timetable) (h₀ l₀ h l : ℕ) (ks : List Journey) (j : Journey) → search_within n t h₀ l₀ ≡ found ks h l
+    → bestℤ journey_figures ks h (pos 0) ≡ Some j
     → Earliest t (earliest t) × (earliest t ≤ j.arrival)
 answer-after n t h₀ l₀ h l ks j e b =
     let (clear, k, w, q) = within-found n t h₀ l₀ h l ks e in
@@ -139,11 +149,13 @@ answer-after-earliest n t h l j e =
 
 -- ---- the margin
 
-margin-of : (t : Timetable) (o : Option Journey) (m : ℕ) → margin_of t o ≡ Some m → (j : Journey) × (o ≡ Some j) × (m ≡ j.arrival - earliest t)
+margin-of : (t : Timetable) (o : Option Journey) (m : ℕ) → margin_of t o ≡ Some m
+    → (j : Journey) × (o ≡ Some j) × (m ≡ j.arrival - earliest t)
 margin-of t None m e = absurd (false≢true cc)
 margin-of t (Some j) m e = (j, refl, cc)
 
-margin-answer : (n : ℕ) (t : Timetable) (h l m : ℕ) → margin_within n t h l ≡ Some m → (j : Journey) × (answer_at0 (search_within n t h l) ≡ Some j) × (m ≡ j.arrival - earliest t)
+margin-answer : (n : ℕ) (t : Timetable) (h l m : ℕ) → margin_within n t h l ≡ Some m
+    → (j : Journey) × (answer_at0 (search_within n t h l) ≡ Some j) × (m ≡ j.arrival - earliest t)
 unfolding margin_within
 margin-answer n t h l m e = go (finished_within n t) e
   where

@@ -28,9 +28,11 @@ use Rattle.limited.proofs.LimitLaws.{kind, Kind, kinds}
 module _ {A : Type 0} (p : A → Bool) where
   same_count : {xs ys : List A} → Permᴰ xs ys → length (filterb p xs) ≡ length (filterb p ys)
   same_count Permᴰ.nil = refl
-  same_count (Permᴰ.cons {a = x} {b = y} {l₁ = xs} {l₂ = ys} e q) = ap (λ (b : Bool). length (cond b (x ∷ filterb p xs) (filterb p xs))) (ap p e) ∙ go (p y) (same_count q)
+  same_count (Permᴰ.cons {a = x} {b = y} {l₁ = xs} {l₂ = ys} e q) =
+      ap (λ (b : Bool). length (cond b (x ∷ filterb p xs) (filterb p xs))) (ap p e) ∙ go (p y) (same_count q)
     where
-      go : (b : Bool) → length (filterb p xs) ≡ length (filterb p ys) → length (cond b (x ∷ filterb p xs) (filterb p xs)) ≡ length (cond b (y ∷ filterb p ys) (filterb p ys))
+      go : (b : Bool) → length (filterb p xs) ≡ length (filterb p ys)
+          → length (cond b (x ∷ filterb p xs) (filterb p xs)) ≡ length (cond b (y ∷ filterb p ys) (filterb p ys))
       go true ih = ap suc ih
       go false ih = ih
   same_count (Permᴰ.swap {a = x} {b = y} {a' = x'} {b' = y'} {l = l} e f) = rw (e, f) (go (p y') (p x'))
@@ -46,9 +48,12 @@ module _ {A : Type 0} (p : A → Bool) where
 -- ---- twelve kinds
 
 offer-kind : (t : Timetable) (j : Journey) → Admitted t j → Kind 3 t j
-offer-kind t j (inl w) = rw w.is (record { some-ride = omega arith; rides = omega arith; origin = omega (arith, w.starts.count); walk = refl })
-offer-kind t j (inr (inl w)) = rw w.is (record { some-ride = omega arith; rides = omega arith; origin = omega (arith, w.starts.count); walk = refl })
-offer-kind t j (inr (inr w)) = rw w.is (record { some-ride = omega arith; rides = omega arith; origin = omega (arith, w.starts.count); walk = refl })
+offer-kind t j (inl w) =
+    rw w.is (record { some-ride = omega arith; rides = omega arith; origin = omega (arith, w.starts.count); walk = refl })
+offer-kind t j (inr (inl w)) =
+    rw w.is (record { some-ride = omega arith; rides = omega arith; origin = omega (arith, w.starts.count); walk = refl })
+offer-kind t j (inr (inr w)) =
+    rw w.is (record { some-ride = omega arith; rides = omega arith; origin = omega (arith, w.starts.count); walk = refl })
 
 twelve : (t : Timetable) → Clear t → Kinds journey_figures kind 12 (offers t)
 twelve t clear = kinds 3 t (offers t) (λ j m. offer-kind t j ((offers-admitted t clear j).0 m))
@@ -64,5 +69,6 @@ twelve-together t h₀ l₀ ks h l e a =
 pub cuts-leave-some : CutsLeaveSome
 cuts-leave-some t h₀ l₀ ks h l e j x d =
     let (clear, ks', w, q) = search-found t h₀ l₀ h l ks e in
-    let (k, m, le) = never-emptied journey_figures kind 12 h₀ l₀ (offers t) ks' h l (omega arith) (twelve t clear) w j ((offers-admitted t clear j).1 x) d in
+    let (k, m, le) =
+    never-emptied journey_figures kind 12 h₀ l₀ (offers t) ks' h l (omega arith) (twelve t clear) w j ((offers-admitted t clear j).1 x) d in
     (k, subst (Memᴰ k) (sym q) (perm-mem (sooner journey_figures) (Permᴰ.symm (put-in-order journey_figures ks').1) m), le)

@@ -56,10 +56,11 @@ still-run (going ks h l) n (offered o ∷ es) f =
 still-run (going ks h l) zero (tested j ∷ es) f = over-stays (going ks h l) es ∙ sym (rw (lt-leb (suc (joins_in es)) 0 (omega arith)))
 still-run (going ks h l) (suc n) (tested j ∷ es) f =
     let d : n - joins_in es ≡ suc n - suc (joins_in es) = omega arith in
-    rw (leb-suc (joins_in es) n) (still-run (going ks h l) n es f ∙ ap (λ (k : ℕ). cond (leb (joins_in es) n) (on (going ks h l) k) (over (going ks h l))) d)
+    rw (leb-suc (joins_in es) n)
+    (still-run (going ks h l) n es f ∙ ap (λ (k : ℕ). cond (leb (joins_in es) n) (on (going ks h l) k) (over (going ks h l))) d)
 
 block : {l : List ℕ} {k k' : Option ℕ} {m : ℕ} (es : List RowEvent) → Still (view l) es → m ≡ joins_in es → Spent k k' m → Met l k l k' es
-unfolding run_at
+unfolding run_at meet_all
 block {l} {k} {m = m} es f e w = record { is = w.is (view l) ∙ ap (λ (n : ℕ). skip n (run_at (view l) k)) e ∙ sym (go k) }
   where
     go : (k : Option ℕ) → meet_all (run_at (view l) k) es ≡ skip (joins_in es) (run_at (view l) k)
@@ -69,7 +70,8 @@ block {l} {k} {m = m} es f e w = record { is = w.is (view l) ∙ ap (λ (n : ℕ
 module _ (feed : List ℕ) (n : ℕ) (f : FirstRide) {b : List ℕ} {ct : RideCounts} {t : ℕ} (w : Bounds b feed n) (v : Counts ct feed n) where
   module _ {l : List ℕ} {k k' : Option ℕ} {m : ℕ} where
     -- the rides that board at j, all passed over
-    pub skip-run : {r : Bool} (j : ℕ) → j < n → (call_at feed j).board ≡ true → t ≡ get_or b j 0 → r ≡ passed_over (view l) (earliest f t) → r ≡ true → m ≡ get_or ct.board j 0 → Spent k k' m
+    pub skip-run : {r : Bool} (j : ℕ) → j < n → (call_at feed j).board ≡ true → t ≡ get_or b j 0
+        → r ≡ passed_over (view l) (earliest f t) → r ≡ true → m ≡ get_or ct.board j 0 → Spent k k' m
         → Met l k l k' (run_events (last_joined (sheet_of feed) f j) (call_at feed) n j (j + 1))
     unfolding rides_from sheet_of
     skip-run j h y e p q em sp =
@@ -77,11 +79,13 @@ module _ (feed : List ℕ) (n : ℕ) (f : FirstRide) {b : List ℕ} {ct : RideCo
         let rows = joined-rows (sheet_of feed) n f j in
         let count : get_or ct.board j 0 ≡ alights_from (call_at feed) n j = v.board j h ∙ rw y in
         block es
-        (passed-still (view l) (earliest f t) es (sym p ∙ q) (λ o i. run-covered feed f n j t (get_or b j 0) (omega arith) (w.board j h) o (rw rows at i)))
+        (passed-still (view l) (earliest f t) es (sym p ∙ q)
+        (λ o i. run-covered feed f n j t (get_or b j 0) (omega arith) (w.board j h) o (rw rows at i)))
         (em ∙ count ∙ sym (joined-count (sheet_of feed) n f j)) sp
 
     -- every last ride, all passed over
-    pub skip-changes : {r : Bool} (changes : List ℕ) {q : ℕ} → q ≡ bucket_of f.arrival → t ≡ get_or b q 0 → r ≡ passed_over (view l) (earliest f t) → r ≡ true → m ≡ ct.all → Spent k k' m
+    pub skip-changes : {r : Bool} (changes : List ℕ) {q : ℕ} → q ≡ bucket_of f.arrival → t ≡ get_or b q 0
+        → r ≡ passed_over (view l) (earliest f t) → r ≡ true → m ≡ ct.all → Spent k k' m
         → Met l k l k' (change_events (sheet_of feed) (joins_of feed changes) 1 n f)
     unfolding change_rows over_calls sheet_of
     skip-changes changes eq e p y em sp =
@@ -95,7 +99,9 @@ module _ (feed : List ℕ) (n : ℕ) (f : FirstRide) {b : List ℕ} {ct : RideCo
         (em ∙ v.all ∙ sym (change-joins (sheet_of feed) (joins_of feed changes) n f)) sp
 
 -- those that the first ride does not join
-pub skip-apart : (feed : List ℕ) (n : ℕ) (f : FirstRide) {ct : RideCounts} {l : List ℕ} {k k' : Option ℕ} {m : ℕ} → Counts ct feed n → (j : ℕ) → j < n → (call_at feed j).board ≡ true → m ≡ get_or ct.board j 0 → Spent k k' m → Met l k l k' (run_events (last_apart (sheet_of feed) f j) (call_at feed) n j (j + 1))
+pub skip-apart : (feed : List ℕ) (n : ℕ) (f : FirstRide) {ct : RideCounts} {l : List ℕ} {k k' : Option ℕ} {m : ℕ} → Counts ct feed n
+    → (j : ℕ) → j < n → (call_at feed j).board ≡ true → m ≡ get_or ct.board j 0 → Spent k k' m
+    → Met l k l k' (run_events (last_apart (sheet_of feed) f j) (call_at feed) n j (j + 1))
 unfolding rides_from sheet_of
 skip-apart feed n f {ct} v j h y em sp =
     let es = run_events (last_apart (sheet_of feed) f j) (call_at feed) n j (j + 1) in

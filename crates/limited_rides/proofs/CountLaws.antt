@@ -16,7 +16,8 @@ use Rattle.limited_rides.specs.Runs.{RowEvent}
 use Rattle.counted.proofs.EventLaws.{offers-append, joins-append, offers-offered, joins-offered}
 use Rattle.rides.specs.Rows.{Sheet, Joins}
 use Rattle.rides.specs.Loops.{over_run, over_calls, later_from, last_alight_rows, last_board_rows, change_rows}
-use Rattle.limited_rides.specs.RowEvents.{run_events, call_events, places_of, join_then, last_joined, last_apart, board_events, change_events, ChangeOffers}
+use Rattle.limited_rides.specs.RowEvents.{run_events, call_events, places_of}
+use Rattle.limited_rides.specs.RowEvents.{join_then, last_joined, last_apart, board_events, change_events, ChangeOffers}
 use Rattle.limited_rides.specs.Counts.{alights_from, rides_from, sum_of, rides_in, BoardJoins, ChangeJoins}
 
 -- ---- joins
@@ -34,7 +35,8 @@ module _ (s : Sheet) (f : FirstRide) (j : ℕ) (g : ℕ → List Row) where
       none = ap length (joins-offered (g m))
 
       go : (b : Bool) → joins_in (concat_map (λ m. join_then s f j m (g m)) ms) ≡ length (filterb (λ m. (s.at m).alight) ms)
-          → joins_in (cond b (tested (join_of (places_of f) (leg j m)) ∷ map offered (g m)) []) + joins_in (concat_map (λ m. join_then s f j m (g m)) ms)
+          → joins_in (cond b (tested (join_of (places_of f) (leg j m)) ∷ map offered (g m)) [])
+          + joins_in (concat_map (λ m. join_then s f j m (g m)) ms)
           ≡ length (cond b (m ∷ filterb (λ m. (s.at m).alight) ms) (filterb (λ m. (s.at m).alight) ms))
       go true ih = omega (arith, none)
       go false ih = omega arith
@@ -52,7 +54,10 @@ pub board-joins : BoardJoins
 unfolding board_events rides_from
 board-joins s joins n f j = go (s.at j).board (joins f j)
   where
-    go : (b c : Bool) → joins_in (cond b (cond c (run_events (last_joined s f j) s.at n j (j + 1)) (run_events (last_apart s f j) s.at n j (j + 1))) []) ≡ cond b (alights_from s.at n j) 0
+    go : (b c : Bool)
+        → joins_in
+        (cond b (cond c (run_events (last_joined s f j) s.at n j (j + 1)) (run_events (last_apart s f j) s.at n j (j + 1))) [])
+        ≡ cond b (alights_from s.at n j) 0
     go true true = joined-count s n f j
     go true false = apart-count s n f j
     go false c = refl
@@ -63,7 +68,9 @@ change-joins s joins n f = go (span 0 (n - 0))
   where
     go : (js : List ℕ) → joins_in (concat_map (board_events s joins n f) js) ≡ sum_of (rides_from s.at n) js
     go [] = refl
-    go (j ∷ js) = let e = board-joins s joins n f j in joins-count (board_events s joins n f j) (concat_map (board_events s joins n f) js) ∙ rw (e, go js)
+    go (j ∷ js) =
+        let e = board-joins s joins n f j in
+        joins-count (board_events s joins n f j) (concat_map (board_events s joins n f) js) ∙ rw (e, go js)
 
 -- ---- offers
 
@@ -92,7 +99,8 @@ module _ (s : Sheet) (f : FirstRide) (j : ℕ) where
       go true = refl
       go false = refl
 
-flat : (g : ℕ → List RowEvent) (h : ℕ → List Row) → ((m : ℕ) → offers_of (g m) ≡ h m) → (ms : List ℕ) → offers_of (concat_map g ms) ≡ concat_map h ms
+flat : (g : ℕ → List RowEvent) (h : ℕ → List Row) → ((m : ℕ) → offers_of (g m) ≡ h m) → (ms : List ℕ)
+    → offers_of (concat_map g ms) ≡ concat_map h ms
 flat g h e [] = refl
 flat g h e (m ∷ ms) = offers-append (g m) (concat_map g ms) ∙ rw (e m, flat g h e ms)
 
@@ -109,11 +117,13 @@ module _ (s : Sheet) (n : ℕ) (f : FirstRide) (j : ℕ) where
   unfolding run_events
   apart-rows = flat (last_apart s f j) (λ m. []) (apart-offers s f j) (later_from s.at n j (j + 1)) ∙ empty (later_from s.at n j (j + 1))
 
-pub board-offers : (s : Sheet) (joins : Joins) (n : ℕ) (f : FirstRide) (j : ℕ) → offers_of (board_events s joins n f j) ≡ last_board_rows s joins n f j
+pub board-offers : (s : Sheet) (joins : Joins) (n : ℕ) (f : FirstRide) (j : ℕ)
+    → offers_of (board_events s joins n f j) ≡ last_board_rows s joins n f j
 unfolding board_events last_board_rows
 board-offers s joins n f j = go (s.at j).board (joins f j)
   where
-    go : (b c : Bool) → offers_of (cond b (cond c (run_events (last_joined s f j) s.at n j (j + 1)) (run_events (last_apart s f j) s.at n j (j + 1))) [])
+    go : (b c : Bool)
+        → offers_of (cond b (cond c (run_events (last_joined s f j) s.at n j (j + 1)) (run_events (last_apart s f j) s.at n j (j + 1))) [])
         ≡ cond b (cond c (over_run (last_alight_rows s f j) s.at n j (j + 1)) []) []
     go true true = joined-rows s n f j
     go true false = apart-rows s n f j
@@ -123,7 +133,9 @@ pub change-offers : ChangeOffers
 unfolding change_events change_rows call_events over_calls
 change-offers s joins depth n f = go (eqb depth 1)
   where
-    go : (b : Bool) → offers_of (cond b (concat_map (board_events s joins n f) (span 0 (n - 0))) []) ≡ cond b (concat_map (last_board_rows s joins n f) (span 0 (n - 0))) []
+    go : (b : Bool)
+        → offers_of (cond b (concat_map (board_events s joins n f) (span 0 (n - 0))) [])
+        ≡ cond b (concat_map (last_board_rows s joins n f) (span 0 (n - 0))) []
     go true = flat (board_events s joins n f) (last_board_rows s joins n f) (board-offers s joins n f) (span 0 (n - 0))
     go false = refl
 

@@ -51,7 +51,8 @@ pub due-start : {feed : List ℕ} {a mask : ℕ} → InDue feed a mask None mask
 unfolding sooner
 due-start = record { rest = refl }
 
-pub due-turn : {feed : List ℕ} {a mask left left' x w d : ℕ} {t t' : Option ℕ} → bits_of left ≡ x ∷ bits_of left' → w ≡ target_walk_of feed x → d ≡ arrival_of w a
+pub due-turn : {feed : List ℕ} {a mask left left' x w d : ℕ} {t t' : Option ℕ} → bits_of left ≡ x ∷ bits_of left'
+    → w ≡ target_walk_of feed x → d ≡ arrival_of w a
     → t' ≡ sooner t (Some d) → InDue feed a mask t left → InDue feed a mask t' left'
 unfolding soonest target_due
 due-turn {feed} {a} {left = left} {left' = left'} {x} {d = d} {t = t} eb ew ed et i =
@@ -59,7 +60,8 @@ due-turn {feed} {a} {left = left} {left' = left'} {x} {d = d} {t = t} eb ew ed e
     let e : soonest (target_due feed a left) ≡ sooner (Some d) (soonest (target_due feed a left')) = rw (d', eb) refl in
     record { rest = rw et (sooner-sooner t (Some d) (soonest (target_due feed a left')) ∙ ap (sooner t) (sym e) ∙ i.rest) }
 
-pub due-done : {feed : List ℕ} {a mask left : ℕ} {t : Option ℕ} → bits_of left ≡ [] → InDue feed a mask t left → t ≡ soonest (target_due feed a mask)
+pub due-done : {feed : List ℕ} {a mask left : ℕ} {t : Option ℕ} → bits_of left ≡ [] → InDue feed a mask t left
+    → t ≡ soonest (target_due feed a mask)
 unfolding soonest target_due
 due-done {feed} {a} {left = left} {t = t} e i =
     let none : soonest (target_due feed a left) ≡ None = rw e refl in
@@ -72,13 +74,15 @@ module _ (feed : List ℕ) (n j : ℕ) {r : Bool} (er : r ≡ (ltb (j + 1) n && 
   unfolding later_due soonest
   later-end e = rw (run-end (call_at feed) n j er e) refl
 
-  pub later-one : {v next t : Option ℕ} → r ≡ true → v ≡ soonest (alight_due feed (j + 1)) → (j + 1 < n → next ≡ soonest (later_due feed n (j + 1)))
+  pub later-one : {v next t : Option ℕ} → r ≡ true → v ≡ soonest (alight_due feed (j + 1))
+      → (j + 1 < n → next ≡ soonest (later_due feed n (j + 1)))
       → t ≡ sooner v next
       → t ≡ soonest (later_due feed n j)
   unfolding later_due
   later-one e ev en et =
       rw (run-on (call_at feed) n j er e)
-      (et ∙ rw (ev, en (run-next (call_at feed) n j er e)) (sym (soonest-append (alight_due feed (j + 1)) (concat_map (alight_due feed) (later_from (call_at feed) n (j + 1) (j + 1 + 1))))))
+      (et ∙ rw (ev, en (run-next (call_at feed) n j er e))
+      (sym (soonest-append (alight_due feed (j + 1)) (concat_map (alight_due feed) (later_from (call_at feed) n (j + 1) (j + 1 + 1))))))
 
 -- ---- the loop stands at j
 
@@ -88,9 +92,16 @@ pub record Due (feed : List ℕ) (n j : ℕ) (next least : Option ℕ) : Type 0 
   pub all : least ≡ soonest (concat_map (board_due feed n) (span j (n - j)))
 
 pub calls-start : {feed : List ℕ} {n : ℕ} {next : Option ℕ} → Due feed n n next None
-calls-start {feed} {n} = record { low = omega arith; here = λ g. absurd (omega arith); all = soonest-none ∙ sym (ap (λ (js : List ℕ). soonest (concat_map (board_due feed n) js)) (span-nil n n (omega arith))) }
+calls-start {feed} {n} =
+    record {
+      low = omega arith;
+      here = λ g. absurd (omega arith);
+      all = soonest-none
+          ∙ sym (ap (λ (js : List ℕ). soonest (concat_map (board_due feed n) js)) (span-nil n n (omega arith)));
+    }
 
-pub calls-next : {feed : List ℕ} {n j' : ℕ} {next least : Option ℕ} (j : ℕ) → 0 < j' → j ≡ j' - 1 → Due feed n j' next least → j + 1 < n → next ≡ soonest (later_due feed n (j + 1))
+pub calls-next : {feed : List ℕ} {n j' : ℕ} {next least : Option ℕ} (j : ℕ) → 0 < j' → j ≡ j' - 1 → Due feed n j' next least → j + 1 < n
+    → next ≡ soonest (later_due feed n (j + 1))
 calls-next {feed} {n} {j'} j h ej w l =
     let q : j' ≡ j + 1 = omega arith in
     w.here (omega arith) ∙ ap (λ (i : ℕ). soonest (later_due feed n i)) q
@@ -104,9 +115,11 @@ board-due feed n j {next} en et = et ∙ go (call_at feed j).board
     go true = en
     go false = soonest-none
 
-pub calls-turn : {feed : List ℕ} {n j' : ℕ} {next' least' : Option ℕ} (j : ℕ) {next t least : Option ℕ} → 0 < j' → j ≡ j' - 1 → Due feed n j' next' least'
+pub calls-turn : {feed : List ℕ} {n j' : ℕ} {next' least' : Option ℕ} (j : ℕ) {next t least : Option ℕ} → 0 < j' → j ≡ j' - 1
+    → Due feed n j' next' least'
     → next ≡ soonest (later_due feed n j) → t ≡ cond (call_at feed j).board next None → least ≡ sooner t least' → Due feed n j next least
-calls-turn {feed} {n} {j'} {next'} {least'} j {next} {t} {least} h ej w en et el = record { low = omega (arith, w.low); here = λ g. en; all = sums }
+calls-turn {feed} {n} {j'} {next'} {least'} j {next} {t} {least} h ej w en et el =
+    record { low = omega (arith, w.low); here = λ g. en; all = sums }
   where
     sums : least ≡ soonest (concat_map (board_due feed n) (span j (n - j)))
     sums =
@@ -126,5 +139,8 @@ unfolding ride_due board_due later_due alight_due target_due network_of sheet_of
 due-by-rides feed changes n =
     let q : n - 0 ≡ n = omega arith in
     sym
-    (over-rides (network_of (sheet_of feed) (joins_of feed changes)) (λ r. map (λ x. arrival_of (target_walk_of feed x) (call_at feed r.a).arrival) (bits_of (target_mask feed (call_at feed r.a).stop))) (span 0 n)
-    ∙ tails-span _ n n 0 (omega arith) ∙ concat_map-cong _ (board_due feed n) (λ j. refl) (span 0 n) ∙ ap (λ (m : ℕ). concat_map (board_due feed n) (span 0 m)) (sym q))
+    (over-rides (network_of (sheet_of feed) (joins_of feed changes))
+    (λ r. map (λ x. arrival_of (target_walk_of feed x) (call_at feed r.a).arrival)
+    (bits_of (target_mask feed (call_at feed r.a).stop))) (span 0 n)
+    ∙ tails-span _ n n 0 (omega arith) ∙ concat_map-cong _ (board_due feed n) (λ j. refl) (span 0 n)
+    ∙ ap (λ (m : ℕ). concat_map (board_due feed n) (span 0 m)) (sym q))

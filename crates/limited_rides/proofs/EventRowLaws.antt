@@ -21,7 +21,8 @@ use Rattle.rides.specs.Rows.{Sheet, Joins, first_of, first_at, direct_row, chang
 use Rattle.rides.specs.Loops.{later_from, over_bits, last_at, last_alight_rows, direct_at, direct_rows}
 use Rattle.rides.specs.Sheets.{joins_of, sheet_of}
 use Rattle.limited_rides.specs.Runs.{RowEvent}
-use Rattle.limited_rides.specs.RowEvents.{run_events, call_events, join_then, last_joined, last_apart, board_events, change_events, first_events, row_events, events_at, EventsByLoops}
+use Rattle.limited_rides.specs.RowEvents.{run_events, call_events, join_then, last_joined, last_apart}
+use Rattle.limited_rides.specs.RowEvents.{board_events, change_events, first_events, row_events, events_at, EventsByLoops}
 
 -- what is listed for each ride, as loops over the calls list it
 pub over-rides : {C A : Type 0} (N : Network C) (g : Leg C → List A) (s : List C)
@@ -32,14 +33,16 @@ over-rides {C} {A} N g s =
     ∙ tails-agree _ (λ b later. cond (N.board b) (listed.over_run N (λ a. g (leg b a)) b later) []) s (λ b later t. each b later)
   where
     each : (b : C) (later : List C)
-        → concat_map g (cond (N.board b) (map (leg b) (alightings N b later)) []) ≡ cond (N.board b) (listed.over_run N (λ a. g (leg b a)) b later) []
+        → concat_map g (cond (N.board b) (map (leg b) (alightings N b later)) [])
+        ≡ cond (N.board b) (listed.over_run N (λ a. g (leg b a)) b later) []
     each b later =
         flat-cond (N.board b) g (map (leg b) (alightings N b later))
         ∙ ap (λ (r : List A). cond (N.board b) r [])
         (concat_map-map (leg b) g (alightings N b later) ∙ concat_map-filterb N.alight (λ a. g (leg b a)) (take_while (N.same b) later))
 
 -- one test for all of a list
-flat-either : (c : Bool) (f g : ℕ → List RowEvent) (xs : List ℕ) → concat_map (λ x. cond c (f x) (g x)) xs ≡ cond c (concat_map f xs) (concat_map g xs)
+flat-either : (c : Bool) (f g : ℕ → List RowEvent) (xs : List ℕ)
+    → concat_map (λ x. cond c (f x) (g x)) xs ≡ cond c (concat_map f xs) (concat_map g xs)
 flat-either true f g xs = refl
 flat-either false f g xs = refl
 
@@ -58,7 +61,9 @@ module _ (s : Sheet) (joins : Joins) (free : (i o k j : ℕ) → joins (first_of
     join-at : ℕ → ℕ → List RowEvent
     join-at j m = search.join_events (network_of s joins) (direct_by s) (change_by s) (first_ride o i k) (leg j m)
 
-    last-events : (j m : ℕ) → cond (s.at m).alight (join-at j m) [] ≡ cond (joins (first_of s i o k) j) (last_joined s (first_of s i o k) j m) (last_apart s (first_of s i o k) j m)
+    last-events : (j m : ℕ)
+        → cond (s.at m).alight (join-at j m) []
+        ≡ cond (joins (first_of s i o k) j) (last_joined s (first_of s i o k) j m) (last_apart s (first_of s i o k) j m)
     unfolding join-at search.join_events last_joined last_apart join_then last_alight_rows last_at network_of over_bits first_of
     last-events j m = rw (← free i o k j) (go (joins (first_of s i o k) j) (s.at m).alight)
       where
@@ -66,22 +71,29 @@ module _ (s : Sheet) (joins : Joins) (free : (i o k j : ℕ) → joins (first_of
         rows = map (change_row s (first_of s i o k) j m) (bits_of (s.targets (s.at m).stop))
 
         go : (c a : Bool) → cond a (tested (join_of (first_ride o i k) (leg j m)) ∷ map offered (cond c rows [])) []
-            ≡ cond c (cond a (tested (join_of (first_ride o i k) (leg j m)) ∷ map offered (cond a (concat_map (λ x. change_row s (first_of s i o k) j m x ∷ []) (bits_of (s.targets (s.at m).stop))) [])) [])
+            ≡ cond c (cond a (tested (join_of (first_ride o i k) (leg j m)) ∷ map offered
+            (cond a (concat_map (λ x. change_row s (first_of s i o k) j m x ∷ []) (bits_of (s.targets (s.at m).stop))) [])) [])
             (cond a (tested (join_of (first_ride o i k) (leg j m)) ∷ map offered []) [])
         go true true =
-            ap (λ (r : List Row). tested (join_of (first_ride o i k) (leg j m)) ∷ map offered r) (sym (flat-single (change_row s (first_of s i o k) j m) (bits_of (s.targets (s.at m).stop))))
+            ap (λ (r : List Row). tested (join_of (first_ride o i k) (leg j m)) ∷ map offered r)
+            (sym (flat-single (change_row s (first_of s i o k) j m) (bits_of (s.targets (s.at m).stop))))
         go true false = refl
         go false a = refl
 
-    board-events : (j : ℕ) → cond ((network_of s joins).board j) (listed.over_run (network_of s joins) (λ m. join-at j m) j (span (j + 1) (n - (j + 1)))) [] ≡ board_events s joins n (first_of s i o k) j
+    board-events : (j : ℕ)
+        → cond ((network_of s joins).board j) (listed.over_run (network_of s joins) (λ m. join-at j m) j (span (j + 1) (n - (j + 1)))) []
+        ≡ board_events s joins n (first_of s i o k) j
     unfolding board_events network_of run_events later_from
     board-events j =
         let ms = take_while (λ m. same_run (s.at j) (s.at m)) (span (j + 1) (n - (j + 1))) in
         ap (λ (r : List RowEvent). cond (s.at j).board r [])
-        (concat_map-cong _ (λ m. cond (joins (first_of s i o k) j) (last_joined s (first_of s i o k) j m) (last_apart s (first_of s i o k) j m)) (last-events j) ms
+        (concat_map-cong _ (λ m. cond (joins (first_of s i o k) j) (last_joined s (first_of s i o k) j m)
+        (last_apart s (first_of s i o k) j m)) (last-events j) ms
         ∙ flat-either (joins (first_of s i o k) j) (last_joined s (first_of s i o k) j) (last_apart s (first_of s i o k) j) ms)
 
-    change-events : cond (eqb depth 1) (search.change_events (network_of s joins) (direct_by s) (change_by s) (span 0 n) (first_ride o i k)) [] ≡ change_events s joins depth n (first_of s i o k)
+    change-events : cond (eqb depth 1)
+        (search.change_events (network_of s joins) (direct_by s) (change_by s) (span 0 n) (first_ride o i k)) []
+        ≡ change_events s joins depth n (first_of s i o k)
     unfolding search.change_events change_events join-at
     change-events =
         ap (λ (r : List RowEvent). cond (eqb depth 1) r [])

@@ -30,7 +30,10 @@ module _ (feed : List ℕ) (n j : ℕ) {r : Bool} (er : r ≡ (ltb (j + 1) n && 
   unfolding alights_from
   alights-one {c} {v} e ec ev = rw (run-on (call_at feed) n j er e, ← ec) (go c.alight)
     where
-      go : (b : Bool) → cond b (v + 1) v ≡ length (cond b ((j + 1) ∷ filterb (λ m. (call_at feed m).alight) (later_from (call_at feed) n (j + 1) (j + 1 + 1))) (filterb (λ m. (call_at feed m).alight) (later_from (call_at feed) n (j + 1) (j + 1 + 1))))
+      go : (b : Bool)
+          → cond b (v + 1) v
+          ≡ length (cond b ((j + 1) ∷ filterb (λ m. (call_at feed m).alight) (later_from (call_at feed) n (j + 1) (j + 1 + 1)))
+          (filterb (λ m. (call_at feed m).alight) (later_from (call_at feed) n (j + 1) (j + 1 + 1))))
       go true = let h = ev (run-next (call_at feed) n j er e) in omega arith
       go false = ev (run-next (call_at feed) n j er e)
 
@@ -51,7 +54,12 @@ unfolding alights_from later_from
 alights-few feed n j =
     let p : ℕ → Bool = λ k. same_run (call_at feed j) (call_at feed k) in
     let xs = span (j + 1) (n - (j + 1)) in
-    omega (arith, length-filterb (λ m. (call_at feed m).alight) (take_while p xs), length-take_while p xs, length-span (j + 1) (n - (j + 1)))
+    omega (
+      arith,
+      length-filterb (λ m. (call_at feed m).alight) (take_while p xs),
+      length-take_while p xs,
+      length-span (j + 1) (n - (j + 1)),
+    )
 
 -- ---- the loop stands at j
 
@@ -76,7 +84,8 @@ counted_start {k} {feed} {n} h =
       bound = omega arith;
     }
 
-module _ {k feed : List ℕ} {n j' next' total : ℕ} (j : ℕ) {next v : ℕ} (hn : n ≤ 512) (h : 0 < j') (ej : j ≡ j' - 1) (w : Counted k feed n j' next' total)
+module _ {k feed : List ℕ} {n j' next' total : ℕ} (j : ℕ) {next v : ℕ} (hn : n ≤ 512) (h : 0 < j') (ej : j ≡ j' - 1)
+    (w : Counted k feed n j' next' total)
     (e : next ≡ alights_from (call_at feed) n j) (ev : v ≡ cond (call_at feed j).board next 0) where
   is : v ≡ rides_from (call_at feed) n j
   unfolding rides_from
@@ -113,7 +122,8 @@ module _ {k feed : List ℕ} {n j' next' total : ℕ} (j : ℕ) {next v : ℕ} (
           let q : j + 1 ≡ j' = omega arith in
           rw (span-cons j n (omega (arith, w.low)), q) (omega (arith, w.sum, is))
 
-pub counted-done : {k : List ℕ} {feed : List ℕ} {n j next total : ℕ} → j ≡ 0 → Counted k feed n j next total → Counts (record { board = k; all = total }) feed n
+pub counted-done : {k : List ℕ} {feed : List ℕ} {n j next total : ℕ} → j ≡ 0 → Counted k feed n j next total
+    → Counts (record { board = k; all = total }) feed n
 unfolding rides_in
 counted-done {k} {feed} {n} {j} {next} {total} e w =
     record {
@@ -122,7 +132,8 @@ counted-done {k} {feed} {n} {j} {next} {total} e w =
     }
 
 -- what the next call of the loop is handed
-pub counted_next : {k feed : List ℕ} {n j' next' total : ℕ} (j : ℕ) → 0 < j' → j ≡ j' - 1 → Counted k feed n j' next' total → j + 1 < n → next' ≡ alights_from (call_at feed) n (j + 1)
+pub counted_next : {k feed : List ℕ} {n j' next' total : ℕ} (j : ℕ) → 0 < j' → j ≡ j' - 1 → Counted k feed n j' next' total → j + 1 < n
+    → next' ≡ alights_from (call_at feed) n (j + 1)
 counted_next {feed = feed} {n = n} {j' = j'} j h ej w l =
     let q : j' ≡ j + 1 = omega arith in
     w.here (omega arith) ∙ ap (λ (i : ℕ). alights_from (call_at feed) n i) q

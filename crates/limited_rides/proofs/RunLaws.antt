@@ -4,14 +4,13 @@ use mathlib.Core.Logic.{◌⊎◌, inl, inr}
 use mathlib.Core.Bool.{Bool, true, false, not, cond, true≢false, false≢true}
 use Rattle.std.specs.Prelude.{Option, Some, None}
 use Rattle.std.specs.Option.{SomeIff}
-use mathlib.Core.List.{List, [], ◌∷◌, ◌++◌, map}
+use mathlib.Core.List.{List, [], ◌∷◌, map}
 use Prim.Native.Nat.{ℕ, zero, suc, ◌-◌, ◌≤◌}
 use native.Mathlib.Omega.{arith}
 use lib.Dec.{leb}
 use borrow.Author.Tests.{le-leb, lt-leb, leb-true, leb-false}
 use Rattle.laws.specs.Lists.{foldl}
 use Rattle.laws.proofs.Bools.{test}
-use Rattle.laws.proofs.Folds.{foldl-append}
 use Rattle.profile.specs.declared.Row.{Row}
 use Rattle.profile.specs.Kept.{St, going, refused}
 use Rattle.state.specs.View.{view, open_of}
@@ -20,7 +19,9 @@ use Rattle.candidate.proofs.OfferLaws.{offers-late}
 use Rattle.counted.specs.Events.{tested, offered, offers_of, joins_in, up_to}
 use Rattle.counted.specs.Joins.{Join}
 use Rattle.rides.specs.Offered.{offer_all, Offered}
-use Rattle.limited_rides.specs.Runs.{RowEvent, Run, on, over, go_on, meet, meet_all, skip, is_over, state_of, run_at, Met, Spent, RunStates, RunFinishes}
+use Rattle.rides.proofs.RestLaws.{seen_last, seen_first}
+use Rattle.limited_rides.specs.Runs.{RowEvent, Run, on, over, go_on, meet, meet_all, skip, is_over, state_of}
+use Rattle.limited_rides.specs.Runs.{run_at, Met, Spent, RunStates, RunFinishes}
 
 -- ---- what is over stays
 
@@ -29,7 +30,7 @@ unfolding meet_all meet
 over-stays s [] = refl
 over-stays s (e ∷ es) = over-stays s es
 
-over-all : (y : Run) (es : List RowEvent) → is_over y ≡ true → meet_all y es ≡ y
+pub over-all : (y : Run) (es : List RowEvent) → is_over y ≡ true → meet_all y es ≡ y
 unfolding is_over
 over-all (over s) es e = over-stays s es
 over-all (on s n) es e = absurd (false≢true e)
@@ -85,23 +86,15 @@ over-stopped l = refl
 
 -- ---- events one after the other
 
-pub nothing : {l : List ℕ} {k : Option ℕ} → Met l k l k []
-unfolding meet_all
-nothing = record { is = refl }
-
-pub both : {l l' l'' : List ℕ} {k k' k'' : Option ℕ} {xs ys : List RowEvent} → Met l k l' k' xs → Met l' k' l'' k'' ys → Met l k l'' k'' (xs ++ ys)
-unfolding meet_all
-both {l} {k} {xs = xs} {ys = ys} a b =
-    record { is = b.is ∙ ap (λ (y : Run). meet_all y ys) a.is ∙ sym (foldl-append meet (run_at (view l) k) xs ys) }
-
 -- an array of the same state may stand for the last, or for the first
 pub met-last : {l l' l'' : List ℕ} {k k' : Option ℕ} {es : List RowEvent} → view l'' ≡ view l' → Met l k l' k' es → Met l k l'' k' es
-met-last {k' = k'} e w = record { is = ap (λ (s : St Row). run_at s k') e ∙ w.is }
+met-last {k' = k'} e w = seen_last (ap (λ (s : St Row). run_at s k') e) w
 
 pub met-first : {l l' l'' : List ℕ} {k k' : Option ℕ} {es : List RowEvent} → view l'' ≡ view l → Met l'' k l' k' es → Met l k l' k' es
-met-first {k = k} {es = es} e w = record { is = w.is ∙ ap (λ (s : St Row). meet_all (run_at s k) es) e }
+met-first {k = k} e w = seen_first (ap (λ (s : St Row). run_at s k) e) w
 
 pub over-met : {l : List ℕ} {k : Option ℕ} {es : List RowEvent} {r : Bool} → r ≡ is_over (run_at (view l) k) → r ≡ true → Met l k l k es
+unfolding meet_all
 over-met {l} {k} {es} e t = record { is = sym (over-all (run_at (view l) k) es (sym e ∙ t)) }
 
 refused-fold : (os : List Row) → foldl offer_to refused os ≡ refused
@@ -122,8 +115,9 @@ is-over : (s : St Row) → true ≡ is_over (over s)
 unfolding is_over
 is-over s = refl
 
-pub offered-met : {l l' : List ℕ} {k : Option ℕ} {os : List Row} {r : Bool} → r ≡ is_over (run_at (view l) k) → r ≡ false → Offered l l' os → Met l k l' k (map offered os)
-unfolding run_at
+pub offered-met : {l l' : List ℕ} {k : Option ℕ} {os : List Row} {r : Bool} → r ≡ is_over (run_at (view l) k) → r ≡ false
+    → Offered l l' os → Met l k l' k (map offered os)
+unfolding run_at meet_all offer_all
 offered-met {l} {k = Some n} {os} e f o = record { is = rw o.is (sym (offers-run (view l) n os)) }
 offered-met {l} {k = None} e f o = absurd (true≢false (is-over (view l) ∙ sym e ∙ f))
 
@@ -137,7 +131,8 @@ pub run-states : RunStates
 unfolding meet_all meet go_on state_of
 run-states (going ks h l) n [] = refl
 run-states refused n [] = refl
-run-states refused n (e ∷ es) = state-all (meet_all (over refused) es) refused (over-stays refused es) ∙ sym (refused-offers' (offers_of (up_to n (e ∷ es))))
+run-states refused n (e ∷ es) =
+    state-all (meet_all (over refused) es) refused (over-stays refused es) ∙ sym (refused-offers' (offers_of (up_to n (e ∷ es))))
   where
     refused-offers' : (os : List Row) → foldl offer_to refused os ≡ refused
     refused-offers' os = refused-fold os
@@ -155,7 +150,8 @@ run-finishes (going ks h l) zero (tested j ∷ es) f = over-stays (going ks h l)
 run-finishes (going ks h l) (suc n) (tested j ∷ es) f =
     let d : n - joins_in es ≡ suc n - suc (joins_in es) = omega arith in
     rw (leb-suc (joins_in es) n) (run-finishes (going ks h l) n es f
-    ∙ ap (λ (k : ℕ). cond (leb (joins_in es) n) (on (foldl offer_to (going ks h l) (offers_of es)) k) (over (foldl offer_to (going ks h l) (offers_of (up_to n es))))) d)
+    ∙ ap (λ (k : ℕ). cond (leb (joins_in es) n) (on (foldl offer_to (going ks h l) (offers_of es)) k)
+    (over (foldl offer_to (going ks h l) (offers_of (up_to n es))))) d)
 
 -- a join, and then other events
 skip-one : (y : Run) (j : Join ℕ) → skip 1 y ≡ meet y (tested j)
@@ -164,7 +160,8 @@ skip-one (over s) j = refl
 skip-one (on s zero) j = refl
 skip-one (on s (suc n)) j = let e : suc n - 1 ≡ n = omega arith in rw (le-leb 1 (suc n) (omega arith), e) refl
 
-pub join-then : {l l' : List ℕ} {k k' : Option ℕ} {j : Join ℕ} {es : List RowEvent} → Spent k k' 1 → Met l k' l' k' es → Met l k l' k' (tested j ∷ es)
+pub join-then : {l l' : List ℕ} {k k' : Option ℕ} {j : Join ℕ} {es : List RowEvent} → Spent k k' 1 → Met l k' l' k' es
+    → Met l k l' k' (tested j ∷ es)
 unfolding meet_all
 join-then {l} {k = k} {j = j} {es = es} w m =
     record { is = m.is ∙ ap (λ (y : Run). meet_all y es) (w.is (view l) ∙ skip-one (run_at (view l) k) j) }

@@ -2,13 +2,15 @@
 use mathlib.Core.Path.{◌≡◌, refl, sym, ap, ◌∙◌}
 use mathlib.Core.Logic.{◌⊎◌, inl, inr}
 use mathlib.Core.Bool.{true, false, cond}
-use mathlib.Core.List.{List, []}
+use mathlib.Core.List.{List, [], ◌++◌, map}
 use Prim.Native.Nat.{ℕ, ◌-◌, min}
 use Rattle.std.specs.Prelude.{Option, Some, None}
 use native.Mathlib.Omega.{arith}
 use lib.Dec.{leb}
 use borrow.Author.Tests.{ne_eqb, leb-true, leb-false}
-use Rattle.laws.specs.Lists.{foldl}
+use Rattle.laws.specs.Lists.{foldl, concat_map, span}
+use Rattle.ways.specs.Rides.{First, first_rides}
+use Rattle.counted.specs.Events.{offered}
 use Rattle.laws.proofs.Bools.{test, not-true}
 use Rattle.profile.specs.declared.Row.{Row}
 use Rattle.profile.specs.Kept.{St, going, refused}
@@ -20,9 +22,10 @@ use Rattle.counted.proofs.EventLaws.{count-is, finished-if}
 use Rattle.limited_rides.specs.declared.Tested.{Tested}
 use Rattle.limited_rides.specs.Runs.{RowEvent, on, over, go_on, meet_all, state_of, run_at, Met}
 use Rattle.feed.specs.declared.FirstRide.{FirstRide}
-use Rattle.rides.specs.Rows.{Sheet, Joins}
+use Rattle.rides.specs.Rows.{Sheet, Joins, first_at, network_of}
+use Rattle.rides.specs.Loops.{direct_rows}
 use Rattle.rides.specs.Sheets.{sheet_of, joins_of}
-use Rattle.limited_rides.specs.RowEvents.{change_events, row_events, events_at}
+use Rattle.limited_rides.specs.RowEvents.{change_events, first_events, row_events, events_at}
 use Rattle.limited_rides.proofs.EventRowLaws.{events-by-loops}
 use Rattle.limited_rides.specs.Within.{Within, told}
 use Rattle.limited_rides.proofs.RunLaws.{run-states, run-finishes}
@@ -63,14 +66,15 @@ over-read s f None r e = refl
 
 module _ {l l' : List ℕ} {k' : Option ℕ} {limit : ℕ} {es : List RowEvent} (w : Met l (Some limit) l' k' es) where
   from : run_at (view l') k' ≡ meet_all (go_on (view l) limit) es
-  unfolding run_at
+  unfolding run_at meet_all
   from = w.is
 
   ended : view l' ≡ foldl offer_to (view l) (offers_of (up_to limit es))
   ended = sym (state-at (view l') k') ∙ ap state_of from ∙ run-states (view l) limit es
 
   finish : (view l' ≡ refused → ⊥) → run_at (view l') k'
-      ≡ cond (leb (joins_in es) limit) (on (foldl offer_to (view l) (offers_of es)) (limit - joins_in es)) (over (foldl offer_to (view l) (offers_of (up_to limit es))))
+      ≡ cond (leb (joins_in es) limit) (on (foldl offer_to (view l) (offers_of es)) (limit - joins_in es))
+      (over (foldl offer_to (view l) (offers_of (up_to limit es))))
   finish r = from ∙ run-finishes (view l) limit es (λ e. r (sym (state-at (view l') k') ∙ ap state_of from ∙ e))
 
   within : {r : Tested} → r ≡ told limit k' → Within l l' limit es r
@@ -80,7 +84,8 @@ module _ {l l' : List ℕ} {k' : Option ℕ} {limit : ℕ} {es : List RowEvent} 
       both : (view l' ≡ refused → ⊥) → (r.joins ≡ joins_in (up_to limit es)) × (r.finished ≡ finished limit es)
       both q = go (test (leb (joins_in es) limit))
         where
-          go : (leb (joins_in es) limit ≡ true) ⊎ (leb (joins_in es) limit ≡ false) → (r.joins ≡ joins_in (up_to limit es)) × (r.finished ≡ finished limit es)
+          go : (leb (joins_in es) limit ≡ true) ⊎ (leb (joins_in es) limit ≡ false)
+              → (r.joins ≡ joins_in (up_to limit es)) × (r.finished ≡ finished limit es)
           go (inl t) =
               let m = on_read (view l') (foldl offer_to (view l) (offers_of es)) k' (limit - joins_in es) (rw t at (finish q)) in
               let h = leb-true (joins_in es) limit t in
@@ -92,14 +97,25 @@ module _ {l l' : List ℕ} {k' : Option ℕ} {limit : ℕ} {es : List RowEvent} 
               let h = leb-false (joins_in es) limit t in
               let joins : r.joins ≡ limit = rw (e, m) refl in
               let all : r.finished ≡ false = rw (e, m) refl in
-              (omega (arith, count-is limit es), all ∙ sym (not-true (finished limit es) (λ z. let g = (finished-if limit es).0 z in omega arith)))
+              let unfinished = not-true (finished limit es) (λ z. let g = (finished-if limit es).0 z in omega arith) in
+              (omega (arith, count-is limit es), all ∙ sym unfinished)
 
 -- with no joins
 pub apart-change : (s : Sheet) (joins : Joins) (n : ℕ) (f : FirstRide) {depth : ℕ} → (depth ≡ 1 → ⊥) → change_events s joins depth n f ≡ []
 unfolding change_events
 apart-change s joins n f {depth} z = rw (ne_eqb depth 1 z)
 
+-- at any depth but 1 the events are those at depth 0
+pub apart-rows : (s : Sheet) (joins : Joins) (n : ℕ) {depth : ℕ} → (depth ≡ 1 → ⊥) → row_events s joins depth n ≡ row_events s joins 0 n
+unfolding row_events first_events
+apart-rows s joins n {depth} z =
+    λ i. concat_map (λ f. map offered (direct_rows s (first_at s f)) ++ apart f i) (first_rides (network_of s joins) (span 0 n))
+  where
+    apart : (f : First ℕ) → change_events s joins depth n (first_at s f) ≡ change_events s joins 0 n (first_at s f)
+    apart f = apart-change s joins n (first_at s f) z ∙ sym (apart-change s joins n (first_at s f) (λ e. omega arith))
+
 -- over the lent arrays
 pub within-arrays : (f g : List ℕ) (n m depth : ℕ) {l l' : List ℕ} {k' : Option ℕ} {limit : ℕ} {r : Tested} → m ≡ min n 512
-    → Met l (Some limit) l' k' (row_events (sheet_of f) (joins_of f g) depth m) → r ≡ told limit k' → Within l l' limit (events_at f g n depth) r
+    → Met l (Some limit) l' k' (row_events (sheet_of f) (joins_of f g) depth m) → r ≡ told limit k'
+    → Within l l' limit (events_at f g n depth) r
 within-arrays f g n m depth e w t = rw (events-by-loops f g n depth, ← e) (within w t)

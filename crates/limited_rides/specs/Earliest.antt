@@ -41,5 +41,6 @@ ride_due feed n = concat_map (board_due feed n) (span 0 (n - 0))
 abbrev pub DueByRides : Type 0
 DueByRides = (feed changes : List ℕ) (n : ℕ)
     → ride_due feed n
-    ≡ concat_map (λ r. map (λ x. arrival_of (target_walk_of feed x) (call_at feed r.a).arrival) ((network_of (sheet_of feed) (joins_of feed changes)).targets r.a))
+    ≡ concat_map (λ r. map (λ x. arrival_of (target_walk_of feed x) (call_at feed r.a).arrival)
+    ((network_of (sheet_of feed) (joins_of feed changes)).targets r.a))
     (rides (network_of (sheet_of feed) (joins_of feed changes)) (span 0 n))

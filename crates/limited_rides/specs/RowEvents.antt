@@ -1,5 +1,5 @@
--- The events that the loops of a search within a limit come to, each from where it stands: the contracts of their functions. That together they
--- come to the events of crate `counted`, over places, is `events-by-loops`.
+-- The events that the loops of a search within a limit come to, each from where it stands: the contracts of their functions. That together
+-- they come to the events of crate `counted`, over places, is `events-by-loops`.
 use Rattle.std.specs.Prelude.{◌≡◌, cond, List, [], ◌∷◌, ◌++◌, map, ℕ, ◌+◌, ◌-◌, min, eqb}
 use Rattle.laws.specs.Lists.{concat_map, span}
 use Rattle.ways.specs.Rides.{leg, First, first_ride, first_rides}
@@ -37,7 +37,8 @@ last_apart s f j m = join_then s f j m []
 
 unfoldable pub board_events : Sheet → Joins → ℕ → FirstRide → ℕ → List RowEvent
 board_events s joins n f j =
-    cond (s.at j).board (cond (joins f j) (run_events (last_joined s f j) s.at n j (j + 1)) (run_events (last_apart s f j) s.at n j (j + 1))) []
+    cond (s.at j).board
+    (cond (joins f j) (run_events (last_joined s f j) s.at n j (j + 1)) (run_events (last_apart s f j) s.at n j (j + 1))) []
 
 -- with max_transfers 1, each last ride
 unfoldable pub change_events : Sheet → Joins → ℕ → ℕ → FirstRide → List RowEvent
@@ -53,13 +54,15 @@ row_events s joins depth n = concat_map (λ f. first_events s joins depth n (fir
 
 -- every event of a search over the lent arrays and their first n calls, of which there are at most 512
 unfoldable pub events_at : List ℕ → List ℕ → ℕ → ℕ → List RowEvent
-events_at f g n depth = events (network_of (sheet_of f) (joins_of f g)) (direct_by (sheet_of f)) (change_by (sheet_of f)) depth (span 0 (min n 512))
+events_at f g n depth =
+    events (network_of (sheet_of f) (joins_of f g)) (direct_by (sheet_of f)) (change_by (sheet_of f)) depth (span 0 (min n 512))
 
 -- ---- what is claimed
 
 -- the offers after a first ride are its rows
 abbrev pub ChangeOffers : Type 0
-ChangeOffers = (s : Sheet) (joins : Joins) (depth n : ℕ) (f : FirstRide) → offers_of (change_events s joins depth n f) ≡ change_rows s joins depth n f
+ChangeOffers =
+    (s : Sheet) (joins : Joins) (depth n : ℕ) (f : FirstRide) → offers_of (change_events s joins depth n f) ≡ change_rows s joins depth n f
 
 -- the loops come to every event, in order
 abbrev pub EventsByLoops : Type 0

@@ -1,4 +1,5 @@
--- A search that goes on, with the joins that are left, or is over: refused, or stopped at a join past the limit. What is over stays as it is.
+-- A search that goes on, with the joins that are left, or is over: refused, or stopped at a join past the limit. What is over stays as it
+-- is.
 use Rattle.std.specs.Prelude.{◌≡◌, Bool, true, false, cond, List, ℕ, zero, suc, ◌-◌, leb, Option, Some, None}
 use Rattle.laws.specs.Lists.{foldl}
 use Rattle.profile.specs.declared.Row.{Row}
@@ -7,6 +8,7 @@ use Rattle.state.specs.View.{view}
 use Rattle.candidate.specs.Offer.{offer_to}
 use Rattle.counted.specs.Events.{Event, tested, offered, offers_of, joins_in, up_to}
 use Rattle.counted.specs.Joins.{Join}
+use Rattle.rides.specs.Offered.{After}
 
 -- an event of a search over places: a join of a first ride and a last ride, or the row of a journey
 abbrev pub RowEvent : Type 0
@@ -50,9 +52,17 @@ unfoldable pub run_at : St Row → Option ℕ → Run
 run_at s (Some n) = go_on s n
 run_at s None = over s
 
+-- an array and the joins left, and the search that they are
+pub record At : Type 0 where
+  pub state : List ℕ
+  pub joins : Option ℕ
+
+abbrev pub seen : At → Run
+seen a = run_at (view a.state) a.joins
+
 -- the array l' and k' are the state and the joins left of l and k after the events
-pub record Met (l : List ℕ) (k : Option ℕ) (l' : List ℕ) (k' : Option ℕ) (es : List RowEvent) : Type 0 where
-  pub is : run_at (view l') k' ≡ meet_all (run_at (view l) k) es
+abbrev pub Met : List ℕ → Option ℕ → List ℕ → Option ℕ → List RowEvent → Type 0
+Met l k l' k' es = After seen meet (record { state = l; joins = k }) (record { state = l'; joins = k' }) es
 
 -- k' is what is left of k after m joins, whatever the state
 pub record Spent (k k' : Option ℕ) (m : ℕ) : Type 0 where
@@ -67,4 +77,6 @@ RunStates = (s : St Row) (n : ℕ) (es : List RowEvent) → state_of (meet_all (
 -- where it is not refused: it goes on exactly if there are no more joins than n, with what is left of these
 abbrev pub RunFinishes : Type 0
 RunFinishes = (s : St Row) (n : ℕ) (es : List RowEvent) → (state_of (meet_all (go_on s n) es) ≡ refused → ⊥)
-    → meet_all (go_on s n) es ≡ cond (leb (joins_in es) n) (on (foldl offer_to s (offers_of es)) (n - joins_in es)) (over (foldl offer_to s (offers_of (up_to n es))))
+    → meet_all (go_on s n) es
+    ≡ cond (leb (joins_in es) n) (on (foldl offer_to s (offers_of es)) (n - joins_in es))
+    (over (foldl offer_to s (offers_of (up_to n es))))

@@ -13,12 +13,9 @@ use rides::calls::Calls;
 fn sooner(a: Option<u32>, b: Option<u32>) -> Option<u32>
     ensures { result ≡ sooner a b }
 {
-    match a {
-        Some(x) => match b {
-            Some(y) => Some(x.min(y)),
-            None => a,
-        },
-        None => b,
+    match (a, b) {
+        (Some(x), Some(y)) => Some(x.min(y)),
+        _ => a.or(b),
     }
 }
 

@@ -11,10 +11,9 @@ use rides::lent::Lent;
 use rides::paths::directs;
 use state::layout::State;
 
-// The direct journeys alone, at any depth but 1.
-pub fn direct_paths(st: &mut State, tally: &mut Tally, lent: &Lent, depth: u16)
-    requires { depth ≡ 1 → ⊥ }
-    ensures { Met st.old tally.old st.new tally.new (row_events (sheet_in lent.now) (joins_in lent.now) depth lent.now.calls.n) }
+// The direct journeys alone.
+pub fn direct_paths(st: &mut State, tally: &mut Tally, lent: &Lent)
+    ensures { Met st.old tally.old st.new tally.new (row_events (sheet_in lent.now) (joins_in lent.now) 0 lent.now.calls.n) }
 {
     let calls = &lent.calls;
     for l in FirstRides::of(calls) {

@@ -43,11 +43,12 @@ fn with_joins(st: &mut State, tally: &mut Tally, last: &LastRides)
     change_paths(st, tally, &joins);
 }
 
+// Joins are tested where journeys have one change; depth stands beside the arrays, since no loop reads it.
 fn run(st: &mut State, tally: &mut Tally, lent: &Lent, depth: u16)
     ensures { Met st.old tally.old st.new tally.new (row_events (sheet_in lent.now) (joins_in lent.now) depth lent.now.calls.n) }
 {
     if depth != 1 {
-        direct_paths(st, tally, lent, depth);
+        direct_paths(st, tally, lent);
         return;
     }
     let bounds = bounds_of(&lent.calls);

@@ -45,7 +45,7 @@ fn put_ride(out: &mut Buffer<'_>, r: &Ride)
     );
 }
 
-// Only one of three rides has a middle one.
+// Only one of three rides has a middle one. Tested here and in `stdio`, which prints: two methods of a journey would say no more.
 fn put_rides(out: &mut Buffer<'_>, j: &Journey)
     ensures { Put 150 (concat_map ride_text (rides_of j.now)) out.old out.new }
 {

@@ -16,6 +16,7 @@ use refusal::Answer;
 mod journeys;
 mod text;
 
+// `rides` says whether the rides are put too. A trait for what is put would need two types, and say no more.
 fn load_lines(out: &mut Buffer<'_>, rides: bool, load: &Load)
     ensures { Put (lines_most rides) (load_for rides load.now) out.old out.new }
 {
@@ -35,7 +36,8 @@ fn answer_lines(out: &mut Buffer<'_>, rides: bool, answer: Answer, load: &Load)
     }
 }
 
-// Puts the lines at the start of the buffer, and answers how many bytes they are.
+// Puts the lines at the start of the buffer, and answers how many bytes they are: a length, as C reads it, which lends the buffer. One
+// function over any size, for this and the next, would be as long as the two.
 pub fn lines(out: &mut [u8; 4096], answer: Answer, load: Load) -> usize
     ensures out_after { take result out.new ≡ lines_of answer load }
     ensures counts { Counts result out.new }

@@ -8,8 +8,9 @@ ghost use Rattle.lines.specs.Rides.{searched_line};
 
 use buffer::Buffer;
 
-// A number's decimal digits. By hand: no clause says that a `write!` into the buffer can't fail, and at an error nothing is known of it. Two
-// digits a step: one a step was slower.
+// A number's decimal digits. By hand: no clause says that a `write!` into the buffer can't fail, and at an error nothing is known of it;
+// and by the kit's itoa, which is as fast, the lines would rest on its contract besides, which is trusted here and not proved. Two digits a
+// step: one a step was slower.
 fn decimal(out: &mut Buffer<'_>, n: u16)
     ensures { Put 5 (decimal n) out.old out.new }
 {

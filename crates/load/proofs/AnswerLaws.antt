@@ -21,7 +21,8 @@ use Rattle.week.proofs.SoundLaws.{service-unchanged, exception-unchanged}
 use Rattle.load.specs.declared.Load.{Load}
 use Rattle.load.specs.declared.Stepped.{Stepped}
 use Rattle.load.specs.Load.{table_of, with_week}
-use Rattle.load.specs.Steps.{stop_answer, stop_spec, plain_call, is_unknown, is_resting, running_tests, gate_answer, call_spec, rule_answer, rule_spec, service_spec, exception_spec}
+use Rattle.load.specs.Steps.{stop_answer, stop_spec, plain_call, is_unknown, is_resting, running_tests, gate_answer, call_spec, rule_answer}
+use Rattle.load.specs.Steps.{rule_spec, service_spec, exception_spec}
 use Rattle.load.specs.Filling.{stop, call, rule, service, exception, window_tests, causes, StepAnswered}
 use Rattle.load.proofs.StepLaws.{Called, without, goes_on, stays_out, sent_back, called, gate-passed, plain-unchanged}
 
@@ -31,22 +32,26 @@ refused-not-taken (Ok Outside) e = refl
 refused-not-taken (Err r) e = refl
 
 -- two tests more that fail
-insert-two : {a b c d e : Answer} {p q x y : Bool} {ts : List (Bool × Answer)} → x ≡ false → y ≡ false → First a ((p, b) ∷ (q, c) ∷ ts) → First a ((p, b) ∷ (q, c) ∷ (x, d) ∷ (y, e) ∷ ts)
+insert-two : {a b c d e : Answer} {p q x y : Bool} {ts : List (Bool × Answer)} → x ≡ false → y ≡ false → First a ((p, b) ∷ (q, c) ∷ ts)
+    → First a ((p, b) ∷ (q, c) ∷ (x, d) ∷ (y, e) ∷ ts)
 insert-two u v (hit h) = hit h
 insert-two u v (miss h (hit k)) = miss h (hit k)
 insert-two u v (miss h (miss k f)) = miss h (miss k (miss u (miss v f)))
 
 module _ (l : Load) (name : List ℕ) (i : CallInput) where
   -- the call's own answer, where its service lets it pass
-  plain-first : (r : Running) → r ≡ Runs → First (plain_call l i).answer (field_tests l.searched l.stop_count i ++ running_tests r ++ time_tests i ++ window_tests l i)
+  plain-first : (r : Running) → r ≡ Runs
+      → First (plain_call l i).answer (field_tests l.searched l.stop_count i ++ running_tests r ++ time_tests i ++ window_tests l i)
   unfolding plain_call call_tests
   plain-first r e = insert-two (ap is_unknown e) (ap is_resting e) (call-answered l.settings l.searched l.stop_count (table_of l) i)
 
-  gate-first : (a : Answer) → gate_answer l.searched l.stop_count (running l.week name i.day) i ≡ a → (a ≡ Ok Taken → ⊥) → First a (causes l (call name i))
+  gate-first : (a : Answer) → gate_answer l.searched l.stop_count (running l.week name i.day) i ≡ a → (a ≡ Ok Taken → ⊥)
+      → First a (causes l (call name i))
   unfolding gate_answer
   gate-first a e n =
       first-append a (field_tests l.searched l.stop_count i ++ running_tests (running l.week name i.day)) (time_tests i ++ window_tests l i)
-      (subst (λ (b : Answer). First b (field_tests l.searched l.stop_count i ++ running_tests (running l.week name i.day))) e (answer-is-first _)) n
+      (subst (λ (b : Answer). First b (field_tests l.searched l.stop_count i ++ running_tests (running l.week name i.day))) e
+      (answer-is-first _)) n
 
   undated-runs : l.week.dated ≡ false → running l.week name i.day ≡ Runs
   undated-runs d = sym (runs-undated l.week name i.day d)

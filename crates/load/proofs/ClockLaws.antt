@@ -27,11 +27,14 @@ opening-tests o = go o.dates
     go None = refl
     go (Some dates) = refl
 
-pub open-fails : (o : Opening) → Opens o → (over_counts o.settings.origins o.settings.targets o.settings.max_transfers o.settings.transfer_seconds ≡ false) × (not (all_near o.settings.now o.settings.epochs) ≡ false)
+pub open-fails : (o : Opening) → Opens o
+    → (over_counts o.settings.origins o.settings.targets o.settings.max_transfers o.settings.transfer_seconds ≡ false)
+    × (not (all_near o.settings.now o.settings.epochs) ≡ false)
 unfolding open_answer settings_tests
 open-fails o w = let f = first_taken _ (open_tests o) (opening-tests o) (answer-is-first (open_tests o)) w.0 in (f.0, f.1.0)
 
-pub clock-near : (s : Settings) → all_near s.now s.epochs ≡ true → (day : ℕ) → day ≤ 2 → (near (get_or s.epochs day (pos 0)) && near s.now) ≡ true
+pub clock-near : (s : Settings) → all_near s.now s.epochs ≡ true → (day : ℕ) → day ≤ 2
+    → (near (get_or s.epochs day (pos 0)) && near s.now) ≡ true
 unfolding all_near
 clock-near s e day h = and-true _ _ (go day h) now
   where

@@ -22,7 +22,8 @@ use Rattle.week.specs.Sound.{WeekSound}
 use Rattle.week.proofs.SoundLaws.{undated-sound, dated-sound, closed-sound, service-keeps-sound, exception-keeps-sound}
 use Rattle.load.specs.declared.Stepped.{Stepped}
 use Rattle.load.specs.Load.{empty_of, table_of, with_table, with_week}
-use Rattle.load.specs.Steps.{week_of, station_in, stop_answer, stop_load, stop_spec, call_fitted, plain_call, closing, call_spec, rule_answer, rule_load, rule_spec, service_spec, exception_spec}
+use Rattle.load.specs.Steps.{week_of, station_in, stop_answer, stop_load, stop_spec, call_fitted, plain_call, closing, call_spec}
+use Rattle.load.specs.Steps.{rule_answer, rule_load, rule_spec, service_spec, exception_spec}
 use Rattle.load.specs.Filling.{stop, call, rule, service, exception}
 use Rattle.load.specs.Sound.{Sound, OpenSound, FillKeepsSound}
 use Rattle.load.proofs.StepLaws.{Called, without, goes_on, stays_out, sent_back, called}
@@ -54,7 +55,8 @@ stop-sound : (l : Load) (id : List ℕ) (name parent : Option (List ℕ)) (i : S
 unfolding stop_spec
 stop-sound l id name parent i s = go (is_taken (stop_answer l id name parent i)) refl
   where
-    go : (b : Bool) → is_taken (stop_answer l id name parent i) ≡ b → Sound (stop_load l (stop_of id name (station_in l parent) i) (stop_answer l id name parent i))
+    go : (b : Bool) → is_taken (stop_answer l id name parent i) ≡ b
+        → Sound (stop_load l (stop_of id name (station_in l parent) i) (stop_answer l id name parent i))
     go true e = rw e (record {
       stops = stop-keeps-sound l.searched l.stops l.stop_count id name parent i s.stops (taken_is (stop_answer l id name parent i) e);
       table = s.table;

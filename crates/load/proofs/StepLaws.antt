@@ -20,7 +20,7 @@ use Rattle.stops.specs.Taken.{stop_of, blank_stop}
 use Rattle.stops.proofs.Laws as stops
 use Rattle.calls.specs.declared.Call.{Call}
 use Rattle.calls.specs.declared.CallInput.{CallInput}
-use Rattle.calls.specs.declared.Fitted.{Fitted}
+use Rattle.calls.specs.Tried.{Tried}
 use Rattle.calls.specs.declared.Uncut.{Uncut}
 use Rattle.calls.specs.declared.Uncut.TheVariants.{In, Outside as Beyond}
 use Rattle.calls.specs.Calls.{known, field_tests}
@@ -40,11 +40,14 @@ use Rattle.week.specs.Weeks.{closed_week, running}
 use Rattle.load.specs.declared.Load.{Load}
 use Rattle.load.specs.declared.Stepped.{Stepped}
 use Rattle.load.specs.Load.{empty_with, empty_of, table_of, with_table, with_stops, with_rules, with_week}
-use Rattle.load.specs.Steps.{undated, dated, open_answer, station_in, stop_answer, stop_load, stop_spec, call_fitted, call_load, plain_call, is_unknown, is_resting, running_tests, gate_answer, closed_load, closing, gated, dated_call, call_spec, rule_answer, rule_load, rule_spec}
+use Rattle.load.specs.Steps.{stepped, undated, dated, open_answer, station_in, stop_answer, stop_load, stop_spec}
+use Rattle.load.specs.Steps.{call_fitted, call_load, plain_call, is_unknown, is_resting, running_tests, gate_answer, closed_load, closing}
+use Rattle.load.specs.Steps.{gated, dated_call, call_spec, rule_answer, rule_load, rule_spec}
 
 -- ---- opening
 
-pub empty-made : (s : Settings) (w : Week) (a : Stop) (b : Call) (r : Rule) (j : Journey) → a ≡ blank_stop → b ≡ blank_call → r ≡ blank_rule → j ≡ no_journey → empty_with s a b r j w ≡ empty_of s w
+pub empty-made : (s : Settings) (w : Week) (a : Stop) (b : Call) (r : Rule) (j : Journey) → a ≡ blank_stop → b ≡ blank_call → r ≡ blank_rule
+    → j ≡ no_journey → empty_with s a b r j w ≡ empty_of s w
 unfolding empty_of
 empty-made s w a b r j ea eb er ej = λ k. empty_with s (ea k) (eb k) (er k) (ej k) w
 
@@ -58,7 +61,8 @@ settings-pass : (s : Settings) → is_refused (first_answer (settings_tests s)) 
 unfolding settings_tests first_answer
 settings-pass s e = go (over_counts s.origins s.targets s.max_transfers s.transfer_seconds) (not (all_near s.now s.epochs)) e
   where
-    go : (x y : Bool) → is_refused (cond x (Err SettingsRange) (cond y (Err ClockRange) (Ok Taken))) ≡ false → (x ≡ false) × ((y ≡ false) × Unit {0})
+    go : (x y : Bool) → is_refused (cond x (Err SettingsRange) (cond y (Err ClockRange) (Ok Taken))) ≡ false
+        → (x ≡ false) × ((y ≡ false) × Unit {0})
     go true y q = absurd (true≢false q)
     go false true q = absurd (true≢false q)
     go false false q = (refl, (refl, tt))
@@ -67,7 +71,10 @@ settings-pass s e = go (over_counts s.origins s.targets s.max_transfers s.transf
 module _ (s : Settings) (dates : List ℕ) (a : Answer) (h : a ≡ first_answer (settings_tests s)) where
   pub settings-refuse : is_refused a ≡ true → a ≡ open_answer (dated s dates)
   unfolding open_answer
-  settings-refuse e = h ∙ first-is-answer _ _ (first-append _ (settings_tests s) ((dates_wrong dates, Err DateWrong) ∷ []) (answer-is-first (settings_tests s)) (λ t. true≢false (sym e ∙ ap is_refused (h ∙ t))))
+  settings-refuse e =
+      h ∙ first-is-answer _ _
+      (first-append _ (settings_tests s) ((dates_wrong dates, Err DateWrong) ∷ []) (answer-is-first (settings_tests s))
+      (λ t. true≢false (sym e ∙ ap is_refused (h ∙ t))))
 
   pub dates-refuse : is_refused a ≡ false → dates_wrong dates ≡ true → Err DateWrong ≡ open_answer (dated s dates)
   unfolding open_answer settings_tests
@@ -79,34 +86,37 @@ module _ (s : Settings) (dates : List ℕ) (a : Answer) (h : a ≡ first_answer 
 
 -- ---- stop
 
-module _ (l : Load) (id : List ℕ) (name parent : Option (List ℕ)) (i : StopInput) (a : Answer) (h : a ≡ stop_answer l id name parent i) where
+module _ (l : Load) (id : List ℕ) (name parent : Option (List ℕ)) (i : StopInput) (a : Answer)
+    (h : a ≡ stop_answer l id name parent i) where
   pub stop-room : is_taken a ≡ true → l.stop_count < 128
   stop-room e = (stops.passed l.searched l.stops l.stop_count (station_in l parent) id name parent i (sym h ∙ taken_is a e)).room
 
   pub stop-taken : (s : Stop) → is_taken a ≡ true → s ≡ stop_of id name (station_in l parent) i
-      → ◌≡◌ {A = Stepped} (record { answer = a; load = with_stops l (set l.stops l.stop_count s) (l.stop_count + 1) }) (stop_spec l id name parent i)
+      → stepped a (with_stops l (set l.stops l.stop_count s) (l.stop_count + 1)) ≡ stop_spec l id name parent i
   unfolding stop_spec
   stop-taken s e q =
-      let same : with_stops l (set l.stops l.stop_count s) (l.stop_count + 1) ≡ stop_load l (stop_of id name (station_in l parent) i) (stop_answer l id name parent i) =
+      let same : with_stops l (set l.stops l.stop_count s) (l.stop_count + 1) ≡ stop_load l (stop_of id name (station_in l parent) i)
+      (stop_answer l id name parent i) =
       ap (λ (x : Stop). with_stops l (set l.stops l.stop_count x) (l.stop_count + 1)) q ∙ sym (cond-by _ _ (ap is_taken (sym h) ∙ e)) in
       λ k. record { answer = h k; load = same k }
 
-  pub stop-refused : is_taken a ≡ false → ◌≡◌ {A = Stepped} (record { answer = a; load = l }) (stop_spec l id name parent i)
+  pub stop-refused : is_taken a ≡ false → stepped a l ≡ stop_spec l id name parent i
   unfolding stop_spec
   stop-refused e =
-      let same : l ≡ stop_load l (stop_of id name (station_in l parent) i) (stop_answer l id name parent i) = sym (cond-not _ _ (ap is_taken (sym h) ∙ e)) in
+      let same : l ≡ stop_load l (stop_of id name (station_in l parent) i) (stop_answer l id name parent i) =
+      sym (cond-not _ _ (ap is_taken (sym h) ∙ e)) in
       λ k. record { answer = h k; load = same k }
 
 -- ---- call
 
-module _ (l : Load) (i : CallInput) (f : Fitted) (h : f ≡ call_fitted l i) where
-  pub call-refused : is_refused f.answer ≡ true → ◌≡◌ {A = Stepped} (record { answer = f.answer; load = l }) (plain_call l i)
+module _ (l : Load) (i : CallInput) (f : Tried) (h : f ≡ call_fitted l i) where
+  pub call-refused : is_refused f.answer ≡ true → stepped f.answer l ≡ plain_call l i
   unfolding plain_call
   call-refused e =
       let same : l ≡ call_load l f = sym (cond-by _ _ e) in
       λ k. record { answer = (h k).answer; load = (same ∙ ap (call_load l) h) k }
 
-  pub call-taken : is_refused f.answer ≡ false → ◌≡◌ {A = Stepped} (record { answer = f.answer; load = with_table l f.table }) (plain_call l i)
+  pub call-taken : is_refused f.answer ≡ false → stepped f.answer (with_table l f.table) ≡ plain_call l i
   unfolding plain_call
   call-taken e =
       let same : with_table l f.table ≡ call_load l f = sym (cond-not _ _ e) in
@@ -128,7 +138,8 @@ module _ (l : Load) (i : CallInput) where
   pub call-room : (c : Call) → uncut_call ≡ In c → l.call_count < 512
   call-room c e = told.room c e
 
-  pub call-goes-in : (c : Call) → uncut_call ≡ In c → plain_call l i ≡ record { answer = Ok Taken; load = with_table l (put (table_of l) c) }
+  pub call-goes-in : (c : Call) → uncut_call ≡ In c
+      → plain_call l i ≡ record { answer = Ok Taken; load = with_table l (put (table_of l) c) }
   call-goes-in c e = sym (call-taken l i _ (sym (told.goes_in c e)) refl)
 
   pub call-outside : uncut_call ≡ Beyond → plain_call l i ≡ record { answer = Ok Outside; load = with_table l (table_of l) }
@@ -174,7 +185,9 @@ module _ (searched : Bool) (stops : ℕ) (i : CallInput) where
   -- what goes on has passed them all
   pub gate-passed : (r : Running) → gate_answer searched stops r i ≡ Ok Taken → (searched ≡ false) × ((known stops i ≡ true) × (r ≡ Runs))
   unfolding gate_answer
-  gate-passed r e = let f = first_taken _ _ refl (answer-is-first (field_tests searched stops i ++ running_tests r)) e in (f.0, (not-false _ f.1.0, go r f.1.1.0 f.1.1.1.0))
+  gate-passed r e =
+      let f = first_taken _ _ refl (answer-is-first (field_tests searched stops i ++ running_tests r)) e in
+      (f.0, (not-false _ f.1.0, go r f.1.1.0 f.1.1.1.0))
     where
       go : (r : Running) → is_unknown r ≡ false → is_resting r ≡ false → r ≡ Runs
       go Unknown a b = absurd (true≢false a)
@@ -186,18 +199,19 @@ module _ (l : Load) (r : Running) (i : CallInput) (a : Answer) (h : a ≡ gate_a
   unfolding dated_call
   by-gate = ap (gated l i) h
 
-  pub gate-refused : is_refused a ≡ true → ◌≡◌ {A = Stepped} (record { answer = a; load = l }) (dated_call l r i)
+  pub gate-refused : is_refused a ≡ true → stepped a l ≡ dated_call l r i
   gate-refused e = go a refl ∙ by-gate
     where
-      go : (b : Answer) → a ≡ b → ◌≡◌ {A = Stepped} (record { answer = a; load = l }) (gated l i a)
+      go : (b : Answer) → a ≡ b → stepped a l ≡ gated l i a
       go (Ok Taken) q = absurd (true≢false (sym e ∙ ap is_refused q))
       go (Ok Outside) q = absurd (true≢false (sym e ∙ ap is_refused q))
       go (Err x) q = rw q refl
 
-  pub gate-outside : is_refused a ≡ false → is_taken a ≡ false → (w : Week) → w ≡ closed_week l.week → ◌≡◌ {A = Stepped} (record { answer = a; load = with_week l w }) (dated_call l r i)
+  pub gate-outside : is_refused a ≡ false → is_taken a ≡ false → (w : Week) → w ≡ closed_week l.week
+      → stepped a (with_week l w) ≡ dated_call l r i
   gate-outside e t w we = (λ k. record { answer = a; load = with_week l (we k) }) ∙ go a refl ∙ by-gate
     where
-      go : (b : Answer) → a ≡ b → ◌≡◌ {A = Stepped} (record { answer = a; load = closed_load l }) (gated l i a)
+      go : (b : Answer) → a ≡ b → stepped a (closed_load l) ≡ gated l i a
       go (Ok Taken) q = absurd (true≢false (sym (ap is_taken q) ∙ t))
       go (Ok Outside) q = rw q refl
       go (Err x) q = absurd (true≢false (sym (ap is_refused q) ∙ e))
@@ -205,16 +219,18 @@ module _ (l : Load) (r : Running) (i : CallInput) (a : Answer) (h : a ≡ gate_a
   passes : is_taken a ≡ true → closing l (plain_call l i) ≡ dated_call l r i
   passes t = ap (gated l i) (sym (taken_is a t)) ∙ by-gate
 
-  pub plain-refused : is_taken a ≡ true → (s : Stepped) → s ≡ plain_call l i → is_refused s.answer ≡ true → s ≡ dated_call l r i
-  plain-refused t s q e =
-      let same : s.load ≡ (closing l s).load = ap (λ (x : Stepped). x.load) q ∙ plain-unchanged l i (ap (λ (x : Stepped). is_refused x.answer) (sym q) ∙ e) ∙ sym (cond-by _ _ e) in
-      (λ k. record { answer = s.answer; load = same k }) ∙ ap (closing l) q ∙ passes t
+  pub plain-refused : is_taken a ≡ true → (b : Answer) (m : Load) → stepped b m ≡ plain_call l i → is_refused b ≡ true
+      → stepped b m ≡ dated_call l r i
+  plain-refused t b m q e =
+      let same : m ≡ (closing l (stepped b m)).load =
+      ap (λ (x : Stepped). x.load) q ∙ plain-unchanged l i (ap (λ (x : Stepped). is_refused x.answer) (sym q) ∙ e) ∙ sym (cond-by _ _ e) in
+      (λ k. stepped b (same k)) ∙ ap (closing l) q ∙ passes t
 
-  pub plain-answered : is_taken a ≡ true → (s : Stepped) → s ≡ plain_call l i → is_refused s.answer ≡ false → (w : Week) → w ≡ closed_week l.week
-      → ◌≡◌ {A = Stepped} (record { answer = s.answer; load = with_week s.load w }) (dated_call l r i)
-  plain-answered t s q e w we =
-      let same : with_week s.load w ≡ (closing l s).load = ap (with_week s.load) we ∙ sym (cond-not _ _ e) in
-      (λ k. record { answer = s.answer; load = same k }) ∙ ap (closing l) q ∙ passes t
+  pub plain-answered : is_taken a ≡ true → (b : Answer) (m : Load) → stepped b m ≡ plain_call l i → is_refused b ≡ false → (w : Week)
+      → w ≡ closed_week l.week → stepped b (with_week m w) ≡ dated_call l r i
+  plain-answered t b m q e w we =
+      let same : with_week m w ≡ (closing l (stepped b m)).load = ap (with_week m) we ∙ sym (cond-not _ _ e) in
+      (λ k. stepped b (same k)) ∙ ap (closing l) q ∙ passes t
 
 module _ (l : Load) (name : List ℕ) (i : CallInput) where
   pub call-dated : l.week.dated ≡ true → (r : Running) → r ≡ running l.week name i.day → dated_call l r i ≡ call_spec l name i
@@ -228,7 +244,8 @@ module _ (l : Load) (name : List ℕ) (i : CallInput) where
 -- what became of a call, by its week and its gate
 pub data Called (l : Load) (name : List ℕ) (i : CallInput) : Stepped → Type 0 where
   without : l.week.dated ≡ false → Called l name i (plain_call l i)
-  goes_on : l.week.dated ≡ true → gate_answer l.searched l.stop_count (running l.week name i.day) i ≡ Ok Taken → Called l name i (closing l (plain_call l i))
+  goes_on : l.week.dated ≡ true → gate_answer l.searched l.stop_count (running l.week name i.day) i ≡ Ok Taken
+      → Called l name i (closing l (plain_call l i))
   stays_out : l.week.dated ≡ true → gate_answer l.searched l.stop_count (running l.week name i.day) i ≡ Ok Outside
       → Called l name i (record { answer = Ok Outside; load = closed_load l })
   sent_back : l.week.dated ≡ true → (r : Refusal) → gate_answer l.searched l.stop_count (running l.week name i.day) i ≡ Err r
@@ -238,12 +255,14 @@ pub called : (l : Load) (name : List ℕ) (i : CallInput) → Called l name i (c
 unfolding call_spec dated_call
 called l name i = go l.week.dated refl
   where
-    by : l.week.dated ≡ true → (a : Answer) → gate_answer l.searched l.stop_count (running l.week name i.day) i ≡ a → Called l name i (gated l i a)
+    by : l.week.dated ≡ true → (a : Answer) → gate_answer l.searched l.stop_count (running l.week name i.day) i ≡ a
+        → Called l name i (gated l i a)
     by d (Ok Taken) e = goes_on d e
     by d (Ok Outside) e = stays_out d e
     by d (Err r) e = sent_back d r e
 
-    go : (b : Bool) → l.week.dated ≡ b → Called l name i (cond b (gated l i (gate_answer l.searched l.stop_count (running l.week name i.day) i)) (plain_call l i))
+    go : (b : Bool) → l.week.dated ≡ b
+        → Called l name i (cond b (gated l i (gate_answer l.searched l.stop_count (running l.week name i.day) i)) (plain_call l i))
     go true d = by d _ refl
     go false d = without d
 
@@ -254,14 +273,14 @@ module _ (l : Load) (i : Rule) (a : Answer) (h : a ≡ rule_answer l i) where
   rule-room e = (rules.passed l.searched l.stop_count l.rules l.rule_count i (sym h ∙ taken_is a e)).room
 
   pub rule-taken : (r : Rule) → is_taken a ≡ true → r ≡ i
-      → ◌≡◌ {A = Stepped} (record { answer = a; load = with_rules l (set l.rules l.rule_count r) (l.rule_count + 1) }) (rule_spec l i)
+      → stepped a (with_rules l (set l.rules l.rule_count r) (l.rule_count + 1)) ≡ rule_spec l i
   unfolding rule_spec
   rule-taken r e q =
       let same : with_rules l (set l.rules l.rule_count r) (l.rule_count + 1) ≡ rule_load l i (rule_answer l i) =
       ap (λ (x : Rule). with_rules l (set l.rules l.rule_count x) (l.rule_count + 1)) q ∙ sym (cond-by _ _ (ap is_taken (sym h) ∙ e)) in
       λ k. record { answer = h k; load = same k }
 
-  pub rule-refused : is_taken a ≡ false → ◌≡◌ {A = Stepped} (record { answer = a; load = l }) (rule_spec l i)
+  pub rule-refused : is_taken a ≡ false → stepped a l ≡ rule_spec l i
   unfolding rule_spec
   rule-refused e =
       let same : l ≡ rule_load l i (rule_answer l i) = sym (cond-not _ _ (ap is_taken (sym h) ∙ e)) in

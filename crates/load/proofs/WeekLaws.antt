@@ -36,12 +36,14 @@ module _ (l : Load) (i : CallInput) where
   unfolding plain_call call_tests
   plain-9 e k = go (call-answered l.settings l.searched l.stop_count (table_of l) i)
     where
-      go : {a : Answer} {ts : List (Bool × Answer)} → First a ((l.searched, Err AlreadySearched) ∷ (not (known l.stop_count i), Err FieldRange) ∷ ts) → a ≡ Err FieldRange
+      go : {a : Answer} {ts : List (Bool × Answer)}
+          → First a ((l.searched, Err AlreadySearched) ∷ (not (known l.stop_count i), Err FieldRange) ∷ ts) → a ≡ Err FieldRange
       go (hit h) = absurd (true≢false (sym h ∙ e))
       go (miss h (hit g)) = refl
       go (miss h (miss g f)) = absurd (true≢false (sym (ap not k) ∙ g))
 
-  closing-refused : (r : Refusal) → (plain_call l i).answer ≡ Err r → ◌≡◌ {A = Stepped} (record { answer = Err r; load = l }) (closing l (plain_call l i))
+  closing-refused : (r : Refusal) → (plain_call l i).answer ≡ Err r
+      → ◌≡◌ {A = Stepped} (record { answer = Err r; load = l }) (closing l (plain_call l i))
   closing-refused r e =
       let same : l ≡ (closing l (plain_call l i)).load = sym (cond-by _ _ (ap is_refused e)) in
       λ k. record { answer = sym e k; load = same k }
@@ -51,9 +53,11 @@ module _ (l : Load) (i : CallInput) where
   by-gate a e = go l.searched refl (known l.stop_count i) refl
     where
       go : (b : Bool) → l.searched ≡ b → (c : Bool) → known l.stop_count i ≡ c → gated l i a ≡ closing l (plain_call l i)
-      go true s c k = ap (gated l i) (e ∙ sym (gate-searched l.searched l.stop_count i Runs s)) ∙ closing-refused AlreadySearched (plain-15 s)
+      go true s c k =
+          ap (gated l i) (e ∙ sym (gate-searched l.searched l.stop_count i Runs s)) ∙ closing-refused AlreadySearched (plain-15 s)
       go false s true k = ap (gated l i) (e ∙ sym (gate-told l.searched l.stop_count i Runs s k))
-      go false s false k = ap (gated l i) (e ∙ sym (gate-wrong l.searched l.stop_count i Runs s k)) ∙ closing-refused FieldRange (plain-9 s k)
+      go false s false k =
+          ap (gated l i) (e ∙ sym (gate-wrong l.searched l.stop_count i Runs s k)) ∙ closing-refused FieldRange (plain-9 s k)
 
 module _ (l : Load) (name : List ℕ) (i : CallInput) (d : l.week.dated ≡ true) where
   pub call-runs : running l.week name i.day ≡ Runs → call_spec l name i ≡ closing l (plain_call l i)
@@ -69,7 +73,8 @@ module _ (l : Load) (name : List ℕ) (i : CallInput) (d : l.week.dated ≡ true
       go _ (sent_back n r g) = by-gate l i (Err r) (sym g ∙ at)
 
   -- of one that doesn't: the load but for its week
-  pub call-rests : {X : Type 0} (f : Load → X) → ((m : Load) (w : Week) → f (with_week m w) ≡ f m) → (running l.week name i.day ≡ Runs → ⊥) → f (call_spec l name i).load ≡ f l
+  pub call-rests : {X : Type 0} (f : Load → X) → ((m : Load) (w : Week) → f (with_week m w) ≡ f m) → (running l.week name i.day ≡ Runs → ⊥)
+      → f (call_spec l name i).load ≡ f l
   call-rests f k n = go _ (called l name i)
     where
       go : (r : Stepped) → Called l name i r → f r.load ≡ f l
@@ -102,7 +107,8 @@ plain-week l i = go (is_refused (call_fitted l i).answer)
     go false = refl
 
 -- the week after a call: as it was, or closed
-pub call-week : (l : Load) (name : List ℕ) (i : CallInput) (P : Week → Type 0) → P l.week → P (closed_week l.week) → P (call_spec l name i).load.week
+pub call-week : (l : Load) (name : List ℕ) (i : CallInput) (P : Week → Type 0) → P l.week → P (closed_week l.week)
+    → P (call_spec l name i).load.week
 call-week l name i P p q = go _ (called l name i)
   where
     shut : (b : Bool) → P (cond b l (with_week (plain_call l i).load (closed_week l.week))).week

@@ -10,7 +10,7 @@ use Rattle.stops.specs.declared.StopInput.{StopInput}
 use Rattle.stops.specs.Answer.{station_of, stop_tests}
 use Rattle.stops.specs.Taken.{stop_of}
 use Rattle.calls.specs.declared.CallInput.{CallInput}
-use Rattle.calls.specs.declared.Fitted.{Fitted}
+use Rattle.calls.specs.Tried.{Tried}
 use Rattle.calls.specs.Calls.{field_tests, call_on}
 use Rattle.rules.specs.declared.Rule.{Rule}
 use Rattle.rules.specs.Rules.{rule_tests}
@@ -22,6 +22,10 @@ use Rattle.week.specs.Weeks.{undated_week, dated_week, closed_week, service_on, 
 use Rattle.load.specs.declared.Load.{Load}
 use Rattle.load.specs.declared.Stepped.{Stepped}
 use Rattle.load.specs.Load.{empty_of, empty_load, blank_settings, table_of, with_table, with_stops, with_rules, with_week}
+
+-- a step in place: its answer, and the load that it leaves
+abbrev pub stepped : Answer → Load → Stepped
+stepped a l = record { answer = a; load = l }
 
 -- ---- opening: 1, 2, 20
 
@@ -80,10 +84,10 @@ stop_spec l id name parent i = record {
 
 -- ---- call: 15, 9, 21, not running, absent time, 10, outside, 11
 
-abbrev pub call_fitted : Load → CallInput → Fitted
+abbrev pub call_fitted : Load → CallInput → Tried
 call_fitted l i = call_on l.settings l.searched l.stop_count (table_of l) i
 
-abbrev pub call_load : Load → Fitted → Load
+abbrev pub call_load : Load → Tried → Load
 call_load l f = cond (is_refused f.answer) l (with_table l f.table)
 
 -- a call that its service lets pass: 15, 9, absent time, 10, outside, 11

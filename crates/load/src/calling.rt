@@ -1,122 +1,118 @@
 // The call step of a load: by the week of a dated load, the short way where nothing is cut, and by the table.
 ghost use Rattle.std.specs.Prelude.{◌≡◌, []};
 ghost use Rattle.week.specs.Weeks.{running};
-ghost use Rattle.load.specs.Steps.{plain_call, gate_answer, dated_call, call_spec};
+ghost use Rattle.load.specs.Steps.{stepped, plain_call, gate_answer, dated_call, call_spec};
 
 use crate::{Load, Stepped};
 use calls::{CallInput, Table, Uncut};
 use refusal::{Accepted, Answer, Refusal, is_refused, is_taken};
-use table::step::{call_on, is_known, uncut};
+use table::step::{CallGate, is_known};
 use week::{Running, closed};
-
-// What a call on a dated load is answered by its service: 15, 9, 21, outside on a day when that doesn't run; taken where it goes on.
-// Two fields of the load, as no more of it is read. Each case of `told` has its answer here, and calls nothing.
-#[tactic(auto, unfolding(crate::specs::Steps::gate_answer, refusal::specs::First::first_answer))]
-fn gate_answer(searched: bool, stops: usize, told: Running, input: CallInput) -> Answer
-    ensures { result ≡ gate_answer searched stops told input }
-{
-    if searched {
-        return Err(Refusal::AlreadySearched);
-    }
-    if !is_known(stops, input) {
-        return Err(Refusal::FieldRange);
-    }
-    match told {
-        Running::Unknown => Err(Refusal::ServiceUnknown),
-        Running::Rests => Ok(Accepted::Outside),
-        Running::Runs => Ok(Accepted::Taken),
-    }
-}
 
 impl Load {
     // A call that names its service. On a load without dates the name is unread.
     pub fn call_of(self, service: &[u8], input: CallInput) -> Stepped
         ensures { result ≡ call_spec self service.now input }
     {
+        let mut next = self;
+        let answer = next.take_call_of(service, input);
+        Stepped { answer, load: next }
+    }
+
+    // The same in place.
+    fn take_call_of(&mut self, service: &[u8], input: CallInput) -> Answer
+        ensures { stepped result self.new ≡ call_spec self.old service.now input }
+    {
         if self.week.dated {
-            return self.call_dated(service, input);
+            return self.take_dated(service, input);
         }
-        self.call(input)
+        self.take_call(input)
+    }
+
+    // What a call on a dated load is answered by its service: 15, 9, 21, outside on a day when that doesn't run; taken where it goes on.
+    // Each case of `told` has its answer here, and calls nothing.
+    #[tactic(auto, unfolding(crate::specs::Steps::gate_answer, refusal::specs::First::first_answer))]
+    fn gate_answer(&self, told: Running, input: CallInput) -> Answer
+        ensures { result ≡ gate_answer self.now.searched self.now.stop_count told input }
+    {
+        if self.searched {
+            return Err(Refusal::AlreadySearched);
+        }
+        if !is_known(self.stop_count, input) {
+            return Err(Refusal::FieldRange);
+        }
+        match told {
+            Running::Unknown => Err(Refusal::ServiceUnknown),
+            Running::Rests => Ok(Accepted::Outside),
+            Running::Runs => Ok(Accepted::Taken),
+        }
     }
 
     // A call on a dated load. An answered one closes the services.
-    fn call_dated(self, service: &[u8], input: CallInput) -> Stepped
-        ensures { result ≡ dated_call self (running self.week service.now input.day) input }
+    fn take_dated(&mut self, service: &[u8], input: CallInput) -> Answer
+        ensures { stepped result self.new ≡ dated_call self.old (running self.old.week service.now input.day) input }
     {
         let told = self.week.running(service, input.day);
-        let gate = gate_answer(self.searched, self.stop_count, told, input);
+        let gate = self.gate_answer(told, input);
         if is_refused(gate) {
-            return Stepped {
-                answer: gate,
-                load: self,
-            };
+            return gate;
         }
         let week = closed(self.week);
         if is_taken(gate) {
-            let called = self.call_by_cuts(input);
-            if is_refused(called.answer) {
-                return called;
+            let answer = self.take_by_cuts(input);
+            if is_refused(answer) {
+                return answer;
             }
-            let mut next = called.load;
-            next.week = week;
-            return Stepped {
-                answer: called.answer,
-                load: next,
-            };
+            self.week = week;
+            return answer;
         }
-        let mut next = self;
-        next.week = week;
-        Stepped {
-            answer: gate,
-            load: next,
-        }
+        self.week = week;
+        gate
     }
 
     // A call that names no service: on a dated load no service has the empty name. It is taken, lies outside the window, or is sent back.
-    // Where nothing is cut, the table is not copied apart.
     pub fn call(self, input: CallInput) -> Stepped
         ensures { result ≡ call_spec self [] input }
     {
+        let mut next = self;
+        let answer = next.take_call(input);
+        Stepped { answer, load: next }
+    }
+
+    // The same in place. Where nothing is cut, the table is not copied apart.
+    pub fn take_call(&mut self, input: CallInput) -> Answer
+        ensures { stepped result self.new ≡ call_spec self.old [] input }
+    {
         if self.week.dated {
-            return self.call_dated(b"", input);
+            return self.take_dated(b"", input);
         }
         let at = self.call_count;
-        let told = uncut(
-            self.settings,
-            self.searched,
-            self.stop_count,
-            at,
-            self.table_horizon,
-            input,
-        );
+        let gate = CallGate {
+            settings: self.settings,
+            searched: self.searched,
+            stops: self.stop_count,
+        };
+        let told = gate.uncut(at, self.table_horizon, input);
         match told {
             Uncut::In(call) => {
-                let mut next = self;
-                next.calls[at] = call;
-                next.call_count = at + 1;
-                next.horizon = self.table_horizon;
-                next.limits = self.table_limits;
-                Stepped {
-                    answer: Ok(Accepted::Taken),
-                    load: next,
-                }
+                self.calls[at] = call;
+                self.call_count = at + 1;
+                self.horizon = self.table_horizon;
+                self.limits = self.table_limits;
+                Ok(Accepted::Taken)
             }
             Uncut::Outside => {
-                let mut next = self;
-                next.horizon = self.table_horizon;
-                next.limits = self.table_limits;
-                Stepped {
-                    answer: Ok(Accepted::Outside),
-                    load: next,
-                }
+                self.horizon = self.table_horizon;
+                self.limits = self.table_limits;
+                Ok(Accepted::Outside)
             }
-            Uncut::Other => self.call_by_cuts(input),
+            Uncut::Other => self.take_by_cuts(input),
         }
     }
 
     // A call that its service lets pass, through the table: what is sent back, and what a full table does.
-    fn call_by_cuts(self, input: CallInput) -> Stepped
-        ensures { result ≡ plain_call self input }
+    fn take_by_cuts(&mut self, input: CallInput) -> Answer
+        ensures { stepped result self.new ≡ plain_call self.old input }
     {
         // The load has these fields one by one, as most steps read one of them alone. An array goes from one record to another by a
         // variable.
@@ -127,25 +123,24 @@ impl Load {
             horizon: self.table_horizon,
             limits: self.table_limits,
         };
-        let f = call_on(self.settings, self.searched, self.stop_count, table, input);
-        if is_refused(f.answer) {
-            return Stepped {
-                answer: f.answer,
-                load: self,
-            };
-        }
-        let t = f.table;
-        let calls = t.calls;
-        let mut next = self;
-        next.calls = calls;
-        next.call_count = t.count;
-        next.table_horizon = t.horizon;
-        next.table_limits = t.limits;
-        next.horizon = t.horizon;
-        next.limits = t.limits;
-        Stepped {
-            answer: f.answer,
-            load: next,
+        let gate = CallGate {
+            settings: self.settings,
+            searched: self.searched,
+            stops: self.stop_count,
+        };
+        match gate.call_on(table, input) {
+            Err(refusal) => Err(refusal),
+            Ok(fitted) => {
+                let t = fitted.table;
+                let calls = t.calls;
+                self.calls = calls;
+                self.call_count = t.count;
+                self.table_horizon = t.horizon;
+                self.table_limits = t.limits;
+                self.horizon = t.horizon;
+                self.limits = t.limits;
+                Ok(fitted.accepted)
+            }
         }
     }
 }

@@ -4,8 +4,19 @@
 mod calling;
 
 ghost use Rattle.std.specs.Prelude.{◌≡◌, option_copied};
-ghost use Rattle.load.specs.Load.{blank_settings, empty_load, empty_of};
-ghost use Rattle.load.specs.Steps.{undated, dated, open_answer, open_by, open_spec_of, stop_spec, rule_spec, service_spec, exception_spec};
+ghost use Rattle.load.specs.Load.{blank_settings, empty_load, empty_of, with_week};
+ghost use Rattle.load.specs.Steps.{
+  undated,
+  dated,
+  open_answer,
+  open_by,
+  open_spec_of,
+  stepped,
+  stop_spec,
+  rule_spec,
+  service_spec,
+  exception_spec,
+};
 
 use calls::{Call, blank_call};
 use prefix::first;
@@ -16,12 +27,13 @@ use services::dates_wrong;
 use settings::{Settings, canonical, settings_answer};
 use stop_answer::{parent_of, stop_answer};
 use stops::taken::{blank_stop, stop_of};
-use stops::{Stop, StopInput};
-use week::{Week, dated, undated};
+use stops::{NewStop, Stop};
+use week::{Week, WeekStepped, dated, undated};
 
-// Counts stand beside arrays, since the core has no heap: a slot past its count holds the blank record. `table_horizon` and
-// `table_limits` are the call table's; `horizon` and `limits` are what a query sees, and differ from them only after the search.
-// `searched` tells whether steps are still taken, and of no other field; `limit` is the limit on joins of a search that was stopped.
+// Counts stand beside arrays, since the core has no heap and the kit's `ArrayVec` is not `Copy`, as a load is: a slot past its count holds
+// the blank record. `table_horizon` and `table_limits` are the call table's; `horizon` and `limits` are what a query sees, and differ from
+// them only after the search. `searched` stays a flag: horizon and limits are queried before the search too; journeys, their count and
+// `limit` are blank till then. `limit` is the limit on joins of a search that was stopped.
 #[derive(Clone, Copy, Debug, PartialEq)]
 pub struct Load {
     pub settings: Settings,
@@ -50,7 +62,7 @@ pub struct Stepped {
     pub load: Load,
 }
 
-// No `Default`: an array of 128 has none, and the horizon starts at 21600.
+// No `Default`: settings and week are handed in, and the horizon starts at 21600.
 fn empty(settings: Settings, week: Week) -> Load
     ensures { result ≡ empty_of settings week }
 {
@@ -74,7 +86,7 @@ fn empty(settings: Settings, week: Week) -> Load
     }
 }
 
-// The empty load of blank settings, which stands where no load was opened.
+// The empty load of blank settings, which stands where no load was opened. No `impl Default`: contracts name it.
 pub fn blank() -> Load
     ensures { result ≡ empty_load blank_settings }
 {
@@ -105,7 +117,8 @@ fn opening(answer: Answer, settings: Settings, week: Week) -> Stepped
     Stepped { answer, load }
 }
 
-// A step changes a copy of the load, and makes none by `..self`: that copies field by field, and a call took a sixth longer.
+// A step by value is the step in place of a copy: three lines alike in each, as a function that took the step as a closure would state its
+// promise once more.
 impl Load {
     // An empty load, or why the settings are sent back: then the load is the empty one of blank settings.
     pub fn open(settings: Settings) -> Stepped
@@ -121,68 +134,82 @@ impl Load {
         opening(dated_answer(settings, dates), settings, dated(dates))
     }
 
-    // A stop is taken or sent back. The texts come beside the input, as slices: a record of them would only lend them on.
-    pub fn stop(
-        self,
-        id: &[u8],
-        name: Option<&[u8]>,
-        parent: Option<&[u8]>,
-        input: StopInput,
-    ) -> Stepped
-        ensures { result ≡ stop_spec self id.now (option_copied name.entry) (option_copied parent.entry) input }
+    // A stop is taken or sent back.
+    pub fn stop(self, stop: NewStop<'_>) -> Stepped
+        ensures { result
+            ≡ stop_spec self stop.entry.id.now (option_copied stop.entry.name) (option_copied stop.entry.parent) stop.entry.input }
     {
-        let stops = first(&self.stops, self.stop_count);
-        let station = parent_of(stops, parent);
-        let answer = stop_answer(self.searched, stops, station, id, name, parent, input);
+        let mut next = self;
+        let answer = next.take_stop(stop);
+        Stepped { answer, load: next }
+    }
+
+    // The same in place.
+    pub fn take_stop(&mut self, stop: NewStop<'_>) -> Answer
+        ensures { stepped result self.new
+            ≡ stop_spec self.old stop.entry.id.now (option_copied stop.entry.name) (option_copied stop.entry.parent) stop.entry.input }
+    {
+        let at = self.stop_count;
+        let stops = first(&self.stops, at);
+        let station = parent_of(stops, stop.parent);
+        let answer = stop_answer(self.searched, stops, station, stop);
         if is_taken(answer) {
-            let at = self.stop_count;
-            let mut next = self;
-            next.stops[at] = stop_of(id, name, station, input);
-            next.stop_count = at + 1;
-            return Stepped { answer, load: next };
+            self.stops[at] = stop_of(stop, station);
+            self.stop_count = at + 1;
         }
-        Stepped { answer, load: self }
+        answer
     }
 
     // A rule is taken or sent back.
     pub fn rule(self, rule: Rule) -> Stepped
         ensures { result ≡ rule_spec self rule }
     {
-        let rules = first(&self.rules, self.rule_count);
+        let mut next = self;
+        let answer = next.take_rule(rule);
+        Stepped { answer, load: next }
+    }
+
+    // The same in place.
+    pub fn take_rule(&mut self, rule: Rule) -> Answer
+        ensures { stepped result self.new ≡ rule_spec self.old rule }
+    {
+        let at = self.rule_count;
+        let rules = first(&self.rules, at);
         let answer = rule_answer(self.searched, self.stop_count, rules, rule);
         if is_taken(answer) {
-            let at = self.rule_count;
-            let mut next = self;
-            next.rules[at] = rule;
-            next.rule_count = at + 1;
-            return Stepped { answer, load: next };
+            self.rules[at] = rule;
+            self.rule_count = at + 1;
         }
-        Stepped { answer, load: self }
+        answer
     }
 
     // A service is taken or sent back. Its three numbers come one by one: a record would be made by the caller and taken apart by `week`.
+    #[tactic(auto, unfolding(crate::specs::Steps::service_spec))]
     pub fn service(self, name: &[u8], weekdays: u8, start: u32, end: u32) -> Stepped
         ensures { result ≡ service_spec self name.now weekdays start end }
     {
-        let after = self.week.service(self.searched, name, weekdays, start, end);
-        let mut next = self;
-        next.week = after.week;
-        Stepped {
-            answer: after.answer,
-            load: next,
-        }
+        let step = self.week.service(self.searched, name, weekdays, start, end);
+        self.after(step)
     }
 
-    // An exception to a service is taken or sent back, of parameters as `service` has them. Its kind is a number and no enum, as it comes
-    // from a file.
+    // An exception to a service is taken or sent back, of parameters as `service` has them. Its kind is a number: any byte may be handed in,
+    // and 20 tells of those that are no kind.
+    #[tactic(auto, unfolding(crate::specs::Steps::exception_spec))]
     pub fn exception(self, name: &[u8], date: u32, kind: u8) -> Stepped
         ensures { result ≡ exception_spec self name.now date kind }
     {
-        let after = self.week.exception(self.searched, name, date, kind);
+        let step = self.week.exception(self.searched, name, date, kind);
+        self.after(step)
+    }
+
+    // The load after a step of its week.
+    fn after(self, step: WeekStepped) -> Stepped
+        ensures { result ≡ stepped step.answer (with_week self step.week) }
+    {
         let mut next = self;
-        next.week = after.week;
+        next.week = step.week;
         Stepped {
-            answer: after.answer,
+            answer: step.answer,
             load: next,
         }
     }

@@ -5,11 +5,10 @@ ghost use Rattle.load_c.specs.declared.altered.Action.TheVariants.{Search};
 ghost use Rattle.load_c.specs.Searches.{sum_of, call_at, alteration_of, horizon_after};
 
 use again::{add, withdraw};
-use calls::CallInput;
+use calls::{CallInput, CallKey};
 use load::Load;
 use reader::read;
 use search::search;
-use withdrawal::CallKey;
 
 // What is done to the load in each turn.
 #[derive(Clone, Copy, Debug, PartialEq)]

@@ -9,7 +9,7 @@ use load::Load;
 use search::earliest::earliest_arrival;
 
 // None of a load that is not stopped, and none with nothing found yet.
-#[tactic(auto, unfolding(crate::specs::Stopped::margin_spec, crate::specs::Stopped::margin_from))]
+#[tactic(auto, using(search::proofs::EarliestLaws::earliest_or), unfolding(crate::specs::Stopped::margin_spec, crate::specs::Stopped::margin_from))]
 pub fn margin_of(load: Load) -> Option<u16>
     ensures { result ≡ margin_spec load }
 {
@@ -17,6 +17,6 @@ pub fn margin_of(load: Load) -> Option<u16>
         return None;
     }
     let found = best(load, 0)?;
-    let earliest = earliest_arrival(&load);
+    let earliest = earliest_arrival(&load).unwrap_or(0);
     Some((found.arrival as u32).saturating_sub(earliest) as u16)
 }

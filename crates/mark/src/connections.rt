@@ -1,7 +1,7 @@
 // Connections as bytes: origin, target, how many rides count, then three rides of 11 bytes each: trip u16, day u8, the sequences where it
 // boards and alights, u32 each. Numbers are big-endian; the bytes of a ride that doesn't count are not read by the verdict. Bytes at the
 // end that are fewer than a connection's are left out.
-use crate::text;
+use crate::text::Line;
 use connection::{Connection, Leg};
 use load::Load;
 use stdio::out::Out;
@@ -30,6 +30,6 @@ fn connection_of(b: &[u8; 36]) -> Connection {
 pub fn verdicts(out: &mut Out, load: &Load, b: &[u8]) {
     let (connections, _) = b.as_chunks::<36>();
     for connection in connections {
-        text::verdict_line(out, verdict(load, &connection_of(connection)));
+        writeln!(out, "{}", Line(verdict(load, &connection_of(connection))));
     }
 }

@@ -19,34 +19,46 @@
 //     short C N A D               change C takes N seconds; one arrives at A, and the next departs at D
 use connection::Cause;
 use listing::Verdict;
-use stdio::out::Out;
+use std::fmt;
 
-fn impossible(out: &mut Out, c: Cause) {
-    match c {
-        Cause::RideCount(n) => writeln!(out, "impossible rides {n}"),
-        Cause::NoCall(r, s) => writeln!(out, "impossible no-call {r} {s}"),
-        Cause::BoardingBarred(r) => writeln!(out, "impossible boarding {r}"),
-        Cause::AlightingBarred(r) => writeln!(out, "impossible alighting {r}"),
-        Cause::NotLater(r) => writeln!(out, "impossible not-later {r}"),
-        Cause::NotOrigin => writeln!(out, "impossible origin"),
-        Cause::NotTarget => writeln!(out, "impossible target"),
-        Cause::TooEarly(w, d) => writeln!(out, "impossible walk {w} {d}"),
-        Cause::TooManyChanges(n) => writeln!(out, "impossible changes {n}"),
-        Cause::SameRun(c) => writeln!(out, "impossible same-run {c}"),
-        Cause::Forbidden(c, n) => writeln!(out, "impossible forbidden {c} {n}"),
-        Cause::NoChange(c) => writeln!(out, "impossible no-change {c}"),
-        Cause::TooShort(c, n, a, d) => writeln!(out, "impossible short {c} {n} {a} {d}"),
+// A cause as it is printed.
+#[derive(Clone, Copy, Debug, PartialEq, Eq)]
+struct Words(Cause);
+
+impl fmt::Display for Words {
+    fn fmt<W: fmt::Write>(&self, f: &mut fmt::Formatter<W>) -> fmt::Result {
+        match self.0 {
+            Cause::RideCount(n) => write!(f, "rides {n}"),
+            Cause::NoCall(r, s) => write!(f, "no-call {r} {s}"),
+            Cause::BoardingBarred(r) => write!(f, "boarding {r}"),
+            Cause::AlightingBarred(r) => write!(f, "alighting {r}"),
+            Cause::NotLater(r) => write!(f, "not-later {r}"),
+            Cause::NotOrigin => f.write_str("origin"),
+            Cause::NotTarget => f.write_str("target"),
+            Cause::TooEarly(w, d) => write!(f, "walk {w} {d}"),
+            Cause::TooManyChanges(n) => write!(f, "changes {n}"),
+            Cause::SameRun(c) => write!(f, "same-run {c}"),
+            Cause::Forbidden(c, n) => write!(f, "forbidden {c} {n}"),
+            Cause::NoChange(c) => write!(f, "no-change {c}"),
+            Cause::TooShort(c, n, a, d) => write!(f, "short {c} {n} {a} {d}"),
+        }
     }
 }
 
-pub fn verdict_line(out: &mut Out, v: Verdict) {
-    match v {
-        Verdict::NotFinished => writeln!(out, "unfinished"),
-        Verdict::Late => writeln!(out, "late"),
-        Verdict::Listed(j) => writeln!(out, "listed {j}"),
-        Verdict::AsGood(j) => writeln!(out, "equal {j}"),
-        Verdict::Beaten(j) => writeln!(out, "beaten {j}"),
-        Verdict::Uncovered => writeln!(out, "uncovered"),
-        Verdict::Impossible(c) => impossible(out, c),
+// A verdict as it is printed.
+#[derive(Clone, Copy, Debug, PartialEq, Eq)]
+pub struct Line(pub Verdict);
+
+impl fmt::Display for Line {
+    fn fmt<W: fmt::Write>(&self, f: &mut fmt::Formatter<W>) -> fmt::Result {
+        match self.0 {
+            Verdict::NotFinished => f.write_str("unfinished"),
+            Verdict::Late => f.write_str("late"),
+            Verdict::Listed(j) => write!(f, "listed {j}"),
+            Verdict::AsGood(j) => write!(f, "equal {j}"),
+            Verdict::Beaten(j) => write!(f, "beaten {j}"),
+            Verdict::Uncovered => f.write_str("uncovered"),
+            Verdict::Impossible(cause) => write!(f, "impossible {}", Words(cause)),
+        }
     }
 }

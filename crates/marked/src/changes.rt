@@ -6,6 +6,7 @@ use std::io;
 use transfer::Transfers;
 use transfer::pair::join;
 
+// In place of an option, as in `Transfers`.
 const NO_STOP: u16 = 65535;
 
 fn parents() -> [u16; 128] {

@@ -2,7 +2,7 @@
 use std::fmt;
 
 // Bytes as a byte string writes them, but for quotes and backslashes, which stand as they are.
-#[derive(Clone, Copy)]
+#[derive(Clone, Copy, Debug, PartialEq, Eq)]
 pub struct Bytes<'a>(pub &'a [u8]);
 
 impl<'a> fmt::Display for Bytes<'a> {

@@ -82,6 +82,7 @@ const OTHER_NAMES: [&[u8]; 9] = [
     b"\xff\xc2\x80",
 ];
 
+// For this program alone: a `Display` of the cases would name the same three.
 fn reason(error: NameError) -> &'static str {
     match error {
         NameError::NoWord => "no word",

@@ -21,7 +21,15 @@ use Rattle.offers.specs.Search.{Outcome, clashing, found_by, search_of, SearchIn
 use Rattle.offers.proofs.OrderLaws.{accepted-any-order, clashes-any-order}
 
 rides-of : {xs ys : List Call} {b a : Call} → Permᴰ xs ys → Rides xs b a → Rides ys b a
-rides-of p r = record { from = perm-mem earlier p r.from; to = perm-mem earlier p r.to; run = r.run; later = r.later; board = r.board; alight = r.alight }
+rides-of p r =
+    record {
+      from = perm-mem earlier p r.from;
+      to = perm-mem earlier p r.to;
+      run = r.run;
+      later = r.later;
+      board = r.board;
+      alight = r.alight;
+    }
 
 starts-of : (t : Timetable) (ys : List Call) {b : Call} {o : ℕ} → Starts t b o → Starts (with_calls t ys) b o
 starts-of t ys x = record { count = x.count; member = x.member; walked = x.walked }
@@ -30,7 +38,17 @@ ends_of : (t : Timetable) (ys : List Call) {a : Call} {k : ℕ} → Ends t a k �
 ends_of t ys x = record { count = x.count; member = x.member }
 
 other : (t : Timetable) (ys : List Call) → Permᴰ t.calls ys → (j : Journey) → Admitted t j → Admitted (with_calls t ys) j
-other t ys p j (inl w) = inl (record { b = w.b; a = w.a; o = w.o; k = w.k; ride = rides-of p w.ride; starts = starts-of t ys w.starts; ends = ends_of t ys w.ends; is = w.is })
+other t ys p j (inl w) =
+    inl (record {
+      b = w.b;
+      a = w.a;
+      o = w.o;
+      k = w.k;
+      ride = rides-of p w.ride;
+      starts = starts-of t ys w.starts;
+      ends = ends_of t ys w.ends;
+      is = w.is;
+    })
 other t ys p j (inr (inl w)) = inr (inl (record {
   b = w.b;
   a = w.a;
@@ -94,6 +112,7 @@ search-in-any-order t ys h l p = go (clashes (sorted t)) refl
     by : Timetable → Outcome
     by u = found_by (searched journey_figures 64 3600 h l (offers u))
 
-    go : (b : Bool) → clashes (sorted t) ≡ b → cond (clashes (sorted t)) clashing (by t) ≡ cond (clashes (sorted (with_calls t ys))) clashing (by (with_calls t ys))
+    go : (b : Bool) → clashes (sorted t) ≡ b
+        → cond (clashes (sorted t)) clashing (by t) ≡ cond (clashes (sorted (with_calls t ys))) clashing (by (with_calls t ys))
     go true e = rw (← clashes-any-order t.calls ys p, e)
     go false e = rw (← clashes-any-order t.calls ys p, e, offers-in-any-order t ys p e)

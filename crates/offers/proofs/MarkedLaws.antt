@@ -10,4 +10,15 @@ use Rattle.offers.specs.Marked.{MarkedOffers}
 
 pub marked-offers : MarkedOffers
 unfolding lexb clash rides first_rides joined_rides onward pass routes network_of offers search_of
-marked-offers = record { one_ride = refl; at_zero = refl; not_boarded = refl; at_horizon = refl; past_horizon = refl; joins = refl; joins_not = refl; latest_3601 = refl; latest_3600 = refl }
+marked-offers =
+    record {
+      one_ride = refl;
+      at_zero = refl;
+      not_boarded = refl;
+      at_horizon = refl;
+      past_horizon = refl;
+      joins = refl;
+      joins_not = refl;
+      latest_3601 = refl;
+      latest_3600 = refl;
+    }

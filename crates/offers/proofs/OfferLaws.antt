@@ -22,7 +22,17 @@ module _ (t : Timetable) (j : Journey) where
   by-route : (r : Route Call) → AdmittedRoute t r → j ≡ journey_by t r → Admitted t j
   by-route r (zero, h, x) e =
       let (k, en, q) = x.on in
-      inl (record { b = r.first.ride.b; a = r.first.ride.a; o = r.first.o; k = k; ride = x.ride; starts = x.starts; ends = en; is = e ∙ ap (λ (w : Way Call). journey_by t (route_of r.first w)) q })
+      inl (record {
+        b = r.first.ride.b;
+        a = r.first.ride.a;
+        o = r.first.o;
+        k = k;
+        ride = x.ride;
+        starts = x.starts;
+        ends = en;
+        is = e
+            ∙ ap (λ (w : Way Call). journey_by t (route_of r.first w)) q;
+      })
   by-route r (suc zero, h, x) e =
       let (l, v, last, joined, (k, en, q), p) = x.on in
       inr (inl (record {
@@ -70,19 +80,45 @@ module _ (t : Timetable) (j : Journey) where
       (r, (0, omega arith, record { may = omega arith; ride = w.ride; starts = w.starts; on = (w.k, w.ends, refl) }), sym w.is)
   to-route (inr (inl w)) =
       let l = leg w.c w.d in
-      let r = route_of (first_ride w.o w.b w.a) (ride_then l (here w.k)) in
-      (r, (1, omega arith, record { may = w.may; ride = w.first; starts = w.starts; on = (l, here w.k, w.last, w.joined, (w.k, w.ends, refl), refl) }), sym w.is)
+      let r = route_of (first_ride w.o w.b w.a) (ride_then l (here w.k)) in (
+        r,
+        (
+          1,
+          omega arith,
+          record {
+            may = w.may;
+            ride = w.first;
+            starts = w.starts;
+            on = (l, here w.k, w.last, w.joined, (w.k, w.ends, refl), refl);
+          },
+        ),
+        sym w.is,
+      )
   to-route (inr (inr w)) =
       let m = leg w.c w.d in
       let l = leg w.e w.g in
-      let r = route_of (first_ride w.o w.b w.a) (ride_then m (ride_then l (here w.k))) in
-      (r, (2, omega arith, record { may = w.may; ride = w.first; starts = w.starts; on = (m, ride_then l (here w.k), w.middle, w.joins_middle, (l, here w.k, w.last, w.joins_last, (w.k, w.ends, refl), refl), refl) }), sym w.is)
+      let r = route_of (first_ride w.o w.b w.a) (ride_then m (ride_then l (here w.k))) in (
+        r,
+        (
+          2,
+          omega arith,
+          record {
+            may = w.may;
+            ride = w.first;
+            starts = w.starts;
+            on =
+                (m, ride_then l (here w.k), w.middle, w.joins_middle, (l, here w.k, w.last, w.joins_last, (w.k, w.ends, refl), refl), refl);
+          },
+        ),
+        sym w.is,
+      )
 
 pub offers-admitted : OffersAdmitted
 unfolding offers
 offers-admitted t clear j = (
   λ m. let (r, i, e) = Memᴰ.of_map (journey_by t) (routes_of t) m in by-route t j r ((routes-admitted t clear r).0 i) (sym e),
-  λ w. let (r, x, e) = to-route t j w in subst (λ (i : Journey). Memᴰ i (offers t)) e (Memᴰ.map (journey_by t) ((routes-admitted t clear r).1 x)),
+  λ w. let (r, x, e) = to-route t j w in
+      subst (λ (i : Journey). Memᴰ i (offers t)) e (Memᴰ.map (journey_by t) ((routes-admitted t clear r).1 x)),
 )
 
 -- ---- no offer leaves after it arrives

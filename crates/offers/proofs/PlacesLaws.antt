@@ -26,5 +26,6 @@ unfolding journey_at
 row-figures at r = refl
 
 -- an array whose first n calls are sorted holds the calls in order
-pub array-in-places : (t : Timetable) (l : List Call) (n : ℕ) (d : Call) → n ≤ length l → take n l ≡ sorted t → InPlaces t (λ i. get_or l i d) n
+pub array-in-places : (t : Timetable) (l : List Call) (n : ℕ) (d : Call) → n ≤ length l → take n l ≡ sorted t
+    → InPlaces t (λ i. get_or l i d) n
 array-in-places t l n d h e = sym e ∙ take_places l d n h

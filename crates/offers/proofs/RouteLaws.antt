@@ -1,4 +1,5 @@
--- Routes of a timetable: what is listed is what is admitted, no route leaves after it arrives, and up to one change they are the offers as they were.
+-- Routes of a timetable: what is listed is what is admitted, no route leaves after it arrives, and up to one change they are the offers as
+-- they were.
 use mathlib.Core.Path.{refl, sym, ap, subst}
 use mathlib.Core.Logic.{◌⊎◌, inl, inr}
 use mathlib.Core.Bool.{cond}
@@ -20,27 +21,33 @@ use Rattle.offers.specs.Search.{clashing, found_by, search_of}
 use Rattle.offers.proofs.OrderLaws.{accepted-any-order}
 use Rattle.offers.proofs.FoundLaws.{rides-found, found-rides, ride-ahead, starts-set, set-starts, ends_set, set-ends}
 use Rattle.ways.specs.Routes.{Way, Route, here, ride_then, allowed, onward, pass, routes}
-use Rattle.offers.specs.Routes.{Onward, WithChanges, AdmittedRoute, arrives_at, OnwardIs, RoutesAdmitted, RoutesAhead, RoutesInAnyOrder, OffersUpToOne, SearchUpToOne}
+use Rattle.offers.specs.Routes.{Onward, WithChanges, AdmittedRoute, arrives_at, OnwardIs, RoutesAdmitted, RoutesAhead, RoutesInAnyOrder}
+use Rattle.offers.specs.Routes.{OffersUpToOne, SearchUpToOne}
 use Rattle.ways.proofs.RouteLaws.{Passed, pass-mem, mem-pass, allowed-mem, mem-allowed, up-to-one}
 
 -- ---- what leads on
 
-onward-mem : (n : ℕ) (t : Timetable) → Clear t → (r : Leg Call) (w : Way Call) → Memᴰ w (onward (network_of t) n (sorted t) r) → Onward n t r w
+onward-mem : (n : ℕ) (t : Timetable) → Clear t → (r : Leg Call) (w : Way Call) → Memᴰ w (onward (network_of t) n (sorted t) r)
+    → Onward n t r w
 unfolding onward network_of
 onward-mem zero t e r w m = let (k, i, q) = Memᴰ.of_map here ((network_of t).targets r.a) m in (k, ends_set t r.a i, sym q)
 onward-mem (suc n) t e r w m =
-    let (l, i, m₁) = concat_map-mem (λ l. map (ride_then l) (onward (network_of t) n (sorted t) l)) (joined_rides (network_of t) (sorted t) r) m in
+    let (l, i, m₁) =
+    concat_map-mem (λ l. map (ride_then l) (onward (network_of t) n (sorted t) l)) (joined_rides (network_of t) (sorted t) r) m in
     let (v, j, q) = Memᴰ.of_map (ride_then l) (onward (network_of t) n (sorted t) l) m₁ in
     let (x, y) = joined-mem (network_of t) (sorted t) r l i in
     (l, v, rides-found t e l.b l.a x, y, onward-mem n t e l v j, sym q)
 
-mem-onward : (n : ℕ) (t : Timetable) → Clear t → (r : Leg Call) (w : Way Call) → Onward n t r w → Memᴰ w (onward (network_of t) n (sorted t) r)
+mem-onward : (n : ℕ) (t : Timetable) → Clear t → (r : Leg Call) (w : Way Call) → Onward n t r w
+    → Memᴰ w (onward (network_of t) n (sorted t) r)
 unfolding onward network_of
 mem-onward zero t e r w (k, x, q) =
     subst (λ (v : Way Call). Memᴰ v (map here ((network_of t).targets r.a))) (sym q) (Memᴰ.map here (set-ends t r.a k x))
 mem-onward (suc n) t e r w (l, v, x, y, z, q) =
-    mem-concat_map (λ l. map (ride_then l) (onward (network_of t) n (sorted t) l)) (mem-joined (network_of t) (sorted t) r l (found-rides t e l.b l.a x) y)
-    (subst (λ (u : Way Call). Memᴰ u (map (ride_then l) (onward (network_of t) n (sorted t) l))) (sym q) (Memᴰ.map (ride_then l) (mem-onward n t e l v z)))
+    mem-concat_map (λ l. map (ride_then l) (onward (network_of t) n (sorted t) l))
+    (mem-joined (network_of t) (sorted t) r l (found-rides t e l.b l.a x) y)
+    (subst (λ (u : Way Call). Memᴰ u (map (ride_then l) (onward (network_of t) n (sorted t) l))) (sym q)
+    (Memᴰ.map (ride_then l) (mem-onward n t e l v z)))
 
 pub onward-is : OnwardIs
 onward-is n t e r w = (onward-mem n t e r w, mem-onward n t e r w)
@@ -51,10 +58,19 @@ module _ (t : Timetable) (e : Clear t) (r : Route Call) where
   with-changes : (ns : List ℕ) → Passed (network_of t) (sorted t) (allowed t.max_transfers ns) r → (n : ℕ) × Memᴰ n ns × WithChanges n t r
   with-changes ns w =
       let f = r.first.ride in
-      let (i, h) = allowed-mem t.max_transfers w.n ns w.number in
-      (w.n, i, record { may = h; ride = rides-found t e f.b f.a w.ride; starts = starts-set t f.b w.origin; on = onward-mem w.n t e f r.way w.on })
+      let (i, h) = allowed-mem t.max_transfers w.n ns w.number in (
+        w.n,
+        i,
+        record {
+          may = h;
+          ride = rides-found t e f.b f.a w.ride;
+          starts = starts-set t f.b w.origin;
+          on = onward-mem w.n t e f r.way w.on;
+        },
+      )
 
-  changes-with : (ns : List ℕ) (n : ℕ) → Memᴰ n ns → WithChanges n t r → Memᴰ r (pass (network_of t) (allowed t.max_transfers ns) (sorted t))
+  changes-with : (ns : List ℕ) (n : ℕ) → Memᴰ n ns → WithChanges n t r
+      → Memᴰ r (pass (network_of t) (allowed t.max_transfers ns) (sorted t))
   changes-with ns n i x =
       let f = r.first.ride in
       mem-pass (network_of t) (sorted t) (allowed t.max_transfers ns) r
@@ -95,7 +111,8 @@ routes-admitted t e r = (λ m. go (Memᴰ.append_cases (passed t (0 ∷ 1 ∷ []
 
 -- ---- no route leaves after it arrives
 
-onward-ahead : (n : ℕ) (t : Timetable) → Clear t → Timed t.calls → InTime t → (r : Leg Call) (w : Way Call) → Onward n t r w → r.a.arrival ≤ arrives_at r w.rides
+onward-ahead : (n : ℕ) (t : Timetable) → Clear t → Timed t.calls → InTime t → (r : Leg Call) (w : Way Call) → Onward n t r w
+    → r.a.arrival ≤ arrives_at r w.rides
 onward-ahead zero t e timed join r w (k, x, q) = rw q (omega arith)
 onward-ahead (suc n) t e timed join r w (l, v, x, y, z, q) =
     let h : r.a.arrival ≤ l.b.departure = join _ l.b y in
@@ -119,8 +136,11 @@ routes-in-any-order t ys p e = ap (routes (network_of t) t.max_transfers) (accep
 
 pub offers-up-to-one : OffersUpToOne
 unfolding offers
-offers-up-to-one t h = up-to-one (network_of t) t.max_transfers (sorted t) (direct_by t) (change_by t) (journey_by t) h (λ f k. refl) (λ f l k. refl)
+offers-up-to-one t h =
+    up-to-one (network_of t) t.max_transfers (sorted t) (direct_by t) (change_by t) (journey_by t) h (λ f k. refl) (λ f l k. refl)
 
 pub search-up-to-one : SearchUpToOne
 unfolding search_of
-search-up-to-one t h l few = ap (λ (os : List Journey). cond (clashes (sorted t)) clashing (found_by (searched journey_figures 64 3600 h l os))) (offers-up-to-one t few)
+search-up-to-one t h l few =
+    ap (λ (os : List Journey). cond (clashes (sorted t)) clashing (found_by (searched journey_figures 64 3600 h l os)))
+    (offers-up-to-one t few)

@@ -51,7 +51,8 @@ tail-later b cs (y ∷ ys) r t a m e = go t (Memᴰ.cases_cons m) (λ u n. tail-
     go (inr u) (inr n) ih = ih u n
 
 -- the run is not broken before a
-run_take : (b : Call) (cs : List Call) → ((z : Call) → Memᴰ z cs → earlier b z ≡ true) → Rising cs → (a : Call) → Memᴰ a cs → Run b a → Memᴰ a (run_of b cs)
+run_take : (b : Call) (cs : List Call) → ((z : Call) → Memᴰ z cs → earlier b z ≡ true) → Rising cs → (a : Call) → Memᴰ a cs → Run b a
+    → Memᴰ a (run_of b cs)
 run_take b [] h r a m u = absurd (Memᴰ.not-nil m)
 run_take b (c ∷ cs) h r a m u = go (Memᴰ.cases_cons m) (λ n. run_take b cs (λ z k. h z (Memᴰ.tail k)) r.1 a n u)
   where
@@ -60,7 +61,8 @@ run_take b (c ∷ cs) h r a m u = go (Memᴰ.cases_cons m) (λ n. run_take b cs 
 
     go : (a ≡ c) ⊎ Memᴰ a cs → (Memᴰ a cs → Memᴰ a (run_of b cs)) → Memᴰ a (run_of b (c ∷ cs))
     go (inl e) ih = kept (rw e at u) (Memᴰ.head e)
-    go (inr n) ih = kept (between b c a (strict_earlier.asym b c (h c (Memᴰ.head refl))) (strict_earlier.asym c a (r.0 a n)) u) (Memᴰ.tail (ih n))
+    go (inr n) ih =
+        kept (between b c a (strict_earlier.asym b c (h c (Memᴰ.head refl))) (strict_earlier.asym c a (r.0 a n)) u) (Memᴰ.tail (ih n))
 
 -- the later calls of b's trip and day in sorted calls are the calls of it with a larger sequence
 module _ (s : List Call) (up : Rising s) (b : Call) (cs : List Call) (t : Tail b cs s) (a : Call) where

@@ -20,8 +20,10 @@ pub search-found : SearchFound
 unfolding search_of
 search-found t h₀ l₀ h l ks e = go (clashes (sorted t)) refl (searched journey_figures 64 3600 h₀ l₀ (offers t)) refl e
   where
-    go : (b : Bool) → clashes (sorted t) ≡ b → (s : St Journey) → searched journey_figures 64 3600 h₀ l₀ (offers t) ≡ s → cond b clashing (found_by s) ≡ found ks h l
-        → Clear t × (ks'' : List Journey) × (searched journey_figures 64 3600 h₀ l₀ (offers t) ≡ going ks'' h l) × (ks ≡ ordered journey_figures ks'')
+    go : (b : Bool) → clashes (sorted t) ≡ b → (s : St Journey) → searched journey_figures 64 3600 h₀ l₀ (offers t) ≡ s
+        → cond b clashing (found_by s) ≡ found ks h l
+        → Clear t × (ks'' : List Journey) × (searched journey_figures 64 3600 h₀ l₀ (offers t) ≡ going ks'' h l)
+        × (ks ≡ ordered journey_figures ks'')
     go true p s q r = let z : ◌≡◌ {A = ℕ} 0 1 = cc in absurd (omega arith)
     go false p refused q r = let z : ◌≡◌ {A = ℕ} 0 1 = cc in absurd (omega arith)
     go false p (going ks' h' l') q r = (p, ks', cc, cc)
@@ -34,4 +36,5 @@ pub search-by-offers : SearchByOffers
 unfolding search_of
 search-by-offers t h l =
     ap (λ (s : St Journey). cond (clashes (sorted t)) clashing (found_by s)) (search-is-fall journey_figures h l (offers t))
-    ∙ ap (λ (f : Outcome). cond (clashes (sorted t)) clashing f) (keeping-ends (offers t) (fall (covᶠ journey_figures) (dueᶠ journey_figures) 64 3600 h l [] (offers t)))
+    ∙ ap (λ (f : Outcome). cond (clashes (sorted t)) clashing f)
+    (keeping-ends (offers t) (fall (covᶠ journey_figures) (dueᶠ journey_figures) 64 3600 h l [] (offers t)))

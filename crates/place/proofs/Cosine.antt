@@ -34,7 +34,9 @@ cpi = lit≤ tt
 pub series-within : (x : Float) → Within x 68 → Within (series x) 345
 unfolding series
 series-within x w =
-    let t5 = mul-within x (one ⊘ n40320 ⊖ x ⊘ n3628800) 68 69 (lit≤ tt) w (sub_within (one ⊘ n40320) (x ⊘ n3628800) 68 (lit≤ tt) c40320 (div-within x n3628800 68 (lit≤ tt) w (unfold of_bits in tt))) in
+    let t5 =
+    mul-within x (one ⊘ n40320 ⊖ x ⊘ n3628800) 68 69 (lit≤ tt) w
+    (sub_within (one ⊘ n40320) (x ⊘ n3628800) 68 (lit≤ tt) c40320 (div-within x n3628800 68 (lit≤ tt) w (unfold of_bits in tt))) in
     let t4 = mul-within x _ 68 138 (lit≤ tt) w (add-within (neg one ⊘ n720) _ 137 (lit≤ tt) c720 t5) in
     let t3 = mul-within x _ 68 207 (lit≤ tt) w (add-within (one ⊘ n24) _ 206 (lit≤ tt) c24 t4) in
     let t2 = mul-within x _ 68 276 (lit≤ tt) w (add-within (neg half) _ 275 (lit≤ tt) c2 t3) in
@@ -43,5 +45,7 @@ series-within x w =
 pub cosine-within : (s : ℤ) → nat_abs s ≤ 2 ^ 32 → Within (series (square (angle (of_int binary64 s)))) 345
 unfolding square angle
 cosine-within s h =
-    let r : Within (angle (of_int binary64 s)) 34 = div-within _ n360_m 34 (lit≤ tt) (mul-within (of_int binary64 s) pi 32 2 (lit≤ tt) (of_int-within s 32 (lit≤ tt) h) cpi) (unfold of_bits in tt) in
+    let r : Within (angle (of_int binary64 s)) 34 =
+    div-within _ n360_m 34 (lit≤ tt) (mul-within (of_int binary64 s) pi 32 2 (lit≤ tt) (of_int-within s 32 (lit≤ tt) h) cpi)
+    (unfold of_bits in tt) in
     series-within _ (mul-within _ _ 34 34 (lit≤ tt) r r)

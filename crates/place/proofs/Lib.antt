@@ -6,4 +6,3 @@ pub mod Cosine
 pub mod Meridian
 pub mod SameKeys
 pub mod Placed
-pub mod Texts

@@ -1,6 +1,8 @@
--- At equal longitude two positions are close by exactly where their latitudes differ by at most 1124 microdegrees: the square of the distance grows with
--- the difference, and 1124 and 1125 are computed.
-use Rattle.std.proofs.Common.{◌≡◌, ℕ, zero, suc, ◌+◌, ◌*◌, ◌^◌, ◌<◌, ◌≤◌, Bool, true, false, not, T, leb, ℤ, pos, negsuc, ◌+ℤ◌, ◌-ℤ◌, nat_abs, sym, refl, ap, ◌∙◌, subst, le_trans, le_of_eq, zero-lt-suc, mul-pos, one-mul, zero-add, zero-mul, mul-one, arith, lit<, lit≤, leb→le}
+-- At equal longitude two positions are close by exactly where their latitudes differ by at most 1124 microdegrees: the square of the
+-- distance grows with the difference, and 1124 and 1125 are computed.
+use Rattle.std.proofs.Common.{◌≡◌, ℕ, zero, suc, ◌+◌, ◌*◌, ◌^◌, ◌<◌, ◌≤◌, Bool, true, false, not, T, leb, ℤ, pos, negsuc, ◌+ℤ◌, ◌-ℤ◌}
+use Rattle.std.proofs.Common.{nat_abs, sym, refl, ap, ◌∙◌, subst, le_trans, le_of_eq, zero-lt-suc, mul-pos, one-mul, zero-add, zero-mul}
+use Rattle.std.proofs.Common.{mul-one, arith, lit<, lit≤, leb→le}
 use lib.Dec.{nleb→lt}
 use lib.IntN.{+ℤ_invr}
 use lib.Ieee.{Float, nan, inf, fin, binary64, up, down, of_bits, of_int, round, sum, add, mul, div, le, unlike}
@@ -32,7 +34,8 @@ nought-square nan k w = absurd w
 nought-square (inf s) k w = absurd w
 nought-square (fin s m e) k w =
     ap (λ (y : Float). y ⊗ y)
-    (ap (λ (n : ℕ). round binary64 (unlike false s) n (1 * down e)) (zero-mul (m * up e)) ∙ round-nought (unlike false s) (1 * down e) (mul-pos (lit< tt) (down_pos e)))
+    (ap (λ (n : ℕ). round binary64 (unlike false s) n (1 * down e)) (zero-mul (m * up e))
+    ∙ round-nought (unlike false s) (1 * down e) (mul-pos (lit< tt) (down_pos e)))
     ∙ plus s
   where
     plus : (t : Bool) → nought (unlike false t) ⊗ nought (unlike false t) ≡ nought false
@@ -123,7 +126,9 @@ w-pos n a b = between (w 1) (w n) (w top) w-lo w-hi (w-mono 1 n a) (w-mono n top
 
 m-mono : (m n : ℕ) → 1 ≤ m → m ≤ n → n ≤ top → T (le (metres (w m)) (metres (w n)))
 unfolding metres
-m-mono m n a h b = mul_mono binary64 (w m) (w n) k k (w-pos m a (le_trans h b)) (w-pos n (le_trans a h) b) k-pos k-pos (w-mono m n h) (unfold of_bits div round le in tt)
+m-mono m n a h b =
+    mul_mono binary64 (w m) (w n) k k (w-pos m a (le_trans h b)) (w-pos n (le_trans a h) b) k-pos k-pos (w-mono m n h)
+    (unfold of_bits div round le in tt)
 
 m-pos : (n : ℕ) → 1 ≤ n → n ≤ top → T (positive (metres (w n)))
 m-pos n a b = between (metres (w 1)) (metres (w n)) (metres (w top)) m-lo m-hi (m-mono 1 n (lit≤ tt) a b) (m-mono n top a b (lit≤ tt))
@@ -136,7 +141,9 @@ s-mono m n a h b =
     mul_mono binary64 (metres (w m)) (metres (w n)) (metres (w m)) (metres (w n)) p q p q (m-mono m n a h b) (m-mono m n a h b)
 
 s-pos : (n : ℕ) → 1 ≤ n → n ≤ top → T (positive (square (metres (w n))))
-s-pos n a b = between (square (metres (w 1))) (square (metres (w n))) (square (metres (w top))) s-lo s-hi (s-mono 1 n (lit≤ tt) a b) (s-mono n top a b (lit≤ tt))
+s-pos n a b =
+    between (square (metres (w 1))) (square (metres (w n))) (square (metres (w top))) s-lo s-hi (s-mono 1 n (lit≤ tt) a b)
+    (s-mono n top a b (lit≤ tt))
 
 -- +0 added to what is above zero rounds it once more
 plus-is : (x : Float) → T (positive x) → nought false ⊕ x ≡ round binary64 false (num x) (den x)
@@ -145,7 +152,8 @@ plus-is nan p = absurd p
 plus-is (inf s) p = absurd p
 plus-is (fin true m e) p = absurd p
 plus-is (fin false m e) p =
-    ap (λ (a : ℕ). round binary64 false a (1 * down e)) (ap (λ (a : ℕ). a + m * up e * 1) (zero-mul (down e)) ∙ zero-add (m * up e * 1) ∙ mul-one (m * up e))
+    ap (λ (a : ℕ). round binary64 false a (1 * down e)) (ap (λ (a : ℕ). a + m * up e * 1) (zero-mul (down e)) ∙ zero-add (m * up e * 1)
+    ∙ mul-one (m * up e))
     ∙ ap (λ (c : ℕ). round binary64 false (m * up e) c) (one-mul (down e))
 
 plus-mono : (x y : Float) → T (positive x) → T (positive y) → T (le x y) → T (le (nought false ⊕ x) (nought false ⊕ y))
@@ -156,7 +164,8 @@ plus-mono x y p q h =
 
 r-mono : (m n : ℕ) → 1 ≤ m → m ≤ n → n ≤ top → T (le (reach m) (reach n))
 unfolding reach
-r-mono m n a h b = plus-mono (square (metres (w m))) (square (metres (w n))) (s-pos m a (le_trans h b)) (s-pos n (le_trans a h) b) (s-mono m n a h b)
+r-mono m n a h b =
+    plus-mono (square (metres (w m))) (square (metres (w n))) (s-pos m a (le_trans h b)) (s-pos n (le_trans a h) b) (s-mono m n a h b)
 
 r-pos : (n : ℕ) → 1 ≤ n → n ≤ top → T (positive (reach n))
 r-pos n a b = between (reach 1) (reach n) (reach top) r-lo r-hi (r-mono 1 n (lit≤ tt) a b) (r-mono n top a b (lit≤ tt))
@@ -167,13 +176,15 @@ within zero h = subst T (sym r-0) tt
 within (suc n) h =
     let a : 1 ≤ suc n = zero-lt-suc n in
     let b : suc n ≤ top = le_trans h (lit≤ tt) in
-    le_trans_positive (reach (suc n)) (reach 1124) limit (r-pos (suc n) a b) (r-pos 1124 (lit≤ tt) (lit≤ tt)) limit-pos (r-mono (suc n) 1124 a h (lit≤ tt)) (subst T (sym r-1124) tt)
+    le_trans_positive (reach (suc n)) (reach 1124) limit (r-pos (suc n) a b) (r-pos 1124 (lit≤ tt) (lit≤ tt)) limit-pos
+    (r-mono (suc n) 1124 a h (lit≤ tt)) (subst T (sym r-1124) tt)
 
 beyond : (n : ℕ) → 1125 ≤ n → n ≤ top → T (le (reach n) limit) → ⊥
 beyond n h b t =
     let a : 1 ≤ n = omega arith in
     subst T r-1125
-    (le_trans_positive (reach 1125) (reach n) limit (r-pos 1125 (lit≤ tt) (lit≤ tt)) (r-pos n a b) limit-pos (r-mono 1125 n (lit≤ tt) h b) t)
+    (le_trans_positive (reach 1125) (reach n) limit (r-pos 1125 (lit≤ tt) (lit≤ tt)) (r-pos n a b) limit-pos
+    (r-mono 1125 n (lit≤ tt) h b) t)
 
 pub reach-is : (n : ℕ) → n ≤ top → le (reach n) limit ≡ leb n 1124
 reach-is n b = both_ways (le (reach n) limit) (leb n 1124) (λ t. go (leb n 1124) (nleb→lt n 1124) t) (λ t. within n (leb→le n 1124 t))
@@ -191,11 +202,14 @@ turn-none : (a : ℤ) → turn a a ≡ pos 0
 unfolding turn around
 turn-none a = ap around (+ℤ_invr a)
 
-pub close-meridian : (alat blat lon : ℤ) → nat_abs (alat +ℤ blat) ≤ 2 ^ 32 → nat_abs (alat -ℤ blat) ≤ 2 ^ 32 → close_by alat lon blat lon ≡ leb (nat_abs (alat -ℤ blat)) 1124
+pub close-meridian : (alat blat lon : ℤ) → nat_abs (alat +ℤ blat) ≤ 2 ^ 32 → nat_abs (alat -ℤ blat) ≤ 2 ^ 32
+    → close_by alat lon blat lon ≡ leb (nat_abs (alat -ℤ blat)) 1124
 unfolding close_by close_at reach
 close-meridian alat blat lon h g =
     ap (λ (t : ℤ). close_at (of_int binary64 (alat +ℤ blat)) (of_int binary64 t) (of_int binary64 (alat -ℤ blat))) (turn-none lon)
-    ∙ ap (λ (x : Float). le (square (x ⊗ series (square (angle (of_int binary64 (alat +ℤ blat))))) ⊕ square (metres (of_int binary64 (alat -ℤ blat)))) limit) no_way
-    ∙ ap (λ (x : Float). le (x ⊕ square (metres (of_int binary64 (alat -ℤ blat)))) limit) (nought-square (series (square (angle (of_int binary64 (alat +ℤ blat))))) 345 (cosine-within (alat +ℤ blat) h))
+    ∙ ap (λ (x : Float). le
+    (square (x ⊗ series (square (angle (of_int binary64 (alat +ℤ blat))))) ⊕ square (metres (of_int binary64 (alat -ℤ blat)))) limit) no_way
+    ∙ ap (λ (x : Float). le (x ⊕ square (metres (of_int binary64 (alat -ℤ blat)))) limit)
+    (nought-square (series (square (angle (of_int binary64 (alat +ℤ blat))))) 345 (cosine-within (alat +ℤ blat) h))
     ∙ ap (λ (x : Float). le (nought false ⊕ x) limit) (square-size (alat -ℤ blat))
     ∙ reach-is (nat_abs (alat -ℤ blat)) g

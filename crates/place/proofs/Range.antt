@@ -1,6 +1,7 @@
 -- Microdegrees of a usable position are within ±90,000,000 and ±180,000,000, so Rust's sums of two of them fit an i32.
 use Rattle.std.specs.Prelude.{None, Option, Some}
-use Rattle.std.proofs.Common.{◌≡◌, ℕ, ◌+◌, ◌*◌, ◌^◌, ◌<◌, ◌≤◌, Bool, true, false, ◌&&◌, T, ℤ, pos, ◌+ℤ◌, ◌-ℤ◌, neg_ℤ, nat_abs, sym, subst, le_trans, le_of_eq, mul-one, arith, lit<, lit≤}
+use Rattle.std.proofs.Common.{◌≡◌, ℕ, ◌+◌, ◌*◌, ◌^◌, ◌<◌, ◌≤◌, Bool, true, false, ◌&&◌, T, ℤ, pos, ◌+ℤ◌, ◌-ℤ◌, neg_ℤ, nat_abs, sym, subst}
+use Rattle.std.proofs.Common.{le_trans, le_of_eq, mul-one, arith, lit<, lit≤}
 use lib.Ieee.{Float, nan, inf, fin, up, down, of_bits, le}
 use Rattle.laws.specs.Floats.{AtMost}
 use Rattle.laws.proofs.AtMost.{lt-or-eq, whole-stays, mul-at-most, cut-size}

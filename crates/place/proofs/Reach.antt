@@ -1,5 +1,6 @@
 -- -top ≤ x ≤ top is that x is finite and at most top in size.
-use Rattle.std.proofs.Common.{◌≡◌, ℕ, ◌+◌, ◌*◌, ◌<◌, Bool, true, false, ◌&&◌, ◌||◌, T, eqb, ltb, refl, ap, ◌∙◌, mul-pos, arith, ltb→lt, lt-ltb}
+use Rattle.std.proofs.Common.{◌≡◌, ℕ, ◌+◌, ◌*◌, ◌<◌, Bool, true, false, ◌&&◌, ◌||◌, T, eqb, ltb, refl, ap, ◌∙◌, mul-pos, arith, ltb→lt}
+use Rattle.std.proofs.Common.{lt-ltb}
 use lib.Ieee.{Float, nan, inf, fin, up, down, neg, le}
 use lib.Ieee.Fits.{up_pos, down_pos}
 use lib.Ieee.Positive.{positive}
@@ -23,11 +24,13 @@ reach-test (inf false) (fin false n d) p = refl
 reach-test (fin false m e) (fin false n d) p =
     let a = n * up d * down e in
     let b = m * up e * down d in
-    ap (λ (t : Bool). (t || (eqb a b && (false || eqb a 0))) && le (fin false m e) (fin false n d)) (lt-ltb 0 (a + b) (first a b (mul-pos (mul-pos (ltb→lt 0 n p) (up_pos d)) (down_pos e))))
+    ap (λ (t : Bool). (t || (eqb a b && (false || eqb a 0))) && le (fin false m e) (fin false n d))
+    (lt-ltb 0 (a + b) (first a b (mul-pos (mul-pos (ltb→lt 0 n p) (up_pos d)) (down_pos e))))
 reach-test (fin true m e) (fin false n d) p =
     let a = n * up d * down e in
     let b = m * up e * down d in
-    ap (λ (t : Bool). (ltb b a || (eqb a b && true)) && (t || (eqb b a && (false || eqb b 0)))) (lt-ltb 0 (b + a) (second b a (mul-pos (mul-pos (ltb→lt 0 n p) (up_pos d)) (down_pos e))))
+    ap (λ (t : Bool). (ltb b a || (eqb a b && true)) && (t || (eqb b a && (false || eqb b 0))))
+    (lt-ltb 0 (b + a) (second b a (mul-pos (mul-pos (ltb→lt 0 n p) (up_pos d)) (down_pos e))))
     ∙ and-true (ltb b a || (eqb a b && true))
     ∙ ap (λ (t : Bool). ltb b a || (t && true)) (eqb-sym a b)
   where

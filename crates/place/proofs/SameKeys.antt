@@ -1,5 +1,6 @@
 -- Which keys are one place: each with itself, none of different tags or hashes, and on one meridian those at most 1124 microdegrees apart.
-use Rattle.std.proofs.Common.{◌≡◌, ℕ, ◌+◌, ◌^◌, ◌≤◌, Bool, true, false, cond, ◌&&◌, eqb, leb, ℤ, ◌+ℤ◌, ◌-ℤ◌, neg_ℤ, nat_abs, sym, refl, ap, ◌∙◌, subst, le_trans, le_of_eq, arith, lit≤, eq-eqb, ne_eqb}
+use Rattle.std.proofs.Common.{◌≡◌, ℕ, ◌+◌, ◌^◌, ◌≤◌, Bool, true, false, cond, ◌&&◌, eqb, leb, ℤ, ◌+ℤ◌, ◌-ℤ◌, neg_ℤ, nat_abs, sym, refl, ap}
+use Rattle.std.proofs.Common.{◌∙◌, subst, le_trans, le_of_eq, arith, lit≤, eq-eqb, ne_eqb}
 use lib.IntN.{+ℤ_invr}
 use Rattle.laws.proofs.Ints.{nat_abs-+ℤ, nat_abs-negℤ}
 use Rattle.place.specs.declared.PlaceKey.{PlaceKey}
@@ -36,7 +37,8 @@ same-meridian a b p q ta tb h l =
     ∙ ap (λ (x : ℤ). close_by a.lat x b.lat b.lon) l
     ∙ close-meridian a.lat b.lat b.lon
     (both-in (nat_abs (a.lat +ℤ b.lat)) (nat_abs a.lat) (nat_abs b.lat) (nat_abs-+ℤ a.lat b.lat) p q)
-    (both-in (nat_abs (a.lat -ℤ b.lat)) (nat_abs a.lat) (nat_abs b.lat) (subst (λ (n : ℕ). nat_abs (a.lat -ℤ b.lat) ≤ nat_abs a.lat + n) (nat_abs-negℤ b.lat) (nat_abs-+ℤ a.lat (neg_ℤ b.lat))) p q)
+    (both-in (nat_abs (a.lat -ℤ b.lat)) (nat_abs a.lat) (nat_abs b.lat)
+    (subst (λ (n : ℕ). nat_abs (a.lat -ℤ b.lat) ≤ nat_abs a.lat + n) (nat_abs-negℤ b.lat) (nat_abs-+ℤ a.lat (neg_ℤ b.lat))) p q)
 
 pub reflexive : Reflexive
 reflexive a p = go (eqb a.tag tag_n) refl

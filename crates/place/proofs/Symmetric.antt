@@ -1,5 +1,6 @@
 -- `same_keys` is symmetric, at every two keys.
-use Rattle.std.proofs.Common.{◌≡◌, ℕ, zero, suc, Bool, true, false, cond, ◌&&◌, T, eqb, ltb, ℤ, pos, negsuc, ◌+ℤ◌, ◌-ℤ◌, neg_ℤ, sym, refl, ap, ◌∙◌, eqb→eq}
+use Rattle.std.proofs.Common.{◌≡◌, ℕ, zero, suc, Bool, true, false, cond, ◌&&◌, T, eqb, ltb, ℤ, pos, negsuc, ◌+ℤ◌, ◌-ℤ◌, neg_ℤ, sym, refl}
+use Rattle.std.proofs.Common.{ap, ◌∙◌, eqb→eq}
 use lib.IntN.{+ℤ_comm, neg_ℤ-+ℤ, neg_ℤ-neg_ℤ}
 use lib.Ieee.{Float, binary64, of_int, neg, le}
 use Rattle.place.specs.Numbers.{n125, ◌⊕◌, ◌⊗◌}
@@ -30,7 +31,8 @@ square-metres x = ap (λ (y : Float). y ⊗ y) (mul-neg binary64 x _) ∙ square
 pub metres-neg : (z : ℤ) → square (metres (of_int binary64 (neg_ℤ z))) ≡ square (metres (of_int binary64 z))
 metres-neg (pos zero) = refl
 metres-neg (pos (suc n)) = ap (λ (x : Float). square (metres x)) (of_int-negsuc binary64 n) ∙ square-metres (of_int binary64 (pos (suc n)))
-metres-neg (negsuc n) = sym (square-metres (of_int binary64 (pos (suc n)))) ∙ ap (λ (x : Float). square (metres x)) (sym (of_int-negsuc binary64 n))
+metres-neg (negsuc n) =
+    sym (square-metres (of_int binary64 (pos (suc n)))) ∙ ap (λ (x : Float). square (metres x)) (sym (of_int-negsuc binary64 n))
 
 close-neg : (s x : Float) (z : ℤ) → close_at s x (of_int binary64 (neg_ℤ z)) ≡ close_at s x (of_int binary64 z)
 unfolding close_at
@@ -44,7 +46,8 @@ close-sym alat alon blat blon =
 
 -- ---- the keys
 -- where the tags are the same, it does not matter whose is compared with N
-pick : (t h : Bool) (m n : ℕ) (x : Bool) → (T t → m ≡ n) → cond (t && h) (cond (eqb m tag_n) x true) false ≡ cond (t && h) (cond (eqb n tag_n) x true) false
+pick : (t h : Bool) (m n : ℕ) (x : Bool) → (T t → m ≡ n)
+    → cond (t && h) (cond (eqb m tag_n) x true) false ≡ cond (t && h) (cond (eqb n tag_n) x true) false
 pick true h m n x f = ap (λ (k : ℕ). cond h (cond (eqb k tag_n) x true) false) (f tt)
 pick false h m n x f = refl
 
@@ -52,4 +55,5 @@ pub symmetric : Symmetric
 unfolding same_keys
 symmetric a b =
     pick (eqb a.tag b.tag) (eqb a.hash b.hash) a.tag b.tag (close_by a.lat a.lon b.lat b.lon) (eqb→eq a.tag b.tag)
-    ∙ (λ i. cond (eqb-sym a.tag b.tag i && eqb-sym a.hash b.hash i) (cond (eqb b.tag tag_n) (close-sym b.lat b.lon a.lat a.lon i) true) false)
+    ∙ (λ i. cond (eqb-sym a.tag b.tag i && eqb-sym a.hash b.hash i)
+    (cond (eqb b.tag tag_n) (close-sym b.lat b.lon a.lat a.lon i) true) false)

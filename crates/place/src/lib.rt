@@ -71,10 +71,7 @@ impl Degrees {
 pub fn usable(p: Option<Degrees>) -> bool
     ensures { result ≡ is_usable p }
 {
-    match p {
-        Some(degrees) => degrees.is_usable(),
-        None => false,
-    }
+    p.is_some_and(|degrees| degrees.is_usable())
 }
 
 // The microdegrees of a usable position.

@@ -52,7 +52,8 @@ key_fits ss k = go (eqb s.location_type 0)
     small = lit≤ tt
 
     go : (b : Bool) → nat_abs (cond b key no_place).lat ≤ 2 ^ 31
-    go true = le_trans (key-in-range (is_some parent) (text_of parent) s.degrees (is_some (name_of s)) (text_of (name_of s)) (id_of s)).0 small
+    go true =
+        le_trans (key-in-range (is_some parent) (text_of parent) s.degrees (is_some (name_of s)) (text_of (name_of s)) (id_of s)).0 small
     go false = lit≤ tt
 
 pub same_self : (ss : List Stop) (k : ℕ) → same_place ss k k ≡ true
@@ -66,7 +67,8 @@ module _ (ss : List Stop) (few : length ss ≤ 128) where
   done : Done
   unfolding groups_of id_order
   done =
-      good-all (same_place ss) (has_key ss) (id_less ss) (strict-ids ss) (id_order ss) (sort-ordered (id_less ss) (strict-ids ss) (span 0 (length ss))) (order-apart (id_less ss) (length ss))
+      good-all (same_place ss) (has_key ss) (id_less ss) (strict-ids ss) (id_order ss)
+      (sort-ordered (id_less ss) (strict-ids ss) (span 0 (length ss))) (order-apart (id_less ss) (length ss))
       (λ k m. omega (arith, order_below ss m))
 
   pub in_order : (k : ℕ) → k < length ss → Memᴰ k (id_order ss)
@@ -124,5 +126,6 @@ pub chain-not-merged : ChainNotMerged
 unfolding places_of groups_of id_order
 chain-not-merged a b c k ab bc s10 s21 s20 =
     let ss = a ∷ b ∷ c ∷ [] in
-    ap (λ (l : List ℕ). take 3 (foldl (place (same_place ss) (has_key ss)) no_groups l).places) (three-order (same_place ss) (has_key ss) (id_less ss) ab bc)
+    ap (λ (l : List ℕ). take 3 (foldl (place (same_place ss) (has_key ss)) no_groups l).places)
+    (three-order (same_place ss) (has_key ss) (id_less ss) ab bc)
     ∙ three-places (same_place ss) (has_key ss) (id_less ss) (k 0 (omega arith)) (k 1 (omega arith)) (k 2 (omega arith)) s10 s20

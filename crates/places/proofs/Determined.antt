@@ -47,7 +47,8 @@ module _ (P : ℕ → Type 0) (lt : ℕ → ℕ → Bool) (o : Strict lt) where
       before j t (inl n) = in_left (Memᴰ.cases_cons n)
         where
           in_left : (j ≡ i) ⊎ Memᴰ j left → P j
-          in_left (inl e) = absurd (true≢false (sym t ∙ o.asym i j (subst (λ (x : ℕ). lt x j ≡ true) e (subst (λ (x : ℕ). lt j x ≡ true) (sym e) t))))
+          in_left (inl e) =
+              absurd (true≢false (sym t ∙ o.asym i j (subst (λ (x : ℕ). lt x j ≡ true) e (subst (λ (x : ℕ). lt j x ≡ true) (sym e) t))))
           in_left (inr n') = absurd (true≢false (sym t ∙ w.0 j n'))
 
       here : P i
@@ -89,13 +90,15 @@ only-places ss few distinct p right k h t =
     every : PlacesRight ss (place_at ss)
     every = every-place ss few
 
-    step : (k : ℕ) → Memᴰ k (id_order ss) → ((j : ℕ) → Memᴰ j (id_order ss) → id_less ss j k ≡ true → has_key ss j ≡ true → p j ≡ place_at ss j)
+    step : (k : ℕ) → Memᴰ k (id_order ss)
+        → ((j : ℕ) → Memᴰ j (id_order ss) → id_less ss j k ≡ true → has_key ss j ≡ true → p j ≡ place_at ss j)
         → has_key ss k ≡ true → p k ≡ place_at ss k
     step k m ih t =
         let h : k < length ss = order_below ss m in
         let v = right k h t in
         let w = every k h t in
-        let same : (j : ℕ) → j < length ss → has_key ss j ≡ true → id_less ss j k ≡ true → p j ≡ place_at ss j = λ j hj tj l. ih j (in_order ss few j hj) l tj in
+        let same : (j : ℕ) → j < length ss → has_key ss j ≡ true → id_less ss j k ≡ true → p j ≡ place_at ss j =
+        λ j hj tj l. ih j (in_order ss few j hj) l tj in
         one-stop ss distinct (p k) (place_at ss k) v.known w.known
         (not-below ss distinct (place_at ss) p k h w v (λ j hj tj l. sym (same j hj tj l)))
         (not-below ss distinct p (place_at ss) k h v w same)

@@ -52,7 +52,8 @@ module _ (same : ℕ → ℕ → Bool) (keyed : ℕ → Bool) (lt : ℕ → ℕ 
 
   -- ---- one more stop, i, that was not placed before; what was placed before it is not above it
 
-  module _ (done : List ℕ) (g : Groups) (i : ℕ) (h : Good done g) (small : i < 128) (fresh : Memᴰ i done → ⊥) (late : (r : ℕ) → Memᴰ r done → lt i r ≡ false) where
+  module _ (done : List ℕ) (g : Groups) (i : ℕ) (h : Good done g) (small : i < 128) (fresh : Memᴰ i done → ⊥)
+      (late : (r : ℕ) → Memᴰ r done → lt i r ≡ false) where
     split : {k : ℕ} → Memᴰ k (done ++ i ∷ []) → Memᴰ k done ⊎ (k ≡ i)
     split {k} m = go (Memᴰ.append_cases done m)
       where
@@ -93,14 +94,20 @@ module _ (same : ℕ → ℕ → Bool) (keyed : ℕ → Bool) (lt : ℕ → ℕ 
         own = λ q m. kept r q (old (h.from q m).0) ∙ h.own q m;
         from = λ q m. (Memᴰ.append_left (i ∷ []) (h.from q m).0, (h.from q m).1);
         each = λ k m q. each k q (split m);
-        others = λ k n. kept r k (λ e. n (Memᴰ.append_right done (Memᴰ.head e)) (ap keyed e ∙ t)) ∙ h.others k (λ m q. n (Memᴰ.append_left (i ∷ []) m) q);
+        others =
+            λ k n. kept r k (λ e. n (Memᴰ.append_right done (Memᴰ.head e)) (ap keyed e ∙ t))
+            ∙ h.others k (λ m q. n (Memᴰ.append_left (i ∷ []) m) q);
       }
         where
           each : (k : ℕ) → keyed k ≡ true → Memᴰ k done ⊎ (k ≡ i) → (x : ℕ) × Has (placed g i (Some r)) k x
           each k q (inl m) =
               let w = h.each k m q in
               (w.0, record { at = kept r k (old m) ∙ w.1.at; rep = w.1.rep; fits = w.1.fits; before = w.1.before; least = w.1.least })
-          each k q (inr e) = (r, subst (λ (j : ℕ). Has (placed g i (Some r)) j r) (sym e) (record { at = here r; rep = f.one; fits = inr f.fits; before = late r (h.from r f.one).0; least = f.least }))
+          each k q (inr e) = (
+            r,
+            subst (λ (j : ℕ). Has (placed g i (Some r)) j r) (sym e)
+                (record { at = here r; rep = f.one; fits = inr f.fits; before = late r (h.from r f.one).0; least = f.least }),
+          )
 
       -- a stop that matches none
       good-own : ((q : ℕ) → Memᴰ q g.reps → same i q ≡ false) → Good (done ++ i ∷ []) (placed g i None)
@@ -110,7 +117,9 @@ module _ (same : ℕ → ℕ → Bool) (keyed : ℕ → Bool) (lt : ℕ → ℕ 
         own = λ q m. own q (Memᴰ.append_cases g.reps m);
         from = λ q m. from q (Memᴰ.append_cases g.reps m);
         each = λ k m q. each k q (split m);
-        others = λ k n. kept i k (λ e. n (Memᴰ.append_right done (Memᴰ.head e)) (ap keyed e ∙ t)) ∙ h.others k (λ m q. n (Memᴰ.append_left (i ∷ []) m) q);
+        others =
+            λ k n. kept i k (λ e. n (Memᴰ.append_right done (Memᴰ.head e)) (ap keyed e ∙ t))
+            ∙ h.others k (λ m q. n (Memᴰ.append_left (i ∷ []) m) q);
       }
         where
           own : (q : ℕ) → Memᴰ q g.reps ⊎ Memᴰ q (i ∷ []) → get_or (set g.places i i) q 65535 ≡ q
@@ -145,7 +154,13 @@ module _ (same : ℕ → ℕ → Bool) (keyed : ℕ → Bool) (lt : ℕ → ℕ 
           each k q (inr e) = (
             i,
             subst (λ (j : ℕ). Has (placed g i None) j i) (sym e)
-                (record { at = here i; rep = Memᴰ.append_right g.reps (Memᴰ.head refl); fits = inl refl; before = self (same i) lt o i; least = λ y j s. mine y s (Memᴰ.append_cases g.reps j) }),
+                (record {
+                  at = here i;
+                  rep = Memᴰ.append_right g.reps (Memᴰ.head refl);
+                  fits = inl refl;
+                  before = self (same i) lt o i;
+                  least = λ y j s. mine y s (Memᴰ.append_cases g.reps j);
+                }),
           )
 
       by-found : (f : Option ℕ) → Right (same i) lt o g.reps f → Good (done ++ i ∷ []) (placed g i f)
@@ -159,7 +174,8 @@ module _ (same : ℕ → ℕ → Bool) (keyed : ℕ → Bool) (lt : ℕ → ℕ 
         go true t = by-found t (first_match (same i) g.reps) (first-right (same i) lt o g.reps h.order)
         go false t = good-skip t
 
-  good-fold : (left done : List ℕ) (g : Groups) → Good done g → Ordered lt (done ++ left) → Apart (done ++ left) → ((k : ℕ) → Memᴰ k left → k < 128)
+  good-fold : (left done : List ℕ) (g : Groups) → Good done g → Ordered lt (done ++ left) → Apart (done ++ left)
+      → ((k : ℕ) → Memᴰ k left → k < 128)
       → Good (done ++ left) (foldl (place same keyed) g left)
   good-fold [] done g h w a small = subst (λ (l : List ℕ). Good l g) (sym (append-nil done)) h
   good-fold (i ∷ left) done g h w a small =
@@ -167,7 +183,8 @@ module _ (same : ℕ → ℕ → Bool) (keyed : ℕ → Bool) (lt : ℕ → ℕ 
       good_more done g i h (small i (Memᴰ.head refl)) (apart-mid done i left a) (λ r m. ordered-mid lt done i left w m) in
       let e = append_assoc done (i ∷ []) left in
       subst (λ (l : List ℕ). Good l (foldl (place same keyed) (place same keyed g i) left)) e
-      (good-fold left (done ++ i ∷ []) (place same keyed g i) step (subst (Ordered lt) (sym e) w) (subst Apart (sym e) a) (λ k m. small k (Memᴰ.tail m)))
+      (good-fold left (done ++ i ∷ []) (place same keyed g i) step (subst (Ordered lt) (sym e) w) (subst Apart (sym e) a)
+      (λ k m. small k (Memᴰ.tail m)))
 
   pub good-all : (s : List ℕ) → Ordered lt s → Apart s → ((k : ℕ) → Memᴰ k s → k < 128) → Good s (foldl (place same keyed) no_groups s)
   good-all s w a small = good-fold s [] no_groups good_none w a small

@@ -1,8 +1,8 @@
 pub mod Laws
-pub mod Made
 pub mod Grouping
 pub mod Numbers
 pub mod Orders
+pub mod Sorting
 pub mod First
 pub mod Invariant
 pub mod Claims

@@ -1,6 +1,6 @@
 -- Grouping the entries of stops is grouping their numbers.
 use Rattle.std.specs.Prelude.{None, Option, Some, is_some}
-use Prim.Native.Nat.{ℕ, ◌%◌, ◌≤◌, ◌<◌}
+use Prim.Native.Nat.{ℕ, zero, suc, ◌%◌, ◌≤◌, ◌<◌}
 use mathlib.Core.Path.{◌≡◌, refl, sym, ap, ap₂, ◌∙◌}
 use mathlib.Core.Bool.{Bool, true, false, cond, not}
 use mathlib.Core.List.{List, [], ◌∷◌, ◌++◌, map, map-append, Memᴰ}
@@ -14,7 +14,7 @@ use Rattle.laws.specs.Sort.{sort}
 use Rattle.laws.specs.Tables.{table}
 use Rattle.laws.proofs.Folds.{span-mem}
 use Rattle.laws.proofs.Sort.{sort-mem}
-use Rattle.laws.proofs.Tables.{sort-map}
+use Rattle.laws.proofs.Tables.{length-table, sort-map}
 use Rattle.place.specs.declared.PlaceKey.{PlaceKey}
 use Rattle.place.specs.Keys.{no_place, place_key, text_of}
 use Rattle.place.specs.Near.{same_keys}
@@ -27,7 +27,7 @@ use Rattle.places.specs.Keys.{parent_id, stop_key, key_at}
 use Rattle.places.specs.Places.{has_key, same_place, id_less, Groups, first_match, place, no_groups, id_order, groups_of, places_of}
 use Rattle.places.specs.Places as P
 use Rattle.places.proofs.Laws.{take-table}
-use Rattle.places.specs.Entries.{entry_at, id_before, first_entry, EntryGroups, put, place_entry, no_entries, group_entries}
+use Rattle.places.specs.Entries.{Numbered, entry_at, id_before, first_entry, EntryGroups, put, place_entry, no_entries, group_entries}
 
 module _ (ss : List Stop) where
   -- a stop has a key if its key's tag is not 0
@@ -73,14 +73,16 @@ module _ (ss : List Stop) where
     same_step : Same (place_entry e (entry_at ss i)) (place (same_place ss) (has_key ss) g i)
     unfolding entry_at
     same_step =
-        let f : first_entry (key_at ss i) e.reps ≡ first_match (same_place ss i) g.reps = ap (first_entry (key_at ss i)) h.reps ∙ first-map i g.reps in
+        let f : first_entry (key_at ss i) e.reps ≡ first_match (same_place ss i) g.reps =
+        ap (first_entry (key_at ss i)) h.reps ∙ first-map i g.reps in
         rw (keyed-tag i, f) (by-case (has_key ss i) (first_match (same_place ss i) g.reps))
 
   same_fold : (l : List ℕ) (e : EntryGroups) (g : Groups) → Same e g → ((k : ℕ) → Memᴰ k l → k < 128)
       → Same (foldl place_entry e (map (entry_at ss) l)) (foldl (place (same_place ss) (has_key ss)) g l)
   same_fold [] e g h small = h
   same_fold (i ∷ l) e g h small =
-      same_fold l (place_entry e (entry_at ss i)) (place (same_place ss) (has_key ss) g i) (same_step e g i h (small i (Memᴰ.head refl))) (λ k m. small k (Memᴰ.tail m))
+      same_fold l (place_entry e (entry_at ss i)) (place (same_place ss) (has_key ss) g i) (same_step e g i h (small i (Memᴰ.head refl)))
+      (λ k m. small k (Memᴰ.tail m))
 
   pub order_below : {k : ℕ} → Memᴰ k (id_order ss) → k < length ss
   unfolding id_order
@@ -89,16 +91,28 @@ module _ (ss : List Stop) where
   -- the entries in the order of ids are those of the numbers in that order
   order-map : (n : ℕ) → length ss ≡ n → sort id_before (table n (entry_at ss)) ≡ map (entry_at ss) (id_order ss)
   unfolding table id_order id_less id_before entry_at
-  order-map n e = ap (λ (k : ℕ). sort id_before (map (entry_at ss) (span 0 k))) (sym e) ∙ sym (sort-map id_before (entry_at ss) (span 0 (length ss)))
+  order-map n e =
+      ap (λ (k : ℕ). sort id_before (map (entry_at ss) (span 0 k))) (sym e) ∙ sym (sort-map id_before (entry_at ss) (span 0 (length ss)))
 
   groups-right : length ss ≤ 128 → (group_entries (map (entry_at ss) (id_order ss))).places ≡ places_of ss
   unfolding group_entries places_of groups_of
-  groups-right h = (same_fold (id_order ss) no_entries no_groups (record { reps = refl; places = refl }) (λ k m. omega (arith, order_below m))).places
+  groups-right h =
+      (same_fold (id_order ss) no_entries no_groups (record { reps = refl; places = refl }) (λ k m. omega (arith, order_below m))).places
+
+-- the first entries stand at the places of their numbers
+pub numbered : (ss : List Stop) (n : ℕ) {entries : List Entry} → n ≤ 128 → entries ≡ table 128 (entry_at ss) → Numbered (take n entries)
+unfolding table entry_at
+numbered ss n h e = rw (e, take-table (entry_at ss) n 128 h) (go 0 n ∙ ap (span 0) (sym (length-table (entry_at ss) n)))
+  where
+    go : (a n : ℕ) → map (λ x. x.stop) (map (entry_at ss) (span a n)) ≡ span a n
+    go a zero = refl
+    go a (suc n) = ap {B = List ℕ} (λ l. a ∷ l) (go (suc a) n)
 
 -- the three steps of the code
 pub group-parts : (ss : List Stop) (entries ordered : List Entry) {out : List ℕ} → length ss ≤ 128 → entries ≡ table 128 (entry_at ss)
     → ordered ≡ sort id_before (take (length ss) entries) → out ≡ (group_entries ordered).places → out ≡ places_of ss
 group-parts ss entries ordered few f g o =
     o ∙ ap (λ (x : List Entry). (group_entries x).places)
-    (g ∙ ap (λ (l : List Entry). sort id_before (take (length ss) l)) f ∙ ap (sort id_before) (take-table (entry_at ss) (length ss) 128 few) ∙ order-map ss (length ss) refl)
+    (g ∙ ap (λ (l : List Entry). sort id_before (take (length ss) l)) f ∙ ap (sort id_before) (take-table (entry_at ss) (length ss) 128 few)
+    ∙ order-map ss (length ss) refl)
     ∙ groups-right ss few

@@ -33,7 +33,8 @@ module _ (lt : ℕ → ℕ → Bool) where
           later (inl e) = inl e
           later (inr j) = inr (Memᴰ.tail j)
 
-      go : (b : Bool) → Memᴰ y (cond b (z ∷ insert_by lt x l) (x ∷ z ∷ l)) → (Memᴰ y (insert_by lt x l) → (y ≡ x) ⊎ Memᴰ y l) → (y ≡ x) ⊎ Memᴰ y (z ∷ l)
+      go : (b : Bool) → Memᴰ y (cond b (z ∷ insert_by lt x l) (x ∷ z ∷ l)) → (Memᴰ y (insert_by lt x l) → (y ≡ x) ⊎ Memᴰ y l)
+          → (y ≡ x) ⊎ Memᴰ y (z ∷ l)
       go true k ih = tail (Memᴰ.cases_cons k) ih
       go false k ih = Memᴰ.cases_cons k
 

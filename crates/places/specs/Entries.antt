@@ -1,8 +1,7 @@
 -- What the code makes of the stops first: for each its id, number and key; and the grouping of these.
-use Rattle.std.specs.Prelude.{Bool, cond, List, [], ◌∷◌, ◌++◌, ℕ, ◌%◌, eqb, set, replicate, None, Option, Some}
-use Rattle.laws.specs.Lists.{foldl}
+use Rattle.std.specs.Prelude.{◌≡◌, Bool, cond, List, [], ◌∷◌, ◌++◌, ℕ, ◌%◌, eqb, length, map, set, replicate, None, Option, Some}
+use Rattle.laws.specs.Lists.{foldl, span}
 use Rattle.laws.specs.Order.{less_bytes}
-use Rattle.laws.specs.Sort.{insert_by}
 use Rattle.texts.specs.Texts.{held, bytes_of}
 use Rattle.place.specs.declared.PlaceKey.{PlaceKey}
 use Rattle.place.specs.Keys.{no_place}
@@ -21,10 +20,9 @@ entry_at ss i = record { id = (stop_at ss i).id; stop = i; key = key_at ss i }
 unfoldable pub id_before : Entry → Entry → Bool
 id_before a b = less_bytes (bytes_of a.id) (bytes_of b.id)
 
--- the first put in among those behind it
-abbrev pub first_in : List Entry → List Entry
-first_in [] = []
-first_in (x ∷ xs) = insert_by id_before x xs
+-- each stands at the place of its number
+abbrev pub Numbered : List Entry → Type 0
+Numbered xs = map (λ e. e.stop) xs ≡ span 0 (length xs)
 
 -- the first entry that is one place with a key
 abbrev pub first_entry : PlaceKey → List Entry → Option ℕ

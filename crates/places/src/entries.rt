@@ -14,24 +14,18 @@ use stops::taken::blank_stop;
 use texts::Text;
 
 // The id of the stop of a number; empty past the last.
-#[tactic(auto, unfolding(stops::specs::Sound::stop_at))]
+#[tactic(auto, unfolding(stops::specs::Sound::stop_at, texts::specs::Texts::held))]
 fn id_at(stops: &[Stop], number: u16) -> &[u8]
     ensures { result.now ≡ id_of (stop_at stops.now number) }
 {
-    match stops.get(number as usize) {
-        Some(stop) => stop.id(),
-        None => b"",
-    }
+    stops.get(usize::from(number)).map_or(b"", |stop| stop.id())
 }
 
 // The id of a stop's parent.
 fn parent_id(stops: &[Stop], parent: Option<u16>) -> Option<&[u8]>
     ensures { option_copied result ≡ parent_id stops.now parent }
 {
-    match parent {
-        Some(number) => Some(id_at(stops, number)),
-        None => None,
-    }
+    parent.map(|number| id_at(stops, number))
 }
 
 // The place key of a stop whose parent, if it has one, has this id.

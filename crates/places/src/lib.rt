@@ -4,7 +4,6 @@
 
 mod entries;
 pub mod group;
-mod sorted;
 
 use place::PlaceKey;
 use texts::Text;

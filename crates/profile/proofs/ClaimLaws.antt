@@ -4,7 +4,9 @@ use lib.IntN.{ℤ}
 use Rattle.laws.proofs.Sort.{sort-perm, sort-mem, mem-sort}
 use Rattle.profile.specs.Figures.{Figures, covᶠ, dueᶠ}
 use Rattle.profile.specs.Best.{sooner, figures_at, numbered}
-use Rattle.profile.specs.Claims.{KeptIsFront, FrontUnbeaten, KeptCovers, CoveredBeatsNone, KeptAntichain, AntichainUnbeaten, OneWalk, WalksSearch, ReadsByPlace, SearchIsFall, FallsAtOneMore, LatePassedOver, KeptComplete, CompleteCut, Alike, BestInOrder, PlaceInOrder, PutInOrder, OrderedBest, CompleteOrdered, SearchMaps, OrderedMaps}
+use Rattle.profile.specs.Claims.{KeptIsFront, FrontUnbeaten, KeptCovers, CoveredBeatsNone, KeptAntichain, AntichainUnbeaten, OneWalk}
+use Rattle.profile.specs.Claims.{WalksSearch, ReadsByPlace, SearchIsFall, FallsAtOneMore, LatePassedOver, KeptComplete, CompleteCut, Alike}
+use Rattle.profile.specs.Claims.{BestInOrder, PlaceInOrder, PutInOrder, OrderedBest, CompleteOrdered, SearchMaps, OrderedMaps}
 use Rattle.profile.proofs.FiguresLaws.{figures-order}
 use Rattle.profile.proofs.FrontLaws.{after-mem, after-unbeaten, front-antichain, covered-beats-none as front-beats-none}
 use Rattle.profile.proofs.KeptLaws.{run-kept, run-covers}

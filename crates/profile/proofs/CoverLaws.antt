@@ -26,6 +26,7 @@ module _ (a b : Row) where
   unfolding cov last
   cov-later h k = rw (le-leb b.leave a.leave h) (sym (lexb-gt a.arrival b.arrival last k))
 
-  pub cov-tie : (r : Bool) → b.leave ≤ a.leave → b.arrival ≤ a.arrival → a.arrival ≤ b.arrival → r ≡ lexb a.rides b.rides (leb a.walk b.walk) → r ≡ cov a b
+  pub cov-tie : (r : Bool) → b.leave ≤ a.leave → b.arrival ≤ a.arrival → a.arrival ≤ b.arrival
+      → r ≡ lexb a.rides b.rides (leb a.walk b.walk) → r ≡ cov a b
   unfolding cov last
   cov-tie r h k m e = rw (le-leb b.leave a.leave h) (e ∙ sym (lexb-same a.arrival b.arrival last (omega arith)))

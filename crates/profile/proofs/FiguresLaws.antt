@@ -5,7 +5,19 @@ use Prim.Native.Nat.{ℕ, ◌≤◌}
 use native.Mathlib.Omega.{arith}
 use lib.Dec.{leb}
 use borrow.Author.Tests.{leb-true, leb-false, le-leb}
-pub use Rattle.laws.proofs.Lex.{lexb-lt, lexb-eq, lexb-same, lexb-gt, lexb-true, lexb-false, lexb-map, lexb-trans, lexb-total, lexb-antisym, lexb-le}
+pub use Rattle.laws.proofs.Lex.{
+  lexb-lt,
+  lexb-eq,
+  lexb-same,
+  lexb-gt,
+  lexb-true,
+  lexb-false,
+  lexb-map,
+  lexb-trans,
+  lexb-total,
+  lexb-antisym,
+  lexb-le,
+}
 use Rattle.laws.proofs.Bools.{and-true, and-true-left, and-true-right}
 use Rattle.profile.specs.Figures.{Figures, lexb, lexle, covers, prefer, covᶠ, dueᶠ}
 use Rattle.profile.specs.Front.{Order}
@@ -35,7 +47,9 @@ pub covers-lexle : (a b : Figures) → covers a b ≡ true → lexle a b ≡ tru
 covers-lexle a b h = and-true-right (leb b.leave a.leave) _ h
 
 pub covers-trans : (a b c : Figures) → covers a b ≡ true → covers b c ≡ true → covers a c ≡ true
-covers-trans a b c h k = and-true _ _ (le-leb c.leave a.leave (omega (arith, covers-leave a b h, covers-leave b c k))) (lexle-trans a b c (covers-lexle a b h) (covers-lexle b c k))
+covers-trans a b c h k =
+    and-true _ _ (le-leb c.leave a.leave (omega (arith, covers-leave a b h, covers-leave b c k)))
+    (lexle-trans a b c (covers-lexle a b h) (covers-lexle b c k))
 
 pub covers-arrival : (a b : Figures) → covers a b ≡ true → a.arrival ≤ b.arrival
 covers-arrival a b h = lexb-le a.arrival b.arrival _ (covers-lexle a b h)
@@ -52,7 +66,8 @@ prefer-trans a b c h k = lexb-trans a.arrival b.arrival c.arrival _ _ _ h k
 
 pub prefer-total : (a b : Figures) → prefer a b ≡ false → prefer b a ≡ true
 prefer-total a b h = lexb-total a.arrival b.arrival _ _ h
-    (λ h'. lexb-total a.rides b.rides _ _ h' (λ h''. lexb-total a.walk b.walk _ _ h'' (λ h'''. le-leb a.leave b.leave (omega (arith, leb-false b.leave a.leave h''')))))
+    (λ h'. lexb-total a.rides b.rides _ _ h'
+    (λ h''. lexb-total a.walk b.walk _ _ h'' (λ h'''. le-leb a.leave b.leave (omega (arith, leb-false b.leave a.leave h''')))))
 
 pub prefer-antisym : (a b : Figures) → prefer a b ≡ true → prefer b a ≡ true → a ≡ b
 prefer-antisym a b h k =

@@ -1,5 +1,5 @@
--- The laws of `front`: what one offer more does to it, at an earlier horizon, who is in it, and that it covers every offer due by the horizon.
--- That `cov` is an `Order` is a parameter where it is needed.
+-- The laws of `front`: what one offer more does to it, at an earlier horizon, who is in it, and that it covers every offer due by the
+-- horizon. That `cov` is an `Order` is a parameter where it is needed.
 use mathlib.Core.Path.{◌≡◌, refl, sym, ap, ◌∙◌}
 use mathlib.Core.Logic.{◌⊎◌, inl, inr}
 use mathlib.Core.Bool.{Bool, true, false, not, cond, ◌&&◌, ◌||◌, true≢false, false≢true, and-not_self, and-false, and-true as and-true'}
@@ -12,7 +12,8 @@ use borrow.Author.Tests.{leb-true, le-leb, lt-leb}
 use lib.ListN.{length, length-append}
 use Rattle.laws.specs.Lists.{filterb, anyb}
 use Rattle.laws.proofs.Bools.{and-true, and-true-left, and-true-right, test, not-true, of-not}
-use Rattle.laws.proofs.Lists.{anyb-mem, mem-anyb, anyb-not, anyb-none, anyb-append, mem-filterb, filterb-cong, filterb-all, length-filterb, snoc-ind}
+use Rattle.laws.proofs.Lists.{anyb-mem, mem-anyb, anyb-not, anyb-none, anyb-append, mem-filterb, filterb-cong, filterb-all, length-filterb}
+use Rattle.laws.proofs.Lists.{snoc-ind}
 use Rattle.profile.specs.Front.{beats, counts, after, front, Order}
 use Rattle.profile.specs.Walk.{near, Antichain}
 
@@ -43,7 +44,8 @@ module _ {A : Type 0} (cov : A → A → Bool) (due : A → ℕ) where
 
   -- ---- an earlier horizon
 
-  after-due-step : (g : ℕ) (x : A) (t u : List A) (n hi lo m : Bool) → leb (due x) g ≡ lo → (lo ≡ true → hi ≡ true) → filterb (λ k. leb (due k) g) t ≡ u
+  after-due-step : (g : ℕ) (x : A) (t u : List A) (n hi lo m : Bool) → leb (due x) g ≡ lo → (lo ≡ true → hi ≡ true)
+      → filterb (λ k. leb (due k) g) t ≡ u
       → filterb (λ k. leb (due k) g) (cond (n && (hi && m)) (x ∷ t) t) ≡ cond (n && (lo && m)) (x ∷ u) u
   after-due-step g x t u false hi lo m e up ih = ih
   after-due-step g x t u true true true true e up ih = rw e (ap {B = List A} (λ r. x ∷ r) ih)
@@ -56,8 +58,10 @@ module _ {A : Type 0} (cov : A → A → Bool) (due : A → ℕ) where
   pub after-due : (g h : ℕ) (pre os : List A) → g ≤ h → filterb (λ k. leb (due k) g) (after cov due h pre os) ≡ after cov due g pre os
   after-due g h pre [] le = refl
   after-due g h pre (x ∷ os) le =
-      after-due-step g x (after cov due h (pre ++ x ∷ []) os) (after cov due g (pre ++ x ∷ []) os) (not (anyb (λ q. beats cov q x) os)) (leb (due x) h) (leb (due x) g)
-      (not (anyb (λ q. cov q x) pre)) refl (λ e. le-leb (due x) h (omega (arith, leb-true (due x) g e))) (after-due g h (pre ++ x ∷ []) os le)
+      after-due-step g x (after cov due h (pre ++ x ∷ []) os) (after cov due g (pre ++ x ∷ []) os) (not (anyb (λ q. beats cov q x) os))
+      (leb (due x) h) (leb (due x) g)
+      (not (anyb (λ q. cov q x) pre)) refl (λ e. le-leb (due x) h (omega (arith, leb-true (due x) g e)))
+      (after-due g h (pre ++ x ∷ []) os le)
 
   -- ---- members
 
@@ -77,11 +81,14 @@ module _ {A : Type 0} (cov : A → A → Bool) (due : A → ℕ) where
       → ((k ≡ x) × (counts cov due h pre x os ≡ true)) ⊎ Memᴰ k (after cov due h (pre ++ x ∷ []) os)
   after-cases h pre x os {k} m = go (counts cov due h pre x os) refl m
     where
-      head : counts cov due h pre x os ≡ true → (k ≡ x) ⊎ Memᴰ k (after cov due h (pre ++ x ∷ []) os) → ((k ≡ x) × (counts cov due h pre x os ≡ true)) ⊎ Memᴰ k (after cov due h (pre ++ x ∷ []) os)
+      head : counts cov due h pre x os ≡ true → (k ≡ x) ⊎ Memᴰ k (after cov due h (pre ++ x ∷ []) os)
+          → ((k ≡ x) × (counts cov due h pre x os ≡ true)) ⊎ Memᴰ k (after cov due h (pre ++ x ∷ []) os)
       head e (inl q) = inl (q, e)
       head e (inr n) = inr n
 
-      go : (b : Bool) → counts cov due h pre x os ≡ b → Memᴰ k (cond b (x ∷ after cov due h (pre ++ x ∷ []) os) (after cov due h (pre ++ x ∷ []) os)) → ((k ≡ x) × (counts cov due h pre x os ≡ true)) ⊎ Memᴰ k (after cov due h (pre ++ x ∷ []) os)
+      go : (b : Bool) → counts cov due h pre x os ≡ b
+          → Memᴰ k (cond b (x ∷ after cov due h (pre ++ x ∷ []) os) (after cov due h (pre ++ x ∷ []) os))
+          → ((k ≡ x) × (counts cov due h pre x os ≡ true)) ⊎ Memᴰ k (after cov due h (pre ++ x ∷ []) os)
       go true e n = head e (Memᴰ.cases_cons n)
       go false e n = inr n
 
@@ -90,7 +97,8 @@ module _ {A : Type 0} (cov : A → A → Bool) (due : A → ℕ) where
   after-mem h pre [] m = absurd (Memᴰ.not-nil m)
   after-mem h pre (x ∷ os) {k} m = go (after-cases h pre x os m) (λ n. after-mem h (pre ++ x ∷ []) os n)
     where
-      go : ((k ≡ x) × (counts cov due h pre x os ≡ true)) ⊎ Memᴰ k (after cov due h (pre ++ x ∷ []) os) → (Memᴰ k (after cov due h (pre ++ x ∷ []) os) → Memᴰ k os × (due k ≤ h)) → Memᴰ k (x ∷ os) × (due k ≤ h)
+      go : ((k ≡ x) × (counts cov due h pre x os ≡ true)) ⊎ Memᴰ k (after cov due h (pre ++ x ∷ []) os)
+          → (Memᴰ k (after cov due h (pre ++ x ∷ []) os) → Memᴰ k os × (due k ≤ h)) → Memᴰ k (x ∷ os) × (due k ≤ h)
       go (inl (q, e)) ih = (Memᴰ.head q, rw q (leb-true (due x) h (counts-tests h pre x os e).1))
       go (inr n) ih = (Memᴰ.tail (ih n).0, (ih n).1)
 
@@ -108,7 +116,8 @@ module _ {A : Type 0} (cov : A → A → Bool) (due : A → ℕ) where
       self (inl i) e = rw (anyb-not (λ z. cov z x) (counts-tests h pre x os e).2 i)
       self (inr i) e = later (Memᴰ.cases_cons i) e
 
-      go : ((k ≡ x) × (counts cov due h pre x os ≡ true)) ⊎ Memᴰ k (after cov due h (pre ++ x ∷ []) os) → (Memᴰ k (after cov due h (pre ++ x ∷ []) os) → beats cov q k ≡ false) → beats cov q k ≡ false
+      go : ((k ≡ x) × (counts cov due h pre x os ≡ true)) ⊎ Memᴰ k (after cov due h (pre ++ x ∷ []) os)
+          → (Memᴰ k (after cov due h (pre ++ x ∷ []) os) → beats cov q k ≡ false) → beats cov q k ≡ false
       go (inl (r, e)) ih = rw r (self (Memᴰ.append_cases pre n) e)
       go (inr m') ih = ih m'
 
@@ -118,7 +127,8 @@ module _ {A : Type 0} (cov : A → A → Bool) (due : A → ℕ) where
   after-uncovered h pre (x ∷ os) {k} {q} m n =
       go (after-cases h pre x os m) (λ m'. after-uncovered h (pre ++ x ∷ []) os m' (Memᴰ.append_left (x ∷ []) n))
     where
-      go : ((k ≡ x) × (counts cov due h pre x os ≡ true)) ⊎ Memᴰ k (after cov due h (pre ++ x ∷ []) os) → (Memᴰ k (after cov due h (pre ++ x ∷ []) os) → cov q k ≡ false) → cov q k ≡ false
+      go : ((k ≡ x) × (counts cov due h pre x os ≡ true)) ⊎ Memᴰ k (after cov due h (pre ++ x ∷ []) os)
+          → (Memᴰ k (after cov due h (pre ++ x ∷ []) os) → cov q k ≡ false) → cov q k ≡ false
       go (inl (r, e)) ih = rw r (anyb-not (λ z. cov z x) (counts-tests h pre x os e).2 n)
       go (inr m') ih = ih m'
 
@@ -133,7 +143,8 @@ module _ {A : Type 0} (cov : A → A → Bool) (due : A → ℕ) where
       apart : counts cov due h pre x os ≡ true → (y : A) → Memᴰ y (after cov due h (pre ++ x ∷ []) os) → near cov x y ≡ false
       apart e y m =
           let a : cov x y ≡ false = after-uncovered h (pre ++ x ∷ []) os m (Memᴰ.append_right pre (Memᴰ.head refl)) in
-          let b : (cov y x && not (cov x y)) ≡ false = anyb-not (λ q. beats cov q x) (counts-tests h pre x os e).0 (after-mem h (pre ++ x ∷ []) os m).0 in
+          let b : (cov y x && not (cov x y)) ≡ false =
+          anyb-not (λ q. beats cov q x) (counts-tests h pre x os e).0 (after-mem h (pre ++ x ∷ []) os m).0 in
           let d : (cov y x && true) ≡ false = rw a at b in
           rw a (sym (and-true' (cov y x)) ∙ d)
 
@@ -149,27 +160,33 @@ module _ {A : Type 0} (cov : A → A → Bool) (due : A → ℕ) where
 module _ {A : Type 0} {cov : A → A → Bool} {due : A → ℕ} (ord : Order cov due) where
   open ord use {cov_refl, cov_trans, cov_due}
 
-  pub front-snoc : (h : ℕ) (os : List A) (o : A) → front cov due h (os ++ o ∷ []) ≡ filterb (λ k. not (beats cov o k)) (front cov due h os) ++ last cov due h os o
+  pub front-snoc : (h : ℕ) (os : List A) (o : A)
+      → front cov due h (os ++ o ∷ []) ≡ filterb (λ k. not (beats cov o k)) (front cov due h os) ++ last cov due h os o
   front-snoc h os o = after-snoc cov due h [] os o
 
   -- if q covers o and o beats k, then q beats k
   pub beats-trans : (q o k : A) → cov q o ≡ true → beats cov o k ≡ true → beats cov q k ≡ true
   beats-trans q o k c b =
       and-true (cov q k) (not (cov k q)) (cov_trans q o k c (and-true-left (cov o k) (not (cov k o)) b))
-      (ap not (not-true (cov k q) (λ f. true≢false (sym (cov_trans k q o f c) ∙ of-not (cov k o) (and-true-right (cov o k) (not (cov k o)) b)))))
+      (ap not (not-true (cov k q)
+      (λ f. true≢false (sym (cov_trans k q o f c) ∙ of-not (cov k o) (and-true-right (cov o k) (not (cov k o)) b)))))
 
   -- what covers o is not beaten by o
   pub covers-unbeaten : (k o : A) → cov k o ≡ true → beats cov o k ≡ false
   covers-unbeaten k o c = rw c (and-false (cov o k))
 
   -- an offer that one that counts covers beats none that counts
-  pub covered-beats-none : (h : ℕ) (os : List A) (o : A) {k k' : A} → Memᴰ k (front cov due h os) → cov k o ≡ true → Memᴰ k' (front cov due h os) → beats cov o k' ≡ false
+  pub covered-beats-none : (h : ℕ) (os : List A) (o : A) {k k' : A} → Memᴰ k (front cov due h os) → cov k o ≡ true
+      → Memᴰ k' (front cov due h os) → beats cov o k' ≡ false
   covered-beats-none h os o {k} {k'} m c m' =
-      not-true (beats cov o k') (λ b. true≢false (sym (beats-trans k o k' c b) ∙ after-unbeaten cov due h [] os m' (after-mem cov due h [] os m).0))
+      not-true (beats cov o k')
+      (λ b. true≢false (sym (beats-trans k o k' c b) ∙ after-unbeaten cov due h [] os m' (after-mem cov due h [] os m).0))
 
   -- one that counts, and that o does not beat, counts still after o
-  pub front-stays : (h : ℕ) (os : List A) (o : A) {k : A} → Memᴰ k (front cov due h os) → beats cov o k ≡ false → Memᴰ k (front cov due h (os ++ o ∷ []))
-  front-stays h os o m e = rw (front-snoc h os o) (Memᴰ.append_left (last cov due h os o) (mem-filterb (λ k. not (beats cov o k)) m (ap not e)))
+  pub front-stays : (h : ℕ) (os : List A) (o : A) {k : A} → Memᴰ k (front cov due h os) → beats cov o k ≡ false
+      → Memᴰ k (front cov due h (os ++ o ∷ []))
+  front-stays h os o m e =
+      rw (front-snoc h os o) (Memᴰ.append_left (last cov due h os o) (mem-filterb (λ k. not (beats cov o k)) m (ap not e)))
 
   -- o counts, if it is due by h and no earlier offer covers it
   pub front-new : (h : ℕ) (os : List A) (o : A) → due o ≤ h → anyb (λ q. cov q o) os ≡ false → Memᴰ o (front cov due h (os ++ o ∷ []))
@@ -179,14 +196,17 @@ module _ {A : Type 0} {cov : A → A → Bool} {due : A → ℕ} (ord : Order co
       here = rw (le-leb (due o) h d, e) (Memᴰ.head refl)
 
   -- an offer that beats one that counts is itself covered by no earlier offer
-  pub beats-uncovered : (h : ℕ) (os : List A) (o : A) {k : A} → Memᴰ k (front cov due h os) → beats cov o k ≡ true → anyb (λ q. cov q o) os ≡ false
+  pub beats-uncovered : (h : ℕ) (os : List A) (o : A) {k : A} → Memᴰ k (front cov due h os) → beats cov o k ≡ true
+      → anyb (λ q. cov q o) os ≡ false
   beats-uncovered h os o {k} m b =
-      anyb-none (λ q. cov q o) os (λ q n. not-true (cov q o) (λ c. true≢false (sym (beats-trans q o k c b) ∙ after-unbeaten cov due h [] os m n)))
+      anyb-none (λ q. cov q o) os
+      (λ q n. not-true (cov q o) (λ c. true≢false (sym (beats-trans q o k c b) ∙ after-unbeaten cov due h [] os m n)))
 
   abbrev pub Covered : ℕ → List A → A → Type 0
   Covered h os o = (k : A) × Memᴰ k (front cov due h os) × (cov k o ≡ true)
 
-  covered-snoc : (h : ℕ) (os : List A) (z : A) → ((o : A) → Memᴰ o os → due o ≤ h → Covered h os o) → (o : A) → Memᴰ o (os ++ z ∷ []) → due o ≤ h → Covered h (os ++ z ∷ []) o
+  covered-snoc : (h : ℕ) (os : List A) (z : A) → ((o : A) → Memᴰ o os → due o ≤ h → Covered h os o) → (o : A) → Memᴰ o (os ++ z ∷ [])
+      → due o ≤ h → Covered h (os ++ z ∷ []) o
   covered-snoc h os z ih o m d = go (Memᴰ.append_cases os m)
     where
       old : (w : Covered h os o) → (beats cov z w.0 ≡ true) ⊎ (beats cov z w.0 ≡ false) → Covered h (os ++ z ∷ []) o
@@ -211,7 +231,9 @@ module _ {A : Type 0} {cov : A → A → Bool} {due : A → ℕ} (ord : Order co
 
   -- each offer due by h is covered by one that counts
   pub front-covers : (h : ℕ) (os : List A) (o : A) → Memᴰ o os → due o ≤ h → Covered h os o
-  front-covers h os = snoc-ind (λ xs. (o : A) → Memᴰ o xs → due o ≤ h → Covered h xs o) (λ o m d. absurd (Memᴰ.not-nil m)) (λ xs z ih. covered-snoc h xs z ih) os
+  front-covers h os =
+      snoc-ind (λ xs. (o : A) → Memᴰ o xs → due o ≤ h → Covered h xs o) (λ o m d. absurd (Memᴰ.not-nil m))
+      (λ xs z ih. covered-snoc h xs z ih) os
 
   -- ---- what an offer does to those that count
 
@@ -222,8 +244,10 @@ module _ {A : Type 0} {cov : A → A → Bool} {due : A → ℕ} (ord : Order co
       far : (k : A) → Memᴰ k (front cov due h os) → cov o k ≡ false
       far k m = not-true (cov o k) (λ c. let n = (after-mem cov due h [] os m).1 in let b = cov_due o k c in omega arith)
 
-  pub front-covered : (h : ℕ) (os : List A) (o : A) → anyb (λ k. cov k o) (front cov due h os) ≡ true → front cov due h (os ++ o ∷ []) ≡ front cov due h os
-  front-covered h os o e = front-snoc h os o ∙ rw (mem-anyb (λ q. cov q o) (after-mem cov due h [] os w.1).0 w.2, and-false (leb (due o) h), append-nil)
+  pub front-covered : (h : ℕ) (os : List A) (o : A) → anyb (λ k. cov k o) (front cov due h os) ≡ true
+      → front cov due h (os ++ o ∷ []) ≡ front cov due h os
+  front-covered h os o e =
+      front-snoc h os o ∙ rw (mem-anyb (λ q. cov q o) (after-mem cov due h [] os w.1).0 w.2, and-false (leb (due o) h), append-nil)
       (filterb-all (λ k. not (beats cov o k)) (front cov due h os) (λ k m. ap not (covered-beats-none h os o w.1 w.2 m)))
     where
       w : (k : A) × Memᴰ k (front cov due h os) × (cov k o ≡ true)

@@ -26,7 +26,8 @@ module _ {A : Type 0} (due : A → ℕ) where
   latest-mem (x ∷ []) l = (x, Memᴰ.head refl, omega arith)
   latest-mem (x ∷ y ∷ ys) l = go (test (leb (due x) (latest due (y ∷ ys)))) (latest-mem (y ∷ ys) (omega arith))
     where
-      go : (leb (due x) (latest due (y ∷ ys)) ≡ true) ⊎ (leb (due x) (latest due (y ∷ ys)) ≡ false) → (z : A) × Memᴰ z (y ∷ ys) × (due z ≡ latest due (y ∷ ys))
+      go : (leb (due x) (latest due (y ∷ ys)) ≡ true) ⊎ (leb (due x) (latest due (y ∷ ys)) ≡ false)
+          → (z : A) × Memᴰ z (y ∷ ys) × (due z ≡ latest due (y ∷ ys))
           → (z : A) × Memᴰ z (x ∷ y ∷ ys) × (due z ≡ latest due (x ∷ y ∷ ys))
       go (inl e) (z, m, q) = (z, Memᴰ.tail m, omega (arith, leb-true (due x) (latest due (y ∷ ys)) e))
       go (inr e) w = (x, Memᴰ.head refl, omega (arith, leb-false (due x) (latest due (y ∷ ys)) e))
@@ -47,7 +48,8 @@ module _ {A : Type 0} (due : A → ℕ) (cap floor : ℕ) where
       falls more true e = low more
       falls more false e = cut more (ltb-false g floor e)
 
-      fit : (b : Bool) → leb (length ks) cap ≡ b → P (cond b (going ks h l) (cond (ltb g floor) refused (going (filterb (λ k. leb (due k) g) ks) g 1)))
+      fit : (b : Bool) → leb (length ks) cap ≡ b
+          → P (cond b (going ks h l) (cond (ltb g floor) refused (going (filterb (λ k. leb (due k) g) ks) g 1)))
       fit true e = whole (leb-true (length ks) cap e)
       fit false e = falls (leb-false (length ks) cap e) (ltb g floor) refl
 
@@ -67,23 +69,34 @@ module _ {A : Type 0} {cov : A → A → Bool} {due : A → ℕ} (ord : Order co
       → offer cov due cap floor (going (front cov due h os) h l) o ≡ settle due cap floor (front cov due h (os ++ o ∷ [])) h l
   offer-settles h l os o len = late (test (ltb h (due o)))
     where
-      stays : front cov due h (os ++ o ∷ []) ≡ front cov due h os → going (front cov due h os) h l ≡ settle due cap floor (front cov due h (os ++ o ∷ [])) h l
+      stays : front cov due h (os ++ o ∷ []) ≡ front cov due h os
+          → going (front cov due h os) h l ≡ settle due cap floor (front cov due h (os ++ o ∷ [])) h l
       stays e = rw (e, le-leb (length (front cov due h os)) cap len)
 
-      covered : ltb h (due o) ≡ false → (anyb (λ k. cov k o) (front cov due h os) ≡ true) ⊎ (anyb (λ k. cov k o) (front cov due h os) ≡ false)
-          → cond (anyb (λ k. cov k o) (front cov due h os)) (going (front cov due h os) h l) (settle due cap floor (filterb (λ k. not (cov o k)) (front cov due h os) ++ o ∷ []) h l) ≡ settle due cap floor (front cov due h (os ++ o ∷ [])) h l
+      covered : ltb h (due o) ≡ false
+          → (anyb (λ k. cov k o) (front cov due h os) ≡ true) ⊎ (anyb (λ k. cov k o) (front cov due h os) ≡ false)
+          → cond (anyb (λ k. cov k o) (front cov due h os)) (going (front cov due h os) h l)
+          (settle due cap floor (filterb (λ k. not (cov o k)) (front cov due h os) ++ o ∷ []) h l)
+          ≡ settle due cap floor (front cov due h (os ++ o ∷ [])) h l
       covered d (inl e) = rw e (stays (front-covered ord h os o e))
       covered d (inr e) = rw (e, front-added ord h os o (ltb-false h (due o) d) e)
 
-      late : (ltb h (due o) ≡ true) ⊎ (ltb h (due o) ≡ false) → offer cov due cap floor (going (front cov due h os) h l) o ≡ settle due cap floor (front cov due h (os ++ o ∷ [])) h l
+      late : (ltb h (due o) ≡ true) ⊎ (ltb h (due o) ≡ false)
+          → offer cov due cap floor (going (front cov due h os) h l) o ≡ settle due cap floor (front cov due h (os ++ o ∷ [])) h l
       late (inl d) = rw d (stays (front-late ord h os o (ltb-true h (due o) d)))
       late (inr d) = rw d (covered d (test (anyb (λ k. cov k o) (front cov due h os))))
 
   -- a list of at most one too many is cut
-  pub settle-holds : (h₀ : ℕ) (os : List A) (h l : ℕ) → length (front cov due h os) ≤ suc cap → h ≤ h₀ → Holds cov due cap h₀ os (settle due cap floor (front cov due h os) h l)
+  pub settle-holds : (h₀ : ℕ) (os : List A) (h l : ℕ) → length (front cov due h os) ≤ suc cap → h ≤ h₀
+      → Holds cov due cap h₀ os (settle due cap floor (front cov due h os) h l)
   settle-holds h₀ os h l len le =
       settle-elim due cap floor (Holds cov due cap h₀ os) (front cov due h os) h l (λ fits. (refl, fits, le)) (λ more. tt)
-      (λ more low. (after-due cov due g h [] os (omega (arith, front-latest cov due h os)), shorter more low, omega (arith, front-latest cov due h os)))
+      (λ more low. (
+        after-due cov due g h [] os (omega (arith, front-latest cov due h os)),
+        shorter more low,
+        omega
+            (arith, front-latest cov due h os),
+      ))
     where
       g : ℕ
       g = latest due (front cov due h os) - 1
@@ -94,7 +107,8 @@ module _ {A : Type 0} {cov : A → A → Bool} {due : A → ℕ} (ord : Order co
           let lt = length-filterb-lt (λ k. leb (due k) g) w.1 (lt-leb (due w.0) g (omega (arith, w.2))) in
           omega arith
 
-  offer-holds : (h₀ : ℕ) (os : List A) (o : A) (s : St A) → Holds cov due cap h₀ os s → Holds cov due cap h₀ (os ++ o ∷ []) (offer cov due cap floor s o)
+  offer-holds : (h₀ : ℕ) (os : List A) (o : A) (s : St A) → Holds cov due cap h₀ os s
+      → Holds cov due cap h₀ (os ++ o ∷ []) (offer cov due cap floor s o)
   offer-holds h₀ os o refused w = tt
   offer-holds h₀ os o (going ks h l) (e, len, le) =
       let len' : length (front cov due h os) ≤ cap = rw e at len in
@@ -103,7 +117,8 @@ module _ {A : Type 0} {cov : A → A → Bool} {due : A → ℕ} (ord : Order co
 
   pub run_holds : (h₀ l₀ : ℕ) (os : List A) → Holds cov due cap h₀ os (run cov due cap floor h₀ l₀ os)
   run_holds h₀ l₀ os = snoc-ind (λ xs. Holds cov due cap h₀ xs (run cov due cap floor h₀ l₀ xs)) (refl, omega arith, omega arith)
-      (λ xs x w. rw (foldl-append (offer cov due cap floor) (going [] h₀ l₀) xs (x ∷ [])) (offer-holds h₀ xs x (run cov due cap floor h₀ l₀ xs) w)) os
+      (λ xs x w. rw (foldl-append (offer cov due cap floor) (going [] h₀ l₀) xs (x ∷ []))
+      (offer-holds h₀ xs x (run cov due cap floor h₀ l₀ xs) w)) os
 
   -- what is kept is the unbeaten list
   pub run-kept : (h₀ l₀ : ℕ) (os ks : List A) (h l : ℕ) → run cov due cap floor h₀ l₀ os ≡ going ks h l

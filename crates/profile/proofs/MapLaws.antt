@@ -26,9 +26,15 @@ module _ {A B : Type 0} (f : A → B) (fig : A → Figures) (fig' : B → Figure
       rw (d, latest-map xs (λ y m. e y (Memᴰ.tail m)))
 
   module _ (cap floor : ℕ) where
-    settle-map : (ks : List A) (h l : ℕ) → Same ks → settle (dueᶠ fig') cap floor (map f ks) h l ≡ map_st f (settle (dueᶠ fig) cap floor ks h l)
+    settle-map : (ks : List A) (h l : ℕ) → Same ks
+        → settle (dueᶠ fig') cap floor (map f ks) h l ≡ map_st f (settle (dueᶠ fig) cap floor ks h l)
     settle-map ks h l e =
-        rw (length-map ks f, latest-map ks e, filterb-map f (λ k. leb (dueᶠ fig k) g) (λ k. leb (dueᶠ fig' k) g) ks (λ x m. ap (λ (q : Figures). leb q.arrival g) (e x m)))
+        rw (
+          length-map ks f,
+          latest-map ks e,
+          filterb-map f (λ k. leb (dueᶠ fig k) g) (λ k. leb (dueᶠ fig' k) g) ks
+              (λ x m. ap (λ (q : Figures). leb q.arrival g) (e x m)),
+        )
         (go (leb (length ks) cap) (ltb g floor))
       where
         g : ℕ
@@ -49,7 +55,8 @@ module _ {A B : Type 0} (f : A → B) (fig : A → Figures) (fig' : B → Figure
         go (inr n) = let q : x ≡ o = Memᴰ.eq_of_singleton n in rw q eo
 
     offer-map : (ks : List A) (h l : ℕ) (o : A) → Same ks → fig' (f o) ≡ fig o
-        → offer (covᶠ fig') (dueᶠ fig') cap floor (going (map f ks) h l) (f o) ≡ map_st f (offer (covᶠ fig) (dueᶠ fig) cap floor (going ks h l) o)
+        → offer (covᶠ fig') (dueᶠ fig') cap floor (going (map f ks) h l) (f o)
+        ≡ map_st f (offer (covᶠ fig) (dueᶠ fig) cap floor (going ks h l) o)
     offer-map ks h l o e eo =
         rw (any_same, rest-same, settle-map (filterb (λ k. not (covᶠ fig o k)) ks ++ o ∷ []) h l (kept_same ks o e eo), due-same)
         (go (ltb h (dueᶠ fig o)) (anyb (λ k. covᶠ fig k o) ks))
@@ -67,8 +74,11 @@ module _ {A B : Type 0} (f : A → B) (fig : A → Figures) (fig' : B → Figure
             (λ x m. ap (λ (q : Figures). not (covers (fig' (f o)) q)) (e x m) ∙ ap (λ (q : Figures). not (covers q (fig x))) eo))
             ∙ sym (map-append f (filterb (λ k. not (covᶠ fig o k)) ks) (o ∷ []))
 
-        go : (b c : Bool) → cond b (going (map f ks) h l) (cond c (going (map f ks) h l) (map_st f (settle (dueᶠ fig) cap floor (filterb (λ k. not (covᶠ fig o k)) ks ++ o ∷ []) h l)))
-            ≡ map_st f (cond b (going ks h l) (cond c (going ks h l) (settle (dueᶠ fig) cap floor (filterb (λ k. not (covᶠ fig o k)) ks ++ o ∷ []) h l)))
+        go : (b c : Bool)
+            → cond b (going (map f ks) h l)
+            (cond c (going (map f ks) h l) (map_st f (settle (dueᶠ fig) cap floor (filterb (λ k. not (covᶠ fig o k)) ks ++ o ∷ []) h l)))
+            ≡ map_st f (cond b (going ks h l)
+            (cond c (going ks h l) (settle (dueᶠ fig) cap floor (filterb (λ k. not (covᶠ fig o k)) ks ++ o ∷ []) h l)))
         go true c = refl
         go false true = refl
         go false false = refl
@@ -80,24 +90,31 @@ module _ {A B : Type 0} (f : A → B) (fig : A → Figures) (fig' : B → Figure
 
     settle-held : (ks : List A) (h l : ℕ) → Same ks → Held (settle (dueᶠ fig) cap floor ks h l)
     settle-held ks h l e =
-        settle-elim (dueᶠ fig) cap floor Held ks h l (λ few. e) (λ more. tt) (λ more low x m. e x (filterb-mem (λ k. leb (dueᶠ fig k) (latest (dueᶠ fig) ks - 1)) ks m).0)
+        settle-elim (dueᶠ fig) cap floor Held ks h l (λ few. e) (λ more. tt)
+        (λ more low x m. e x (filterb-mem (λ k. leb (dueᶠ fig k) (latest (dueᶠ fig) ks - 1)) ks m).0)
 
-    offer-held : (ks : List A) (h l : ℕ) (o : A) → Same ks → fig' (f o) ≡ fig o → Held (offer (covᶠ fig) (dueᶠ fig) cap floor (going ks h l) o)
+    offer-held : (ks : List A) (h l : ℕ) (o : A) → Same ks → fig' (f o) ≡ fig o
+        → Held (offer (covᶠ fig) (dueᶠ fig) cap floor (going ks h l) o)
     offer-held ks h l o e eo = go (ltb h (dueᶠ fig o)) (anyb (λ k. covᶠ fig k o) ks)
       where
-        go : (b c : Bool) → Held (cond b (going ks h l) (cond c (going ks h l) (settle (dueᶠ fig) cap floor (filterb (λ k. not (covᶠ fig o k)) ks ++ o ∷ []) h l)))
+        go : (b c : Bool)
+            → Held (cond b (going ks h l)
+            (cond c (going ks h l) (settle (dueᶠ fig) cap floor (filterb (λ k. not (covᶠ fig o k)) ks ++ o ∷ []) h l)))
         go true c = e
         go false true = e
         go false false = settle-held (filterb (λ k. not (covᶠ fig o k)) ks ++ o ∷ []) h l (kept_same ks o e eo)
 
     -- from any state of which it holds
     pub fold-map : (s : St A) (os : List A) → Held s → Same os
-        → foldl (offer (covᶠ fig') (dueᶠ fig') cap floor) (map_st f s) (map f os) ≡ map_st f (foldl (offer (covᶠ fig) (dueᶠ fig) cap floor) s os)
+        → foldl (offer (covᶠ fig') (dueᶠ fig') cap floor) (map_st f s) (map f os)
+        ≡ map_st f (foldl (offer (covᶠ fig) (dueᶠ fig) cap floor) s os)
     fold-map s [] w e = refl
     fold-map refused (o ∷ os) w e = fold-map refused os tt (λ x m. e x (Memᴰ.tail m))
     fold-map (going ks h l) (o ∷ os) w e =
         ap (λ (s : St B). foldl (offer (covᶠ fig') (dueᶠ fig') cap floor) s (map f os)) (offer-map ks h l o w (e o (Memᴰ.head refl)))
-        ∙ fold-map (offer (covᶠ fig) (dueᶠ fig) cap floor (going ks h l) o) os (offer-held ks h l o w (e o (Memᴰ.head refl))) (λ x m. e x (Memᴰ.tail m))
+        ∙ fold-map (offer (covᶠ fig) (dueᶠ fig) cap floor (going ks h l) o) os (offer-held ks h l o w (e o (Memᴰ.head refl)))
+        (λ x m. e x (Memᴰ.tail m))
 
-    pub run-map : (h l : ℕ) (os : List A) → Same os → run (covᶠ fig') (dueᶠ fig') cap floor h l (map f os) ≡ map_st f (run (covᶠ fig) (dueᶠ fig) cap floor h l os)
+    pub run-map : (h l : ℕ) (os : List A) → Same os
+        → run (covᶠ fig') (dueᶠ fig') cap floor h l (map f os) ≡ map_st f (run (covᶠ fig) (dueᶠ fig) cap floor h l os)
     run-map h l os e = fold-map (going [] h l) os (λ x m. absurd (Memᴰ.not-nil m)) e

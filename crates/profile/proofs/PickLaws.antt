@@ -1,4 +1,5 @@
--- What `pick` gives: one of the list that none is preferred to; the loop that keeps what it has where they tie; and the first of a list in order.
+-- What `pick` gives: one of the list that none is preferred to; the loop that keeps what it has where they tie; and the first of a list in
+-- order.
 use Rattle.std.specs.Prelude.{None, Option, Some}
 use mathlib.Core.Path.{◌≡◌, refl, sym, ◌∙◌}
 use mathlib.Core.Logic.{◌⊎◌, inl, inr}
@@ -58,13 +59,16 @@ module _ {A : Type 0} (fig : A → Figures) where
     where
       by : (t : Bool) → prefer (fig x) (fig y) ≡ t → choose fig b (cond t (Some x) (Some y)) ≡ cond t (Some x) (Some y)
       by true q = rw p
-      by false q = rw (not-true (prefer (fig b) (fig y)) (λ z. true≢false (sym (prefer-trans (fig b) (fig y) (fig x) z (prefer-total (fig x) (fig y) q)) ∙ p)))
+      by false q =
+          rw (not-true (prefer (fig b) (fig y))
+          (λ z. true≢false (sym (prefer-trans (fig b) (fig y) (fig x) z (prefer-total (fig x) (fig y) q)) ∙ p)))
 
   pub keep-pick : (b : A) (xs : List A) → foldl (keep fig) (Some b) xs ≡ pick fig (b ∷ xs)
   keep-pick b [] = refl
   keep-pick b (x ∷ xs) = by (prefer (fig b) (fig x)) refl (keep-pick b xs) (keep-pick x xs)
     where
-      by : (t : Bool) → prefer (fig b) (fig x) ≡ t → foldl (keep fig) (Some b) xs ≡ choose fig b (pick fig xs) → foldl (keep fig) (Some x) xs ≡ choose fig x (pick fig xs)
+      by : (t : Bool) → prefer (fig b) (fig x) ≡ t → foldl (keep fig) (Some b) xs ≡ choose fig b (pick fig xs)
+          → foldl (keep fig) (Some x) xs ≡ choose fig x (pick fig xs)
           → foldl (keep fig) (cond t (Some b) (Some x)) xs ≡ choose fig b (choose fig x (pick fig xs))
       by true p h k = h ∙ sym (choose-past b x (pick fig xs) p)
       by false p h k = k ∙ sym (choose-over b x (pick fig xs) p)
@@ -75,7 +79,8 @@ module _ {A : Type 0} (fig : A → Figures) where
 
   -- ---- a list in the order of best: the first that passes the test is picked of those that do
 
-  choose-first : (x : A) (xs : List A) → ((y : A) → Memᴰ y xs → prefer (fig x) (fig y) ≡ true) → (r : Option A) → Picked xs r → choose fig x r ≡ Some x
+  choose-first : (x : A) (xs : List A) → ((y : A) → Memᴰ y xs → prefer (fig x) (fig y) ≡ true) → (r : Option A) → Picked xs r
+      → choose fig x r ≡ Some x
   choose-first x xs f None w = refl
   choose-first x xs f (Some b) (m, w) = rw (f b m)
 
@@ -83,6 +88,7 @@ module _ {A : Type 0} (fig : A → Figures) where
   ordered-first p [] s = refl
   ordered-first p (x ∷ xs) (f, s) = by (p x) (ordered-first p xs s)
     where
-      by : (b : Bool) → pick fig (filterb p xs) ≡ firstb p xs → pick fig (cond b (x ∷ filterb p xs) (filterb p xs)) ≡ cond b (Some x) (firstb p xs)
+      by : (b : Bool) → pick fig (filterb p xs) ≡ firstb p xs
+          → pick fig (cond b (x ∷ filterb p xs) (filterb p xs)) ≡ cond b (Some x) (firstb p xs)
       by true ih = choose-first x (filterb p xs) (λ y m. f y (filterb-mem p xs m).0) (pick fig (filterb p xs)) (pick-picked (filterb p xs))
       by false ih = ih

@@ -32,21 +32,17 @@ le-last x y = go (ltb x y) refl (eqb x y) refl
     go false p true q = let h = eqb-true x y q in sym (le-leb x y (omega arith))
     go false p false q = let h = ltb-false x y p in let n = eqb-false x y q in sym (lt-leb x y (omega arith))
 
-then-then : (a b c : Option Ordering) → partial_ordering_then (partial_ordering_then a b) c ≡ partial_ordering_then a (partial_ordering_then b c)
+then-then : (a b c : Option Ordering)
+    → partial_ordering_then (partial_ordering_then a b) c ≡ partial_ordering_then a (partial_ordering_then b c)
 then-then None b c = refl
 then-then (Some Less) b c = refl
 then-then (Some Equal) b c = refl
 then-then (Some Greater) b c = refl
 
--- of three numbers, and of four
-pub le-three : (a b r s w v : ℕ)
-    → le (partial_ordering_then (partial_ordering_then (Some (nat_cmp a b)) (Some (nat_cmp r s))) (Some (nat_cmp w v))) ≡ lexb a b (lexb r s (leb w v))
-le-three a b r s w v =
-    ap le (then-then (Some (nat_cmp a b)) (Some (nat_cmp r s)) (Some (nat_cmp w v))) ∙ le-first a b _ ∙ ap (lexb a b) (le-first r s _)
-    ∙ ap (λ t. lexb a b (lexb r s t)) (le-last w v)
-
+-- of four numbers
 pub le-four : (a b r s w v m l : ℕ)
-    → le (partial_ordering_then (partial_ordering_then (partial_ordering_then (Some (nat_cmp a b)) (Some (nat_cmp r s))) (Some (nat_cmp w v))) (Some (nat_cmp m l)))
+    → le (partial_ordering_then
+    (partial_ordering_then (partial_ordering_then (Some (nat_cmp a b)) (Some (nat_cmp r s))) (Some (nat_cmp w v))) (Some (nat_cmp m l)))
     ≡ lexb a b (lexb r s (lexb w v (leb m l)))
 le-four a b r s w v m l =
     ap le (then-then (partial_ordering_then (Some (nat_cmp a b)) (Some (nat_cmp r s))) (Some (nat_cmp w v)) (Some (nat_cmp m l)))

@@ -29,7 +29,8 @@ module _ {A : Type 0} (p : A → Bool) where
       go false h = omega arith
 
   -- a test that all pass which fail p passes all in front of that place
-  pub place-before : (q : A → Bool) → ((k : A) → p k ≡ false → q k ≡ true) → (ks : List A) → filterb q (take (place p ks) ks) ≡ take (place p ks) ks
+  pub place-before : (q : A → Bool) → ((k : A) → p k ≡ false → q k ≡ true) → (ks : List A)
+      → filterb q (take (place p ks) ks) ≡ take (place p ks) ks
   place-before q f [] = refl
   place-before q f (k ∷ ks) = go (test (p k)) (place-before q f ks)
     where
@@ -41,7 +42,8 @@ module _ {A : Type 0} (p : A → Bool) where
 -- ---- what the walk finds, by the place of the first that is near
 
 module _ {A : Type 0} (cov : A → A → Bool) (o : A) where
-  pub passes-found : (d : A) (ks : List A) → place (λ k. near cov k o) ks < length ks → passes cov o ks ≡ cov (get_or ks (place (λ k. near cov k o) ks) d) o
+  pub passes-found : (d : A) (ks : List A) → place (λ k. near cov k o) ks < length ks
+      → passes cov o ks ≡ cov (get_or ks (place (λ k. near cov k o) ks) d) o
   passes-found d [] h = absurd (omega arith)
   passes-found d (k ∷ ks) h = go (test (cov k o)) (test (cov o k)) h (λ h'. passes-found d ks h')
     where
@@ -76,7 +78,8 @@ module _ {A : Type 0} {cov : A → A → Bool} {due : A → ℕ} (ord : Order co
   -- none of an antichain covers an offer that covers one of it
   beaten-alone : (o k : A) (ks : List A) → cov o k ≡ true → ((y : A) → Memᴰ y ks → near cov k y ≡ false) → anyb (λ k. cov k o) ks ≡ false
   beaten-alone o k ks b f =
-      anyb-none (λ k. cov k o) ks (λ y m. not-true (cov y o) (λ c. true≢false (sym (cov_trans y o k c b) ∙ or-false-right (cov k y) (cov y k) (f y m))))
+      anyb-none (λ k. cov k o) ks
+      (λ y m. not-true (cov y o) (λ c. true≢false (sym (cov_trans y o k c b) ∙ or-false-right (cov k y) (cov y k) (f y m))))
 
   pub antichain-passes : (o : A) (ks : List A) → Antichain cov ks → passes cov o ks ≡ anyb (λ k. cov k o) ks
   antichain-passes o [] w = refl
@@ -88,7 +91,8 @@ module _ {A : Type 0} {cov : A → A → Bool} {due : A → ℕ} (ord : Order co
       go (inr a) (inl b) ih = rw (a, b, beaten-alone o k ks b f) refl
       go (inr a) (inr b) ih = rw (a, b) ih
 
-  pub antichain-place : (o : A) (ks : List A) → Antichain cov ks → anyb (λ k. cov k o) ks ≡ true → place (λ k. near cov k o) ks ≡ place (λ k. cov k o) ks
+  pub antichain-place : (o : A) (ks : List A) → Antichain cov ks → anyb (λ k. cov k o) ks ≡ true
+      → place (λ k. near cov k o) ks ≡ place (λ k. cov k o) ks
   antichain-place o [] w e = refl
   antichain-place o (k ∷ ks) (f, w) e = go (test (cov k o)) (test (cov o k)) e (λ e'. antichain-place o ks w e')
     where
@@ -124,34 +128,46 @@ module _ {A : Type 0} {cov : A → A → Bool} {due : A → ℕ} (ord : Order co
       let n : (cov o k' && not true) ≡ true = rw c' at b in
       true≢false (sym n ∙ and-false (cov o k')))
 
-  pub reads-by-place : (o : A) (ks : List A) → Antichain cov ks → reads cov o ks ≡ cond (anyb (λ k. cov k o) ks) (suc (place (λ k. cov k o) ks)) (length ks)
+  pub reads-by-place : (o : A) (ks : List A) → Antichain cov ks
+      → reads cov o ks ≡ cond (anyb (λ k. cov k o) ks) (suc (place (λ k. cov k o) ks)) (length ks)
   reads-by-place o ks w = rw (antichain-passes o ks w) (go (test (anyb (λ k. cov k o) ks)))
     where
       go : (anyb (λ k. cov k o) ks ≡ true) ⊎ (anyb (λ k. cov k o) ks ≡ false)
-          → cond (anyb (λ k. cov k o) ks) (suc (place (λ k. near cov k o) ks)) (length ks) ≡ cond (anyb (λ k. cov k o) ks) (suc (place (λ k. cov k o) ks)) (length ks)
+          → cond (anyb (λ k. cov k o) ks) (suc (place (λ k. near cov k o) ks)) (length ks)
+          ≡ cond (anyb (λ k. cov k o) ks) (suc (place (λ k. cov k o) ks)) (length ks)
       go (inl e) = rw (e, antichain-place o ks w e) refl
       go (inr e) = rw e refl
 
   module _ (cap floor : ℕ) where
-    pub one-walk : (ks : List A) (h l : ℕ) (o : A) → Antichain cov ks → walk cov due cap floor (going ks h l) o ≡ offer cov due cap floor (going ks h l) o
+    pub one-walk : (ks : List A) (h l : ℕ) (o : A) → Antichain cov ks
+        → walk cov due cap floor (going ks h l) o ≡ offer cov due cap floor (going ks h l) o
     one-walk ks h l o w = rw (antichain-passes o ks w) refl
 
-    walk-holds : (h₀ : ℕ) (os : List A) (s : St A) (o : A) → Holds cov due cap h₀ os s → walk cov due cap floor s o ≡ offer cov due cap floor s o
+    walk-holds : (h₀ : ℕ) (os : List A) (s : St A) (o : A) → Holds cov due cap h₀ os s
+        → walk cov due cap floor s o ≡ offer cov due cap floor s o
     walk-holds h₀ os refused o w = refl
     walk-holds h₀ os (going ks h l) o (e, len, le) = one-walk ks h l o (rw e (front-antichain cov due h os))
 
     -- the walks of all offers are a search
-    pub walks-run : 0 < floor → (h₀ l₀ : ℕ) (os : List A) → foldl (walk cov due cap floor) (going [] h₀ l₀) os ≡ run cov due cap floor h₀ l₀ os
+    pub walks-run : 0 < floor → (h₀ l₀ : ℕ) (os : List A)
+        → foldl (walk cov due cap floor) (going [] h₀ l₀) os ≡ run cov due cap floor h₀ l₀ os
     walks-run pos h₀ l₀ os = snoc-ind (λ xs. foldl (walk cov due cap floor) (going [] h₀ l₀) xs ≡ run cov due cap floor h₀ l₀ xs) refl
-        (λ xs x ih. rw (foldl-append (walk cov due cap floor) (going [] h₀ l₀) xs (x ∷ []), foldl-append (offer cov due cap floor) (going [] h₀ l₀) xs (x ∷ []), ih)
+        (λ xs x ih. rw (
+          foldl-append (walk cov due cap floor) (going [] h₀ l₀) xs (x ∷ []),
+          foldl-append (offer cov due cap floor) (going [] h₀ l₀) xs
+              (x ∷ []),
+          ih,
+        )
         (walk-holds h₀ xs (run cov due cap floor h₀ l₀ xs) x (run_holds ord cap floor pos h₀ l₀ xs))) os
 
   -- what is covered by an offer that the walk passes over is passed over too, whatever the list
   pub passes-covered : (b o : A) (ks : List A) → cov b o ≡ true → passes cov b ks ≡ true → passes cov o ks ≡ true
   passes-covered b o [] c e = e
-  passes-covered b o (k ∷ ks) c e = go (test (cov k b)) (test (cov b k)) (test (cov k o)) (test (cov o k)) e (λ e'. passes-covered b o ks c e')
+  passes-covered b o (k ∷ ks) c e =
+      go (test (cov k b)) (test (cov b k)) (test (cov k o)) (test (cov o k)) e (λ e'. passes-covered b o ks c e')
     where
-      go : (cov k b ≡ true) ⊎ (cov k b ≡ false) → (cov b k ≡ true) ⊎ (cov b k ≡ false) → (cov k o ≡ true) ⊎ (cov k o ≡ false) → (cov o k ≡ true) ⊎ (cov o k ≡ false)
+      go : (cov k b ≡ true) ⊎ (cov k b ≡ false) → (cov b k ≡ true) ⊎ (cov b k ≡ false) → (cov k o ≡ true) ⊎ (cov k o ≡ false)
+          → (cov o k ≡ true) ⊎ (cov o k ≡ false)
           → cond (cov k b) true (cond (cov b k) false (passes cov b ks)) ≡ true → (passes cov b ks ≡ true → passes cov o ks ≡ true)
           → cond (cov k o) true (cond (cov o k) false (passes cov o ks)) ≡ true
       go x y (inl z) t e ih = rw z refl

@@ -1,8 +1,8 @@
--- What the reader's functions do, as equations: the next record, the turns of a reader that goes on, the whole file.
+-- What the reader's functions do, as equations: the next record, the records one by one, the whole file.
 use Rattle.refusal.specs.declared.Accepted.TheVariants.{Taken}
 use Rattle.std.specs.Prelude.{None, Some, Ok}
 use mathlib.Core.Path.{◌≡◌, refl, sym, ap, ◌∙◌, subst}
-use mathlib.Core.Bool.{Bool, true, false, true≢false, false≢true}
+use mathlib.Core.Bool.{Bool, true, false, true≢false}
 use mathlib.Core.List.{List, [], ◌∷◌}
 use Prim.Native.Nat.{ℕ, ◌+◌, ◌-◌, ◌≤◌}
 use native.Mathlib.Omega.{arith}
@@ -13,11 +13,12 @@ use Rattle.file.specs.declared.Reader.{Reader}
 use Rattle.file.specs.declared.Took.{Took}
 use Rattle.file.specs.declared.Fed.{Fed}
 use Rattle.file.specs.Record.{fresh_reader, record_spec}
-use Rattle.file.specs.File.{version_answer, is_second, starts_whole, size_of, body_of, whole_of, next_spec, fed_spec, end_answer, ended_by, read_spec_of}
-use Rattle.runs.specs.Runs.{Left, Moved}
-use Rattle.file.proofs.FedLaws.{fed-stops, fed-refuses, fed-room}
+use Rattle.file.specs.File.{version_answer, is_second, starts_whole, size_of, body_of, whole_of, later, next_spec, fed_spec, end_answer, ended_by, read_spec_of}
+use Rattle.file.specs.Framed.{all_bodies, fed_each}
+use Rattle.runs.specs.Runs.{Goes, Kept}
+use Rattle.file.proofs.FramedLaws.{fed-bodies}
+use Rattle.file.proofs.FedLaws.{fed-room, later-zero, later-later}
 use Rattle.file.proofs.WholeLaws.{whole-tells, none-tells}
-use Rattle.runs.proofs.LeftLaws.{left-first, left_one, left-trans, left-ends}
 
 -- ---- the next record
 
@@ -39,62 +40,67 @@ module _ (r : Reader) (xs : List ℕ) where
       let q : t ≡ record_spec r (body_of xs) = t-is ∙ ap (record_spec r) w.is in
       (λ k. record { answer = (q k).answer; used = w.size k; reader = (q k).reader }) ∙ sym (next_one r xs w.starts)
 
--- ---- a turn: a record stored in place, or the next one
+-- ---- the records one by one
 
--- where the next one is refused, or is not there, no more is fed
-module _ (r : Reader) (xs : List ℕ) where
-  next-refused : is_refused (next_spec r xs).answer ≡ true → fed_spec r xs ≡ record { answer = (next_spec r xs).answer; used = 0; reader = r }
-  next-refused e = go (starts_whole xs) refl
-    where
-      go : (b : Bool) → starts_whole xs ≡ b → fed_spec r xs ≡ record { answer = (next_spec r xs).answer; used = 0; reader = r }
-      go false w = absurd (false≢true (sym (ap (λ (f : Fed). is_refused f.answer) (next-no r xs w)) ∙ e))
-      go true w =
-          let q = next_one r xs w in
-          fed-refuses r xs w (sym (ap (λ (f : Fed). is_refused f.answer) q) ∙ e) ∙ ap (λ (f : Fed). record { answer = f.answer; used = 0; reader = r }) (sym q)
+-- what is left of them gives what all of them give
+pub record Rest (r₀ : Reader) (bytes : List ℕ) (r : Reader) (at : ℕ) (bs : List (List ℕ)) : Type 0 where
+  pub is : later at (fed_each r bs) ≡ fed_spec r₀ bytes
 
-  next-stops : (next_spec r xs).used ≡ 0 → fed_spec r xs ≡ record { answer = (next_spec r xs).answer; used = 0; reader = r }
-  next-stops e = go (starts_whole xs) refl
-    where
-      go : (b : Bool) → starts_whole xs ≡ b → fed_spec r xs ≡ record { answer = (next_spec r xs).answer; used = 0; reader = r }
-      go false w = fed-stops r xs w ∙ ap (λ (f : Fed). record { answer = f.answer; used = 0; reader = r }) (sym (next-no r xs w))
-      go true w = let q : size_of xs ≡ 0 = sym (ap (λ (f : Fed). f.used) (next_one r xs w)) ∙ e in absurd (omega (arith, q))
+pub all-rest : (r : Reader) (bytes : List ℕ) → Rest r bytes r 0 (all_bodies bytes)
+all-rest r bytes = record { is = later-zero (fed_each r (all_bodies bytes)) ∙ sym (fed-bodies r bytes) }
 
-  next-on : is_refused (next_spec r xs).answer ≡ false → Left r xs (next_spec r xs).reader (next_spec r xs).used
-  next-on e = go (starts_whole xs) refl
-    where
-      go : (b : Bool) → starts_whole xs ≡ b → Left r xs (next_spec r xs).reader (next_spec r xs).used
-      go false w = subst (λ (f : Fed). Left r xs f.reader f.used) (sym (next-no r xs w)) (left-first r xs)
-      go true w =
-          let q = next_one r xs w in
-          subst (λ (f : Fed). Left r xs f.reader f.used) (sym q) (left_one r _ xs w refl (sym (ap (λ (f : Fed). is_refused f.answer) q) ∙ e))
+plus-none : (n : ℕ) → n ≡ n + 0
+plus-none n = omega arith
 
--- ---- the turns
+module _ {r₀ r : Reader} {bytes : List ℕ} {at : ℕ} {rest : List (List ℕ)} (l : Rest r₀ bytes r at rest) where
+  pub none-next : rest ≡ [] → record { answer = Ok Taken; used = at; reader = r } ≡ fed_spec r₀ bytes
+  unfolding fed_each
+  none-next n = (λ k. record { answer = Ok Taken; used = plus-none at k; reader = r }) ∙ ap (λ (bs : List (List ℕ)). later at (fed_each r bs)) (sym n) ∙ l.is
 
-module _ {r₀ r : Reader} {bytes : List ℕ} {at : ℕ} (l : Left r₀ bytes r at) where
-  pub left-stored : {new : Reader} {n : ℕ} → Moved r (take (length bytes - at) (drop at bytes)) new (Some n) → Left r₀ bytes new (at + n)
-  left-stored m = left-trans l (rw (part_to_end bytes at) at m.1)
+  module _ {b : List ℕ} {bs : List (List ℕ)} (first : rest ≡ b ∷ bs) where
+    -- where it is sent back, no more is fed
+    pub sent-back : {s : Reader} {t : Took} → s ≡ r → t ≡ record_spec s b → is_refused t.answer ≡ true → record { answer = t.answer; used = at; reader = s } ≡ fed_spec r₀ bytes
+    unfolding fed_each
+    sent-back {s} {t} same t-is g =
+        let q : t ≡ record_spec r b = t-is ∙ ap (λ (x : Reader). record_spec x b) same in
+        let here : fed_each r (b ∷ bs) ≡ record { answer = (record_spec r b).answer; used = 0; reader = r } = rw (ap (λ (t : Took). is_refused t.answer) (sym q) ∙ g) refl in
+        (λ k. record { answer = (q k).answer; used = plus-none at k; reader = same k }) ∙ ap (later at) (sym here) ∙ ap (λ (x : List (List ℕ)). later at (fed_each r x)) (sym first) ∙ l.is
 
-  -- the reader that stored nothing is the one before
-  module _ {s : Reader} {f : Fed} (same : s ≡ r) (f-is : f ≡ next_spec s (take (length bytes - at) (drop at bytes))) where
-    is : f ≡ next_spec r (drop at bytes)
-    is = f-is ∙ (λ k. next_spec (same k) (part_to_end bytes at k))
+    -- else the others follow, from the reader that it leaves
+    pub goes-on : {new : Reader} → Goes r b new → Rest r₀ bytes new (at + (2 + length b)) bs
+    unfolding fed_each
+    goes-on {new} g = record {
+      is =
+          let here : fed_each r (b ∷ bs) ≡ later (2 + length b) (fed_each new bs) = rw g.goes (ap (λ (x : Reader). later (2 + length b) (fed_each x bs)) g.leaves) in
+          sym (later-later at (2 + length b) (fed_each new bs)) ∙ ap (later at) (sym here) ∙ ap (λ (x : List (List ℕ)). later at (fed_each r x)) (sym first) ∙ l.is;
+    }
 
-    pub left-refused : is_refused f.answer ≡ true → record { answer = f.answer; used = at; reader = s } ≡ fed_spec r₀ bytes
-    left-refused e = (λ k. record { answer = (is k).answer; used = at; reader = same k }) ∙ left-ends _ l (next-refused r (drop at bytes) (ap (λ (f : Fed). is_refused f.answer) (sym is) ∙ e))
+-- no more than all bytes are used
+pub rest-room : {r₀ r : Reader} {bytes : List ℕ} {at : ℕ} {bs : List (List ℕ)} → Rest r₀ bytes r at bs → at ≤ length bytes
+rest-room {r₀} {r} {bytes} {at} {bs} l =
+    let used : at + (fed_each r bs).used ≡ (fed_spec r₀ bytes).used = ap (λ (f : Fed). f.used) l.is in
+    omega (arith, used, fed-room r₀ bytes)
 
-    pub left-stops : f.used ≡ 0 → record { answer = f.answer; used = at; reader = s } ≡ fed_spec r₀ bytes
-    left-stops e = (λ k. record { answer = (is k).answer; used = at; reader = same k }) ∙ left-ends _ l (next-stops r (drop at bytes) (ap (λ (f : Fed). f.used) (sym is) ∙ e))
+-- ---- a record, stored or taken
 
-    pub left-on : is_refused f.answer ≡ false → Left r₀ bytes f.reader (at + f.used)
-    left-on e = subst (λ (f : Fed). Left r₀ bytes f.reader (at + f.used)) (sym is) (left-trans l (next-on r (drop at bytes) (ap (λ (f : Fed). is_refused f.answer) (sym is) ∙ e)))
+pub stayed : (r : Reader) (b : List ℕ) (s : Reader) {t : Bool} → t ≡ false → Kept r b s t → s ≡ r
+stayed r b s e k = subst (Kept r b s) e k
+
+pub stored-goes : (r : Reader) (b : List ℕ) (s : Reader) {t : Bool} → t ≡ true → Kept r b s t → Goes r b s
+stored-goes r b s e k = subst (Kept r b s) e k
+
+pub taken-goes : {r s : Reader} {b : List ℕ} {t : Took} → s ≡ r → t ≡ record_spec s b → is_refused t.answer ≡ false → Goes r b t.reader
+taken-goes {r} {s} {b} {t} same t-is g =
+    let q : t ≡ record_spec r b = t-is ∙ ap (λ (x : Reader). record_spec x b) same in
+    record { goes = ap (λ (t : Took). is_refused t.answer) (sym q) ∙ g; leaves = ap (λ (t : Took). t.reader) (sym q) }
 
 -- ---- the whole file
 
 -- a file that has a version has a byte
-pub version-room : (xs : List ℕ) {a : Answer} {t : Bool} → a ≡ version_answer xs → t ≡ is_refused a → t ≡ false → 1 ≤ length xs
+pub version_room : (xs : List ℕ) → is_refused (version_answer xs) ≡ false → 1 ≤ length xs
 unfolding version_answer
-version-room [] a-is t-is e = absurd (true≢false (sym (t-is ∙ ap is_refused a-is) ∙ e))
-version-room (x ∷ xs) a-is t-is e = omega arith
+version_room [] e = absurd (true≢false e)
+version_room (x ∷ xs) e = omega arith
 
 pub read-refused : (xs : List ℕ) {r : Reader} {a : Answer} {t : Bool} → a ≡ version_answer xs → t ≡ is_refused a → t ≡ true → r ≡ (fresh_reader (is_second xs)) → record { answer = a; reader = r } ≡ read_spec_of xs
 unfolding read_spec_of

@@ -6,7 +6,7 @@ ghost use Rattle.file.specs.Record.{fresh_reader};
 ghost use Rattle.file.specs.File.{version_answer, is_second, next_spec, fed_spec, end_answer, read_spec_of};
 
 use fields::layout::kind_of;
-use file::framed::whole;
+use file::framed::{Records, whole};
 use file::record::record;
 use file::{Fed, Reader, Took};
 use refusal::{Accepted, Answer, Refusal, is_refused};
@@ -65,28 +65,24 @@ pub fn fed(reader: Reader, bytes: &[u8]) -> Fed
     ensures { result ≡ fed_spec reader bytes.now }
 {
     let mut after = reader;
-    let mut at: usize = 0;
-    // No iterator: how far a turn moves is told by its record.
-    while at < bytes.len() {
-        let rest = &bytes[at..];
-        if let Some(size) = stored(&mut after, rest) {
-            at += size;
-            continue;
+    let mut used = 0;
+    for b in (Records { rest: bytes }) {
+        if !stored(&mut after, b) {
+            let t = record(after, b);
+            if is_refused(t.answer) {
+                return Fed {
+                    answer: t.answer,
+                    used,
+                    reader: after,
+                };
+            }
+            after = t.reader;
         }
-        let f = next(after, rest);
-        if is_refused(f.answer) || f.used == 0 {
-            return Fed {
-                answer: f.answer,
-                used: at,
-                reader: after,
-            };
-        }
-        after = f.reader;
-        at += f.used;
+        used += 2 + b.len();
     }
     Fed {
         answer: Ok(Accepted::Taken),
-        used: at,
+        used,
         reader: after,
     }
 }
@@ -106,6 +102,7 @@ pub fn ended(opened: bool, left: usize) -> Answer
 }
 
 // A file that is there whole.
+#[tactic(auto, using(crate::proofs::ReadLaws::version_room))]
 pub fn read(bytes: &[u8]) -> Took
     ensures { result ≡ read_spec_of bytes.now }
 {

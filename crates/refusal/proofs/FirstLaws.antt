@@ -5,7 +5,8 @@ use Rattle.std.specs.Prelude.{Err, Ok}
 use mathlib.Core.Path.{◌≡◌, refl, sym, ap, ◌∙◌}
 use mathlib.Core.Bool.{Bool, true, false, not, cond, ◌&&◌, false≢true}
 use mathlib.Core.List.{List, [], ◌∷◌, ◌++◌}
-use Rattle.refusal.specs.First.{is_taken, first_answer, First, none, hit, miss, AllFail, FirstIsAnswer, AnswerIsFirst, NeverTaken, TakenAllFail, Answer}
+use Rattle.refusal.specs.First.{is_taken, first_answer, First, none, hit, miss, AllFail, FirstIsAnswer, AnswerIsFirst, NeverTaken}
+use Rattle.refusal.specs.First.{TakenAllFail, Answer}
 
 pub first-is-answer : FirstIsAnswer
 unfolding first_answer

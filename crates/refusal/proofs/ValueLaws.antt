@@ -8,7 +8,11 @@ use mathlib.Core.List.{List, [], ◌∷◌}
 use Prim.Native.Nat.{ℕ}
 use lib.ListN.{get_or}
 use Rattle.refusal.specs.declared.Refusal.{Refusal}
-use Rattle.refusal.specs.declared.Refusal.TheVariants.{SettingsRange, ClockRange, IdLength, StopsFull, IdTaken, LocationType, ParentUnknown, NameUnusable, FieldRange, TimesReversed, NoRoom, RuleType, PairTaken, Neighbours, AlreadySearched, TimeText, FileVersion, RecordLength, RecordKind, DateWrong, ServiceUnknown, ServicesFull, DisplayGroups, CallUnknown, LoadUnwritable, BufferShort}
+use Rattle.refusal.specs.declared.Refusal.TheVariants.{SettingsRange, ClockRange, IdLength, StopsFull, IdTaken, LocationType, ParentUnknown}
+use Rattle.refusal.specs.declared.Refusal.TheVariants.{NameUnusable, FieldRange, TimesReversed, NoRoom, RuleType, PairTaken, Neighbours}
+use Rattle.refusal.specs.declared.Refusal.TheVariants.{AlreadySearched, TimeText, FileVersion, RecordLength, RecordKind, DateWrong}
+use Rattle.refusal.specs.declared.Refusal.TheVariants.{ServiceUnknown, ServicesFull, DisplayGroups, CallUnknown, LoadUnwritable}
+use Rattle.refusal.specs.declared.Refusal.TheVariants.{BufferShort}
 use Rattle.refusal.specs.Causes.{number_of}
 use Rattle.refusal.specs.First.{answer_value, ValueTells, Answer}
 

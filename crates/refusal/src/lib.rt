@@ -80,7 +80,7 @@ impl From<Refusal> for u8 {
     }
 }
 
-// Whether an answer sends the step back.
+// Whether an answer sends the step back: its `is_err`, by a name that contracts can give it; likewise `is_taken`.
 pub fn is_refused(a: Answer) -> bool
     ensures { result ≡ is_refused a }
 {

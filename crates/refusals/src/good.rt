@@ -2,7 +2,7 @@
 use crate::inputs::{FIRST, LAST, MONDAY, PLAIN, call_at, rule as rule_input};
 use again::add;
 use load::{Load, Stepped};
-use stops::StopInput;
+use stops::{NewStop, StopInput};
 
 fn name_of(i: u16) -> [u8; 1] {
     [(65 + i % 128) as u8]
@@ -19,7 +19,12 @@ pub fn stop(load: Load, i: u16) -> Stepped {
         },
         ..PLAIN
     };
-    load.stop(&name_of(i), None, None, input)
+    load.stop(NewStop {
+        id: &name_of(i),
+        name: None,
+        parent: None,
+        input,
+    })
 }
 
 // A call of trip i, which stays at every horizon.

@@ -21,11 +21,7 @@ pub const SETTINGS: Settings = Settings {
 pub fn with<F: Fn(Load, u16) -> Stepped>(load: Load, n: u16, step: F) -> Load
     requires { F.IsAlwaysCallable step }
 {
-    let mut load = load;
-    for i in 0..n {
-        load = step(load, i).load;
-    }
-    load
+    (0..n).fold(load, |load, i| step(load, i).load)
 }
 
 // Stops "A" to "C", and a rule from "B" to "C".

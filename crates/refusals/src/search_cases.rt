@@ -43,11 +43,7 @@ fn tried_limited(faults: Faults) -> Stepped {
     if faults.meet(Refusal::SettingsRange) {
         load.settings.max_transfers = 2;
     }
-    let limited = search_within(load, 1000000);
-    Stepped {
-        answer: limited.answer,
-        load: limited.load,
-    }
+    search_within(load, 1000000).stepped()
 }
 
 fn told(rt: &impl Print, label: &str, load: Load) -> io::Result<()> {

@@ -5,7 +5,7 @@ use refusal::{Accepted, Answer};
 use std::{fmt, io};
 
 // What a step is answered: a word, or the number of a refusal.
-#[derive(Clone, Copy, Debug)]
+#[derive(Clone, Copy, Debug, PartialEq, Eq)]
 struct Shown(Answer);
 
 impl fmt::Display for Shown {
@@ -23,7 +23,6 @@ pub fn opened(rt: &impl Print, label: &str, stepped: Stepped) -> io::Result<()> 
     println!(rt; "open {label}: {}", Shown(stepped.answer))
 }
 
-// Handle, label and what is tried are parameters of each `told`, and a call's numbers those of `call`: a struct would be made for one call.
 pub fn then(
     rt: &impl Print,
     step: Step,

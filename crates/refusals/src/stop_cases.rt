@@ -9,7 +9,7 @@ use load::Stepped;
 use place::Degrees;
 use refusal::Refusal;
 use std::io;
-use stops::StopInput;
+use stops::{NewStop, StopInput};
 
 const FAULTS: [Fault; 7] = [
     Fault::Meets(Refusal::AlreadySearched),
@@ -43,16 +43,12 @@ fn tried(faults: Faults) -> Stepped {
         ..PLAIN
     };
     let load = searched_if(faults.meet(Refusal::AlreadySearched), load);
-    load.stop(name_of(faults, b"B"), Some(name), parent, input)
-}
-
-// A stop and its texts.
-#[derive(Clone, Copy, Debug, PartialEq)]
-struct NewStop<'a> {
-    id: &'a [u8],
-    name: Option<&'a [u8]>,
-    parent: Option<&'a [u8]>,
-    input: StopInput,
+    load.stop(NewStop {
+        id: name_of(faults, b"B"),
+        name: Some(name),
+        parent,
+        input,
+    })
 }
 
 fn with_id(id: &[u8]) -> NewStop<'_> {
@@ -86,22 +82,21 @@ fn with_parent(parent: &[u8], location_type: u8) -> NewStop<'_> {
     }
 }
 
-impl<'a> NewStop<'a> {
-    fn at(self, latitude: f64) -> NewStop<'a> {
-        let degrees = Some(Degrees {
-            latitude,
-            longitude: 0.0,
-        });
-        let input = StopInput {
-            degrees,
-            ..self.input
-        };
-        NewStop { input, ..self }
-    }
+// The stop at a latitude.
+fn at(stop: NewStop<'_>, latitude: f64) -> NewStop<'_> {
+    let degrees = Some(Degrees {
+        latitude,
+        longitude: 0.0,
+    });
+    let input = StopInput {
+        degrees,
+        ..stop.input
+    };
+    NewStop { input, ..stop }
 }
 
 fn told(rt: &impl Print, label: &str, stop: NewStop<'_>) -> io::Result<()> {
-    let stepped = small().stop(stop.id, stop.name, stop.parent, stop.input);
+    let stepped = small().stop(stop);
     then(rt, Step::Stop, label, stepped)
 }
 
@@ -111,12 +106,12 @@ fn texts(rt: &impl Print) -> io::Result<()> {
     told(rt, "station with a parent", with_parent(b"A", 1))?;
     told(rt, "stop with a parent", with_parent(b"A", 0))?;
     told(rt, "parent that is no station", with_parent(b"B", 0))?;
-    told(rt, "name of 64 bytes", with_name(&[b'a'; 64]).at(52.5))
+    told(rt, "name of 64 bytes", at(with_name(&[b'a'; 64]), 52.5))
 }
 
 // A name is needed at a position that can be used.
 fn needed(rt: &impl Print, label: &str, name: &[u8]) -> io::Result<()> {
-    told(rt, label, with_name(name).at(52.5))
+    told(rt, label, at(with_name(name), 52.5))
 }
 
 fn names(rt: &impl Print) -> io::Result<()> {
@@ -126,7 +121,7 @@ fn names(rt: &impl Print) -> io::Result<()> {
     told(
         rt,
         "name without a word, latitude 91",
-        with_name(b" \t ").at(91.0),
+        at(with_name(b" \t "), 91.0),
     )?;
     needed(rt, "needed name with an accent", b"B\xc3\xa9con")?;
     needed(rt, "needed name with control 128", b"a\xc2\x80")?;
@@ -138,14 +133,14 @@ fn names(rt: &impl Print) -> io::Result<()> {
     told(
         rt,
         "ill-formed name, latitude 91",
-        with_name(b"a\x80").at(91.0),
+        at(with_name(b"a\x80"), 91.0),
     )?;
     told(
         rt,
         "needed id with an accent",
-        with_id(b"\xc3\xa9").at(52.5),
+        at(with_id(b"\xc3\xa9"), 52.5),
     )?;
-    told(rt, "needed id, ill-formed", with_id(b"\x80").at(52.5))
+    told(rt, "needed id, ill-formed", at(with_id(b"\x80"), 52.5))
 }
 
 pub fn run(rt: &impl Print) -> io::Result<()> {

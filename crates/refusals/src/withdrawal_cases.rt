@@ -6,10 +6,10 @@ use crate::pairs;
 use crate::shown::then;
 use crate::step::Step;
 use again::{add, withdraw};
+use calls::CallKey;
 use load::{Load, Stepped};
 use refusal::Refusal;
 use std::io;
-use withdrawal::CallKey;
 
 const FAULTS: [Fault; 2] = [
     Fault::Meets(Refusal::FieldRange),

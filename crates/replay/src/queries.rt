@@ -8,7 +8,7 @@ use stdio::load_lines::Figures;
 use stdio::out::Out;
 
 // What a query answers.
-#[derive(Clone, Copy)]
+#[derive(Clone, Copy, Debug, PartialEq, Eq)]
 struct Found(Option<Journey>);
 
 impl fmt::Display for Found {

@@ -28,7 +28,8 @@ pub record InMask (feed : List ℕ) (a mask t left : ℕ) : Type 0 where
 pub mask-start : {feed : List ℕ} {a mask t : ℕ} → InMask feed a mask t mask
 mask-start = record { rest = λ s l w. w }
 
-pub mask-turn : {feed : List ℕ} {a mask t left left' x d t' : ℕ} → bits_of left ≡ x ∷ bits_of left' → d ≤ arrival_of (target_walk_of feed x) a → t' ≡ min t d
+pub mask-turn : {feed : List ℕ} {a mask t left left' x d t' : ℕ} → bits_of left ≡ x ∷ bits_of left'
+    → d ≤ arrival_of (target_walk_of feed x) a → t' ≡ min t d
     → InMask feed a mask t left → InMask feed a mask t' left'
 unfolding AtTargets
 mask-turn {feed} {a} {t = t} {left} {left'} {x} {d} {t'} e h et i =
@@ -45,7 +46,8 @@ mask-done {t = t} e i = i.rest t (omega arith) (λ y m. absurd (Memᴰ.not-nil (
 
 -- ---- a call that one can alight at, or not
 
-pub alight-some : (feed : List ℕ) (m mask t : ℕ) {c : FeedCall} → c ≡ call_at feed m → mask ≡ target_mask feed c.stop → AtTargets feed c.arrival mask t → AtCall feed m t
+pub alight-some : (feed : List ℕ) (m mask t : ℕ) {c : FeedCall} → c ≡ call_at feed m → mask ≡ target_mask feed c.stop
+    → AtTargets feed c.arrival mask t → AtCall feed m t
 unfolding AtCall
 alight-some feed m mask t ec em w _ = rw (← ec, ← em) w
 
@@ -65,13 +67,15 @@ module _ (feed : List ℕ) (n j t : ℕ) where
   unfolding AtBoard AtCall AtTargets
   board-next {l} d er e f w et m i y x z = go (Memᴰ.cases_cons (rw (run-on (call_at feed) n j er e) at i))
     where
-      go : (m ≡ j + 1) ⊎ Memᴰ m (later_from (call_at feed) n (j + 1) (j + 1 + 1)) → t ≤ arrival_of (target_walk_of feed x) (call_at feed m).arrival
+      go : (m ≡ j + 1) ⊎ Memᴰ m (later_from (call_at feed) n (j + 1) (j + 1 + 1))
+          → t ≤ arrival_of (target_walk_of feed x) (call_at feed m).arrival
       go (inl q) = let g = w (rw q at y) x (rw q at z) in rw q (omega arith)
       go (inr k) = let g = f.board (j + 1) (omega arith) (run-next (call_at feed) n j er e) m k y x z in omega arith
 
 -- ---- the calls from the right
 
-module _ {b c feed : List ℕ} {n j : ℕ} (t : ℕ) (long : length b ≡ 1024) (hn : n ≤ 512) (hj : j < n) (w : AtBoard feed n j t) (f : Filled b feed n (j + 1)) (v : Lowered (set b j t) c feed j) where
+module _ {b c feed : List ℕ} {n j : ℕ} (t : ℕ) (long : length b ≡ 1024) (hn : n ≤ 512) (hj : j < n) (w : AtBoard feed n j t)
+    (f : Filled b feed n (j + 1)) (v : Lowered (set b j t) c feed j) where
   kept : (i : ℕ) → j < i → i < 512 → get_or c i 0 ≡ get_or b i 0
   kept i l h =
       let k : i ≢ j = λ e. omega arith in
@@ -90,8 +94,15 @@ module _ {b c feed : List ℕ} {n j : ℕ} (t : ℕ) (long : length b ≡ 1024) 
       in_bucket i h (inr l) =
           let k : 512 + (call_at feed i).departure / 128 ≢ j = λ e. omega arith in
           λ y.
-          let (p, q) = f.bucket i (omega arith) h y in
-          (p, omega (arith, v.less (512 + (call_at feed i).departure / 128), get_or-set_other b j (512 + (call_at feed i).departure / 128) t 0 k, kept i l (omega arith)))
+          let (p, q) = f.bucket i (omega arith) h y in (
+            p,
+            omega (
+              arith,
+              v.less (512 + (call_at feed i).departure / 128),
+              get_or-set_other b j (512 + (call_at feed i).departure / 128) t 0 k,
+              kept i l (omega arith),
+            ),
+          )
 
 pub filled_none : {b feed : List ℕ} {n : ℕ} → Filled b feed n n
 filled_none = record { board = λ i l h. absurd (omega arith); bucket = λ i l h. absurd (omega arith) }
@@ -102,7 +113,8 @@ filled-same e f = rw e at f
 -- ---- the number for a departure
 
 module _ {b feed : List ℕ} {j : ℕ} {c : FeedCall} (ec : c ≡ call_at feed j) where
-  pub lowered : {q t : ℕ} → length b ≡ 1024 → j < 512 → q ≡ bucket_of c.departure → q < 1024 → 512 ≤ q → t ≡ min (get_or b q 0) (get_or b j 0) → Lowered b (set b q t) feed j
+  pub lowered : {q t : ℕ} → length b ≡ 1024 → j < 512 → q ≡ bucket_of c.departure → q < 1024 → 512 ≤ q
+      → t ≡ min (get_or b q 0) (get_or b j 0) → Lowered b (set b q t) feed j
   unfolding InBucket
   lowered {q} {t} long h eq l g et =
       let k : j ≢ q = λ e. omega arith in
@@ -118,7 +130,8 @@ module _ {b feed : List ℕ} {j : ℕ} {c : FeedCall} (ec : c ≡ call_at feed j
 
   pub lowered_none : c.board ≡ false → Lowered b b feed j
   unfolding InBucket
-  lowered_none e = record { low = λ i s. refl; less = λ p. omega arith; here = λ y. absurd (false≢true (sym e ∙ ap (λ (z : FeedCall). z.board) ec ∙ y)) }
+  lowered_none e =
+      record { low = λ i s. refl; less = λ p. omega arith; here = λ y. absurd (false≢true (sym e ∙ ap (λ (z : FeedCall). z.board) ec ∙ y)) }
 
 -- ---- the later departures: the loop stands at q
 
@@ -138,5 +151,9 @@ bounds-made {b} {c} {feed} {n} hn f s =
       board = λ j h. rw (s.low j (omega arith)) (f.board j (omega arith) h);
       after = λ t j h y l.
           let (p, q) = f.bucket j (omega arith) h y in
-          omega (arith, s.least (512 + t / 128) (512 + (call_at feed j).departure / 128) (omega arith) (omega arith) p, s.low j (omega arith));
+          omega (
+            arith,
+            s.least (512 + t / 128) (512 + (call_at feed j).departure / 128) (omega arith) (omega arith) p,
+            s.low j (omega arith),
+          );
     }

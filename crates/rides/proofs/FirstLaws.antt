@@ -23,7 +23,8 @@ use Rattle.rides.specs.Firsts.{alight_firsts, origin_firsts, board_firsts, first
 -- ---- what comes next
 
 module _ (feed : List ℕ) (n o i : ℕ) where
-  pub next-board : {ks ks' os js js' : List ℕ} (os' : List ℕ) {i' : ℕ} → ks ≡ [] → os ≡ [] → js ≡ i' ∷ js' → ks' ≡ [] → concat_map (origin_firsts feed n i') os' ≡ board_firsts feed n i'
+  pub next-board : {ks ks' os js js' : List ℕ} (os' : List ℕ) {i' : ℕ} → ks ≡ [] → os ≡ [] → js ≡ i' ∷ js' → ks' ≡ []
+      → concat_map (origin_firsts feed n i') os' ≡ board_firsts feed n i'
       → firsts_by feed n o i ks os js ≡ firsts_by feed n o i' ks' os' js'
   next-board os' e eo ej ek w = rw (e, eo, ej, ek, w) refl
 
@@ -33,7 +34,8 @@ few-bits : (k b m : ℕ) → length (bits_from k b m) ≤ k
 few-bits zero b m = omega arith
 few-bits (suc k) b m = go (eqb (m % 2) 1) (few-bits k (suc b) (m / 2))
   where
-    go : (c : Bool) → length (bits_from k (suc b) (m / 2)) ≤ k → length (cond c (b ∷ bits_from k (suc b) (m / 2)) (bits_from k (suc b) (m / 2))) ≤ suc k
+    go : (c : Bool) → length (bits_from k (suc b) (m / 2)) ≤ k
+        → length (cond c (b ∷ bits_from k (suc b) (m / 2)) (bits_from k (suc b) (m / 2))) ≤ suc k
     go true h = omega arith
     go false h = omega arith
 
@@ -89,17 +91,21 @@ module _ (feed : List ℕ) (joins : Joins) (n : ℕ) where
   unfolding alone later_from network_of sheet_of
   run-firsts i o =
       let ks = take_while (λ k. same_run (call_at feed i) (call_at feed k)) (span (i + 1) (n - (i + 1))) in
-      sym (concat_map-filterb (λ k. (call_at feed k).alight) (λ k. first_ride o i k ∷ []) ks) ∙ flat-single (first_ride o i) (filterb (λ k. (call_at feed k).alight) ks)
+      sym (concat_map-filterb (λ k. (call_at feed k).alight) (λ k. first_ride o i k ∷ []) ks)
+      ∙ flat-single (first_ride o i) (filterb (λ k. (call_at feed k).alight) ks)
 
   board-firsts : (i : ℕ) → cond ((network_of (sheet_of feed) joins).board i)
-      (concat_map (λ o. listed.over_run (network_of (sheet_of feed) joins) (λ k. alone (first_ride o i k)) i (span (i + 1) (n - (i + 1)))) ((network_of (sheet_of feed) joins).origins i)) []
+      (concat_map (λ o. listed.over_run (network_of (sheet_of feed) joins) (λ k. alone (first_ride o i k)) i
+      (span (i + 1) (n - (i + 1)))) ((network_of (sheet_of feed) joins).origins i)) []
       ≡ board_firsts feed n i
   unfolding board_firsts origin_firsts network_of sheet_of
   board-firsts i =
       ap (λ (r : List (First ℕ)). cond (call_at feed i).board r [])
-      (concat_map-filterb (λ o. leb (origin_walk_of feed o * 60) (call_at feed i).departure) _ (bits_of (origin_mask feed (call_at feed i).stop))
+      (concat_map-filterb (λ o. leb (origin_walk_of feed o * 60) (call_at feed i).departure) _
+      (bits_of (origin_mask feed (call_at feed i).stop))
       ∙ concat_map-cong _ (origin_firsts feed n i)
-      (λ o. ap (λ (r : List (First ℕ)). cond (leb (origin_walk_of feed o * 60) (call_at feed i).departure) r []) (run-firsts i o)) (bits_of (origin_mask feed (call_at feed i).stop)))
+      (λ o. ap (λ (r : List (First ℕ)). cond (leb (origin_walk_of feed o * 60) (call_at feed i).departure) r []) (run-firsts i o))
+      (bits_of (origin_mask feed (call_at feed i).stop)))
 
   pub firsts-all : concat_map (board_firsts feed n) (span 0 n) ≡ first_rides (network_of (sheet_of feed) joins) (span 0 n)
   firsts-all =
@@ -108,5 +114,6 @@ module _ (feed : List ℕ) (joins : Joins) (n : ℕ) where
       ∙ listed.over-firsts (network_of (sheet_of feed) joins) alone (span 0 n) ∙ tails-span _ n n 0 (omega arith)
       ∙ concat_map-cong _ (board_firsts feed n) board-firsts (span 0 n))
 
-  pub firsts-start : {ks os : List ℕ} → ks ≡ [] → os ≡ [] → firsts_by feed n 0 0 ks os (span 0 (n - 0)) ≡ first_rides (network_of (sheet_of feed) joins) (span 0 n)
+  pub firsts-start : {ks os : List ℕ} → ks ≡ [] → os ≡ []
+      → firsts_by feed n 0 0 ks os (span 0 (n - 0)) ≡ first_rides (network_of (sheet_of feed) joins) (span 0 n)
   firsts-start e eo = let q : n - 0 ≡ n = omega arith in rw (e, eo, q) firsts-all

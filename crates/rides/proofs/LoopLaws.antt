@@ -1,18 +1,18 @@
--- What every loop of the search cites. A loop goes through a list of numbers, and its invariant is that what is left of the list, offered to the
--- present state, gives what the whole list gives from the first state.
+-- What every loop of the search cites. A loop goes through a list of numbers, and its invariant is that what is left of the list, offered
+-- to the present state, gives what the whole list gives from the first state.
 use mathlib.Core.Path.{◌≡◌, refl, sym, ◌∙◌, ap, subst}
 use mathlib.Core.Logic.{◌⊎◌, inl, inr}
-use mathlib.Core.Bool.{Bool, true, false, not, ◌&&◌}
+use mathlib.Core.Bool.{Bool, true, false, false≢true, not, cond, ◌&&◌}
 use lib.Dec.{eqb, ltb}
 use borrow.Author.Tests.{eqb-true, ltb-true, ltb-false}
 use Rattle.laws.proofs.Agree.{take_while-agree}
 use Rattle.laws.proofs.Bools.{and-true-left, and-true-right, test}
-use mathlib.Core.List.{List, [], ◌∷◌, ◌++◌, Memᴰ}
-use Prim.Native.Nat.{ℕ, ◌+◌, ◌-◌, ◌<◌}
+use mathlib.Core.List.{List, [], ◌∷◌, Memᴰ}
+use Prim.Native.Nat.{ℕ, ◌+◌, ◌-◌, ◌≤◌, ◌<◌}
 use native.Mathlib.Omega.{arith}
-use Rattle.laws.specs.Lists.{concat_map, span}
+use Rattle.laws.specs.Lists.{concat_map, foldl, span}
 use Rattle.laws.specs.Bits.{bits_of, low_of, cleared}
-use Rattle.laws.proofs.Folds.{foldl-append, span-mem}
+use Rattle.laws.proofs.Folds.{span-mem}
 use Rattle.laws.proofs.Tails.{take_while-mem}
 use lib.Count.{count_trailing_zeros}
 use Rattle.std.specs.Int.Bits.{bit_and}
@@ -25,39 +25,53 @@ use Rattle.candidate.specs.Offer.{offer_to}
 use Rattle.candidate.proofs.OfferLaws.{offers-late}
 use Rattle.state.proofs.ViewLaws.{view-is-refused}
 use Rattle.feed.specs.declared.FeedCall.{FeedCall}
-use Rattle.feed.specs.Feed.{same_run}
-use Rattle.rides.specs.Loops.{later_from}
-use Rattle.rides.specs.Offered.{offer_all, Offered}
+use Rattle.feed.specs.declared.FirstRide.{FirstRide}
+use Rattle.feed.specs.Feed.{call_at, same_run}
+use Rattle.ways.specs.Rides.{first_rides}
+use Rattle.rides.specs.declared.firsts.FirstRides.{FirstRides}
+use Rattle.rides.specs.declared.lent.Lent.{Lent}
+use Rattle.rides.specs.Firsts.{firsts_left}
+use Rattle.rides.specs.Places.{sheet_in, joins_in}
+use Rattle.rides.specs.Rows.{first_at, network_of}
+use Rattle.rides.specs.Loops.{later_from, first_rows_of}
+use Rattle.rides.specs.Offered.{After, Offered}
+use Rattle.rides.specs.Sheets.{joins_of}
 use Rattle.rides.proofs.RestLaws as generic
 
--- nothing is offered; one row is; one list after another
-pub nothing : {l : List ℕ} → Offered l l []
-unfolding offer_all
-nothing = record { is = refl }
-
--- an array of the same state may stand for the last, or for the first
-pub seen_last : {l l' : List ℕ} {os : List Row} → view l' ≡ view l → Offered l l os → Offered l l' os
-seen_last e w = record { is = e ∙ w.is }
-
-pub seen_first : {l l' l'' : List ℕ} {os : List Row} → view l' ≡ view l → Offered l' l'' os → Offered l l'' os
-seen_first {os = os} e w = record { is = w.is ∙ ap (λ (s : St Row). offer_all s os) e }
-
+-- one row is offered
 pub single : {l l' : List ℕ} {o : Row} → view l' ≡ offer_to (view l) o → Offered l l' (o ∷ [])
-unfolding offer_all
 single e = record { is = e }
 
 -- the same of a row that is written otherwise
 pub single_as : {l l' : List ℕ} {o r : Row} → o ≡ r → view l' ≡ offer_to (view l) o → Offered l l' (r ∷ [])
 single_as {l} {l'} e w = subst (λ (x : Row). Offered l l' (x ∷ [])) e (single w)
 
-pub both : {l l' l'' : List ℕ} {xs ys : List Row} → Offered l l' xs → Offered l' l'' ys → Offered l l'' (xs ++ ys)
-unfolding offer_all
-both {l} {xs = xs} {ys = ys} a b = record { is = b.is ∙ ap (λ (s : St Row). offer_all s ys) a.is ∙ sym (foldl-append offer_to (view l) xs ys) }
+-- nothing follows where one can't alight
+pub unalighted : {S X E : Type 0} {see : S → X} {step : X → E → X} {s : S} (es : List E) (feed : List ℕ) (m : ℕ) {a : FeedCall}
+    → a ≡ call_at feed m → a.alight ≡ false → After see step s s (cond (call_at feed m).alight es [])
+unalighted es feed m e f = rw (sym (ap (λ (a : FeedCall). a.alight) e) ∙ f) generic.nothing
 
--- a refused search stays as it is, whatever is offered, so a loop may end there
-refused_all : (s : St Row) (os : List Row) → s ≡ refused → offer_all s os ≡ s
-unfolding offer_all
-refused_all s os e = ap (λ (r : St Row). offer_all r os) e ∙ offers-late refused os (λ o m. refl) ∙ sym e
+-- two tests in one
+cond-and : {E : Type 0} (b c : Bool) (es : List E) → b && c ≡ false → cond b (cond c es []) [] ≡ []
+cond-and true true es h = absurd (false≢true (sym h))
+cond-and true false es h = refl
+cond-and false c es h = refl
+
+-- what follows of the rides that board at j, by the one test that the code makes of boarding and joining
+module _ {S X E : Type 0} {see : S → X} {step : X → E → X} (feed changes : List ℕ) (p : FirstRide) (j : ℕ) (es : List E) {x : Bool}
+    (e : x ≡ ((call_at feed j).board && joins_of feed changes p j)) where
+  pub on-board : {s t : S} → x ≡ true → After see step s t es
+      → After see step s t (cond (call_at feed j).board (cond (joins_of feed changes p j) es []) [])
+  on-board t o =
+      let h = sym e ∙ t in
+      rw (and-true-left (call_at feed j).board _ h, and-true-right (call_at feed j).board _ h) o
+
+  pub off-board : {s : S} → x ≡ false → After see step s s (cond (call_at feed j).board (cond (joins_of feed changes p j) es []) [])
+  off-board t = rw (cond-and (call_at feed j).board (joins_of feed changes p j) es (sym e ∙ t)) generic.nothing
+
+-- a refused search stays as it is, whatever is offered
+refused_all : (s : St Row) (os : List Row) → s ≡ refused → foldl offer_to s os ≡ s
+refused_all s os e = ap (λ (r : St Row). foldl offer_to r os) e ∙ offers-late refused os (λ o m. refl) ∙ sym e
 
 run-same : (a b c : FeedCall) → same_run a b ≡ true → same_run a c ≡ same_run b c
 unfolding same_run
@@ -68,24 +82,24 @@ run-same a b c h = rw (eqb-true a.trip b.trip (and-true-left _ _ h), eqb-true a.
 abbrev pub Rest : {A : Type 0} → List ℕ → List ℕ → (A → List Row) → List A → List A → Type 0
 Rest l₀ l g all rest = generic.Rest view offer_to l₀ l g all rest
 
-module _ {A : Type 0} {g : A → List Row} where
-  pub rest-turn : {l₀ l l' : List ℕ} {all rest rest' : List A} {x : A} → rest ≡ x ∷ rest' → Rest l₀ l g all rest → Offered l l' (g x) → Rest l₀ l' g all rest'
-  unfolding offer_all
-  rest-turn e w o = generic.rest-steps e w o.is
+-- of a pass over the first rides: of those of `lent`, at a depth, what is left
+abbrev pub PassRest : Lent → ℕ → List ℕ → List ℕ → FirstRides → Type 0
+PassRest lent depth l₀ l left =
+    let s = sheet_in lent in
+    let joins = joins_in lent in
+    let n = lent.calls.n in
+    Rest l₀ l (λ f. first_rows_of s joins depth n (first_at s f) f.ride.b f.ride.a) (first_rides (network_of s joins) (span 0 n))
+    (firsts_left left)
 
-  pub rest-none : {l₀ l : List ℕ} {all rest : List A} → rest ≡ [] → Rest l₀ l g all rest → Offered l₀ l (concat_map g all)
-  unfolding offer_all
-  rest-none e w = record { is = generic.rest-ends e w }
-
-  -- a refused search stays as it is, whatever is offered
-  pub rest-stops : {l₀ l : List ℕ} {all rest : List A} {r : Bool} → r ≡ not (open_of l) → r ≡ true → Rest l₀ l g all rest → Offered l₀ l (concat_map g all)
-  unfolding offer_all
-  rest-stops {l = l} {rest = rest} e t w =
-      record { is = sym (refused_all (view l) (concat_map g rest) (shut (open_of l) refl (sym e ∙ t))) ∙ w.left }
-    where
-      shut : (b : Bool) → open_of l ≡ b → not b ≡ true → view l ≡ refused
-      shut true p q = (view-is-refused l).1 (p ∙ ap not q)
-      shut false p q = (view-is-refused l).1 p
+-- where the search is refused, a loop may end
+pub rest-stops : {A : Type 0} {g : A → List Row} {l₀ l : List ℕ} {all rest : List A} {r : Bool} → r ≡ not (open_of l) → r ≡ true
+    → Rest l₀ l g all rest → Offered l₀ l (concat_map g all)
+rest-stops {g = g} {l = l} {rest = rest} e t w =
+    generic.rest-stays (refused_all (view l) (concat_map g rest) (shut (open_of l) refl (sym e ∙ t))) w
+  where
+    shut : (b : Bool) → open_of l ≡ b → not b ≡ true → view l ≡ refused
+    shut true p q = (view-is-refused l).1 (p ∙ ap not q)
+    shut false p q = (view-is-refused l).1 p
 
 -- ---- what comes next: of the set digits of a mask
 
@@ -135,3 +149,11 @@ later-within at n i j {k} w =
     let (m, t) = take_while-mem (λ k. same_run (at i) (at k)) (span j (n - j)) w in
     let (low, high) = span-mem j (n - j) m in
     record { within = omega arith; same = t }
+
+module _ {S X E : Type 0} {see : S → X} {step : X → E → X} {g : ℕ → List E} {first now : S} (at : ℕ → FeedCall) {n j k : ℕ}
+    {rest rest' : List ℕ} (e : rest ≡ k ∷ rest') (w : generic.Rest see step first now g (later_from at n j (j + 1)) rest) where
+  pub later-has : Within at n j k
+  later-has = later-within _ _ _ _ (generic.rest-has e w)
+
+  pub later-placed : j < n → n ≤ 512 → (j < 512) × (k < 512)
+  later-placed h f = (omega arith, omega (arith, later-has.within))

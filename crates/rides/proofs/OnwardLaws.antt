@@ -1,10 +1,10 @@
 -- What leads on from a ride: its rows are those of the ways on, so that what bounds these covers them; and one change fewer is left after a
 -- ride. The bounds of one change and of two stand side by side.
 use mathlib.Core.Path.{◌≡◌, refl, sym, ap, subst, ◌∙◌}
-use mathlib.Core.Bool.{Bool, true, false, ◌&&◌}
+use mathlib.Core.Bool.{Bool, true}
 use mathlib.Core.List.Memᴰ
 use mathlib.Core.List.{List, [], ◌∷◌, Memᴰ}
-use Prim.Native.Nat.{ℕ, zero, suc, ◌+◌, ◌-◌, ◌≤◌, ◌<◌}
+use Prim.Native.Nat.{ℕ, zero, suc, ◌-◌, ◌≤◌, ◌<◌}
 use native.Mathlib.Omega.{arith}
 use lib.ListN.{get_or}
 use Rattle.laws.specs.Lists.{span}
@@ -23,14 +23,12 @@ use Rattle.feed.specs.declared.FeedCall.{FeedCall}
 use Rattle.feed.specs.declared.FirstRide.{FirstRide}
 use Rattle.feed.specs.Feed.{call_at, same_run, arrival_of}
 use Rattle.rides.specs.Rows.{Sheet, Joins, first_of, three_row, network_of}
-use Rattle.rides.specs.Loops.{over_calls, over_run, onward_rows, alight_on, board_on}
+use Rattle.rides.specs.Loops.{over_calls, onward_rows, alight_on, board_on}
 use Rattle.rides.specs.Sheets.{sheet_of, joins_of}
 use Rattle.rides.specs.Offered.{Offered}
 use Rattle.rides.specs.Reach.{end_of, due_at, NotBefore, Onward}
 use Rattle.rides.specs.Routes.{on_row}
-use Rattle.rides.proofs.LoopLaws.{nothing}
-use Rattle.laws.proofs.Bools.{and-true-left, and-true-right}
-use Rattle.rides.proofs.SkipLaws.{passes, cond-and}
+use Rattle.rides.proofs.SkipLaws.{passes}
 use Rattle.rides.proofs.RouteLaws.{rows-of-ways}
 
 -- ---- by the tests that the code makes
@@ -39,11 +37,15 @@ pub alight-is : (feed : List ℕ) (k : ℕ) {a : FeedCall} → a ≡ call_at fee
 alight-is feed k e y = ap (λ (a : FeedCall). a.alight) (sym e) ∙ y
 
 -- a first ride is one
-pub first-is-ride : (feed changes : List ℕ) (n : ℕ) {o : ℕ} (r : Ride) → Memᴰ (first_ride o r.board r.alight) (first_rides (net feed changes n) (span 0 n)) → IsRide feed n r
+pub first-is-ride : (feed changes : List ℕ) (n : ℕ) {o : ℕ} (r : Ride)
+    → Memᴰ (first_ride o r.board r.alight) (first_rides (net feed changes n) (span 0 n)) → IsRide feed n r
 first-is-ride feed changes n r m =
     let w = (firsts-mem (net feed changes n) (span 0 n) _ m).0 in
     let l = leg r.board r.alight in
-    record { run = record { within = (below feed changes n l w).1; same = of-run feed changes n l w }; alights = alighted feed changes n l w }
+    record {
+      run = record { within = (below feed changes n l w).1; same = of-run feed changes n l w };
+      alights = alighted feed changes n l w;
+    }
 
 -- ---- the rows that lead on
 
@@ -62,13 +64,16 @@ on-like s f x p r (l ∷ ls) = on-like s f x r l ls
 
 -- nothing that leads on is walked, if what is due at its bound would be passed over
 pub skip-on : {times : List (List ℕ)} {l : List ℕ} (feed changes : List ℕ) (n left : ℕ) (f : FirstRide) (b a j m : ℕ) {t : ℕ} {x : Bool}
-    → Onward times feed changes n → left < 3 → (left ≡ 0 → ⊥) → m < n → (call_at feed m).alight ≡ true → same_run (call_at feed j) (call_at feed m) ≡ true
+    → Onward times feed changes n → left < 3 → (left ≡ 0 → ⊥) → m < n → (call_at feed m).alight ≡ true
+    → same_run (call_at feed j) (call_at feed m) ≡ true
     → t ≡ get_or (get_or times (left - 1) []) m 0 → x ≡ passed_over (view l) (row_of f.leave t 3 f.walk 0 0 0 0 0 0 0 0) → x ≡ true
     → Offered l l (onward_rows left (sheet_of feed) (joins_of feed changes) n f b a j m)
 unfolding NotBefore due_at sheet_of row_of
 skip-on {times} feed changes n left f b a j m {t} w hl z hm y q e p u =
     passes (row_of f.leave t 3 f.walk 0 0 0 0 0 0 0 0) (onward_rows left (sheet_of feed) (joins_of feed changes) n f b a j m) p u (λ o i.
-    let (v, k, d) = Memᴰ.of_map (λ (v : Way ℕ). on_row (sheet_of feed) f v.target (leg b a) (leg j m) v.rides) (onward (network_of (sheet_of feed) (joins_of feed changes)) left (span 0 n) (leg j m))
+    let (v, k, d) =
+    Memᴰ.of_map (λ (v : Way ℕ). on_row (sheet_of feed) f v.target (leg b a) (leg j m) v.rides)
+    (onward (network_of (sheet_of feed) (joins_of feed changes)) left (span 0 n) (leg j m))
     (subst (Memᴰ o) (rows-of-ways (sheet_of feed) (joins_of feed changes) n f left (leg b a) (leg j m)) i) in
     let g = subst (Like f (due_at feed m v)) d (on-like (sheet_of feed) f v.target (leg b a) (leg j m) v.rides) in
     let h = w.on left (omega arith) (omega arith) (leg j m) v hm y q k in
@@ -80,19 +85,6 @@ module _ (s : Sheet) (joins : Joins) (n : ℕ) (f : FirstRide) where
   unfolding onward_rows board_on alight_on
   fewer zero z b a j m p e = absurd (z refl)
   fewer (suc k) z b a j m p e = let q : suc k - 1 ≡ k = omega arith in rw (e, q)
-
--- the rides that board at c, by the test of the code
-module _ (left : ℕ) (feed changes : List ℕ) (n : ℕ) (f p : FirstRide) (j m c : ℕ) {x : Bool} (e : x ≡ ((call_at feed c).board && joins_of feed changes p c)) where
-  pub on-board : {l l' : List ℕ} → x ≡ true → Offered l l' (over_run (alight_on left (sheet_of feed) (joins_of feed changes) n f j m c) (call_at feed) n c (c + 1))
-      → Offered l l' (board_on left (sheet_of feed) (joins_of feed changes) n f p j m c)
-  unfolding board_on sheet_of
-  on-board t o =
-      let both = sym e ∙ t in
-      rw (and-true-left (call_at feed c).board (joins_of feed changes p c) both, and-true-right (call_at feed c).board (joins_of feed changes p c) both) o
-
-  pub off-board : {l : List ℕ} → x ≡ false → Offered l l (board_on left (sheet_of feed) (joins_of feed changes) n f p j m c)
-  unfolding board_on sheet_of
-  off-board t = rw (cond-and (call_at feed c).board (joins_of feed changes p c) _ (sym e ∙ t)) nothing
 
 -- ---- the bounds side by side
 

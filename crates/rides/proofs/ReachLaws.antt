@@ -69,7 +69,8 @@ module _ (feed : List ℕ) (n : ℕ) (at : List ℕ) (j t : ℕ) where
   unfolding BoardAt
   board-last er e d m y = absurd (Memᴰ.not-nil (rw (run-end (call_at feed) n j er e) at m))
 
-  pub board-next : {boards : List ℕ} {r : Bool} → r ≡ (ltb (j + 1) n && same_run (call_at feed j) (call_at feed (j + 1))) → r ≡ true → Each (BoardAt feed n at) (j + 1) n boards → t ≡ min (get_or boards (j + 1) 0) (get_or at (j + 1) 0) → BoardAt feed n at j t
+  pub board-next : {boards : List ℕ} {r : Bool} → r ≡ (ltb (j + 1) n && same_run (call_at feed j) (call_at feed (j + 1))) → r ≡ true
+      → Each (BoardAt feed n at) (j + 1) n boards → t ≡ min (get_or boards (j + 1) 0) (get_or at (j + 1) 0) → BoardAt feed n at j t
   unfolding BoardAt
   board-next er e f et d m y = go (Memᴰ.cases_cons (rw (run-on (call_at feed) n j er e) at m))
     where
@@ -83,7 +84,8 @@ pub least_start : {feed changes boards : List ℕ} {p : FirstRide} {t : ℕ} →
 least_start = record { least = λ k h. absurd (omega arith) }
 
 -- a number that is no later than those before, and than that at c if one can board there and the ride joins
-least-on : {feed changes boards : List ℕ} {p : FirstRide} {c t t' : ℕ} → t' ≤ t → JoinAt feed changes boards p c t' → Least feed changes boards p c t
+least-on : {feed changes boards : List ℕ} {p : FirstRide} {c t t' : ℕ} → t' ≤ t → JoinAt feed changes boards p c t'
+    → Least feed changes boards p c t
     → Least feed changes boards p (c + 1) t'
 unfolding JoinAt
 least-on {feed} {changes} {boards} {p} {c} {t} {t'} h w l = record { least = λ k i. go k (eq-or-lt_of_le (omega arith)) }
@@ -92,17 +94,20 @@ least-on {feed} {changes} {boards} {p} {c} {t} {t'} h w l = record { least = λ 
     go k (inl e) y z = let g = w (rw e at y) (rw e at z) in rw e (omega arith)
     go k (inr i) y z = let g = l.least k i y z in omega arith
 
-pub least-joined : {feed changes boards : List ℕ} {p : FirstRide} {c t t' : ℕ} → t' ≡ min t (get_or boards c 0) → Least feed changes boards p c t
+pub least-joined : {feed changes boards : List ℕ} {p : FirstRide} {c t t' : ℕ} → t' ≡ min t (get_or boards c 0)
+    → Least feed changes boards p c t
     → Least feed changes boards p (c + 1) t'
 unfolding JoinAt
 least-joined e l = least-on (omega arith) (λ y z. omega arith) l
 
-pub least-apart : {feed changes boards : List ℕ} {p : FirstRide} {c t : ℕ} {x : Bool} → x ≡ ((call_at feed c).board && joins_of feed changes p c) → x ≡ false
+pub least-apart : {feed changes boards : List ℕ} {p : FirstRide} {c t : ℕ} {x : Bool}
+    → x ≡ ((call_at feed c).board && joins_of feed changes p c) → x ≡ false
     → Least feed changes boards p c t → Least feed changes boards p (c + 1) t
 unfolding JoinAt
 least-apart e f l = least-on (omega arith) (λ y z. absurd (false≢true (sym f ∙ rw (y, z) at e))) l
 
-pub least-same : {feed changes boards : List ℕ} {p : FirstRide} {c c' t : ℕ} → c ≡ c' → Least feed changes boards p c t → Least feed changes boards p c' t
+pub least-same : {feed changes boards : List ℕ} {p : FirstRide} {c c' t : ℕ} → c ≡ c' → Least feed changes boards p c t
+    → Least feed changes boards p c' t
 least-same e w = rw e at w
 
 module _ (feed changes boards : List ℕ) (n m t : ℕ) where
@@ -148,11 +153,16 @@ module _ (feed changes : List ℕ) (n : ℕ) where
   of-run r w = (take_while-mem (λ k. same_run (call_at feed r.b) (call_at feed k)) w.later w.run).1
 
   -- a join asks the same of a ride and of the call where it alights
-  joined-alighted : (r : Leg ℕ) (c : ℕ) → same_run (call_at feed r.b) (call_at feed r.a) ≡ true → net.joins r c ≡ true → joins_of feed changes (alighted_at feed r.a) c ≡ true
+  joined-alighted : (r : Leg ℕ) (c : ℕ) → same_run (call_at feed r.b) (call_at feed r.a) ≡ true → net.joins r c ≡ true
+      → joins_of feed changes (alighted_at feed r.a) c ≡ true
   unfolding network_of joins_of joined first_of sheet_of same_run
   joined-alighted r c s e =
-      let t : (call_at feed r.b).trip ≡ (call_at feed r.a).trip = eqb-true _ _ (and-true-left (eqb (call_at feed r.b).trip (call_at feed r.a).trip) (eqb (call_at feed r.b).day (call_at feed r.a).day) s) in
-      let d : (call_at feed r.b).day ≡ (call_at feed r.a).day = eqb-true _ _ (and-true-right (eqb (call_at feed r.b).trip (call_at feed r.a).trip) (eqb (call_at feed r.b).day (call_at feed r.a).day) s) in
+      let t : (call_at feed r.b).trip ≡ (call_at feed r.a).trip =
+      eqb-true _ _ (and-true-left (eqb (call_at feed r.b).trip (call_at feed r.a).trip)
+      (eqb (call_at feed r.b).day (call_at feed r.a).day) s) in
+      let d : (call_at feed r.b).day ≡ (call_at feed r.a).day =
+      eqb-true _ _ (and-true-right (eqb (call_at feed r.b).trip (call_at feed r.a).trip)
+      (eqb (call_at feed r.b).day (call_at feed r.a).day) s) in
       rw (t, d) at e
 
   pub not-before-here : (at : List ℕ) → Each (AtCall feed) 0 n at → NotBefore feed changes n 0 at
@@ -161,7 +171,8 @@ module _ (feed changes : List ℕ) (n : ℕ) where
       let (k, j, e) = Memᴰ.of_map here (bits_of (target_mask feed (call_at feed r.a).stop)) m in
       subst (λ (v : Way ℕ). get_or at r.a 0 ≤ due_at feed r.a v) e (f.each r.a (omega arith) h y k j)
 
-  pub not-before-on : (at boards new : List ℕ) (left : ℕ) → Each (BoardAt feed n at) 0 n boards → Each (JoinsAt feed changes n boards) 0 n new
+  pub not-before-on : (at boards new : List ℕ) (left : ℕ) → Each (BoardAt feed n at) 0 n boards
+      → Each (JoinsAt feed changes n boards) 0 n new
       → NotBefore feed changes n left at → NotBefore feed changes n (suc left) new
   unfolding NotBefore onward BoardAt JoinsAt JoinAt due_at
   not-before-on at boards new left f g h r w hr y z m =

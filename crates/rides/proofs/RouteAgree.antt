@@ -24,7 +24,8 @@ use Rattle.rides.proofs.RouteLaws.{rows-up-to-one}
 
 module _ (s : Sheet) (joins : Joins) (n : ℕ) where
   -- a way on ends at a place, at a target of its stop
-  pub way-ends : (k : ℕ) (r : Leg ℕ) (w : Way ℕ) → r.a < n → Memᴰ w (onward (network_of s joins) k (span 0 n) r) → (end_of r.a w.rides < n) × (w.target < 4)
+  pub way-ends : (k : ℕ) (r : Leg ℕ) (w : Way ℕ) → r.a < n → Memᴰ w (onward (network_of s joins) k (span 0 n) r)
+      → (end_of r.a w.rides < n) × (w.target < 4)
   unfolding onward
   way-ends zero r w h m =
       let (x, i, e) = Memᴰ.of_map here ((network_of s joins).targets r.a) m in
@@ -37,18 +38,22 @@ module _ (s : Sheet) (joins : Joins) (n : ℕ) where
 
 module _ (s t : Sheet) (joins joins' : Joins) (depth n : ℕ) (a : Agree s t joins joins' depth n) where
   module _ (i o k x : ℕ) (hi : i < n) (ho : o < 4) (hx : x < 4) where
-    on_same : (p r : Leg ℕ) (ls : List (Leg ℕ)) → end_of r.a ls < n → on_row s (first_of s i o k) x p r ls ≡ on_row t (first_of t i o k) x p r ls
+    on_same : (p r : Leg ℕ) (ls : List (Leg ℕ)) → end_of r.a ls < n
+        → on_row s (first_of s i o k) x p r ls ≡ on_row t (first_of t i o k) x p r ls
     unfolding three_row row_of first_of leave_of arrival_of
     on_same p r [] h =
-        λ q. row (a.departure i hi q - a.origin_walk o ho q * 60) (a.arrival r.a h q + a.target_walk x hx q * 60) 3 (a.origin_walk o ho q) o x i k r.b r.a p.b p.a
+        λ q. row (a.departure i hi q - a.origin_walk o ho q * 60) (a.arrival r.a h q + a.target_walk x hx q * 60) 3
+        (a.origin_walk o ho q) o x i k r.b r.a p.b p.a
     on_same p r (l ∷ ls) h = on_same r l ls h
 
     to_same : (ls : List (Leg ℕ)) → end_of k ls < n → row_to s (first_of s i o k) x ls ≡ row_to t (first_of t i o k) x ls
     unfolding direct_row change_row row_of first_of leave_of arrival_of
     to_same [] h =
-        λ q. row (a.departure i hi q - a.origin_walk o ho q * 60) (a.arrival k h q + a.target_walk x hx q * 60) 1 (a.origin_walk o ho q) o x i k 0 0 0 0
+        λ q. row (a.departure i hi q - a.origin_walk o ho q * 60) (a.arrival k h q + a.target_walk x hx q * 60) 1
+        (a.origin_walk o ho q) o x i k 0 0 0 0
     to_same (l ∷ []) h =
-        λ q. row (a.departure i hi q - a.origin_walk o ho q * 60) (a.arrival l.a h q + a.target_walk x hx q * 60) 2 (a.origin_walk o ho q) o x i k l.b l.a 0 0
+        λ q. row (a.departure i hi q - a.origin_walk o ho q * 60) (a.arrival l.a h q + a.target_walk x hx q * 60) 2
+        (a.origin_walk o ho q) o x i k l.b l.a 0 0
     to_same (p ∷ r ∷ ls) h = on_same p r ls h
 
   passed-same : (ns : List ℕ) (r : Route ℕ) → Passed (network_of s joins) (span 0 n) ns r → row_by s r ≡ row_by t r
@@ -62,7 +67,8 @@ module _ (s t : Sheet) (joins joins' : Joins) (depth n : ℕ) (a : Agree s t joi
   unfolding routes
   route-same r m = go (Memᴰ.append_cases (pass (network_of s joins) (allowed depth (0 ∷ 1 ∷ [])) (span 0 n)) m)
     where
-      go : Memᴰ r (pass (network_of s joins) (allowed depth (0 ∷ 1 ∷ [])) (span 0 n)) ⊎ Memᴰ r (pass (network_of s joins) (allowed depth (2 ∷ [])) (span 0 n)) → row_by s r ≡ row_by t r
+      go : Memᴰ r (pass (network_of s joins) (allowed depth (0 ∷ 1 ∷ [])) (span 0 n))
+          ⊎ Memᴰ r (pass (network_of s joins) (allowed depth (2 ∷ [])) (span 0 n)) → row_by s r ≡ row_by t r
       go (inl i) = passed-same (allowed depth (0 ∷ 1 ∷ [])) r (pass-mem (network_of s joins) (span 0 n) (allowed depth (0 ∷ 1 ∷ [])) r i)
       go (inr i) = passed-same (allowed depth (2 ∷ [])) r (pass-mem (network_of s joins) (span 0 n) (allowed depth (2 ∷ [])) r i)
 
@@ -98,5 +104,6 @@ module _ (s t : Sheet) (joins joins' : Joins) (depth n : ℕ) (a : Agree s t joi
       map-agree (row_by s) (row_by t) (routes N depth S) (route-same s t joins joins' depth n a) ∙ ap (map (row_by t)) (sym e)
 
 pub route-rows-agree : RouteRowsAgree
-route-rows-agree s t joins joins' zero n a = rows-up-to-one s joins 0 n (omega arith) ∙ rows_agree s t joins joins' 0 n a ∙ sym (rows-up-to-one t joins' 0 n (omega arith))
+route-rows-agree s t joins joins' zero n a =
+    rows-up-to-one s joins 0 n (omega arith) ∙ rows_agree s t joins joins' 0 n a ∙ sym (rows-up-to-one t joins' 0 n (omega arith))
 route-rows-agree s t joins joins' (suc d) n a = agree_on s t joins joins' (suc d) n a (omega arith)

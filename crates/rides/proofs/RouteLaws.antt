@@ -28,7 +28,8 @@ module _ (s : Sheet) (joins : Joins) (n : ℕ) (f : FirstRide) where
   abbrev way_row : Leg ℕ → Leg ℕ → Way ℕ → Row
   way_row p r w = on_row s f w.target p r w.rides
 
-  pub rows-of-ways : (left : ℕ) (p r : Leg ℕ) → onward_rows left s joins n f p.b p.a r.b r.a ≡ map (way_row p r) (onward (network_of s joins) left (span 0 n) r)
+  pub rows-of-ways : (left : ℕ) (p r : Leg ℕ)
+      → onward_rows left s joins n f p.b p.a r.b r.a ≡ map (way_row p r) (onward (network_of s joins) left (span 0 n) r)
   unfolding onward_rows onward over_bits end_at network_of over_run later_from
   rows-of-ways zero p r =
       flat-single (three_row s f p.b p.a r.b r.a) (bits_of (s.targets (s.at r.a).stop))
@@ -72,14 +73,17 @@ module _ (s : Sheet) (joins : Joins) (n : ℕ) where
   pub threes-by-loops : three_rows s joins n ≡ pass_rows s joins 2 n
   unfolding three_rows pass pass_rows threes
   threes-by-loops =
-      map-concat_map (row_by s) (λ f. concat_map (λ k. map (route_of f) (onward (network_of s joins) k (span 0 n) f.ride)) (2 ∷ [])) (first_rides (network_of s joins) (span 0 n))
-      ∙ concat_map-cong threes (λ f. first_rows_of s joins 2 n (first_at s f) f.ride.b f.ride.a) (λ f. three-rows f.ride.b f.o f.ride.a) (first_rides (network_of s joins) (span 0 n))
+      map-concat_map (row_by s) (λ f. concat_map (λ k. map (route_of f) (onward (network_of s joins) k (span 0 n) f.ride)) (2 ∷ []))
+      (first_rides (network_of s joins) (span 0 n))
+      ∙ concat_map-cong threes (λ f. first_rows_of s joins 2 n (first_at s f) f.ride.b f.ride.a) (λ f. three-rows f.ride.b f.o f.ride.a)
+      (first_rides (network_of s joins) (span 0 n))
 
 -- ---- by depth
 
 pub rows-up-to-one : RowsUpToOne
 unfolding route_rows rows
-rows-up-to-one s joins depth n h = up-to-one (network_of s joins) depth (span 0 n) (direct_by s) (change_by s) (row_by s) h (λ f k. refl) (λ f l k. refl)
+rows-up-to-one s joins depth n h =
+    up-to-one (network_of s joins) depth (span 0 n) (direct_by s) (change_by s) (row_by s) h (λ f k. refl) (λ f l k. refl)
 
 none_at_all : {A B : Type 0} (xs : List B) → concat_map {A = A} (λ (x : B). []) xs ≡ []
 none_at_all [] = refl
@@ -103,4 +107,5 @@ rows-three-last s joins depth n h =
     let N = network_of s joins in
     let S = span 0 n in
     rw (le-leb 0 depth (omega arith), le-leb 1 depth (omega arith), le-leb 2 depth h)
-    (map-append (row_by s) (pass N (0 ∷ 1 ∷ []) S) (pass N (2 ∷ []) S) ∙ ap (λ (rs : List Row). rs ++ map (row_by s) (pass N (2 ∷ []) S)) (up-to-two s joins n))
+    (map-append (row_by s) (pass N (0 ∷ 1 ∷ []) S) (pass N (2 ∷ []) S)
+    ∙ ap (λ (rs : List Row). rs ++ map (row_by s) (pass N (2 ∷ []) S)) (up-to-two s joins n))

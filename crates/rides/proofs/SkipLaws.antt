@@ -1,6 +1,6 @@
 -- Last rides that need not be walked: where a row that bounds them would be passed over, so would every one of theirs.
 use mathlib.Core.Path.{◌≡◌, refl, sym, ap, ◌∙◌}
-use mathlib.Core.Bool.{Bool, true, false, false≢true, cond, not, ◌&&◌}
+use mathlib.Core.Bool.{Bool, true, false, cond, not, ◌&&◌}
 use mathlib.Core.List.Memᴰ
 use mathlib.Core.List.{List, [], Memᴰ}
 use Prim.Native.Nat.{ℕ, ◌+◌, ◌-◌, ◌≤◌, ◌<◌}
@@ -10,7 +10,7 @@ use lib.ListN.{get_or}
 use borrow.Author.Tests.{leb-true}
 use Rattle.laws.specs.Lists.{span}
 use Rattle.laws.specs.Bits.{bits_of}
-use Rattle.laws.proofs.Bools.{and-true-left, and-true-right}
+use Rattle.laws.proofs.Bools.{and-true-right}
 use Rattle.laws.proofs.Agree.{span_below}
 use Rattle.laws.proofs.Folds.{concat_map-mem}
 use Rattle.profile.specs.declared.Row.{Row}
@@ -23,8 +23,7 @@ use Rattle.rides.specs.Rows.{change_row}
 use Rattle.rides.specs.Loops.{over_bits, over_calls, over_run, later_from, last_at, last_alight_rows, last_board_rows, change_rows}
 use Rattle.feed.specs.Feed.{call_at, change_at, target_mask, joined}
 use Rattle.rides.specs.Sheets.{joins_of, sheet_of}
-use Rattle.rides.specs.Offered.{offer_all, Offered}
-use Rattle.rides.proofs.LoopLaws.{nothing}
+use Rattle.rides.specs.Offered.{Offered}
 use Rattle.rides.specs.Bounds.{AtTargets, AtCall, AtBoard, bucket_of, Bounds}
 
 cond-mem : {A : Type 0} {x : A} {xs : List A} (b : Bool) → Memᴰ x (cond b xs []) → (b ≡ true) × Memᴰ x xs
@@ -36,7 +35,6 @@ abbrev pub Covers : Row → List Row → Type 0
 Covers b os = (o : Row) → Memᴰ o os → cov b o ≡ true
 
 pub passes : {l : List ℕ} {r : Bool} (b : Row) (os : List Row) → r ≡ passed_over (view l) b → r ≡ true → Covers b os → Offered l l os
-unfolding offer_all
 passes {l} b os e t f = record { is = sym (offers-covered (view l) b os (sym e ∙ t) f) }
 
 -- the earliest that a two-ride journey after f could be, if it is due at t or later
@@ -45,7 +43,8 @@ earliest f t = row_of f.leave t 2 f.walk 0 0 0 0 0 0 0 0
 
 module _ (feed : List ℕ) (f : FirstRide) where
   -- it covers every last ride that boards at j, if none is at a target earlier
-  pub run-covered : (n j t u : ℕ) → t ≤ u → AtBoard feed n j u → Covers (earliest f t) (over_run (last_alight_rows (sheet_of feed) f j) (call_at feed) n j (j + 1))
+  pub run-covered : (n j t u : ℕ) → t ≤ u → AtBoard feed n j u
+      → Covers (earliest f t) (over_run (last_alight_rows (sheet_of feed) f j) (call_at feed) n j (j + 1))
   unfolding over_run last_alight_rows over_bits last_at change_row row_of sheet_of AtBoard AtCall AtTargets
   run-covered n j t u h w o i =
       let (m, p, q) = concat_map-mem (last_alight_rows (sheet_of feed) f j) (later_from (call_at feed) n j (j + 1)) i in
@@ -58,7 +57,9 @@ joins_after : (feed changes : List ℕ) (f : FirstRide) (j : ℕ) → joins_of f
 unfolding joins_of joined
 joins_after feed changes f j e =
     let b = call_at feed j in
-    let h = leb-true (f.arrival + change_at changes f.stop b.stop) b.departure (and-true-right (not (eqb f.trip b.trip && eqb f.day b.day)) _ e) in
+    let h =
+    leb-true (f.arrival + change_at changes f.stop b.stop) b.departure
+    (and-true-right (not (eqb f.trip b.trip && eqb f.day b.day)) _ e) in
     omega (arith, h)
 
 module _ (feed : List ℕ) (n : ℕ) (f : FirstRide) {b : List ℕ} {t : ℕ} (w : Bounds b feed n) where
@@ -69,7 +70,8 @@ module _ (feed : List ℕ) (n : ℕ) (f : FirstRide) {b : List ℕ} {t : ℕ} (w
       passes (earliest f t) (over_run (last_alight_rows (sheet_of feed) f j) (call_at feed) n j (j + 1)) p q
       (run-covered feed f n j t (get_or b j 0) (omega arith) (w.board j h))
 
-  pub board-covered : (changes : List ℕ) (j : ℕ) → j < n → t ≡ get_or b (bucket_of f.arrival) 0 → Covers (earliest f t) (last_board_rows (sheet_of feed) (joins_of feed changes) n f j)
+  pub board-covered : (changes : List ℕ) (j : ℕ) → j < n → t ≡ get_or b (bucket_of f.arrival) 0
+      → Covers (earliest f t) (last_board_rows (sheet_of feed) (joins_of feed changes) n f j)
   unfolding last_board_rows sheet_of
   board-covered changes j h e o m =
       let (y, p) = cond-mem (call_at feed j).board m in
@@ -77,30 +79,13 @@ module _ (feed : List ℕ) (n : ℕ) (f : FirstRide) {b : List ℕ} {t : ℕ} (w
       run-covered feed f n j t (get_or b j 0) (omega (arith, w.after f.arrival j h y (joins_after feed changes f j z))) (w.board j h) o i
 
   -- no last ride is walked, if one due at the bound of all that depart after the first ride arrives would be passed over
-  pub skip-changes : {l : List ℕ} {r : Bool} (changes : List ℕ) (depth : ℕ) {q : ℕ} → q ≡ bucket_of f.arrival → t ≡ get_or b q 0 → r ≡ passed_over (view l) (earliest f t) → r ≡ true
+  pub skip-changes : {l : List ℕ} {r : Bool} (changes : List ℕ) (depth : ℕ) {q : ℕ} → q ≡ bucket_of f.arrival → t ≡ get_or b q 0
+      → r ≡ passed_over (view l) (earliest f t) → r ≡ true
       → Offered l l (change_rows (sheet_of feed) (joins_of feed changes) depth n f)
   unfolding change_rows over_calls
   skip-changes changes depth eq e p q =
       passes (earliest f t) (change_rows (sheet_of feed) (joins_of feed changes) depth n f) p q
       (λ o m.
-      let (j, k, i) = concat_map-mem (last_board_rows (sheet_of feed) (joins_of feed changes) n f) (span 0 (n - 0)) (cond-mem (eqb depth 1) m).1 in
+      let (j, k, i) =
+      concat_map-mem (last_board_rows (sheet_of feed) (joins_of feed changes) n f) (span 0 (n - 0)) (cond-mem (eqb depth 1) m).1 in
       board-covered changes j (span_below 0 n k) (e ∙ ap (λ (z : ℕ). get_or b z 0) eq) o i)
-
--- two tests in one
-pub cond-and : (b c : Bool) (os : List Row) → b && c ≡ false → cond b (cond c os []) [] ≡ []
-cond-and true true os h = absurd (false≢true (sym h))
-cond-and true false os h = refl
-cond-and false c os h = refl
-
--- the rides that board at j, by the test of the code
-module _ (feed changes : List ℕ) (n : ℕ) (f : FirstRide) (j : ℕ) {x : Bool} (e : x ≡ ((call_at feed j).board && joins_of feed changes f j)) where
-  pub board-some : {l l' : List ℕ} → x ≡ true → Offered l l' (over_run (last_alight_rows (sheet_of feed) f j) (call_at feed) n j (j + 1))
-      → Offered l l' (last_board_rows (sheet_of feed) (joins_of feed changes) n f j)
-  unfolding last_board_rows sheet_of
-  board-some t o =
-      let both = sym e ∙ t in
-      rw (and-true-left (call_at feed j).board (joins_of feed changes f j) both, and-true-right (call_at feed j).board (joins_of feed changes f j) both) o
-
-  pub board-none : {l : List ℕ} → x ≡ false → Offered l l (last_board_rows (sheet_of feed) (joins_of feed changes) n f j)
-  unfolding last_board_rows sheet_of
-  board-none t = rw (cond-and (call_at feed j).board (joins_of feed changes f j) _ (sym e ∙ t)) nothing

@@ -3,8 +3,8 @@ use Rattle.std.specs.Prelude.{◌≡◌, ℕ, ◌≤◌, ◌<◌}
 use Rattle.rides.specs.Rows.{Sheet, Joins, first_of, rows}
 use Rattle.rides.specs.Routes.{route_rows}
 
--- s and t have the same calls at the places below n, but for the numbers of their stops; these have the same origins and targets. They have the same
--- walks, and join alike where there are changes
+-- s and t have the same calls at the places below n, but for the numbers of their stops; these have the same origins and targets. They
+-- have the same walks, and join alike where there are changes
 pub record Agree (s t : Sheet) (joins joins' : Joins) (depth n : ℕ) : Type 0 where
   pub trip : (i : ℕ) → i < n → (s.at i).trip ≡ (t.at i).trip
   pub day : (i : ℕ) → i < n → (s.at i).day ≡ (t.at i).day
@@ -19,8 +19,11 @@ pub record Agree (s t : Sheet) (joins joins' : Joins) (depth n : ℕ) : Type 0 w
   pub joined : 1 ≤ depth → (i o k j : ℕ) → i < n → o < 4 → k < n → j < n → joins (first_of s i o k) j ≡ joins' (first_of t i o k) j
 
 abbrev pub RowsAgree : Type 0
-RowsAgree = (s t : Sheet) (joins joins' : Joins) (depth n : ℕ) → Agree s t joins joins' depth n → rows s joins depth n ≡ rows t joins' depth n
+RowsAgree =
+    (s t : Sheet) (joins joins' : Joins) (depth n : ℕ) → Agree s t joins joins' depth n → rows s joins depth n ≡ rows t joins' depth n
 
 -- by depth
 abbrev pub RouteRowsAgree : Type 0
-RouteRowsAgree = (s t : Sheet) (joins joins' : Joins) (depth n : ℕ) → Agree s t joins joins' depth n → route_rows s joins depth n ≡ route_rows t joins' depth n
+RouteRowsAgree =
+    (s t : Sheet) (joins joins' : Joins) (depth n : ℕ) → Agree s t joins joins' depth n
+    → route_rows s joins depth n ≡ route_rows t joins' depth n

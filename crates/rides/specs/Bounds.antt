@@ -1,5 +1,5 @@
--- How early a last ride can bring one to a target: an array of 1024 numbers. The first 512 are one for each boarding call; the others one for each 128
--- seconds of the day, for whatever departs then or later.
+-- How early a last ride can bring one to a target: an array of 1024 numbers. The first 512 are one for each boarding call; the others one
+-- for each 128 seconds of the day, for whatever departs then or later.
 use Rattle.std.specs.Prelude.{◌≡◌, true, ℕ, ◌+◌, ◌/◌, ◌≤◌, ◌<◌, get_or}
 use Rattle.std.specs.Coded.{le_prop}
 use mathlib.Core.List.{List, Memᴰ}
@@ -23,8 +23,8 @@ AtBoard feed n j t = (m : ℕ) → Memᴰ m (later_from (call_at feed) n j (j + 
 unfoldable pub bucket_of : ℕ → ℕ
 bucket_of t = 512 + t / 128
 
--- what the loops of a search ask of the array b: the number at j bounds the rides that board at j, and that for t those numbers at j that are boardable
--- and depart at t or later
+-- what the loops of a search ask of the array b: the number at j bounds the rides that board at j, and that for t those numbers at j that
+-- are boardable and depart at t or later
 pub record Bounds (b feed : List ℕ) (n : ℕ) : Type 0 where
   pub board : (j : ℕ) → j < n → AtBoard feed n j (get_or b j 0)
   pub after : (t j : ℕ) → j < n → (call_at feed j).board ≡ true → t ≤ (call_at feed j).departure → get_or b (bucket_of t) 0 ≤ get_or b j 0
@@ -41,7 +41,9 @@ Bounds-prop b feed n = Prim.hlevel (le_prop, AtBoard-prop)
 
 -- if one can board at j, the number for its own departure is no later than that at j
 unfoldable pub InBucket : List ℕ → List ℕ → ℕ → Type 0
-InBucket b feed j = (call_at feed j).board ≡ true → (bucket_of (call_at feed j).departure < 1024) × (get_or b (bucket_of (call_at feed j).departure) 0 ≤ get_or b j 0)
+InBucket b feed j =
+    (call_at feed j).board ≡ true
+    → (bucket_of (call_at feed j).departure < 1024) × (get_or b (bucket_of (call_at feed j).departure) 0 ≤ get_or b j 0)
 
 -- the calls from j on are put in
 pub record Filled (b feed : List ℕ) (n j : ℕ) : Type 0 where

@@ -57,20 +57,25 @@ end_at s f b a j m x = three_row s f b a j m x ∷ []
 unfoldable pub onward_rows : ℕ → Sheet → Joins → ℕ → FirstRide → ℕ → ℕ → ℕ → ℕ → List Row
 onward_rows zero s joins n f b a j m = over_bits (end_at s f b a j m) (s.targets (s.at m).stop)
 onward_rows (suc left) s joins n f b a j m =
-    over_calls (λ c. cond (s.at c).board (cond (joins (first_of s j 0 m) c) (over_run (λ d. cond (s.at d).alight (onward_rows left s joins n f j m c d) []) s.at n c (c + 1)) []) []) n 0
+    over_calls (λ c. cond (s.at c).board
+    (cond (joins (first_of s j 0 m) c)
+    (over_run (λ d. cond (s.at d).alight (onward_rows left s joins n f j m c d) []) s.at n c (c + 1)) []) []) n 0
 
 -- the same by pieces: the ride from c to d after that from j to m, which joins as p
 unfoldable pub alight_on : ℕ → Sheet → Joins → ℕ → FirstRide → ℕ → ℕ → ℕ → ℕ → List Row
 alight_on left s joins n f j m c d = cond (s.at d).alight (onward_rows left s joins n f j m c d) []
 
 unfoldable pub board_on : ℕ → Sheet → Joins → ℕ → FirstRide → FirstRide → ℕ → ℕ → ℕ → List Row
-board_on left s joins n f p j m c = cond (s.at c).board (cond (joins p c) (over_run (alight_on left s joins n f j m c) s.at n c (c + 1)) []) []
+board_on left s joins n f p j m c =
+    cond (s.at c).board (cond (joins p c) (over_run (alight_on left s joins n f j m c) s.at n c (c + 1)) []) []
 
 -- ---- of a first ride from i to k: in the pass of three rides those; in the others the direct journeys, then those with a change
 
 unfoldable pub first_rows_of : Sheet → Joins → ℕ → ℕ → FirstRide → ℕ → ℕ → List Row
-first_rows_of s joins depth n f i k = cond (eqb depth 2) (onward_rows 2 s joins n f 0 0 i k) (direct_rows s f ++ change_rows s joins depth n f)
+first_rows_of s joins depth n f i k =
+    cond (eqb depth 2) (onward_rows 2 s joins n f 0 0 i k) (direct_rows s f ++ change_rows s joins depth n f)
 
 -- what a pass offers, by first ride
 unfoldable pub pass_rows : Sheet → Joins → ℕ → ℕ → List Row
-pass_rows s joins depth n = concat_map (λ f. first_rows_of s joins depth n (first_at s f) f.ride.b f.ride.a) (first_rides (network_of s joins) (span 0 n))
+pass_rows s joins depth n =
+    concat_map (λ f. first_rows_of s joins depth n (first_at s f) f.ride.b f.ride.a) (first_rides (network_of s joins) (span 0 n))

@@ -10,6 +10,10 @@ use Rattle.candidate.specs.Offer.{offer_to}
 unfoldable pub offer_all : St Row → List Row → St Row
 offer_all s os = foldl offer_to s os
 
+-- t is the state s after the steps es, one after the other; `see` is what is read of a state
+pub record After {S X E : Type 0} (see : S → X) (step : X → E → X) (s t : S) (es : List E) : Type 0 where
+  pub is : see t ≡ foldl step (see s) es
+
 -- the array l' is the state of the array l after the offers
-pub record Offered (l l' : List ℕ) (os : List Row) : Type 0 where
-  pub is : view l' ≡ offer_all (view l) os
+abbrev pub Offered : List ℕ → List ℕ → List Row → Type 0
+Offered l l' os = After view offer_to l l' os

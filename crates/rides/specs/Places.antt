@@ -1,9 +1,11 @@
 -- The lent arrays and the places of calls by their structs.
 use Rattle.std.specs.Prelude.{◌≡◌, true, List, ℕ, ◌-◌, ◌<◌}
 use Rattle.laws.specs.Lists.{take_while, span}
+use Rattle.laws.specs.Bits.{bits_of}
 use Rattle.feed.specs.Feed.{call_at, same_run}
 use Rattle.rides.specs.Rows.{Sheet, Joins}
 use Rattle.rides.specs.Sheets.{sheet_of, joins_of}
+use Rattle.rides.specs.declared.bits.Digits.{Digits}
 use Rattle.rides.specs.declared.calls.Ride.{Ride}
 use Rattle.rides.specs.declared.later.Later.{Later}
 use Rattle.rides.specs.declared.lent.Lent.{Lent}
@@ -14,7 +16,11 @@ sheet_in l = sheet_of l.calls.feed.now
 abbrev pub joins_in : Lent → Joins
 joins_in l = joins_of l.calls.feed.now l.changes.now
 
--- what an iterator has left: the places up to n, n left out, as far as their calls are of the trip and day of its call
+-- what an iterator has left: the set digits
+abbrev pub digits_left : Digits → List ℕ
+digits_left d = bits_of d.left
+
+-- the places up to n, n left out, as far as their calls are of the trip and day of its call
 abbrev pub later_left : Later → List ℕ
 later_left r = take_while (λ k. same_run r.call (call_at r.calls.feed.now k)) (span r.next (r.calls.n - r.next))
 

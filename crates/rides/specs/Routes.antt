@@ -42,4 +42,5 @@ RowsUpToOne = (s : Sheet) (joins : Joins) (depth n : ℕ) → depth ≤ 1 → ro
 
 -- with more, those of three rides after all of these
 abbrev pub RowsThreeLast : Type 0
-RowsThreeLast = (s : Sheet) (joins : Joins) (depth n : ℕ) → 2 ≤ depth → route_rows s joins depth n ≡ rows s joins 1 n ++ three_rows s joins n
+RowsThreeLast =
+    (s : Sheet) (joins : Joins) (depth n : ℕ) → 2 ≤ depth → route_rows s joins depth n ≡ rows s joins 1 n ++ three_rows s joins n

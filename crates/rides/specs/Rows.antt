@@ -11,8 +11,8 @@ use Rattle.feed.specs.declared.FeedCall.{FeedCall}
 use Rattle.feed.specs.declared.FirstRide.{FirstRide}
 use Rattle.feed.specs.Feed.{same_run, leave_of, arrival_of}
 
--- what the loops read: the call at each place of the calls in order; the origins and the targets of a stop, each a mask of four digits; and the walk of
--- each origin and each target, in minutes
+-- what the loops read: the call at each place of the calls in order; the origins and the targets of a stop, each a mask of four digits;
+-- and the walk of each origin and each target, in minutes
 pub record Sheet : Type 0 where
   pub at : ℕ → FeedCall
   pub origins : ℕ → ℕ

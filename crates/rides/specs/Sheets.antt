@@ -10,4 +10,11 @@ joins_of f g r j = joined r (call_at f j) (change_at g r.stop (call_at f j).stop
 
 -- the feed as what the loops read
 unfoldable pub sheet_of : List ℕ → Sheet
-sheet_of f = record { at = call_at f; origins = origin_mask f; targets = target_mask f; origin_walk = origin_walk_of f; target_walk = target_walk_of f }
+sheet_of f =
+    record {
+      at = call_at f;
+      origins = origin_mask f;
+      targets = target_mask f;
+      origin_walk = origin_walk_of f;
+      target_walk = target_walk_of f;
+    }

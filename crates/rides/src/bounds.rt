@@ -53,6 +53,7 @@ fn board_bound(bounds: &[u16; 1024], calls: &Calls, j: usize) -> u16
 }
 
 // The place of the number for rides that depart at t or later.
+#[tactic(auto, unfolding(crate::specs::Bounds::bucket_of))]
 pub fn bucket_of(t: u16) -> usize
     ensures { (result ≡ bucket_of t) × (result < 1024) × (512 ≤ result) }
 {

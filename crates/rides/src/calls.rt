@@ -37,6 +37,7 @@ impl<'a> Calls<'a> {
     }
 
     // The call at place i.
+    #[tactic(auto, unfolding(feed::specs::Feed::call_at))]
     pub fn at(&self, i: usize) -> FeedCall
         requires { i < 512 }
         ensures { result ≡ call_at self.now.feed.now i }
@@ -74,6 +75,7 @@ impl<'a> Calls<'a> {
         Digits::of(targets_of(self.feed, stop))
     }
 
+    #[tactic(auto, unfolding(feed::specs::Feed::origin_walk_of))]
     pub fn origin_walk(&self, o: u8) -> u16
         requires { o < 4 }
         ensures { result ≡ origin_walk_of self.now.feed.now o }
@@ -81,6 +83,7 @@ impl<'a> Calls<'a> {
         self.feed[3200 + o as usize]
     }
 
+    #[tactic(auto, unfolding(feed::specs::Feed::target_walk_of))]
     pub fn target_walk(&self, x: u8) -> u16
         requires { x < 4 }
         ensures { result ≡ target_walk_of self.now.feed.now x }

@@ -93,7 +93,8 @@ impl<'a> LastRides<'a> {
     // Every one. A refused search stays as it is, so the loop may end there.
     fn last_rides(&self, st: &mut State, f: FirstRide)
         ensures { Offered st.old st.new
-            (over_calls (last_board_rows (sheet_in self.now.lent) (joins_in self.now.lent) self.now.lent.calls.n f) self.now.lent.calls.n 0) }
+            (over_calls (last_board_rows (sheet_in self.now.lent) (joins_in self.now.lent) self.now.lent.calls.n f)
+            self.now.lent.calls.n 0) }
     {
         for j in 0..self.lent.calls.n {
             if is_refused(st) {

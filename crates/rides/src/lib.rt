@@ -4,8 +4,8 @@
 // A function that reads an array asks for a place below 512, one of an origin or target for a digit below 4, one that goes on along a run
 // for a place among the calls, and one that goes on from a ride for fewer than 3 changes left: each says so for itself, as a type for
 // each number would be opened wherever the number is used. State, first ride and ride are three parameters: the first is changed, the
-// second stays for many of the third. The calls are a fourth: `LastRides` and `ThreeRides` lend them from their own fields, and the
-// direct journeys have neither.
+// second stays for many of the third. The calls are a fourth, and not in one struct with the first ride: `LastRides` and `ThreeRides`
+// lend them from their own fields, so it would be made anew in each loop. Depth is asked once, and no loop reads it.
 #![tactic(auto)]
 
 pub mod bits;

@@ -58,10 +58,21 @@ type-small : (k : ℕ) (m : Option ℕ) → type_right_of k m ≡ true → k ≤
 type-small k (Some n) e = leb-true k 3 e
 type-small k None e = leb-true k 3 (and-true-right (not (eqb k 2)) (leb k 3) e)
 
-pub passed : (b : Bool) (stops : ℕ) (rules : List Rule) (count : ℕ) (i : Rule) → first_answer (rule_tests b stops rules count i) ≡ Ok Taken → Passed b stops rules count i
+pub passed : (b : Bool) (stops : ℕ) (rules : List Rule) (count : ℕ) (i : Rule) → first_answer (rule_tests b stops rules count i) ≡ Ok Taken
+    → Passed b stops rules count i
 unfolding rule_tests
 passed b stops rules count i e =
-    let f = taken-all-fail (rule_tests b stops rules count i) ((λ q. let z : ◌≡◌ {A = ℕ} 0 1 = cc in omega arith), ((λ q. let z : ◌≡◌ {A = ℕ} 0 1 = cc in omega arith), ((λ q. let z : ◌≡◌ {A = ℕ} 0 1 = cc in omega arith), ((λ q. let z : ◌≡◌ {A = ℕ} 0 1 = cc in omega arith), ((λ q. let z : ◌≡◌ {A = ℕ} 0 1 = cc in omega arith), tt))))) e in
+    let f =
+    taken-all-fail (rule_tests b stops rules count i) (
+      (λ q. let z : ◌≡◌ {A = ℕ} 0 1 = cc in omega arith),
+      (
+        (λ q. let z : ◌≡◌ {A = ℕ} 0 1 = cc in omega arith),
+        (
+          (λ q. let z : ◌≡◌ {A = ℕ} 0 1 = cc in omega arith),
+          ((λ q. let z : ◌≡◌ {A = ℕ} 0 1 = cc in omega arith), ((λ q. let z : ◌≡◌ {A = ℕ} 0 1 = cc in omega arith), tt)),
+        ),
+      ),
+    ) e in
     let known : (ltb i.from stops && ltb i.to stops) ≡ true = not-false _ f.1.0 in
     record {
       unsearched = f.0;
@@ -91,10 +102,23 @@ rule-keeps-sound b stops rules count i s e =
       few = omega (arith, p.room);
       long = length-set rules count i ∙ s.long;
       blank = blank-set blank_rule 128 rules count i s.long p.room s.blank;
-      from_known = λ k h. below-cases (λ m. (rule_at (set rules count i) m).from < stops) count k h (λ l. subst (λ (r : Rule). r.from < stops) (sym (old k l)) (s.from_known k l)) (subst (λ (r : Rule). r.from < stops) (sym new) p.from_known);
-      to_known = λ k h. below-cases (λ m. (rule_at (set rules count i) m).to < stops) count k h (λ l. subst (λ (r : Rule). r.to < stops) (sym (old k l)) (s.to_known k l)) (subst (λ (r : Rule). r.to < stops) (sym new) p.to_known);
-      types = λ k h. below-cases (λ m. (rule_at (set rules count i) m).transfer_type ≤ 3) count k h (λ l. subst (λ (r : Rule). r.transfer_type ≤ 3) (sym (old k l)) (s.types k l)) (subst (λ (r : Rule). r.transfer_type ≤ 3) (sym new) p.type-fits);
-      alone = λ j k l h. below-cases (λ m. j < m → same_pair (rule_at (set rules count i) m).from (rule_at (set rules count i) m).to (rule_at (set rules count i) j) ≡ false) count k h
+      from_known =
+          λ k h. below-cases (λ m. (rule_at (set rules count i) m).from < stops) count k h
+          (λ l. subst (λ (r : Rule). r.from < stops) (sym (old k l)) (s.from_known k l))
+          (subst (λ (r : Rule). r.from < stops) (sym new) p.from_known);
+      to_known =
+          λ k h. below-cases (λ m. (rule_at (set rules count i) m).to < stops) count k h
+          (λ l. subst (λ (r : Rule). r.to < stops) (sym (old k l)) (s.to_known k l))
+          (subst (λ (r : Rule). r.to < stops) (sym new) p.to_known);
+      types =
+          λ k h. below-cases (λ m. (rule_at (set rules count i) m).transfer_type ≤ 3) count k h
+          (λ l. subst (λ (r : Rule). r.transfer_type ≤ 3) (sym (old k l)) (s.types k l))
+          (subst (λ (r : Rule). r.transfer_type ≤ 3) (sym new) p.type-fits);
+      alone =
+          λ j k l h. below-cases
+          (λ m. j < m → same_pair (rule_at (set rules count i) m).from (rule_at (set rules count i) m).to (rule_at (set rules count i) j)
+          ≡ false) count k h
           (λ q l'. rw (old k q, old j (omega arith)) (s.alone j k l' q))
-          (λ l'. rw (new, old j l') (anyb-below (same_pair i.from i.to) rules count j blank_rule l' (omega (arith, s.long, p.room)) p.new)) l;
+          (λ l'. rw (new, old j l') (anyb-below (same_pair i.from i.to) rules count j blank_rule l' (omega (arith, s.long, p.room)) p.new))
+          l;
     }

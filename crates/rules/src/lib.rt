@@ -24,7 +24,8 @@ pub fn blank_rule() -> Rule
     Rule::default()
 }
 
-fn same_pair(rule: Rule, from: u16, to: u16) -> bool
+// Whether a rule is for the pair.
+pub fn same_pair(rule: Rule, from: u16, to: u16) -> bool
     ensures { result ≡ same_pair from to rule }
 {
     rule.from == from && rule.to == to
@@ -41,10 +42,7 @@ fn rule_known(rules: &[Rule], from: u16, to: u16) -> bool
 fn type_right(kind: u8, seconds: Option<u16>) -> bool
     ensures { result ≡ type_right_of kind seconds }
 {
-    match seconds {
-        Some(_) => kind <= 3,
-        None => kind != 2 && kind <= 3,
-    }
+    kind <= 3 && (kind != 2 || seconds.is_some())
 }
 
 // What a rule is answered, by the rules taken: 15, 9, 12, 13, 11.

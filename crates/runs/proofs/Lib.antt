@@ -1,3 +1,2 @@
-pub mod LeftLaws
 pub mod StoreLaws
 pub mod MovedLaws

@@ -1,10 +1,8 @@
--- A step that the load takes, as a record of its reader, and as the bytes that are left after it.
-use Rattle.std.specs.Prelude.{Some}
-use Rattle.std.specs.Bool.{then_some}
-use mathlib.Core.Path.{◌≡◌, refl, sym, ap, ◌∙◌, subst}
+-- A step that the load takes, as a record of its reader.
+use mathlib.Core.Path.{◌≡◌, refl, sym, ap, ◌∙◌}
 use mathlib.Core.Bool.{Bool, true, false}
 use mathlib.Core.List.{List, [], ◌∷◌}
-use Prim.Native.Nat.{ℕ, ◌+◌, ◌≤◌, ◌<◌}
+use Prim.Native.Nat.{ℕ, ◌≤◌}
 use native.Mathlib.Omega.{arith}
 use borrow.Author.Tests.{ne_eqb}
 use lib.Dec.{eqb}
@@ -19,12 +17,9 @@ use Rattle.load.specs.Steps.{stop_spec, call_spec, rule_spec}
 use Rattle.file.specs.declared.Reader.{Reader}
 use Rattle.file.specs.declared.Took.{Took}
 use Rattle.file.specs.Record.{open_reader, kind_right, record_tests, stepped_by, record_spec}
-use Rattle.file.specs.File.{size_of, body_of, whole_of}
 use Rattle.file.proofs.KindLaws.{filled_as, filled-as, stepped-stop, stepped-before, stepped-rule}
 use Rattle.file.proofs.RecordLaws.{taken}
-use Rattle.file.proofs.WholeLaws.{whole-tells}
-use Rattle.runs.specs.Runs.{Accepts, Stored, Taken, Takes, Left, Moved}
-use Rattle.runs.proofs.LeftLaws.{left_one}
+use Rattle.runs.specs.Runs.{Accepts, Stored, Taken, Takes, Kept}
 
 -- ---- a record of an opened reader that is filled, and that the load does not send back
 
@@ -58,22 +53,16 @@ unfolding kind_right
 rule-takes l b new true k h = takes-by b 4 k (omega arith) refl l h (stepped-rule (open_reader l) b refl k refl refl)
 rule-takes l b new false k h = h
 
--- ---- the bytes after it
+-- ---- a record of any reader
 
 abbrev with_load : Reader → Load → Reader
 with_load r l = record { opened = r.opened; second = r.second; load = l }
 
-pub moved : (r : Reader) (xs : List ℕ) {b : List ℕ} (new : Load) {n : ℕ} (t : Bool) → r.opened ≡ true → r.second ≡ false → Some b ≡ whole_of xs → n ≡ 2 + length b
-    → Takes r.load b new t → Moved r xs (with_load r new) (then_some t n)
-moved r xs {b} new {n} true o s b-is n-is h =
-    let w = whole-tells xs b-is in
+pub kept : (r : Reader) (b : List ℕ) (new : Load) (t : Bool) → r.opened ≡ true → r.second ≡ false → Takes r.load b new t → Kept r b (with_load r new) t
+kept r b new true o s h =
     let same : (l : Load) → open_reader l ≡ with_load r l = λ (l : Load) k. record { opened = sym o k; second = sym s k; load = l } in
-    let e : (record_spec (open_reader r.load) (body_of xs)).reader ≡ open_reader new = ap (λ (ys : List ℕ). (record_spec (open_reader r.load) ys).reader) (sym w.is) ∙ h.leaves in
-    let g : is_refused (record_spec (open_reader r.load) (body_of xs)).answer ≡ false = ap (λ (ys : List ℕ). is_refused (record_spec (open_reader r.load) ys).answer) (sym w.is) ∙ h.goes in
-    let size : size_of xs ≡ n = sym (n-is ∙ w.size) in
-    let some : 0 < n = omega (arith, n-is) in (
-      some,
-      subst (λ (q : Reader). Left q xs (with_load r new) n) (same r.load) (subst (λ (m : ℕ). Left (open_reader r.load) xs (with_load r new) m) size
-          (subst (λ (q : Reader). Left (open_reader r.load) xs q (size_of xs)) (e ∙ same new) (left_one (open_reader r.load) _ xs w.starts refl g))),
-    )
-moved r xs new false o s b-is n-is h = ap (with_load r) h
+    record {
+      goes = ap (λ (q : Reader). is_refused (record_spec q b).answer) (sym (same r.load)) ∙ h.goes;
+      leaves = ap (λ (q : Reader). (record_spec q b).reader) (sym (same r.load)) ∙ h.leaves ∙ same new;
+    }
+kept r b new false o s h = ap (with_load r) h

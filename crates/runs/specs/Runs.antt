@@ -1,12 +1,11 @@
--- Records stored in place: which a load takes as they come, and what is left of the bytes after one.
-use Rattle.std.specs.Prelude.{ℕ, ◌≤◌, ◌<◌, ◌≡◌, Bool, true, false, List, length, drop, None, Option, Some}
+-- Records stored in place: which a load takes as they come.
+use Rattle.std.specs.Prelude.{ℕ, ◌≡◌, Bool, true, false, List}
 use Rattle.refusal.specs.First.{is_refused}
 use Rattle.load.specs.declared.Load.{Load}
 use Rattle.load.specs.declared.Stepped.{Stepped}
 use Rattle.file.specs.declared.Reader.{Reader}
 pub use Rattle.file.specs.Record.{open_reader}
 use Rattle.file.specs.Record.{record_spec}
-use Rattle.file.specs.File.{later, fed_spec}
 
 -- ---- a step of the load
 
@@ -32,14 +31,14 @@ abbrev pub Takes : Load → List ℕ → Load → Bool → Type 0
 Takes l b new true = Taken l b new
 Takes l b new false = new ≡ l
 
--- ---- the bytes
+-- ---- a record of any reader
 
--- at a place of the bytes, what is still to be fed gives what all of them give
-pub record Left (r₀ : Reader) (bytes : List ℕ) (r : Reader) (at : ℕ) : Type 0 where
-  pub room : at ≤ length bytes
-  pub rest : later at (fed_spec r (drop at bytes)) ≡ fed_spec r₀ bytes
+-- it is not sent back, and leaves this reader
+pub record Goes (r : Reader) (b : List ℕ) (new : Reader) : Type 0 where
+  pub goes : is_refused (record_spec r b).answer ≡ false
+  pub leaves : (record_spec r b).reader ≡ new
 
--- so many bytes were taken, if any; else the reader stays
-abbrev pub Moved : Reader → List ℕ → Reader → Option ℕ → Type 0
-Moved r xs new (Some n) = (0 < n) × Left r xs new n
-Moved r xs new None = new ≡ r
+-- the record was stored, if so told; else the reader stays
+abbrev pub Kept : Reader → List ℕ → Reader → Bool → Type 0
+Kept r b new true = Goes r b new
+Kept r b new false = new ≡ r

@@ -1,5 +1,5 @@
-// A stop, a rule or a call that its record hands in is stored, if the load takes it; all else is left to the reader.
-// What is not stored leaves by a guard, before anything is written.
+// A stop, a rule or a call that its record hands in is taken by the load, unless it is sent back; all else is left to the reader. The three
+// functions are alike: one for all would take the test, the reading and the step as closures, and state what each promises once more.
 ghost use Rattle.std.specs.Prelude.{◌≡◌, []};
 ghost use Rattle.fields.specs.Layout.{
   text_at,
@@ -12,21 +12,14 @@ ghost use Rattle.fields.specs.Layout.{
 };
 ghost use Rattle.fields.specs.Records.{stop_in, call_in, rule_in};
 ghost use Rattle.load.specs.Steps.{stop_spec, call_spec, rule_spec};
-ghost use Rattle.runs.specs.Runs.{Stored, Takes, Moved};
+ghost use Rattle.runs.specs.Runs.{Stored, Takes, Kept};
 
-use calls::Uncut;
 use fields::layout::{call_filled, kind_of, rule_filled, stop_filled};
-use fields::records::{call_in, rule_in, stop_in};
+use fields::records::{call_in, rule_in};
 use file::Reader;
-use file::framed::whole;
-use file::stop_texts::{id_text, name_text, parent_text};
+use file::stop_texts::new_stop;
 use load::Load;
-use prefix::first;
-use refusal::is_taken;
-use rules::rule_answer;
-use stop_answer::{parent_of, stop_answer};
-use stops::taken::stop_of;
-use table::step::uncut;
+use refusal::is_refused;
 
 fn store_stop(load: &mut Load, b: &[u8]) -> bool
     ensures { Stored (stop_filled_of b.now)
@@ -36,17 +29,8 @@ fn store_stop(load: &mut Load, b: &[u8]) -> bool
     if !stop_filled(b) {
         return false;
     }
-    let (id, name, parent, input) = (id_text(b), name_text(b), parent_text(b), stop_in(b));
-    let at = load.stop_count;
-    let stops = first(&load.stops, at);
-    let station = parent_of(stops, parent);
-    let answer = stop_answer(load.searched, stops, station, id, name, parent, input);
-    if !is_taken(answer) {
-        return false;
-    }
-    load.stops[at] = stop_of(id, name, station, input);
-    load.stop_count = at + 1;
-    true
+    let answer = load.take_stop(new_stop(b));
+    !is_refused(answer)
 }
 
 fn store_rule(load: &mut Load, b: &[u8]) -> bool
@@ -55,44 +39,19 @@ fn store_rule(load: &mut Load, b: &[u8]) -> bool
     if !rule_filled(b) {
         return false;
     }
-    let rule = rule_in(b);
-    let at = load.rule_count;
-    let rules = first(&load.rules, at);
-    if !is_taken(rule_answer(load.searched, load.stop_count, rules, rule)) {
-        return false;
-    }
-    load.rules[at] = rule;
-    load.rule_count = at + 1;
-    true
+    let answer = load.take_rule(rule_in(b));
+    !is_refused(answer)
 }
 
-// A call that goes in without a cut is stored; one outside the window is passed over. On a dated load each call names its service.
+// A call of a file names no service.
 fn store_call(load: &mut Load, b: &[u8]) -> bool
     ensures { Stored (call_filled_of b.now) (call_spec load.old [] (call_in b.now)) load.old load.new result }
 {
-    if load.week.dated || !call_filled(b) {
+    if !call_filled(b) {
         return false;
     }
-    let at = load.call_count;
-    let h = load.table_horizon;
-    let told = uncut(
-        load.settings,
-        load.searched,
-        load.stop_count,
-        at,
-        h,
-        call_in(b),
-    );
-    if matches!(told, Uncut::Other) {
-        return false;
-    }
-    load.horizon = h;
-    load.limits = load.table_limits;
-    if let Uncut::In(call) = told {
-        load.calls[at] = call;
-        load.call_count = at + 1;
-    }
-    true
+    let answer = load.take_call(call_in(b));
+    !is_refused(answer)
 }
 
 // The match stays, since each kind is stored elsewhere.
@@ -107,13 +66,12 @@ fn store(load: &mut Load, b: &[u8]) -> bool
     }
 }
 
-// The record at the start of the bytes, stored if the reader's load is opened and takes it: how many bytes it is.
-pub fn stored(reader: &mut Reader, bytes: &[u8]) -> Option<usize>
-    ensures { Moved reader.old bytes.now reader.new result }
+// A record, stored if the reader's load is opened and takes it.
+pub fn stored(reader: &mut Reader, b: &[u8]) -> bool
+    ensures { Kept reader.old b.now reader.new result }
 {
     if reader.second || !reader.opened {
-        return None;
+        return false;
     }
-    let b = whole(bytes)?;
-    store(&mut reader.load, b).then_some(2 + b.len())
+    store(&mut reader.load, b)
 }

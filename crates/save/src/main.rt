@@ -34,8 +34,7 @@ fn save(stdout: Stdout, load: Load) -> Result<(), Refusal> {
 fn main(rt: HostRuntime) {
     let mut bytes = input::zeros::<MOST>();
     let buf: &mut [u8] = &mut bytes;
-    let held = input::rest(rt.stdin(), buf, 0);
-    let t = read(&buf[..held]);
+    let t = read(input::rest(rt.stdin(), buf, 0));
     let load = t.reader.load;
     let saved = t.answer.and_then(|_| save(rt.stdout(), load));
     if let Err(r) = saved {

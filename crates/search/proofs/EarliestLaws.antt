@@ -90,18 +90,18 @@ module _ (f : List ℕ) (t : Timetable) (at : ℕ → Call) (n : ℕ) (a : Agree
       ∙ concat_map-map (leg_by at) (λ r. arrivals-at r.a) (rides N (span 0 n))
       ∙ concat_map-agree (λ r. arrivals-at (at r.a)) (λ r. due-at r.a) (rides N (span 0 n)) (λ r m. at_place r.a (listed_in N (span 0 n) r (rides-mem N (span 0 n) r m)).1)
 
-  due-is : ride_due f n ≡ target_arrivals t
+  pub due-is : ride_due f n ≡ target_arrivals t
   unfolding due-at
   due-is = due-by-rides f [] n ∙ sym arrivals-are
 
-  pub least-is : unwrap_or (soonest (ride_due f n)) 0 ≡ earliest t
-  unfolding earliest
-  least-is = ap (λ (ds : List ℕ). unwrap_or (soonest ds) 0) due-is ∙ or-zero (target_arrivals t)
+-- 0 where no ride alights at a target
+pub earliest_or : (t : Timetable) → unwrap_or (soonest (target_arrivals t)) 0 ≡ earliest t
+unfolding earliest
+earliest_or t = or-zero (target_arrivals t)
 
-pub earliest-is : (l : Load) (cs : List Call) (f : List ℕ) (e : Option ℕ) (r : ℕ) → cs ≡ sort_first l.call_count l.calls → length cs ≡ 512
-    → Feeds f cs l.stops l.settings → ((i : ℕ) → get_or f i 0 < 65536) → e ≡ soonest (ride_due f (min l.call_count 512)) → r ≡ unwrap_or e 0
-    → r ≡ earliest (timetable_of l)
-earliest-is l cs f e r order long w small ee er =
+pub earliest-is : (l : Load) (cs : List Call) (f : List ℕ) (e : Option ℕ) → cs ≡ sort_first l.call_count l.calls → length cs ≡ 512
+    → Feeds f cs l.stops l.settings → ((i : ℕ) → get_or f i 0 < 65536) → e ≡ soonest (ride_due f (min l.call_count 512))
+    → e ≡ soonest (target_arrivals (timetable_of l))
+earliest-is l cs f e order long w small ee =
     let n = min l.call_count 512 in
-    er ∙ ap (λ (x : Option ℕ). unwrap_or x 0) ee
-    ∙ least-is f (timetable_of l) (placed cs) n (agrees l cs f [] w small n 0 (omega arith) (λ one. absurd (omega arith))) (in-places l cs order long)
+    ee ∙ ap soonest (due-is f (timetable_of l) (placed cs) n (agrees l cs f [] w small n 0 (omega arith) (λ one. absurd (omega arith))) (in-places l cs order long))

@@ -37,13 +37,12 @@ use Rattle.limited_rides.specs.declared.Tested.{Tested}
 use Rattle.limited_rides.specs.Runs.{RowEvent}
 use Rattle.limited_rides.specs.Within.{Within}
 use Rattle.load.specs.declared.Load.{Load}
-use Rattle.search.specs.declared.Limited.{Limited}
 use Rattle.search.specs.Timetable.{timetable_of}
 use Rattle.search.specs.Rows.{sheet_from, joins_from}
 use Rattle.search.specs.Events.{sheet_events, place_events}
 use Rattle.search.specs.Offered.{placed, found_in}
 use Rattle.search.specs.Search.{with_found}
-use Rattle.search.specs.Within.{outcome_within, finishes_in, within_found, sent_back_of, ran_within, within_spec}
+use Rattle.search.specs.Within.{Answered, outcome_within, finishes_in, within_found, sent_back_of, ran_within, within_spec}
 use Rattle.search.proofs.SmallLaws.{AllSmall, rows-small}
 use Rattle.search.proofs.EventsLaws.{limit-by-rows}
 use Rattle.search.proofs.FoundLaws.{in-front, in-places, kept_small, holds-found}
@@ -131,7 +130,7 @@ module _ (l : Load) (n : ℕ) (u : l.searched ≡ false) (one : l.settings.max_t
         joins = w.joins not_refused ∙ sym (limit-by-rows n (timetable_of l) (placed cs) (min l.call_count 512) l.table_horizon l.table_limits (in-places l cs order long)).joins
 
       module _ (walks : (o : ℕ) → get_or l.settings.origin_walks o 0 < 256) (x : Option ℕ) (ex : x ≡ then_some (not r.finished) n) where
-        abbrev next : Limited
+        abbrev next : Answered
         next = record { answer = Ok Taken; load = found_in l cs st' x; joins = r.joins; finished = r.finished }
 
         either : (ks : List Journey) (h m : ℕ) (b : Bool) → with_found l ks h m (then_some (not b) n) ≡ cond b (with_found l ks h m None) (with_found l ks h m (Some n))

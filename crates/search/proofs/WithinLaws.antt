@@ -29,15 +29,14 @@ use Rattle.limited.proofs.LimitLaws.{finished-is-full, within-by-offers, within-
 use Rattle.load.specs.declared.Load.{Load}
 use Rattle.load.specs.Load.{stopped}
 use Rattle.load.specs.Sound.{Sound}
-use Rattle.search.specs.declared.Limited.{Limited}
 use Rattle.search.specs.Timetable.{timetable_of}
 use Rattle.search.specs.Search.{outcome_of, with_found, with_journeys, settled, is_never, search_spec}
-use Rattle.search.specs.Within.{outcome_within, finishes_in, within_found, settled_within, sent_back_of, ran_within, within_spec, step_of, would_fall_within, within_tests, within_causes, WithinAnswered, FinishedIsSearch, WithinTaken, WithinSound}
+use Rattle.search.specs.Within.{Answered, outcome_within, finishes_in, within_found, settled_within, sent_back_of, ran_within, within_spec, step_of, would_fall_within, within_tests, within_causes, WithinAnswered, FinishedIsSearch, WithinTaken, WithinSound}
 use Rattle.search.proofs.RunLaws.{search-again, search-runs}
 use Rattle.search.proofs.SearchSound.{found-sound}
 
 -- of any property of what is returned: sent back with 15 or 1, or by the outcome
-pub within-cases : (l : Load) (n : ℕ) (P : Limited → Type 0)
+pub within-cases : (l : Load) (n : ℕ) (P : Answered → Type 0)
     → (l.searched ≡ true → P (sent_back_of l (Err AlreadySearched)))
     → (l.searched ≡ false → ltb 1 l.settings.max_transfers ≡ true → P (sent_back_of l (Err SettingsRange)))
     → (l.searched ≡ false → ltb 1 l.settings.max_transfers ≡ false → (o : Outcome) → outcome_within l n ≡ o → P (ran_within l n o))
@@ -145,15 +144,15 @@ within-keeps f l n same = go (is_taken (within_spec l n).answer) refl
     left ks h m false = same ks h m (Some n)
 
     go : (b : Bool) → is_taken (within_spec l n).answer ≡ b → f (within_spec l n).load ≡ f l
-    go true t = let w = taken-within l n t in ap (λ (r : Limited). f r.load) w.is ∙ left w.kept w.to w.mark (finishes_in l n)
+    go true t = let w = taken-within l n t in ap (λ (r : Answered). f r.load) w.is ∙ left w.kept w.to w.mark (finishes_in l n)
     go false t = ap f (untaken-within l n t)
 
 -- by whether it finished
-abbrev left_by_of : Load → ℕ → List Journey → ℕ → ℕ → Bool → Limited
+abbrev left_by_of : Load → ℕ → List Journey → ℕ → ℕ → Bool → Answered
 left_by_of l n ks h m b =
     record { answer = Ok Taken; load = cond b (with_journeys l ks h m) (with_found l ks h m (Some n)); joins = joins_within n (timetable_of l); finished = b }
 
-record Left (l : Load) (n : ℕ) (b : Bool) (w : Limited) : Type 0 where
+record Left (l : Load) (n : ℕ) (b : Bool) (w : Answered) : Type 0 where
   searched : w.load.searched ≡ true
   says : w.finished ≡ b
   counts : w.joins ≡ joins_within n (timetable_of l)
@@ -227,5 +226,5 @@ pub within-sound : WithinSound
 within-sound l n s = go (is_taken (within_spec l n).answer) refl
   where
     go : (b : Bool) → is_taken (within_spec l n).answer ≡ b → Sound (within_spec l n).load
-    go true t = let w = taken-within l n t in subst (λ (r : Limited). Sound r.load) (sym w.is) (found-within-sound l n w.kept w.to w.mark w.outcome w.one s)
+    go true t = let w = taken-within l n t in subst (λ (r : Answered). Sound r.load) (sym w.is) (found-within-sound l n w.kept w.to w.mark w.outcome w.one s)
     go false t = subst Sound (sym (untaken-within l n t)) s

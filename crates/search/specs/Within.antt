@@ -2,7 +2,8 @@
 -- past the limit leave. "It says finished when no untested join is left, and stopped otherwise". One that finished leaves the load of a full
 -- search; one that was stopped leaves a load that holds its limit.
 use Rattle.refusal.specs.declared.Accepted.TheVariants.{Taken}
-use Rattle.std.specs.Prelude.{◌≡◌, ◌↔◌, Bool, true, false, cond, List, [], ◌∷◌, ℕ, ◌≤◌, ltb, None, Some, Err, Ok}
+use Rattle.std.specs.Prelude.{◌≡◌, ◌↔◌, Bool, true, false, cond, List, [], ◌∷◌, ℕ, ◌≤◌, ltb, None, Some, Err, Ok, Result}
+use Rattle.refusal.specs.declared.Refusal.{Refusal}
 use Rattle.refusal.specs.declared.Refusal.TheVariants.{SettingsRange, AlreadySearched, Neighbours, NoRoom}
 use Rattle.refusal.specs.First.{First, AllFail, is_refused, Answer}
 use Rattle.profile.specs.declared.Journey.{Journey}
@@ -13,6 +14,7 @@ use Rattle.offers.specs.Order.{clashes}
 use Rattle.offers.specs.Offers.{sorted}
 use Rattle.offers.specs.Search.{Outcome, clashing, falling, found}
 use Rattle.limited.specs.Limited.{offers_within, joins_within, finished_within, search_within}
+use Rattle.limited_rides.specs.declared.Tested.{Tested}
 use Rattle.load.specs.declared.Load.{Load}
 use Rattle.load.specs.declared.Stepped.{Stepped}
 use Rattle.load.specs.Load.{stopped}
@@ -39,23 +41,38 @@ settled_within l n clashing = l
 settled_within l n falling = l
 settled_within l n (found ks h m) = within_found l n ks h m
 
+-- what such a search answers, with its load; how many joins it tested, and whether none is left
+pub record Answered : Type 0 where
+  pub answer : Answer
+  pub load : Load
+  pub joins : ℕ
+  pub finished : Bool
+
 -- a search that is sent back counts no join
-abbrev pub sent_back_of : Load → Answer → Limited
+abbrev pub sent_back_of : Load → Answer → Answered
 sent_back_of l a = record { answer = a; load = l; joins = 0; finished = false }
 
-abbrev pub ran_within : Load → ℕ → Outcome → Limited
+abbrev pub answered_by : Load → Result Tested Refusal → Answered
+answered_by l (Err r) = sent_back_of l (Err r)
+answered_by l (Ok t) = record { answer = Ok Taken; load = l; joins = t.joins; finished = t.finished }
+
+-- as the program hands it back
+abbrev pub answered : Limited → Answered
+answered w = answered_by w.load w.tested
+
+abbrev pub ran_within : Load → ℕ → Outcome → Answered
 ran_within l n clashing = sent_back_of l (Err Neighbours)
 ran_within l n falling = sent_back_of l (Err NoRoom)
 ran_within l n (found ks h m) =
     record { answer = Ok Taken; load = within_found l n ks h m; joins = joins_within n (timetable_of l); finished = finishes_in l n }
 
-unfoldable pub within_spec : Load → ℕ → Limited
+unfoldable pub within_spec : Load → ℕ → Answered
 within_spec l n =
     cond l.searched (sent_back_of l (Err AlreadySearched))
     (cond (ltb 1 l.settings.max_transfers) (sent_back_of l (Err SettingsRange)) (ran_within l n (outcome_within l n)))
 
 -- its answer and its load
-abbrev pub step_of : Limited → Stepped
+abbrev pub step_of : Answered → Stepped
 step_of w = record { answer = w.answer; load = w.load }
 
 -- the horizon would fall below 3600, by those offers

@@ -9,17 +9,19 @@ ghost use Rattle.transfer.specs.Changes.{change_number};
 ghost use Rattle.change_array.specs.Named.{HoldsChanges};
 ghost use Rattle.search.specs.Timetable.{change_in};
 ghost use Rattle.search.specs.Offered.{offered_of, found_in};
+ghost use Rattle.search.specs.Within.{answered, step_of};
 
 use calls::Call;
 use change_array::changes_of;
 use feed::layout::{Changes, Feed};
 use feed_array::feed_of;
+use limited_rides::Tested;
 use load::{Load, Stepped};
 use order::{neighbours_clash, sorted};
 use places::group::group_places;
 use prefix::first;
 use read_back::journeys_of;
-use refusal::{Accepted, Answer, Refusal};
+use refusal::{Accepted, Refusal};
 use rides::paths::endpoint_paths;
 use state::layout::State;
 use state::{count, fresh, horizon, is_refused, limits};
@@ -32,21 +34,27 @@ mod within;
 
 pub use within::search_within;
 
-// What a search within a limit on joins answers, and the load that it returns; how many joins it tested, and whether none is left. 0 and
-// false where it is sent back: no `Result`, since each step hands back its load beside its answer.
+// What a search within a limit on joins tested, or why it is sent back, beside the load that it returns, as of every step.
 #[derive(Clone, Copy, Debug, PartialEq)]
 pub struct Limited {
-    pub answer: Answer,
+    pub tested: Result<Tested, Refusal>,
     pub load: Load,
-    pub joins: u64,
-    pub finished: bool,
 }
 
-// The places of the first `count` stops. An array beside its count, since only its type says that there are at most 128.
-fn places_in(stops: &[Stop; 128], count: usize) -> [u16; 128]
-    ensures { result ≡ places_of (take count stops.now) }
-{
-    group_places(first(stops, count))
+impl Limited {
+    // As any step: taken where it was not sent back.
+    pub fn stepped(self) -> Stepped
+        ensures { result ≡ step_of (answered self) }
+    {
+        let answer = match self.tested {
+            Ok(_) => Ok(Accepted::Taken),
+            Err(refusal) => Err(refusal),
+        };
+        Stepped {
+            answer,
+            load: self.load,
+        }
+    }
 }
 
 // The changes that a search of the load reads, from the stops that the feed names.
@@ -55,7 +63,7 @@ fn changes_for(load: &Load, feed: &Feed) -> Changes
 {
     let settings = load.settings;
     let parents = parents_of(&load.stops);
-    let places = places_in(&load.stops, load.stop_count);
+    let places = group_places(first(&load.stops, load.stop_count));
     let transfers = Transfers {
         rules: first(&load.rules, load.rule_count),
         parents: &parents,

@@ -4,7 +4,7 @@ ghost use Rattle.limited_rides.specs.Within.{Within};
 ghost use Rattle.search.specs.Timetable.{timetable_of};
 ghost use Rattle.search.specs.Events.{place_events};
 ghost use Rattle.search.specs.Offered.{placed};
-ghost use Rattle.search.specs.Within.{sent_back_of, within_spec};
+ghost use Rattle.search.specs.Within.{answered, sent_back_of, within_spec};
 
 use crate::{Limited, changes_for, keep};
 use calls::Call;
@@ -14,7 +14,7 @@ use limited_rides::within::paths_within;
 use load::Load;
 use order::{neighbours_clash, sorted};
 use prefix::first;
-use refusal::{Accepted, Refusal};
+use refusal::Refusal;
 use state::layout::State;
 use state::{fresh, is_refused};
 
@@ -29,21 +29,18 @@ fn offered_within(load: &Load, calls: &[Call; 512], limit: u64, st: &mut State) 
     paths_within(st, &feed, &changes, load.call_count, depth, limit)
 }
 
-// A search that is sent back tested no join.
 fn sent_back(load: Load, refusal: Refusal) -> Limited
-    ensures { result ≡ sent_back_of load (Err refusal) }
+    ensures { answered result ≡ sent_back_of load (Err refusal) }
 {
     Limited {
-        answer: Err(refusal),
+        tested: Err(refusal),
         load,
-        joins: 0,
-        finished: false,
     }
 }
 
 // The load searched within a limit on joins, or why it is sent back: 15, 1, 14, 11. A stopped search holds its limit.
 pub fn search_within(load: Load, limit: u64) -> Limited
-    ensures { result ≡ within_spec load limit }
+    ensures { answered result ≡ within_spec load limit }
 {
     if load.searched {
         return sent_back(load, Refusal::AlreadySearched);
@@ -64,9 +61,7 @@ pub fn search_within(load: Load, limit: u64) -> Limited
     let mut next = load;
     keep(&mut next, &calls, &st, (!tested.finished).then_some(limit));
     Limited {
-        answer: Ok(Accepted::Taken),
+        tested: Ok(tested),
         load: next,
-        joins: tested.joins,
-        finished: tested.finished,
     }
 }

@@ -7,6 +7,7 @@ use parts::{print, read_input};
 // As long as the longest list.
 const MOST: usize = 4096;
 
+// As in `key_lines`, which says why there are two.
 fn main(rt: HostRuntime) {
     if let Some(t) = read_input(rt.stdin(), rt.stderr()) {
         let mut out = [0; MOST];

@@ -5,8 +5,7 @@
 
 mod text;
 
-use groups::{Group, group_of, no_group};
-use prefix::first;
+use groups::{Groups, group_of};
 use reader::read;
 use refusal::Refusal;
 use std::io::Stdin;
@@ -23,29 +22,28 @@ struct Refused {
     cause: Refusal,
 }
 
-// Reads the groups of up to four files, and says how many there are.
-fn read_groups(stdin: Stdin, buf: &mut [u8], groups: &mut [Group; 4]) -> Result<usize, Refused> {
+// Reads the groups of up to four files.
+fn read_groups(stdin: Stdin, buf: &mut [u8]) -> Result<Groups, Refused> {
+    let mut groups = Groups::default();
     // It leaves where the input does, of which no chain of std can ask.
     for number in 0u8..4 {
-        let at = usize::from(number);
-        let Some(size) = input::file(stdin, buf) else {
-            return Ok(at);
+        let Some(file) = input::file(stdin, buf) else {
+            break;
         };
-        let took = read(&buf[..size]);
+        let took = read(file);
         if let Err(cause) = took.answer {
             return Err(Refused { number, cause });
         }
-        groups[at] = group_of(number, took.reader.load);
+        groups.add(group_of(number, took.reader.load));
     }
-    Ok(4)
+    Ok(groups)
 }
 
 fn main(rt: HostRuntime) {
     let mut out = Out::new(rt.stdout());
     let mut buf = input::zeros::<MOST>();
-    let mut groups = [no_group(); 4];
-    match read_groups(rt.stdin(), &mut buf, &mut groups) {
-        Ok(count) => text::display(&mut out, first(&groups, count)),
+    match read_groups(rt.stdin(), &mut buf) {
+        Ok(groups) => text::display(&mut out, groups.given()),
         Err(refused) => text::file_refused(&mut out, refused.number, refused.cause),
     }
 }

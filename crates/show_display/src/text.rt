@@ -1,8 +1,9 @@
 // The lines of a display: for each group `group N`, its journeys shown and `window W`, or `refused N`.
-use display::part::Part;
+use display::part::Shown;
 use display::{Display, deal, part_of};
 use groups::{Group, group_at};
-use refusal::{Accepted, Refusal};
+use prefix::first;
+use refusal::Refusal;
 use stdio::load_lines::{Figures, refused};
 use stdio::out::Out;
 
@@ -14,23 +15,25 @@ pub fn file_refused(out: &mut Out, number: u8, r: Refusal) {
 }
 
 // A group that is given: what it shows, or why it shows nothing.
-fn part(out: &mut Out, number: u8, group: Group, p: Part) {
-    if p.shows {
-        writeln!(out, "group {number}");
-        for j in &group.journeys[..p.count.min(64)] {
-            writeln!(out, "journey {}", Figures(j));
+fn part(out: &mut Out, number: u8, group: &Group, shown: Result<Shown, Refusal>) {
+    writeln!(out, "group {number}");
+    match shown {
+        Ok(shown) => {
+            for j in first(&group.journeys, shown.count) {
+                writeln!(out, "journey {}", Figures(j));
+            }
+            writeln!(out, "window {}", shown.window);
         }
-        writeln!(out, "window {}", p.window);
-    } else if let Err(r) = p.answer {
-        writeln!(out, "group {number}");
-        refused(out, r);
+        Err(r) => refused(out, r),
     }
 }
 
 fn parts(out: &mut Out, groups: &[Group], d: Display) {
     for number in 0u8..4 {
-        if let Some(group) = group_at(groups, number) {
-            part(out, number, group, part_of(d, number));
+        if let Some(group) = group_at(groups, number)
+            && let Some(shown) = part_of(d, number)
+        {
+            part(out, number, group, shown);
         }
     }
 }
@@ -38,8 +41,8 @@ fn parts(out: &mut Out, groups: &[Group], d: Display) {
 // The display of the groups; or the refusal of the whole.
 pub fn display(out: &mut Out, groups: &[Group]) {
     let d = deal(groups);
-    match d.answer {
-        Ok(Accepted::Taken | Accepted::Outside) => parts(out, groups, d),
+    match d {
+        Ok(_) => parts(out, groups, d),
         Err(r) => refused(out, r),
     }
     out.flush();

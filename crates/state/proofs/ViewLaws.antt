@@ -46,7 +46,8 @@ module _ (l : List ℕ) (c i : ℕ) (ec : c ≡ count_of l) where
 
   pub kept-past : (r : Row) → c ≤ i → r ≡ no_row → r ≡ get_or (kept_of l) i no_row
   unfolding kept_of
-  kept-past r h e = e ∙ sym (get_or-eq_default (take (count_of l) (rows l)) no_row {n = i} (omega (arith, length-take (count_of l) (rows l), ec)))
+  kept-past r h e =
+      e ∙ sym (get_or-eq_default (take (count_of l) (rows l)) no_row {n = i} (omega (arith, length-take (count_of l) (rows l), ec)))
 
 -- ---- the state
 
@@ -58,7 +59,8 @@ pub view-refused : (l : List ℕ) → (get_or l refused_place 0 ≡ 0 → ⊥) �
 unfolding view open_of
 view-refused l n = rw (ne_eqb (get_or l refused_place 0) 0 n) refl
 
-pub view-is : (l : List ℕ) (n h g : ℕ) → get_or l count_place 0 ≡ n → n ≤ 64 → get_or l horizon_place 0 ≡ h → get_or l limits_place 0 ≡ g → g < 256 → get_or l refused_place 0 ≡ 0 → view l ≡ going (take n (rows l)) h g
+pub view-is : (l : List ℕ) (n h g : ℕ) → get_or l count_place 0 ≡ n → n ≤ 64 → get_or l horizon_place 0 ≡ h → get_or l limits_place 0 ≡ g
+    → g < 256 → get_or l refused_place 0 ≡ 0 → view l ≡ going (take n (rows l)) h g
 unfolding kept_of horizon_of
 view-is l n h g en le eh eg small em = view-open l em ∙ rw (count-is l n en le, eh, limits-is l g eg small) refl
 
@@ -84,7 +86,9 @@ pub in_time : (l : List ℕ) (a : ℕ) (b : Bool) → b ≡ too_late (view l) a 
 unfolding view open_of
 in_time l a b eb f = go (eqb (get_or l refused_place 0) 0) refl (sym eb ∙ f)
   where
-    go : (c : Bool) → eqb (get_or l refused_place 0) 0 ≡ c → too_late (cond c (going (kept_of l) (horizon_of l) (limits_of l)) refused) a ≡ false → (get_or l refused_place 0 ≡ 0) × (a ≤ horizon_of l)
+    go : (c : Bool) → eqb (get_or l refused_place 0) 0 ≡ c
+        → too_late (cond c (going (kept_of l) (horizon_of l) (limits_of l)) refused) a ≡ false
+        → (get_or l refused_place 0 ≡ 0) × (a ≤ horizon_of l)
     go true e k = (eqb-true (get_or l refused_place 0) 0 e, ltb-false (horizon_of l) a k)
     go false e k = absurd (true≢false k)
 
@@ -116,7 +120,9 @@ module _ (h g : ℕ) where
 
   start-zero : (y : ℕ) → y < size → y ≢ horizon_place → y ≢ limits_place → get_or start y 0 ≡ 0
   unfolding start
-  start-zero y b n m = get_or-set_other (set (replicate size 0) horizon_place h) limits_place y g 0 m ∙ get_or-set_other (replicate size 0) horizon_place y h 0 n ∙ get_or-replicate size y 0 0 b
+  start-zero y b n m =
+      get_or-set_other (set (replicate size 0) horizon_place h) limits_place y g 0 m
+      ∙ get_or-set_other (replicate size 0) horizon_place y h 0 n ∙ get_or-replicate size y 0 0 b
 
   pub fresh-view : g < 256 → view (set (set (replicate size 0) horizon_place h) limits_place g) ≡ going [] h g
   unfolding start
@@ -128,5 +134,7 @@ module _ (h g : ℕ) where
       let d : ◌≢◌ {A = ℕ} horizon_place limits_place = λ e. omega arith in
       let n = length-replicate {A = ℕ} size 0 in
       view-is start 0 h g (start-zero count_place (omega arith) a a') (omega arith)
-      (get_or-set_other (set (replicate size 0) horizon_place h) limits_place horizon_place g 0 d ∙ get_or-set_same (replicate size 0) horizon_place h 0 (omega (arith, n)))
-      (get_or-set_same (set (replicate size 0) horizon_place h) limits_place g 0 (omega (arith, n, length-set (replicate size 0) horizon_place h))) small (start-zero refused_place (omega arith) b b')
+      (get_or-set_other (set (replicate size 0) horizon_place h) limits_place horizon_place g 0 d
+      ∙ get_or-set_same (replicate size 0) horizon_place h 0 (omega (arith, n)))
+      (get_or-set_same (set (replicate size 0) horizon_place h) limits_place g 0
+      (omega (arith, n, length-set (replicate size 0) horizon_place h))) small (start-zero refused_place (omega arith) b b')

@@ -12,8 +12,8 @@ pub fn zeros<const N: usize>() -> [u8; N]
     [0; N]
 }
 
-// Reads until the buffer is full, the input ends or a read fails; how many bytes were put at its start. std's read_exact doesn't say how
-// many. The bound is told, here and in `rest`, since callers take that part of the buffer.
+// Reads until the buffer is full, the input ends or a read fails; how many bytes were put at its start. A count and not the part, so that
+// the buffer is there again for what is read behind it. std's read_exact doesn't say how many.
 fn full(stdin: Stdin, buf: &mut [u8]) -> usize
     ensures { result ≤ length buf.new }
 {
@@ -43,24 +43,25 @@ pub fn head(stdin: Stdin, buf: &mut [u8]) -> usize
 fn size(buf: &[u8]) -> usize
     ensures { result < 4294967296 }
 {
-    match buf {
-        [a, b, c, d, ..] => u32::from_be_bytes([*a, *b, *c, *d]) as usize,
-        _ => 0,
-    }
+    buf.first_chunk()
+        .map_or(0, |b| u32::from_be_bytes(*b) as usize)
 }
 
-// The file whose length stands at the start of the buffer, put in its place; its size. None of a file that is longer than the buffer,
-// or is not there whole.
-pub fn body(stdin: Stdin, buf: &mut [u8]) -> Option<usize>
-    ensures { IfSome result (λ n. n ≤ length buf.new) }
+// The file whose length stands at the start of the buffer, put in its place. None of a file that is longer than the buffer, or is not
+// there whole.
+pub fn body<'a>(stdin: Stdin, buf: &'a mut [u8]) -> Option<&'a [u8]>
+    ensures { IfSome result (λ file. length file.now ≤ length buf.old) }
 {
     let n = size(buf);
-    (n <= buf.len() && full(stdin, &mut buf[..n]) == n).then_some(n)
+    if buf.len() < n || full(stdin, &mut buf[..n]) < n {
+        return None;
+    }
+    Some(&buf[..n])
 }
 
-// The next file, put at the start of the buffer; its size, if its length and the file are there.
-pub fn file(stdin: Stdin, buf: &mut [u8]) -> Option<usize>
-    ensures { IfSome result (λ n. n ≤ length buf.new) }
+// The next file, put at the start of the buffer, if its length and the file are there.
+pub fn file<'a>(stdin: Stdin, buf: &'a mut [u8]) -> Option<&'a [u8]>
+    ensures { IfSome result (λ file. length file.now ≤ length buf.old) }
 {
     if head(stdin, buf) < 4 {
         return None;
@@ -74,21 +75,20 @@ pub fn each_file<F: FnMut(&[u8])>(stdin: Stdin, buf: &mut [u8], mut each: F)
     requires { F.IsAlwaysCallable each }
 {
     for _ in 0..u64::MAX {
-        let Some(size) = file(stdin, buf) else {
+        let Some(file) = file(stdin, buf) else {
             return;
         };
-        each(&buf[..size]);
+        each(file);
     }
 }
 
-// The rest of the input, after the first `held` bytes of the buffer, which stay; how many bytes it then holds. Those that don't fit are
-// not read.
-pub fn rest(stdin: Stdin, buf: &mut [u8], held: usize) -> usize
-    ensures { result ≤ length buf.new }
+// What the buffer holds once the rest of the input is read after its first `held` bytes, which stay. Bytes that don't fit are not read.
+pub fn rest<'a>(stdin: Stdin, buf: &'a mut [u8], held: usize) -> &'a [u8]
+    ensures { length result.now ≤ length buf.old }
 {
     if held < buf.len() {
         let n = full(stdin, &mut buf[held..]);
-        return held + n;
+        return &buf[..held + n];
     }
-    buf.len()
+    buf
 }

@@ -29,7 +29,7 @@ pub fn table(out: &mut Out, calls: &[Call; 512], count: usize) {
 }
 
 // Leave, arrival, rides, walk, origin and target of a journey.
-#[derive(Clone, Copy)]
+#[derive(Clone, Copy, Debug, PartialEq, Eq)]
 pub struct Figures<'a>(pub &'a Journey);
 
 impl fmt::Display for Figures<'_> {
@@ -44,7 +44,7 @@ impl fmt::Display for Figures<'_> {
 }
 
 // A ride after a bar.
-#[derive(Clone, Copy)]
+#[derive(Clone, Copy, Debug, PartialEq, Eq)]
 struct Barred<'a>(&'a Ride);
 
 impl fmt::Display for Barred<'_> {
@@ -66,7 +66,7 @@ impl fmt::Display for Barred<'_> {
 }
 
 // The rides of a journey in order: only one of three rides has a middle one.
-#[derive(Clone, Copy)]
+#[derive(Clone, Copy, Debug, PartialEq, Eq)]
 struct Rides<'a>(&'a Journey);
 
 impl fmt::Display for Rides<'_> {

@@ -28,7 +28,7 @@ use Rattle.load.proofs.ClockLaws.{opening-tests}
 use Rattle.load.proofs.AnswerLaws.{step-answered as fill-answered}
 use Rattle.search.proofs.AnswerLaws.{search-answered}
 use Rattle.search.proofs.WithinLaws.{within-answered}
-use Rattle.withdrawal.specs.declared.CallKey.{CallKey}
+use Rattle.calls.specs.declared.CallKey.{CallKey}
 use Rattle.again.specs.Again.{unsearched_of, add_spec_of, withdraw_tests, taken_out}
 use Rattle.again.specs.Causes.{search_tests, later_tests, add_causes, withdraw_causes}
 use Rattle.again.proofs.AnswerLaws.{add-answered, withdraw-answered}

@@ -21,7 +21,7 @@ use Rattle.load.specs.Sound.{Opens, Sound}
 use Rattle.load.proofs.SoundLaws.{open-sound}
 use Rattle.load.proofs.ClockLaws.{open-fails}
 use Rattle.load.proofs.TableLaws.{fill-settings, opened-settings}
-use Rattle.withdrawal.specs.declared.CallKey.{CallKey}
+use Rattle.calls.specs.declared.CallKey.{CallKey}
 use Rattle.search.specs.Search.{outcome_of, settled, search_spec}
 use Rattle.search.specs.Within.{within_spec}
 use Rattle.search.proofs.RunLaws.{search-runs}

@@ -24,11 +24,10 @@ use Rattle.load.specs.Steps.{Opening, opened, call_spec}
 use Rattle.load.specs.Filling.{Filling, stop, call, rule, service, exception, filled}
 use Rattle.load.specs.Sound.{Sound}
 use Rattle.load.proofs.SoundLaws.{open-sound, fill-keeps-sound, with-week-sound}
-use Rattle.withdrawal.specs.declared.CallKey.{CallKey}
+use Rattle.calls.specs.declared.CallKey.{CallKey}
 use Rattle.search.specs.Timetable.{timetable_of}
-use Rattle.search.specs.declared.Limited.{Limited}
 use Rattle.search.specs.Search.{outcome_of, with_found, search_spec}
-use Rattle.search.specs.Within.{finishes_in, within_spec, step_of}
+use Rattle.search.specs.Within.{Answered, finishes_in, within_spec, step_of}
 use Rattle.search.proofs.RunLaws.{sound-timed, taken-found, untaken-stays}
 use Rattle.search.proofs.SearchSound.{search-sound}
 use Rattle.search.proofs.WithinLaws.{taken-within, untaken-within, within-sound, finished-is-search}
@@ -157,7 +156,7 @@ limited-leaves m n s t = go (finishes_in m n) refl
           to = w.to;
           mark = w.mark;
           limit = Some n;
-          is = ap (λ (r : Limited). r.load) w.is ∙ cond-not _ _ e;
+          is = ap (λ (r : Answered). r.load) w.is ∙ cond-not _ _ e;
           finds = λ x. absurd (some-ne-none n x);
           sound = within-sound m n s;
           own = within-own m n s t;

@@ -28,15 +28,14 @@ use Rattle.load.specs.Filling.{Filling, stop, call, rule, service, exception, fi
 use Rattle.load.specs.Sound.{Sound}
 use Rattle.load.specs.Table.{taken_call}
 use Rattle.load.proofs.TableLaws.{ShowsIn, fill_shows, opened-settings, opened-shows}
-use Rattle.withdrawal.specs.declared.CallKey.{CallKey}
+use Rattle.calls.specs.declared.CallKey.{CallKey}
 use Rattle.withdrawal.specs.Removal.{without_last, has_key, withdrawn, named_in}
 use Rattle.withdrawal.proofs.LeftLaws.{withdrawn-leaves}
 use Rattle.withdrawal.proofs.ShownLaws.{shown-without}
 use Rattle.search.specs.Timetable.{timetable_of}
 use Rattle.profile.specs.declared.Journey.{Journey}
-use Rattle.search.specs.declared.Limited.{Limited}
 use Rattle.search.specs.Search.{with_found, with_journeys, search_spec}
-use Rattle.search.specs.Within.{finishes_in, within_spec}
+use Rattle.search.specs.Within.{Answered, finishes_in, within_spec}
 use Rattle.search.proofs.RunLaws.{taken-found, untaken-stays}
 use Rattle.search.proofs.WithinLaws.{taken-within, untaken-within}
 use Rattle.again.specs.Again.{unsearched_of, researched, again, leaves_table_of, added_to, add_spec_of, taken_out, withdraw_spec}
@@ -111,7 +110,7 @@ limited-holds l n is h = go (is_taken (within_spec l n).answer) refl
     go : (b : Bool) → is_taken (within_spec l n).answer ≡ b → Holds (within_spec l n).load is
     go true t =
         let w = taken-within l n t in
-        subst (λ (x : Load). Holds x is) (sym (ap (λ (r : Limited). r.load) w.is)) (either-holds l n is w.kept w.to w.mark (finishes_in l n) (ap in_order_of (plain l is w.new h)))
+        subst (λ (x : Load). Holds x is) (sym (ap (λ (r : Answered). r.load) w.is)) (either-holds l n is w.kept w.to w.mark (finishes_in l n) (ap in_order_of (plain l is w.new h)))
     go false t = subst (λ (m : Load). Holds m is) (sym (untaken-within l n t)) h
 
 -- ---- call

@@ -10,7 +10,7 @@ use Rattle.stops.specs.declared.StopInput.{StopInput}
 use Rattle.calls.specs.declared.CallInput.{CallInput}
 use Rattle.rules.specs.declared.Rule.{Rule}
 use Rattle.offers.specs.Search.{Outcome, clashing, falling, found, answer_of}
-use Rattle.withdrawal.specs.declared.CallKey.{CallKey}
+use Rattle.calls.specs.declared.CallKey.{CallKey}
 use Rattle.week.specs.declared.Week.{Week}
 use Rattle.week.specs.declared.WeekStepped.{WeekStepped}
 use Rattle.week.specs.Weeks.{closed_week, service_answer, service_on, exception_answer, exception_on}

@@ -1,7 +1,7 @@
 -- The steps that alter a load, as one type: what each answers, and the load that it returns.
 use Rattle.refusal.specs.First.{Answer}
 use Rattle.std.specs.Prelude.{Bool, cond, List, [], ◌∷◌, ℕ}
-use Rattle.withdrawal.specs.declared.CallKey.{CallKey}
+use Rattle.calls.specs.declared.CallKey.{CallKey}
 use Rattle.load.specs.declared.Load.{Load}
 use Rattle.load.specs.declared.Stepped.{Stepped}
 use Rattle.load.specs.Filling as fill

@@ -9,7 +9,7 @@ use calls::CallInput;
 use load::Load;
 use rules::Rule;
 use settings::Settings;
-use stops::StopInput;
+use stops::{NewStop, StopInput};
 
 // Not the default: a load has an origin and a target at least.
 fn settings() -> Settings
@@ -39,7 +39,13 @@ fn with_stop(load: Load, k: u16) -> Load
     requires { k < 256 }
     ensures { result ≡ with_stop k load }
 {
-    load.stop(&[k as u8, 65], None, None, stop_input()).load
+    let stop = NewStop {
+        id: &[k as u8, 65],
+        name: None,
+        parent: None,
+        input: stop_input(),
+    };
+    load.stop(stop).load
 }
 
 #[tactic(auto, unfolding(crate::specs::Steps::with_rule))]

@@ -8,7 +8,7 @@ ghost use Rattle.stops.specs.Answer.{station_of, is_known, id_wrong, type_wrong,
 use prefix::first;
 use refusal::{Accepted, Answer, Refusal};
 use stops::find::find;
-use stops::{Stop, StopInput};
+use stops::{NewStop, Stop, StopInput};
 
 // The number of the station that is named as the parent, among the stops of a load.
 #[tactic(auto, unfolding(stops::specs::Answer::station_of))]
@@ -72,37 +72,33 @@ fn known(stops: &[Stop], id: &[u8]) -> bool
     find(stops, id, false).is_some()
 }
 
-// What a stop is answered, by the stops of the load, the parent found, and the search. The texts come as they were handed in: slices that
-// a record would only lend on.
+// What a stop is answered, by the stops of the load, the parent found, and the search.
 #[tactic(auto, unfolding(stops::specs::Answer::stop_tests, refusal::specs::First::first_answer))]
 pub fn stop_answer(
     searched: bool,
     stops: &[Stop],
     station: Option<u16>,
-    id: &[u8],
-    name: Option<&[u8]>,
-    parent: Option<&[u8]>,
-    input: StopInput,
+    stop: NewStop<'_>,
 ) -> Answer
-    ensures { result ≡ first_answer (stop_tests searched stops.now (length stops.now) station id.now
-        (option_copied name.entry) (option_copied parent.entry) input) }
+    ensures { result ≡ first_answer (stop_tests searched stops.now (length stops.now) station stop.entry.id.now
+        (option_copied stop.entry.name) (option_copied stop.entry.parent) stop.entry.input) }
 {
     if searched {
         return Err(Refusal::AlreadySearched);
     }
-    if id_wrong(id) {
+    if id_wrong(stop.id) {
         return Err(Refusal::IdLength);
     }
-    if known(stops, id) {
+    if known(stops, stop.id) {
         return Err(Refusal::IdTaken);
     }
-    if type_wrong(input.location_type, parent.is_some()) {
+    if type_wrong(stop.input.location_type, stop.parent.is_some()) {
         return Err(Refusal::LocationType);
     }
-    if parent_wrong(parent, station) {
+    if parent_wrong(stop.parent, station) {
         return Err(Refusal::ParentUnknown);
     }
-    if name_wrong(name, name_needed(parent, input), id) {
+    if name_wrong(stop.name, name_needed(stop.parent, stop.input), stop.id) {
         return Err(Refusal::NameUnusable);
     }
     if 128 <= stops.len() {

@@ -45,13 +45,15 @@ needed-used : (needed : Bool) (text : List ℕ) → (needed && unusable text) �
 unfolding unusable
 needed-used needed text e t = usable-by (usable (points text)) (sym (ap (λ (b : Bool). b && not (usable (points text))) t) ∙ e)
 
-name-used : (name : Option (List ℕ)) (needed : Bool) (id : List ℕ) → name_wrong name needed id ≡ false → needed ≡ true → usable (points (unwrap_or name id)) ≡ true
+name-used : (name : Option (List ℕ)) (needed : Bool) (id : List ℕ) → name_wrong name needed id ≡ false → needed ≡ true
+    → usable (points (unwrap_or name id)) ≡ true
 unfolding name_wrong
 name-used (Some name) needed id e t = needed-used needed name (or-false-right (ltb 64 (length name)) (needed && unusable name) e) t
 name-used None needed id e t = needed-used needed id e t
 
 -- what a taken stop has passed
-pub record Passed (b : Bool) (stops : List Stop) (count : ℕ) (station : Option ℕ) (id : List ℕ) (name parent : Option (List ℕ)) (i : StopInput) : Type 0 where
+pub record Passed (b : Bool) (stops : List Stop) (count : ℕ) (station : Option ℕ) (id : List ℕ) (name parent : Option (List ℕ))
+    (i : StopInput) : Type 0 where
   pub unsearched : b ≡ false
   pub id-fits : length id ≤ 32
   pub new : is_known stops count id ≡ false
@@ -72,7 +74,10 @@ passed b stops count station id name parent i e =
           (λ q. let z : ◌≡◌ {A = ℕ} 0 1 = cc in omega arith),
           (
             (λ q. let z : ◌≡◌ {A = ℕ} 0 1 = cc in omega arith),
-            ((λ q. let z : ◌≡◌ {A = ℕ} 0 1 = cc in omega arith), ((λ q. let z : ◌≡◌ {A = ℕ} 0 1 = cc in omega arith), ((λ q. let z : ◌≡◌ {A = ℕ} 0 1 = cc in omega arith), tt))),
+            (
+              (λ q. let z : ◌≡◌ {A = ℕ} 0 1 = cc in omega arith),
+              ((λ q. let z : ◌≡◌ {A = ℕ} 0 1 = cc in omega arith), ((λ q. let z : ◌≡◌ {A = ℕ} 0 1 = cc in omega arith), tt)),
+            ),
           ),
         ),
       ),

@@ -27,18 +27,21 @@ nothing p [] k j e h = absurd (omega arith)
 nothing p (s ∷ ss) k j e h = go (λ i f g. nothing p ss (k + 1) i f g) (p s) refl e j h
   where
     go : ((i : ℕ) → is_some (find_stop p ss (k + 1)) ≡ false → i < length ss → p (get_or ss i blank_stop) ≡ false)
-        → (b : Bool) → p s ≡ b → is_some (cond b (Some k) (find_stop p ss (k + 1))) ≡ false → (j : ℕ) → j < suc (length ss) → p (get_or (s ∷ ss) j blank_stop) ≡ false
+        → (b : Bool) → p s ≡ b → is_some (cond b (Some k) (find_stop p ss (k + 1))) ≡ false → (j : ℕ) → j < suc (length ss)
+        → p (get_or (s ∷ ss) j blank_stop) ≡ false
     go r true q e j h = let z : ◌≡◌ {A = ℕ} 0 1 = cc in absurd (omega arith)
     go r false q e zero h = q
     go r false q e (suc j) h = r j e (omega arith)
 
 -- what was found has it
-pub found : (p : Stop → Bool) (l : List Stop) (k m : ℕ) → find_stop p l k ≡ Some m → (k ≤ m) × (m < k + length l) × (p (get_or l (m - k) blank_stop) ≡ true)
+pub found : (p : Stop → Bool) (l : List Stop) (k m : ℕ) → find_stop p l k ≡ Some m
+    → (k ≤ m) × (m < k + length l) × (p (get_or l (m - k) blank_stop) ≡ true)
 found p [] k m e = let z : ◌≡◌ {A = ℕ} 0 1 = cc in absurd (omega arith)
 found p (s ∷ ss) k m e = go (λ f. found p ss (k + 1) m f) (p s) refl e
   where
     go : (find_stop p ss (k + 1) ≡ Some m → (k + 1 ≤ m) × (m < k + 1 + length ss) × (p (get_or ss (m - (k + 1)) blank_stop) ≡ true))
-        → (b : Bool) → p s ≡ b → cond b (Some k) (find_stop p ss (k + 1)) ≡ Some m → (k ≤ m) × (m < k + suc (length ss)) × (p (get_or (s ∷ ss) (m - k) blank_stop) ≡ true)
+        → (b : Bool) → p s ≡ b → cond b (Some k) (find_stop p ss (k + 1)) ≡ Some m
+        → (k ≤ m) × (m < k + suc (length ss)) × (p (get_or (s ∷ ss) (m - k) blank_stop) ≡ true)
     go r true q e =
         let z : k ≡ m = cc in
         let n : m - k ≡ 0 = omega arith in
@@ -86,8 +89,13 @@ module _ (ss : List Stop) (n : ℕ) (long : n ≤ length ss) where
       let f = found (is_it true parent) (take n ss) 0 m e in
       let h : m < n = omega (arith, f.1, count) in
       let zero-off : m - 0 ≡ m = omega arith in
-      let g : get_or (take n ss) (m - 0) blank_stop ≡ get_or ss m blank_stop = ap (λ (j : ℕ). get_or (take n ss) j blank_stop) zero-off ∙ get_or-take n ss m blank_stop h in
-      (h, eqb-true _ 1 (and-true-left (eqb (get_or ss m blank_stop).location_type 1) (same_bytes_of (id_of (get_or ss m blank_stop)) parent) (sym (ap (is_it true parent) g) ∙ f.2)))
+      let g : get_or (take n ss) (m - 0) blank_stop ≡ get_or ss m blank_stop =
+      ap (λ (j : ℕ). get_or (take n ss) j blank_stop) zero-off ∙ get_or-take n ss m blank_stop h in (
+        h,
+        eqb-true _ 1
+            (and-true-left (eqb (get_or ss m blank_stop).location_type 1) (same_bytes_of (id_of (get_or ss m blank_stop)) parent)
+            (sym (ap (is_it true parent) g) ∙ f.2)),
+      )
 
 pub parent-kept : (ss : List Stop) (n : ℕ) (id : List ℕ) (name parent : Option (List ℕ)) (i : StopInput)
     → n ≤ length ss → Parented ss n (stop_of id name (station_of ss n parent) i).parent
@@ -102,12 +110,15 @@ module _ (ss : List Stop) (n : ℕ) (s : Stop) (id : List ℕ) (w : StopsSound s
 
   apart : (j k : ℕ) → j < k → k < n + 1 → same_bytes_of (id_of (stop_at (set ss n s) j)) (id_of (stop_at (set ss n s) k)) ≡ false
   apart j k g f = below-cases (λ m. j < m → same_bytes_of (id_of (stop_at (set ss n s) j)) (id_of (stop_at (set ss n s) m)) ≡ false) n k f
-      (λ less g'. ap₂ (λ (x y : Stop). same_bytes_of (id_of x) (id_of y)) (at_old ss n s here j (omega arith)) (at_old ss n s here k less) ∙ w.alone j k g' less)
-      (λ g'. ap₂ same_bytes_of (ap id_of (at_old ss n s here j g')) (ap id_of (at_new ss n s here) ∙ own) ∙ fresh ss n (omega (arith, here)) id j new g') g
+      (λ less g'. ap₂ (λ (x y : Stop). same_bytes_of (id_of x) (id_of y)) (at_old ss n s here j (omega arith)) (at_old ss n s here k less)
+      ∙ w.alone j k g' less)
+      (λ g'. ap₂ same_bytes_of (ap id_of (at_old ss n s here j g')) (ap id_of (at_new ss n s here) ∙ own)
+      ∙ fresh ss n (omega (arith, here)) id j new g') g
 
   housed : (k : ℕ) → k < n + 1 → Parented (set ss n s) (n + 1) (stop_at (set ss n s) k).parent
   housed k f = below-cases (λ m. Parented (set ss n s) (n + 1) (stop_at (set ss n s) m).parent) n k f
-      (λ less. subst (λ (x : Stop). Parented (set ss n s) (n + 1) x.parent) (sym (at_old ss n s here k less)) (still ss n s here _ (w.parents k less)))
+      (λ less. subst (λ (x : Stop). Parented (set ss n s) (n + 1) x.parent) (sym (at_old ss n s here k less))
+      (still ss n s here _ (w.parents k less)))
       (subst (λ (x : Stop). Parented (set ss n s) (n + 1) x.parent) (sym (at_new ss n s here)) (still ss n s here _ parent))
 
   typed : (k : ℕ) → k < n + 1 → (stop_at (set ss n s) k).location_type ≤ 1

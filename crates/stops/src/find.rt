@@ -4,8 +4,9 @@ ghost use Rattle.stops.specs.Texts.{same_bytes_of};
 ghost use Rattle.stops.specs.Stops.{id_of, name_of, type_fits, is_it, find_stop};
 
 use crate::Stop;
+use texts::Text;
 
-// Whether two texts are one.
+// Whether two texts are one: their `==`, by a name that contracts can give it.
 pub fn same_text(held: &[u8], id: &[u8]) -> bool
     ensures { result ≡ same_bytes_of held.now id.now }
 {
@@ -24,10 +25,7 @@ impl Stop {
     pub fn name(&self) -> Option<&[u8]>
         ensures { option_copied result ≡ name_of self.now }
     {
-        match &self.name {
-            Some(text) => Some(text.bytes()),
-            None => None,
-        }
+        self.name.as_ref().map(Text::bytes)
     }
 }
 

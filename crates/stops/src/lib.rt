@@ -25,3 +25,12 @@ pub struct StopInput {
     pub degrees: Option<Degrees>,
     pub members: u8,
 }
+
+// A stop as it is handed in, its texts lent.
+#[derive(Clone, Copy, Debug, PartialEq)]
+pub struct NewStop<'a> {
+    pub id: &'a [u8],
+    pub name: Option<&'a [u8]>,
+    pub parent: Option<&'a [u8]>,
+    pub input: StopInput,
+}

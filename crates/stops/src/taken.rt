@@ -2,26 +2,24 @@
 ghost use Rattle.std.specs.Prelude.{◌≡◌, option_copied};
 ghost use Rattle.stops.specs.Taken.{blank_stop, held_name, stop_of};
 
-use crate::{Stop, StopInput};
+use crate::{NewStop, Stop};
 use texts::Text;
 
 fn held_name(name: Option<&[u8]>) -> Option<Text<64>>
     ensures { result ≡ held_name (option_copied name.entry) }
 {
-    match name {
-        Some(text) => Some(Text::of(text)),
-        None => None,
-    }
+    name.map(Text::of)
 }
 
-// Texts that fit are held whole: no other is taken. No `From`: the texts and the station come beside the input.
+// Texts that fit are held whole: no other is taken. No `From`: the station comes beside the stop.
 #[tactic(auto, unfolding(crate::specs::Taken::stop_of))]
-pub fn stop_of(id: &[u8], name: Option<&[u8]>, station: Option<u16>, input: StopInput) -> Stop
-    ensures { result ≡ stop_of id.now (option_copied name.entry) station input }
+pub fn stop_of(stop: NewStop<'_>, station: Option<u16>) -> Stop
+    ensures { result ≡ stop_of stop.entry.id.now (option_copied stop.entry.name) station stop.entry.input }
 {
+    let input = stop.input;
     Stop {
-        id: Text::of(id),
-        name: held_name(name),
+        id: Text::of(stop.id),
+        name: held_name(stop.name),
         parent: station,
         location_type: input.location_type,
         degrees: input.degrees,

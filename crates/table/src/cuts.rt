@@ -1,9 +1,11 @@
 // The table of calls: cuts to a smaller horizon, and a call put in after as many as it takes.
-ghost use Rattle.std.specs.Prelude.{◌≡◌, take};
-ghost use Rattle.calls.specs.Tables.{due_by, trim, packed, cut, fitted};
+ghost use Rattle.std.specs.Prelude.{◌≡◌};
+ghost use Rattle.calls.specs.Tried.{tried};
+ghost use Rattle.calls.specs.Tables.{due_by, trim, cut, fitted};
+ghost use Rattle.calls.specs.Calls.{ended};
 
-use calls::window::view_of;
-use calls::{Call, CallInput, Fitted, Packed, Table, blank_call};
+use calls::window::Timed;
+use calls::{Call, Fitted, Table, blank_call};
 use prefix::first;
 use refusal::{Accepted, Refusal};
 
@@ -29,64 +31,49 @@ fn trimmed(call: Call, h: u16) -> Call
     }
 }
 
-// The calls that are due by `h`, trimmed, in order, and blanks after them. A table has no more than 512.
-pub fn kept(calls: &[Call], h: u16) -> Packed
-    ensures { result ≡ packed h (take 512 calls.now) }
-{
-    let mut out = [blank_call(); 512];
-    let mut n: usize = 0;
-    for &call in first(calls, 512) {
-        if due(call, h) {
-            out[n] = trimmed(call, h);
-            n += 1;
-        }
-    }
-    Packed {
-        calls: out,
-        held: n,
-    }
-}
-
+// The table at a smaller horizon: the calls that are due by it, trimmed, in order, and blanks after them.
 fn cut_to(t: Table, h: u16) -> Table
     ensures { result ≡ cut h t }
 {
-    let p = kept(first(&t.calls, t.count), h);
-    let calls = p.calls;
+    let mut calls = [blank_call(); 512];
+    let mut count: usize = 0;
+    for &call in first(&t.calls, t.count) {
+        if due(call, h) {
+            calls[count] = trimmed(call, h);
+            count += 1;
+        }
+    }
     Table {
         calls,
-        count: p.held,
+        count,
         horizon: h,
         limits: 1,
     }
 }
 
-// The call in the table, after as many cuts as it takes. A loop with three ways out, as no iterator has. The times a and d come
-// beside the call, as in `view_of`.
-pub fn fit(table: Table, a: Option<u64>, d: Option<u64>, input: CallInput) -> Fitted
-    ensures { result ≡ fitted table a d input }
+// The call in the table, after as many cuts as it takes. A loop with three ways out, as no iterator has.
+pub fn fit(table: Table, timed: Timed) -> Result<Fitted, Refusal>
+    ensures { tried table result ≡ ended table (fitted table timed.arrival timed.departure timed.input) }
 {
     let mut t = table;
     loop {
-        let Some(call) = view_of(t.horizon, a, d, input) else {
-            return Fitted {
-                answer: Ok(Accepted::Outside),
+        let Some(call) = timed.view(t.horizon) else {
+            return Ok(Fitted {
+                accepted: Accepted::Outside,
                 table: t,
-            };
+            });
         };
         if t.count < 512 {
             t.calls[t.count] = call;
             t.count += 1;
-            return Fitted {
-                answer: Ok(Accepted::Taken),
+            return Ok(Fitted {
+                accepted: Accepted::Taken,
                 table: t,
-            };
+            });
         }
         let less = t.horizon - t.horizon / 4;
         if less < 3600 {
-            return Fitted {
-                answer: Err(Refusal::NoRoom),
-                table: t,
-            };
+            return Err(Refusal::NoRoom);
         }
         t = cut_to(t, less);
     }

@@ -6,7 +6,8 @@ ghost use Rattle.texts.specs.Texts.{held, bytes_of};
 
 use prefix::first;
 
-// A text of at most N bytes, and at most 255, held with 0 past its length. An array with a length, since there is no heap.
+// A text of at most N bytes, and at most 255, held with 0 past its length. An array with a length, since there is no heap. No invariant:
+// functions take every text, also one that no step made.
 #[derive(Clone, Copy, Debug, PartialEq, Eq)]
 pub struct Text<const N: usize> {
     pub bytes: [u8; N],

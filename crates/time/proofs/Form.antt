@@ -22,13 +22,19 @@ unfolding is_digit
 digits_in [] e = tt
 digits_in (b ∷ bs) e =
     let d : (leb 48 b && ltb b 58) ≡ true = and-true-left (leb 48 b && ltb b 58) (all_digits bs) e in
-    let h : b < 58 = ltb-true b 58 (and-true-right (leb 48 b) (ltb b 58) d) in
-    (leb-true 48 b (and-true-left (leb 48 b) (ltb b 58) d), omega arith, digits_in bs (and-true-right (leb 48 b && ltb b 58) (all_digits bs) e))
+    let h : b < 58 = ltb-true b 58 (and-true-right (leb 48 b) (ltb b 58) d) in (
+      leb-true 48 b (and-true-left (leb 48 b) (ltb b 58) d),
+      omega arith,
+      digits_in bs
+          (and-true-right (leb 48 b && ltb b 58) (all_digits bs) e),
+    )
 
 digits-out : (bs : List ℕ) → Digits bs → all_digits bs ≡ true
 unfolding is_digit
 digits-out [] w = refl
-digits-out (b ∷ bs) (l, h, w) = and-true (leb 48 b && ltb b 58) (all_digits bs) (and-true (leb 48 b) (ltb b 58) (le-leb 48 b l) (lt-ltb b 58 (omega arith))) (digits-out bs w)
+digits-out (b ∷ bs) (l, h, w) =
+    and-true (leb 48 b && ltb b 58) (all_digits bs) (and-true (leb 48 b) (ltb b 58) (le-leb 48 b l) (lt-ltb b 58 (omega arith)))
+    (digits-out bs w)
 
 -- seconds are given only within u32
 pub in_range-taken : (t n : ℕ) → in_range t ≡ Ok n → (t < 2 ^ 32) × (n ≡ t)
@@ -45,7 +51,8 @@ pub parsed-taken : (hours : List ℕ) (c : ℕ) (minutes : List ℕ) (d : ℕ) (
 unfolding parsed
 parsed-taken hours c minutes d seconds n e = go (well_formed hours c minutes d seconds) e
   where
-    go : (b : Bool) → cond b (in_range (seconds_of hours minutes seconds)) (Err TimeText) ≡ Ok n → (b ≡ true) × (in_range (seconds_of hours minutes seconds) ≡ Ok n)
+    go : (b : Bool) → cond b (in_range (seconds_of hours minutes seconds)) (Err TimeText) ≡ Ok n
+        → (b ≡ true) × (in_range (seconds_of hours minutes seconds) ≡ Ok n)
     go true e = (refl, e)
     go false e = let z : ◌≡◌ {A = ℕ} 0 1 = cc in absurd (omega arith)
 
@@ -57,7 +64,8 @@ pub record Parts (hours : List ℕ) (c : ℕ) (minutes : List ℕ) (d : ℕ) (se
   pub s : sixty seconds ≡ true
   pub h : all_digits hours ≡ true
 
-pub parts : (hours : List ℕ) (c : ℕ) (minutes : List ℕ) (d : ℕ) (seconds : List ℕ) → well_formed hours c minutes d seconds ≡ true → Parts hours c minutes d seconds
+pub parts : (hours : List ℕ) (c : ℕ) (minutes : List ℕ) (d : ℕ) (seconds : List ℕ) → well_formed hours c minutes d seconds ≡ true
+    → Parts hours c minutes d seconds
 unfolding well_formed
 parts hours c minutes d seconds e =
     let w = leb 1 (length hours) in
@@ -141,7 +149,16 @@ module _ (h : List ℕ) (a b c d : ℕ) where
   pub put-together : 0 < length h → time_of text ≡ parsed h colon (a ∷ b ∷ []) colon (c ∷ d ∷ [])
   put-together e =
       by_parts text (omega (arith, long))
-      ∙ rw (at 0 (omega arith), at 1 (omega arith), at 2 (omega arith), at 3 (omega arith), at 4 (omega arith), at 5 (omega arith), in-front) refl
+      ∙ rw (
+        at 0 (omega arith),
+        at 1 (omega arith),
+        at 2 (omega arith),
+        at 3 (omega arith),
+        at 4 (omega arith),
+        at 5
+            (omega arith),
+        in-front,
+      ) refl
 
 sixty-of : (p : List ℕ) → all_digits p ≡ true → number p < 60 → sixty p ≡ true
 unfolding sixty

@@ -49,7 +49,8 @@ pub digit-turn : (v : ℕ) (l : List ℕ) (i rest w : ℕ) → i < length l → 
 unfolding with_hours
 digit-turn v l i rest w h e q = rw (add-one, drop-cons l i 0, e, q) refl
 
-pub other-turn : (v : ℕ) (l : List ℕ) (i rest : ℕ) → i < length l → is_digit (get_or l i 0) ≡ false → Err TimeText ≡ with_hours v (drop i l) rest
+pub other-turn : (v : ℕ) (l : List ℕ) (i rest : ℕ) → i < length l → is_digit (get_or l i 0) ≡ false
+    → Err TimeText ≡ with_hours v (drop i l) rest
 unfolding with_hours
 other-turn v l i rest h e = rw (drop-cons l i 0, e) refl
 
@@ -74,7 +75,16 @@ pub last-six : (s : List ℕ) → 6 ≤ length s
     → drop (length s - 6) s ≡ back s 6 ∷ back s 5 ∷ back s 4 ∷ back s 3 ∷ back s 2 ∷ back s 1 ∷ []
 last-six s h =
     let none : drop (length s - 0) s ≡ [] = drop_of_length-le s {i = length s - 0} (omega arith) in
-    rw (back-cons s 5 h, back-cons s 4 (omega arith), back-cons s 3 (omega arith), back-cons s 2 (omega arith), back-cons s 1 (omega arith), back-cons s 0 (omega arith), none) refl
+    rw (
+      back-cons s 5 h,
+      back-cons s 4 (omega arith),
+      back-cons s 3 (omega arith),
+      back-cons s 2 (omega arith),
+      back-cons s 1
+          (omega arith),
+      back-cons s 0 (omega arith),
+      none,
+    ) refl
 
 -- a text of seven bytes or more has its parts by their distance from the end
 pub by_parts : (s : List ℕ) → 7 ≤ length s
@@ -85,7 +95,8 @@ by_parts s h =
     let b : length s - 6 + 3 ≡ length s - 3 = omega arith in
     let c : length s - 6 + 4 ≡ length s - 2 = omega arith in
     let none : drop (length s - 0) s ≡ [] = drop_of_length-le s {i = length s - 0} (omega arith) in
-    rw (a, b, c, back-cons s 4 (omega arith), back-cons s 3 (omega arith), back-cons s 1 (omega arith), back-cons s 0 (omega arith), none) refl
+    rw (a, b, c, back-cons s 4 (omega arith), back-cons s 3 (omega arith), back-cons s 1 (omega arith), back-cons s 0 (omega arith), none)
+    refl
 
 -- a text of fewer than seven bytes has no hours
 pub short : (s : List ℕ) → length s < 7 → Err TimeText ≡ time_of s
@@ -123,16 +134,24 @@ module _ (s : List ℕ) where
 
   pub second_other : (back s 3 ≡ 58 → ⊥) → Err TimeText ≡ time_of s
   unfolding parsed well_formed
-  second_other k = when-long (λ h. rw (by_parts s h, ne_eqb (back s 3) 58 k, mid-false (leb 1 (length hours) && eqb (back s 6) 58) (sixty minutes)) refl)
+  second_other k =
+      when-long (λ h. rw (by_parts s h, ne_eqb (back s 3) 58 k, mid-false (leb 1 (length hours) && eqb (back s 6) 58) (sixty minutes)) refl)
 
   pub no_minutes : sixty minutes ≡ false → Err TimeText ≡ time_of s
   unfolding parsed well_formed
-  no_minutes e = when-long (λ h. rw (by_parts s h, e, mid-false (leb 1 (length hours) && eqb (back s 6) 58 && eqb (back s 3) 58) (sixty seconds)) refl)
+  no_minutes e =
+      when-long (λ h. rw (by_parts s h, e, mid-false (leb 1 (length hours) && eqb (back s 6) 58 && eqb (back s 3) 58) (sixty seconds)) refl)
 
   pub no_seconds : sixty seconds ≡ false → Err TimeText ≡ time_of s
   unfolding parsed well_formed
   no_seconds e =
-      when-long (λ h. rw (by_parts s h, e, mid-false (leb 1 (length hours) && eqb (back s 6) 58 && eqb (back s 3) 58 && sixty minutes) (all_digits hours)) refl)
+      when-long (λ h.
+      rw (
+        by_parts s h,
+        e,
+        mid-false (leb 1 (length hours) && eqb (back s 6) 58 && eqb (back s 3) 58 && sixty minutes)
+            (all_digits hours),
+      ) refl)
 
   pub right : 7 ≤ length s → back s 6 ≡ 58 → back s 3 ≡ 58 → sixty minutes ≡ true → sixty seconds ≡ true
       → with_hours 0 hours (number minutes * 60 + number seconds) ≡ time_of s

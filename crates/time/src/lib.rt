@@ -31,7 +31,7 @@ fn below_sixty(a: u8, b: u8) -> bool
 }
 
 // The hours, which are all digits, and `rest`, the seconds past the hour. Hours past 1193046 are over u32, so reading ends there: a loop,
-// which may be left at any digit.
+// whose invariant says that ten times the number fits. A step handed to `try_fold` would have to fit at any number.
 fn with_hours(hours: &[u8], rest: u32) -> Result<u32, Refusal>
     ensures { result ≡ with_hours 0 hours.now rest }
 {

@@ -37,7 +37,8 @@ module _ (stops : ℕ) (rules : List Rule) (count : ℕ) (s : RulesSound stops r
       let (j, hj, ej) = place_of q m in
       let (k, hk, ek) = place_of r n in
       let at : j ≡ k =
-      ranks-differ stops rules count s e j k hj hk (ap (applies e) ej ∙ a) (ap (applies e) ek ∙ b) (ap (rank e) ej ∙ t ∙ sym (ap (rank e) ek)) in
+      ranks-differ stops rules count s e j k hj hk (ap (applies e) ej ∙ a) (ap (applies e) ek ∙ b)
+      (ap (rank e) ej ∙ t ∙ sym (ap (rank e) ek)) in
       sym ej ∙ ap (rule_at rules) at ∙ ek
 
   module _ (e : Ends) (others : List Rule)

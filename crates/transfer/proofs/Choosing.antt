@@ -24,9 +24,17 @@ better-not e old new h = omega (arith, leb-false)
 
 -- ---- one more rule
 
-right-open : (e : Ends) (l : List Rule) (x : Rule) (b : Bool) → applies e x ≡ b → Right e l None → Right e (l ++ x ∷ []) (cond b (Some x) None)
+right-open : (e : Ends) (l : List Rule) (x : Rule) (b : Bool) → applies e x ≡ b → Right e l None
+    → Right e (l ++ x ∷ []) (cond b (Some x) None)
 right-open e l x true a h =
-    record { before = l; behind = []; split = refl; fits = a; older = λ q m f. absurd (true≢false (sym f ∙ h q m)); newer = λ q m. absurd (Memᴰ.not-nil m) }
+    record {
+      before = l;
+      behind = [];
+      split = refl;
+      fits = a;
+      older = λ q m f. absurd (true≢false (sym f ∙ h q m));
+      newer = λ q m. absurd (Memᴰ.not-nil m);
+    }
 right-open e l x false a h = λ q m. go q (Memᴰ.append_cases l m)
   where
     go : (q : Rule) → Memᴰ q l ⊎ Memᴰ q (x ∷ []) → applies e q ≡ false
@@ -52,7 +60,8 @@ right_by : (e : Ends) (l : List Rule) (x r : Rule) (a b : Bool) → applies e x 
     → Right e (l ++ x ∷ []) (cond a (cond b (Some x) (Some r)) (Some r))
 right_by e l x r false b ea eb h = right-keep e l x r (λ t. absurd (true≢false (sym t ∙ ea))) h
 right_by e l x r true false ea eb h = right-keep e l x r (λ t. better-not e r x eb) h
-right_by e l x r true true ea eb h = record { before = l; behind = []; split = refl; fits = ea; older = older; newer = λ q m. absurd (Memᴰ.not-nil m) }
+right_by e l x r true true ea eb h =
+    record { before = l; behind = []; split = refl; fits = ea; older = older; newer = λ q m. absurd (Memᴰ.not-nil m) }
   where
     tail : (q : Rule) → (q ≡ r) ⊎ Memᴰ q h.behind → applies e q ≡ true → rank e q ≤ rank e x
     tail q (inl s) t = subst (λ (p : Rule). rank e p ≤ rank e x) (sym s) (better-least e r x eb)
@@ -72,7 +81,8 @@ right-step e l x (Some r) h = right_by e l x r (applies e x) (better e r x) refl
 right-fold : (e : Ends) (l m : List Rule) (s : Option Rule) → Right e l s → Right e (l ++ m) (foldl (read e) s m)
 right-fold e l [] s h = subst (λ (k : List Rule). Right e k s) (sym (append-nil l)) h
 right-fold e l (x ∷ m) s h =
-    subst (λ (k : List Rule). Right e k (foldl (read e) (read e s x) m)) (append_assoc l (x ∷ []) m) (right-fold e (l ++ x ∷ []) m (read e s x) (right-step e l x s h))
+    subst (λ (k : List Rule). Right e k (foldl (read e) (read e s x) m)) (append_assoc l (x ∷ []) m)
+    (right-fold e (l ++ x ∷ []) m (read e s x) (right-step e l x s h))
 
 pub chosen-right : ChosenRight
 chosen-right e l = right-fold e [] l None (λ q m. absurd (Memᴰ.not-nil m))

@@ -26,12 +26,14 @@ use Rattle.transfer.specs.Promises.{RankRight, TypeThreeForbids, PairOnce, Ranks
 pub type-three-forbids : TypeThreeForbids
 unfolding transfer_of
 type-three-forbids rules parents places from to change r e t =
-    ap (λ (c : Option Rule). change_of c (near (ends_of_of parents from to) (get_or places from 65535) (get_or places to 65535)) change) e ∙ cond-by _ _ (eq-eqb r.transfer_type 3 t)
+    ap (λ (c : Option Rule). change_of c (near (ends_of_of parents from to) (get_or places from 65535) (get_or places to 65535)) change) e
+    ∙ cond-by _ _ (eq-eqb r.transfer_type 3 t)
 
 pub pair-once : PairOnce
 pair-once stops rules count s j k hj hk f t = go (tri j k)
   where
-    twice : (a b : ℕ) → a < b → b < count → (rule_at rules a).from ≡ (rule_at rules b).from → (rule_at rules a).to ≡ (rule_at rules b).to → ⊥
+    twice : (a b : ℕ) → a < b → b < count → (rule_at rules a).from ≡ (rule_at rules b).from → (rule_at rules a).to ≡ (rule_at rules b).to
+        → ⊥
     twice a b h g p q = true≢false (sym (and-true _ _ (eq-eqb _ _ p) (eq-eqb _ _ q)) ∙ s.alone a b h g)
 
     go : (j < k) ⊎ ((j ≡ k) ⊎ (k < j)) → j ≡ k
@@ -98,7 +100,8 @@ rank_right e r = record {
 pub none-not-named : NoneNotNamed
 none-not-named stops rules count few s k h = ((λ e. omega (arith, s.from_known k h)), (λ e. omega (arith, s.to_known k h)))
 
-number-joins : (c : Option ℕ) (arrival departure : ℕ) → departure < 65536 → leb (arrival + change_number c) departure ≡ joins_by c arrival departure
+number-joins : (c : Option ℕ) (arrival departure : ℕ) → departure < 65536
+    → leb (arrival + change_number c) departure ≡ joins_by c arrival departure
 number-joins (Some s) arrival departure h = refl
 number-joins None arrival departure h = lt-leb (arrival + 65536) departure (omega arith)
 

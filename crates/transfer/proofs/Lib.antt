@@ -1,5 +1,4 @@
 pub mod Laws
-pub mod Made
 pub mod Choosing
 pub mod Claims
 pub mod Seconds

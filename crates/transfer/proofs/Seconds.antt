@@ -33,14 +33,17 @@ module _ (e : Ends) where
   better-same p q r t a b = λ k. leb (rank_same p r a k) (rank_same q t b k)
 
   read_alike : (a b : Option Rule) (q r : Rule) → Alike a b → ButSeconds q r → Alike (read e a q) (read e b r)
-  read_alike _ _ q r neither s = subst (λ (t : Bool). Alike (cond (applies e q) (Some q) None) (cond t (Some r) None)) (applies-same q r s) (go (applies e q))
+  read_alike _ _ q r neither s =
+      subst (λ (t : Bool). Alike (cond (applies e q) (Some q) None) (cond t (Some r) None)) (applies-same q r s) (go (applies e q))
     where
       go : (t : Bool) → Alike (cond t (Some q) None) (cond t (Some r) None)
       go true = both s
       go false = neither
   read_alike _ _ x y (both {q} {r} w) s =
-      subst (λ (t : Bool). Alike (cond (applies e x) (cond (better e q x) (Some x) (Some q)) (Some q)) (cond t (cond (better e r y) (Some y) (Some r)) (Some r))) (applies-same x y s)
-      (subst (λ (u : Bool). Alike (cond (applies e x) (cond (better e q x) (Some x) (Some q)) (Some q)) (cond (applies e x) (cond u (Some y) (Some r)) (Some r))) (better-same q x r y w s)
+      subst (λ (t : Bool). Alike (cond (applies e x) (cond (better e q x) (Some x) (Some q)) (Some q))
+      (cond t (cond (better e r y) (Some y) (Some r)) (Some r))) (applies-same x y s)
+      (subst (λ (u : Bool). Alike (cond (applies e x) (cond (better e q x) (Some x) (Some q)) (Some q))
+      (cond (applies e x) (cond u (Some y) (Some r)) (Some r))) (better-same q x r y w s)
       (go (applies e x) (better e q x)))
     where
       go : (t u : Bool) → Alike (cond t (cond u (Some x) (Some q)) (Some q)) (cond t (cond u (Some y) (Some r)) (Some r))
@@ -57,7 +60,8 @@ rule-same q r change s =
     ap (λ (t : ℕ). cond (eqb t 3) None (Some (cond (eqb t 2) (most (unwrap_or q.seconds 0) change) change))) s.kind
     ∙ ap (λ (n : ℕ). cond (eqb r.transfer_type 3) None (Some n)) (go (eqb r.transfer_type 2) refl)
   where
-    go : (b : Bool) → eqb r.transfer_type 2 ≡ b → cond b (most (unwrap_or q.seconds 0) change) change ≡ cond b (most (unwrap_or r.seconds 0) change) change
+    go : (b : Bool) → eqb r.transfer_type 2 ≡ b
+        → cond b (most (unwrap_or q.seconds 0) change) change ≡ cond b (most (unwrap_or r.seconds 0) change) change
     go true t =
         let two : r.transfer_type ≡ 2 = eqb-true r.transfer_type 2 t in
         ap (λ (n : Option ℕ). most (unwrap_or n 0) change) (s.seconds (λ z. omega arith) (λ z. omega arith))
@@ -71,4 +75,5 @@ pub seconds-of-type-two : SecondsOfTypeTwo
 unfolding transfer_of
 seconds-of-type-two qs rs parents places from to change s =
     let e = ends_of_of parents from to in
-    change-same (foldl (read e) None qs) (foldl (read e) None rs) (near e (get_or places from 65535) (get_or places to 65535)) change (fold-alike e qs rs None None s neither)
+    change-same (foldl (read e) None qs) (foldl (read e) None rs) (near e (get_or places from 65535) (get_or places to 65535)) change
+    (fold-alike e qs rs None None s neither)

@@ -12,10 +12,7 @@ use stops::Stop;
 fn parent_at(stops: &[Stop], k: usize) -> u16
     ensures { result ≡ unwrap_or (stop_at stops.now k).parent 65535 }
 {
-    match stops.get(k) {
-        Some(stop) => stop.parent.unwrap_or(65535),
-        None => 65535,
-    }
+    stops.get(k).and_then(|stop| stop.parent).unwrap_or(65535)
 }
 
 // That of each of 128.

@@ -31,11 +31,7 @@ fn rule_change(rule: Rule, change: u16) -> Option<u16>
 pub fn change_by(rule: Option<Rule>, near: bool, change: u16) -> Option<u16>
     ensures { result ≡ change_of rule near change }
 {
-    match rule {
-        Some(by) => rule_change(by, change),
-        None if near => Some(change),
-        None => None,
-    }
+    rule.map_or(near.then_some(change), |by| rule_change(by, change))
 }
 
 // The seconds of a change, 65536 for one that is never made. A number in place of the option: C is handed rows of them. The bound is a
@@ -44,8 +40,5 @@ pub fn change_number(change: Option<u16>) -> u32
     ensures value { result ≡ change_number change }
     ensures small { result ≤ 65536 }
 {
-    match change {
-        Some(seconds) => u32::from(seconds),
-        None => 65536,
-    }
+    change.map_or(65536, u32::from)
 }

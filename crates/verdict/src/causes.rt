@@ -14,7 +14,7 @@ use prefix::first;
 use transfer::Transfers;
 use transfer::copied::parents_of;
 
-// Of the n - 1 changes.
+// Of the n - 1 changes. Parents and places are arrays that `Transfers` borrows, so no function can make it for this and for a search.
 fn changes_cause(load: &Load, n: u8, way: &Way) -> Option<Cause>
     ensures { result ≡ first_of (changes_asked load.now.stops load.now.stop_count (take load.now.rule_count load.now.rules)
         load.now.settings.transfer_seconds n way.now) }

@@ -16,7 +16,7 @@ use Rattle.laws.proofs.Bools.{cond-not, and-true, and-true-left, and-true-right}
 use Rattle.laws.proofs.Lists.{mem-anyb}
 use Rattle.calls.specs.declared.Call.{Call}
 use Rattle.calls.specs.Tables.{blank_call}
-use Rattle.withdrawal.specs.declared.CallKey.{CallKey}
+use Rattle.calls.specs.declared.CallKey.{CallKey}
 use Rattle.withdrawal.specs.Removal.{last_of, has_key}
 use Rattle.withdrawal.proofs.LeftLaws.{without-last, place-tells}
 use Rattle.offers.specs.Order.{earlier, Run}

@@ -17,7 +17,8 @@ use Rattle.ways.specs.Rides.{Leg, First, Network, first_rides, joined_rides, dir
 use Rattle.ways.specs.Images.{leg_by, first_by, Images, RideIn}
 use Rattle.ways.proofs.RideLaws.{Listed, firsts-mem, mem-firsts, joined-mem, listed_in}
 use Rattle.ways.proofs.ImageLaws.{first-rides-of-images, joined-images}
-use Rattle.ways.specs.Routes.{Way, Route, here, ride_then, route_of, allowed, onward, pass, routes, UpToOne, ThreeLast, way_by, route_by, RoutesOfImages}
+use Rattle.ways.specs.Routes.{Way, Route, here, ride_then, route_of, allowed, onward, pass, routes, UpToOne, ThreeLast, way_by, route_by}
+use Rattle.ways.specs.Routes.{RoutesOfImages}
 
 module _ {C : Type 0} (N : Network C) (s : List C) where
   -- a way on has as many rides as there are changes
@@ -109,14 +110,16 @@ module _ {C : Type 0} (N : Network C) where
 
     no_change : (f : First C) → map make (map (route_of f) (onward N 0 s f.ride)) ≡ directs N direct change f
     unfolding onward directs
-    no_change f = rw (map-map (route_of f) here (N.targets f.ride.a)) (by-target (λ k. route_of f (here k)) (direct f) (alone f) (N.targets f.ride.a))
+    no_change f =
+        rw (map-map (route_of f) here (N.targets f.ride.a)) (by-target (λ k. route_of f (here k)) (direct f) (alone f) (N.targets f.ride.a))
 
     one_change : (f : First C) → map make (map (route_of f) (onward N 1 s f.ride)) ≡ changes N direct change s f
     unfolding onward changes
     one_change f =
         ap (map make) (map-concat_map (route_of f) (λ l. map (ride_then l) (map here (N.targets l.a))) (joined_rides N s f.ride))
         ∙ map-concat_map make (λ l. map (route_of f) (map (ride_then l) (map here (N.targets l.a)))) (joined_rides N s f.ride)
-        ∙ concat_map-cong (λ l. map make (map (route_of f) (map (ride_then l) (map here (N.targets l.a))))) (λ l. map (change f l) (N.targets l.a)) each (joined_rides N s f.ride)
+        ∙ concat_map-cong (λ l. map make (map (route_of f) (map (ride_then l) (map here (N.targets l.a)))))
+        (λ l. map (change f l) (N.targets l.a)) each (joined_rides N s f.ride)
       where
         each : (l : Leg C) → map make (map (route_of f) (map (ride_then l) (map here (N.targets l.a)))) ≡ map (change f l) (N.targets l.a)
         each l =
@@ -127,9 +130,16 @@ module _ {C : Type 0} (N : Network C) where
         ≡ directs N direct change f ++ cond (eqb depth 1) (changes N direct change s f) []
     after f = go (eqb depth 1)
       where
-        go : (b : Bool) → map make (concat_map (λ n. map (route_of f) (onward N n s f.ride)) (0 ∷ cond b (1 ∷ []) [])) ≡ directs N direct change f ++ cond b (changes N direct change s f) []
+        go : (b : Bool) → map make (concat_map (λ n. map (route_of f) (onward N n s f.ride)) (0 ∷ cond b (1 ∷ []) []))
+            ≡ directs N direct change f ++ cond b (changes N direct change s f) []
         go true =
-            rw (append-nil, map-append make (map (route_of f) (onward N 0 s f.ride)) (map (route_of f) (onward N 1 s f.ride)), no_change f, one_change f) refl
+            rw (
+              append-nil,
+              map-append make (map (route_of f) (onward N 0 s f.ride))
+                  (map (route_of f) (onward N 1 s f.ride)),
+              no_change f,
+              one_change f,
+            ) refl
         go false = rw (append-nil, append-nil) (no_change f)
 
     up_to : depth ≤ 1 → map make (routes N depth s) ≡ journeys N direct change depth s
@@ -137,10 +147,12 @@ module _ {C : Type 0} (N : Network C) where
     up_to h =
         let (e, z) = few depth h in
         rw (e, z, none_passed s (first_rides N s), append-nil)
-        (map-concat_map make (λ f. concat_map (λ n. map (route_of f) (onward N n s f.ride)) (0 ∷ cond (eqb depth 1) (1 ∷ []) [])) (first_rides N s)
+        (map-concat_map make (λ f. concat_map (λ n. map (route_of f) (onward N n s f.ride)) (0 ∷ cond (eqb depth 1) (1 ∷ []) []))
+        (first_rides N s)
         ∙ concat_map-cong _ (λ f. directs N direct change f ++ cond (eqb depth 1) (changes N direct change s f) []) after (first_rides N s))
 
-pub up-to-one : {C A : Type 0} (N : Network C) (depth : ℕ) (s : List C) (direct : First C → ℕ → A) (change : First C → Leg C → ℕ → A) (make : Route C → A)
+pub up-to-one : {C A : Type 0} (N : Network C) (depth : ℕ) (s : List C) (direct : First C → ℕ → A) (change : First C → Leg C → ℕ → A)
+    (make : Route C → A)
     → UpToOne N depth s direct change make
 up-to-one N depth s direct change make h alone changing = up_to N depth s direct change make alone changing h
 
@@ -153,14 +165,16 @@ module _ {C D : Type 0} (N : Network C) (M : Network D) (h : C → D) (s : List 
   onward-images (suc n) r p =
       ap (concat_map (λ l. map (ride_then l) (onward M n (map h s) l))) (joined-images N M h 1 s w refl r p)
       ∙ concat_map-map (leg_by h) (λ l. map (ride_then l) (onward M n (map h s) l)) (joined_rides N s r)
-      ∙ concat_map-agree (λ l. map (ride_then (leg_by h l)) (onward M n (map h s) (leg_by h l))) (λ l. map (way_by h) (map (ride_then l) (onward N n s l))) (joined_rides N s r)
+      ∙ concat_map-agree (λ l. map (ride_then (leg_by h l)) (onward M n (map h s) (leg_by h l)))
+      (λ l. map (way_by h) (map (ride_then l) (onward N n s l))) (joined_rides N s r)
       (λ l m. each l (onward-images n l (listed_in N s l (joined-mem N s r l m).0)))
       ∙ sym (map-concat_map (way_by h) (λ l. map (ride_then l) (onward N n s l)) (joined_rides N s r))
     where
       each : (l : Leg C) → onward M n (map h s) (leg_by h l) ≡ map (way_by h) (onward N n s l)
           → map (ride_then (leg_by h l)) (onward M n (map h s) (leg_by h l)) ≡ map (way_by h) (map (ride_then l) (onward N n s l))
       each l e =
-          ap (map (ride_then (leg_by h l))) e ∙ map-map (ride_then (leg_by h l)) (way_by h) (onward N n s l) ∙ sym (map-map (way_by h) (ride_then l) (onward N n s l))
+          ap (map (ride_then (leg_by h l))) e ∙ map-map (ride_then (leg_by h l)) (way_by h) (onward N n s l)
+          ∙ sym (map-map (way_by h) (ride_then l) (onward N n s l))
 
   pass-images : (ns : List ℕ) → pass M ns (map h s) ≡ map (route_by h) (pass N ns s)
   unfolding pass
@@ -168,18 +182,23 @@ module _ {C D : Type 0} (N : Network C) (M : Network D) (h : C → D) (s : List 
       ap (concat_map (λ f. concat_map (λ n. map (route_of f) (onward M n (map h s) f.ride)) ns)) (first-rides-of-images N M h 1 s w)
       ∙ concat_map-map (first_by h) (λ f. concat_map (λ n. map (route_of f) (onward M n (map h s) f.ride)) ns) (first_rides N s)
       ∙ concat_map-agree (λ f. concat_map (λ n. map (route_of (first_by h f)) (onward M n (map h s) (leg_by h f.ride))) ns)
-      (λ f. map (route_by h) (concat_map (λ n. map (route_of f) (onward N n s f.ride)) ns)) (first_rides N s) (λ f m. each f (listed_in N s f.ride (firsts-mem N s f m).0))
+      (λ f. map (route_by h) (concat_map (λ n. map (route_of f) (onward N n s f.ride)) ns)) (first_rides N s)
+      (λ f m. each f (listed_in N s f.ride (firsts-mem N s f m).0))
       ∙ sym (map-concat_map (route_by h) (λ f. concat_map (λ n. map (route_of f) (onward N n s f.ride)) ns) (first_rides N s))
     where
-      step : (f : First C) → RideIn s f.ride → (n : ℕ) → map (route_of (first_by h f)) (onward M n (map h s) (leg_by h f.ride)) ≡ map (route_by h) (map (route_of f) (onward N n s f.ride))
+      step : (f : First C) → RideIn s f.ride → (n : ℕ)
+          → map (route_of (first_by h f)) (onward M n (map h s) (leg_by h f.ride))
+          ≡ map (route_by h) (map (route_of f) (onward N n s f.ride))
       step f p n =
           ap (map (route_of (first_by h f))) (onward-images n f.ride p) ∙ map-map (route_of (first_by h f)) (way_by h) (onward N n s f.ride)
           ∙ sym (map-map (route_by h) (route_of f) (onward N n s f.ride))
 
       each : (f : First C) → RideIn s f.ride
-          → concat_map (λ n. map (route_of (first_by h f)) (onward M n (map h s) (leg_by h f.ride))) ns ≡ map (route_by h) (concat_map (λ n. map (route_of f) (onward N n s f.ride)) ns)
+          → concat_map (λ n. map (route_of (first_by h f)) (onward M n (map h s) (leg_by h f.ride))) ns
+          ≡ map (route_by h) (concat_map (λ n. map (route_of f) (onward N n s f.ride)) ns)
       each f p =
-          concat_map-cong (λ n. map (route_of (first_by h f)) (onward M n (map h s) (leg_by h f.ride))) (λ n. map (route_by h) (map (route_of f) (onward N n s f.ride))) (step f p) ns
+          concat_map-cong (λ n. map (route_of (first_by h f)) (onward M n (map h s) (leg_by h f.ride)))
+          (λ n. map (route_by h) (map (route_of f) (onward N n s f.ride))) (step f p) ns
           ∙ sym (map-concat_map (route_by h) (λ n. map (route_of f) (onward N n s f.ride)) ns)
 
 pub routes-of-images : {C D : Type 0} (N : Network C) (M : Network D) (h : C → D) (depth : ℕ) (s : List C) → RoutesOfImages N M h depth s

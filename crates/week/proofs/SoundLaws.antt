@@ -16,7 +16,8 @@ use Rattle.refusal.proofs.FirstLaws.{first-is-answer}
 use Rattle.services.specs.Exceptions.{days_on, excepted_of}
 use Rattle.week.specs.declared.Week.{Week}
 use Rattle.week.specs.declared.WeekStepped.{WeekStepped}
-use Rattle.week.specs.Weeks.{blank_service, service_of, undated_week, dated_week, closed_week, with_services, service_tests, service_answer, service_on, exception_tests, exception_answer, place_in, service_in, exception_on}
+use Rattle.week.specs.Weeks.{blank_service, service_of, undated_week, dated_week, closed_week, with_services, service_tests, service_answer}
+use Rattle.week.specs.Weeks.{service_on, exception_tests, exception_answer, place_in, service_in, exception_on}
 use Rattle.week.specs.Sound.{WeekSound, UndatedSound, DatedSound, ClosedSound, ServiceKeepsSound, ExceptionKeepsSound}
 use Rattle.week.specs.Steps.{ClosedStays, ServiceUnchanged, ExceptionUnchanged}
 use Rattle.week.proofs.StepLaws.{service-passed, exception-passed, place-below, service-refused, exception-refused}
@@ -43,7 +44,8 @@ closed-sound w s = record { few = s.few; long = s.long; blank = s.blank; undated
 
 -- a week that takes a service or an exception is dated
 open-dated : (w : Week) (searched : Bool) → WeekSound w → (searched || w.closed) ≡ false → w.dated ≡ false → ⊥
-open-dated w searched s t e = true≢false (sym (ap (λ (v : Week). v.closed) (s.undated e) ∙ undated-closed) ∙ or-false-right searched w.closed t)
+open-dated w searched s t e =
+    true≢false (sym (ap (λ (v : Week). v.closed) (s.undated e) ∙ undated-closed) ∙ or-false-right searched w.closed t)
 
 pub service-keeps-sound : ServiceKeepsSound
 unfolding service_on
@@ -66,7 +68,9 @@ unfolding exception_on
 exception-keeps-sound w searched name date kind s = go (is_taken (exception_answer w searched name date kind)) refl
   where
     go : (b : Bool) → is_taken (exception_answer w searched name date kind) ≡ b
-        → WeekSound (cond b (with_services w (set w.services (place_in w name) (excepted_of (service_in w name) (days_on w.dates date) kind)) w.service_count) w)
+        → WeekSound (cond b
+        (with_services w (set w.services (place_in w name) (excepted_of (service_in w name) (days_on w.dates date) kind)) w.service_count)
+        w)
     go false e = s
     go true e =
         let p = exception-passed w searched name date kind _ refl e in
@@ -74,7 +78,9 @@ exception-keeps-sound w searched name date kind s = go (is_taken (exception_answ
         record {
           few = s.few;
           long = length-set w.services (place_in w name) (excepted_of (service_in w name) (days_on w.dates date) kind) ∙ s.long;
-          blank = drop-set-lt w.service_count w.services (place_in w name) (excepted_of (service_in w name) (days_on w.dates date) kind) below ∙ s.blank;
+          blank =
+              drop-set-lt w.service_count w.services (place_in w name) (excepted_of (service_in w name) (days_on w.dates date) kind) below
+              ∙ s.blank;
           undated = λ d. absurd (open-dated w searched s p.in_time d);
         }
 
@@ -87,22 +93,29 @@ refused-not-taken (Err r) e = refl
 
 pub service-unchanged : ServiceUnchanged
 service-unchanged w searched name weekdays start end e =
-    sym (ap (λ (r : WeekStepped). r.week) (service-refused w searched name weekdays start end _ refl (refused-not-taken (service_answer w searched name start end) e)))
+    sym (ap (λ (r : WeekStepped). r.week)
+    (service-refused w searched name weekdays start end _ refl (refused-not-taken (service_answer w searched name start end) e)))
 
 pub exception-unchanged : ExceptionUnchanged
 exception-unchanged w searched name date kind e =
-    sym (ap (λ (r : WeekStepped). r.week) (exception-refused w searched name date kind _ refl (refused-not-taken (exception_answer w searched name date kind) e)))
+    sym (ap (λ (r : WeekStepped). r.week)
+    (exception-refused w searched name date kind _ refl (refused-not-taken (exception_answer w searched name date kind) e)))
 
-service-late : (w : Week) (searched : Bool) (name : List ℕ) (start end : ℕ) → w.closed ≡ true → Err AlreadySearched ≡ service_answer w searched name start end
+service-late : (w : Week) (searched : Bool) (name : List ℕ) (start end : ℕ) → w.closed ≡ true
+    → Err AlreadySearched ≡ service_answer w searched name start end
 unfolding service_tests
 service-late w searched name start end c = first-is-answer _ _ (hit (or_true_right searched w.closed c))
 
-exception-late : (w : Week) (searched : Bool) (name : List ℕ) (date kind : ℕ) → w.closed ≡ true → Err AlreadySearched ≡ exception_answer w searched name date kind
+exception-late : (w : Week) (searched : Bool) (name : List ℕ) (date kind : ℕ) → w.closed ≡ true
+    → Err AlreadySearched ≡ exception_answer w searched name date kind
 unfolding exception_tests
 exception-late w searched name date kind c = first-is-answer _ _ (hit (or_true_right searched w.closed c))
 
 pub closed-stays : ClosedStays
 closed-stays w c = record {
-  service = λ searched name weekdays start end. sym (service-refused w searched name weekdays start end _ (service-late w searched name start end c) refl);
-  exception = λ searched name date kind. sym (exception-refused w searched name date kind _ (exception-late w searched name date kind c) refl);
+  service =
+      λ searched name weekdays start end. sym
+      (service-refused w searched name weekdays start end _ (service-late w searched name start end c) refl);
+  exception =
+      λ searched name date kind. sym (exception-refused w searched name date kind _ (exception-late w searched name date kind c) refl);
 }

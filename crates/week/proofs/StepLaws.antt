@@ -6,6 +6,9 @@ use mathlib.Core.List.{List}
 use native.Mathlib.Omega.{arith}
 use borrow.Author.Tests.{leb-false, not-false}
 use lib.ListN.{length, get_or, take, set, length-take}
+use Rattle.std.specs.Prelude.{None, Some}
+use Rattle.std.specs.List.{find, position_from}
+use Rattle.std.proofs.lemmas.List.{get_or-take, get_or_default}
 use Rattle.laws.specs.Lists.{anyb}
 use Rattle.laws.proofs.Bools.{cond-by, cond-not}
 use Rattle.refusal.specs.First.{is_taken, Answer}
@@ -18,8 +21,9 @@ use Rattle.services.specs.Wrong.{span_wrong, exception_wrong}
 use Rattle.week.specs.declared.Week.{Week}
 use Rattle.week.specs.declared.WeekStepped.{WeekStepped}
 use Rattle.week.specs.declared.Running.TheVariants.{Unknown, Rests, Runs}
-use Rattle.week.specs.Weeks.{service_of, named, place_of, with_services, service_tests, service_answer, service_on, exception_tests, exception_answer, place_in, service_in, exception_on, running}
-use Rattle.week.proofs.PlaceLaws.{place_found}
+use Rattle.week.specs.Weeks.{blank_service, service_of, named, place_of, with_services, service_tests, service_answer, service_on}
+use Rattle.week.specs.Weeks.{exception_tests, exception_answer, place_in, service_in, exception_on, running}
+use Rattle.week.proofs.PlaceLaws.{place_found, found-at, find-is}
 
 -- ---- service
 
@@ -31,27 +35,35 @@ pub record ServicePassed (w : Week) (searched : Bool) (name : List ℕ) (start e
   pub span_right : span_wrong start end ≡ false
   pub room : w.service_count < 64
 
-module _ (w : Week) (searched : Bool) (name : List ℕ) (weekdays start end : ℕ) (a : Answer) (h : a ≡ service_answer w searched name start end) where
+module _ (w : Week) (searched : Bool) (name : List ℕ) (weekdays start end : ℕ) (a : Answer)
+    (h : a ≡ service_answer w searched name start end) where
   pub service-passed : is_taken a ≡ true → ServicePassed w searched name start end
   unfolding service_tests
   service-passed e =
-      let f = first_taken _ _ refl (answer-is-first (service_tests searched w.closed w.services w.service_count name start end)) (sym h ∙ taken_is a e) in
+      let f =
+      first_taken _ _ refl (answer-is-first (service_tests searched w.closed w.services w.service_count name start end))
+      (sym h ∙ taken_is a e) in
       record { in_time = f.0; name_right = f.1.0; new = f.1.1.0; span_right = f.1.1.1.0; room = leb-false 64 w.service_count f.1.1.1.1.0 }
 
   pub service-taken : (s : Service) → is_taken a ≡ true → s ≡ service_of name weekdays start end
-      → ◌≡◌ {A = WeekStepped} (record { answer = a; week = with_services w (set w.services w.service_count s) (w.service_count + 1) }) (service_on w searched name weekdays start end)
+      → ◌≡◌ {A = WeekStepped} (record { answer = a; week = with_services w (set w.services w.service_count s) (w.service_count + 1) })
+      (service_on w searched name weekdays start end)
   unfolding service_on
   service-taken s e q =
-      let same : with_services w (set w.services w.service_count s) (w.service_count + 1) ≡ cond (is_taken (service_answer w searched name start end))
+      let same : with_services w (set w.services w.service_count s) (w.service_count + 1)
+      ≡ cond (is_taken (service_answer w searched name start end))
       (with_services w (set w.services w.service_count (service_of name weekdays start end)) (w.service_count + 1)) w =
-      ap (λ (x : Service). with_services w (set w.services w.service_count x) (w.service_count + 1)) q ∙ sym (cond-by _ _ (ap is_taken (sym h) ∙ e)) in
+      ap (λ (x : Service). with_services w (set w.services w.service_count x) (w.service_count + 1)) q
+      ∙ sym (cond-by _ _ (ap is_taken (sym h) ∙ e)) in
       λ k. record { answer = h k; week = same k }
 
-  pub service-refused : is_taken a ≡ false → ◌≡◌ {A = WeekStepped} (record { answer = a; week = w }) (service_on w searched name weekdays start end)
+  pub service-refused : is_taken a ≡ false
+      → ◌≡◌ {A = WeekStepped} (record { answer = a; week = w }) (service_on w searched name weekdays start end)
   unfolding service_on
   service-refused e =
       let same : w ≡ cond (is_taken (service_answer w searched name start end))
-      (with_services w (set w.services w.service_count (service_of name weekdays start end)) (w.service_count + 1)) w = sym (cond-not _ _ (ap is_taken (sym h) ∙ e)) in
+      (with_services w (set w.services w.service_count (service_of name weekdays start end)) (w.service_count + 1)) w =
+      sym (cond-not _ _ (ap is_taken (sym h) ∙ e)) in
       λ k. record { answer = h k; week = same k }
 
 -- ---- exception
@@ -68,33 +80,72 @@ place-below ss n name e =
     let f : place_of (named name) (take n ss) < length (take n ss) = place_found (named name) (take n ss) e in
     (omega (arith, (simp length-take at f)), omega (arith, (simp length-take at f)))
 
-module _ (w : Week) (searched : Bool) (name : List ℕ) (date kind : ℕ) (a : Answer) (h : a ≡ exception_answer w searched name date kind) where
+-- the place that was found among the services taken
+module _ (w : Week) (name : List ℕ) (at : ℕ) where
+  module _ (xs : List Service) (e : xs ≡ take w.service_count w.services) (f : position_from (named name) 0 xs ≡ Some at) where
+    found : (anyb (named name) (take w.service_count w.services) ≡ true) × (at ≡ place_in w name)
+    found = found-at (named name) (take w.service_count w.services) at (ap (position_from (named name) 0) (sym e) ∙ f)
+
+    pub found-place : at ≡ place_in w name
+    found-place = found.1
+
+    pub found-below : at < length w.services
+    found-below = omega (arith, found-place, (place-below w.services w.service_count name found.0).1)
+
+    -- the service there, whatever is read past the end
+    pub found-service : (d : Service) → get_or w.services at d ≡ service_in w name
+    found-service d =
+        get_or_default w.services at d blank_service found-below ∙ ap (λ (n : ℕ). get_or w.services n blank_service) found-place
+
+module _ (w : Week) (searched : Bool) (name : List ℕ) (date kind : ℕ) (a : Answer)
+    (h : a ≡ exception_answer w searched name date kind) where
   pub exception-passed : is_taken a ≡ true → ExceptionPassed w searched name date kind
   unfolding exception_tests
   exception-passed e =
-      let f = first_taken _ _ refl (answer-is-first (exception_tests searched w.closed w.services w.service_count name date kind)) (sym h ∙ taken_is a e) in
+      let f =
+      first_taken _ _ refl (answer-is-first (exception_tests searched w.closed w.services w.service_count name date kind))
+      (sym h ∙ taken_is a e) in
       record { in_time = f.0; right = f.1.0; known = not-false _ f.1.1.0 }
 
   abbrev marked : ℕ → Service → Week
   marked at s = with_services w (set w.services at s) w.service_count
 
-  pub exception-taken : (at : ℕ) (old s : Service) (days : ℕ) → is_taken a ≡ true → at ≡ place_in w name → old ≡ service_in w name → days ≡ days_on w.dates date → s ≡ excepted_of old days kind
+  pub exception-taken : (at : ℕ) (old s : Service) (days : ℕ) → is_taken a ≡ true → at ≡ place_in w name → old ≡ service_in w name
+      → days ≡ days_on w.dates date → s ≡ excepted_of old days kind
       → ◌≡◌ {A = WeekStepped} (record { answer = a; week = marked at s }) (exception_on w searched name date kind)
   unfolding exception_on
   exception-taken at old s days e pe oe de q =
       let new : s ≡ excepted_of (service_in w name) (days_on w.dates date) kind = q ∙ (λ k. excepted_of (oe k) (de k) kind) in
-      let same : marked at s ≡ cond (is_taken (exception_answer w searched name date kind)) (marked (place_in w name) (excepted_of (service_in w name) (days_on w.dates date) kind)) w =
+      let same : marked at s ≡ cond (is_taken (exception_answer w searched name date kind))
+      (marked (place_in w name) (excepted_of (service_in w name) (days_on w.dates date) kind)) w =
       (λ k. marked (pe k) (new k)) ∙ sym (cond-by _ _ (ap is_taken (sym h) ∙ e)) in
       λ k. record { answer = h k; week = same k }
 
-  pub exception-refused : is_taken a ≡ false → ◌≡◌ {A = WeekStepped} (record { answer = a; week = w }) (exception_on w searched name date kind)
+  pub exception-refused : is_taken a ≡ false
+      → ◌≡◌ {A = WeekStepped} (record { answer = a; week = w }) (exception_on w searched name date kind)
   unfolding exception_on
   exception-refused e =
-      let same : w ≡ cond (is_taken (exception_answer w searched name date kind)) (marked (place_in w name) (excepted_of (service_in w name) (days_on w.dates date) kind)) w =
+      let same : w ≡ cond (is_taken (exception_answer w searched name date kind))
+      (marked (place_in w name) (excepted_of (service_in w name) (days_on w.dates date) kind)) w =
       sym (cond-not _ _ (ap is_taken (sym h) ∙ e)) in
       λ k. record { answer = h k; week = same k }
 
 -- ---- call
+
+-- the first service taken that has the name
+module _ (w : Week) (name : List ℕ) where
+  abbrev taken : List Service
+  taken = take w.service_count w.services
+
+  pub found-in : find (named name) taken ≡ cond (anyb (named name) taken) (Some (service_in w name)) None
+  found-in = find-is (named name) blank_service taken ∙ go (anyb (named name) taken) refl
+    where
+      go : (b : Bool) → anyb (named name) taken ≡ b
+          → cond b (Some (get_or taken (place_in w name) blank_service)) None ≡ cond b (Some (service_in w name)) None
+      go false e = refl
+      go true e =
+          let below = (place-below w.services w.service_count name e).0 in
+          ap Some (get_or-take w.service_count w.services (place_in w name) blank_service below)
 
 module _ (w : Week) (name : List ℕ) (day : ℕ) where
   pub runs-undated : w.dated ≡ false → Runs ≡ running w name day
@@ -105,7 +156,8 @@ module _ (w : Week) (name : List ℕ) (day : ℕ) where
   unfolding running
   runs-unknown d e = sym (cond-by _ _ d ∙ cond-not _ _ e)
 
-  pub runs-known : w.dated ≡ true → anyb (named name) (take w.service_count w.services) ≡ true → (b : Bool) (s : Service) (date : ℕ) → s ≡ service_in w name → date ≡ get_or w.dates day 0 → b ≡ runs_of s day date
+  pub runs-known : w.dated ≡ true → anyb (named name) (take w.service_count w.services) ≡ true → (b : Bool) (s : Service) (date : ℕ)
+      → s ≡ service_in w name → date ≡ get_or w.dates day 0 → b ≡ runs_of s day date
       → cond b Runs Rests ≡ running w name day
   unfolding running
   runs-known d e b s date se de q =

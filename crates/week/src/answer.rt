@@ -1,6 +1,10 @@
 // A new service, a service by its name, and why a service or an exception is sent back.
-ghost use Rattle.std.specs.Prelude.{◌≡◌, length};
+ghost use Rattle.std.specs.Prelude.{◌≡◌, length, Some};
+ghost use Rattle.std.specs.List.{position_from};
+ghost use Rattle.std.specs.Option.{is_some, unwrap_or};
+ghost use Rattle.std.specs.Result.{ForOk, result_map_both};
 ghost use Rattle.laws.specs.Lists.{anyb};
+ghost use Rattle.refusal.specs.declared.Accepted.TheVariants.{Taken};
 ghost use Rattle.refusal.specs.First.{first_answer};
 ghost use Rattle.week.specs.Weeks.{blank_service, service_of, named, place_of, service_tests, exception_tests};
 
@@ -39,25 +43,19 @@ pub fn service_of(name: &[u8], weekdays: u8, start: u32, end: u32) -> Service
     }
 }
 
-fn is_named(service: &Service, name: &[u8]) -> bool
+pub fn is_named(service: &Service, name: &[u8]) -> bool
     ensures { result ≡ named name.now service.now }
 {
     same_text(service.name.bytes(), name)
 }
 
-// The place of the first service with the name; where none has it, how many there are. No option: the place
-// behind them all holds the blank service, which `service_in` then reads.
-pub fn place_of(services: &[Service], name: &[u8]) -> usize
-    ensures { result ≡ place_of (named name.now) services.now }
+// The place of the first service with the name.
+fn place_of(services: &[Service], name: &[u8]) -> Option<usize>
+    ensures first { result ≡ position_from (named name.now) 0 services.now }
+    ensures place { unwrap_or result (length services.now) ≡ place_of (named name.now) services.now }
+    ensures known { is_some result ≡ anyb (named name.now) services.now }
 {
-    let found = services.iter().position(|service| is_named(service, name));
-    found.unwrap_or(services.len())
-}
-
-pub fn is_known(services: &[Service], name: &[u8]) -> bool
-    ensures { result ≡ anyb (named name.now) services.now }
-{
-    services.iter().any(|service| is_named(service, name))
+    services.iter().position(|service| is_named(service, name))
 }
 
 // What a service is answered, by the services taken: 15, 3, 5, 20, 22. Of its numbers two are read, so they come one by one.
@@ -78,7 +76,7 @@ pub fn service_answer(
     if id_wrong(name) {
         return Err(Refusal::IdLength);
     }
-    if is_known(services, name) {
+    if place_of(services, name).is_some() {
         return Err(Refusal::IdTaken);
     }
     if span_wrong(start, end) {
@@ -90,17 +88,20 @@ pub fn service_answer(
     Ok(Accepted::Taken)
 }
 
-// The same of an exception: 15, 20, 21. Its kind is a number and no enum: any may be handed in, and one that is not 1 or 2 is sent back.
+// The place of the service that an exception is for, or why the exception is sent back: 15, 20, 21. Its kind is a number and no enum: any
+// may be handed in, and one that is not 1 or 2 is sent back.
 #[tactic(auto, unfolding(crate::specs::Weeks::exception_tests, refusal::specs::First::first_answer))]
-pub fn exception_answer(
+pub fn exception_place(
     searched: bool,
     closed: bool,
     services: &[Service],
     name: &[u8],
     date: u32,
     kind: u8,
-) -> Answer
-    ensures { result ≡ first_answer (exception_tests searched closed services.now (length services.now) name.now date kind) }
+) -> Result<usize, Refusal>
+    ensures answer { result_map_both (λ _. Taken) (λ r. r) result
+        ≡ first_answer (exception_tests searched closed services.now (length services.now) name.now date kind) }
+    ensures place { ForOk result (λ at. position_from (named name.now) 0 services.now ≡ Some at) }
 {
     if searched || closed {
         return Err(Refusal::AlreadySearched);
@@ -108,8 +109,5 @@ pub fn exception_answer(
     if exception_wrong(date, kind) {
         return Err(Refusal::DateWrong);
     }
-    if !is_known(services, name) {
-        return Err(Refusal::ServiceUnknown);
-    }
-    Ok(Accepted::Taken)
+    place_of(services, name).ok_or(Refusal::ServiceUnknown)
 }

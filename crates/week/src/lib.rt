@@ -39,7 +39,8 @@ pub enum Running {
     Runs,
 }
 
-// The week of a load without dates. No `Default`: an array of 64 has none, and its services are closed.
+// The week of a load without dates. No `Default`, which would be derived: its services are closed.
+#[tactic(auto, unfolding(crate::specs::Weeks::undated_week))]
 pub fn undated() -> Week
     ensures { result ≡ undated_week }
 {
@@ -56,6 +57,7 @@ pub fn undated() -> Week
 }
 
 // The week of a load with these dates, before the first service.
+#[tactic(auto, unfolding(crate::specs::Weeks::dated_week))]
 pub fn dated(dates: [u32; 3]) -> Week
     ensures { result ≡ dated_week dates }
 {

@@ -1,13 +1,12 @@
 // The steps on a week: a service, an exception, and what a call asks of it.
-ghost use Rattle.std.specs.Prelude.{◌≡◌, take};
-ghost use Rattle.week.specs.Weeks.{service_in, service_on, exception_on, running};
+ghost use Rattle.std.specs.Prelude.{◌≡◌, take, cond, None, Some};
+ghost use Rattle.laws.specs.Lists.{anyb};
+ghost use Rattle.week.specs.Weeks.{named, service_in, service_on, exception_on, running};
 
-use crate::answer::{
-    blank_service, exception_answer, is_known, place_of, service_answer, service_of,
-};
+use crate::answer::{exception_place, is_named, service_answer, service_of};
 use crate::{Running, Week, WeekStepped};
 use prefix::first;
-use refusal::is_taken;
+use refusal::{Accepted, is_taken};
 use services::{Service, days_on};
 
 impl Week {
@@ -18,12 +17,15 @@ impl Week {
         first(&self.services, self.service_count)
     }
 
-    // The service with the name; the blank one where none has it.
-    fn service_in(&self, name: &[u8]) -> Service
-        ensures { result ≡ service_in self.now name.now }
+    // The service with the name.
+    fn service_in(&self, name: &[u8]) -> Option<Service>
+        ensures { result ≡ cond (anyb (named name.now) (take self.now.service_count self.now.services))
+            (Some (service_in self.now name.now)) None }
     {
-        let at = place_of(self.taken(), name);
-        self.services.get(at).copied().unwrap_or(blank_service())
+        self.taken()
+            .iter()
+            .find(|service| is_named(service, name))
+            .copied()
     }
 
     // A service is taken or sent back; `searched` is the load's. Its numbers come one by one, as those of an exception do: a record would
@@ -54,17 +56,22 @@ impl Week {
     pub fn exception(self, searched: bool, name: &[u8], date: u32, kind: u8) -> WeekStepped
         ensures { result ≡ exception_on self searched name.now date kind }
     {
-        let services = self.taken();
-        let answer = exception_answer(searched, self.closed, services, name, date, kind);
-        if is_taken(answer) {
-            let at = place_of(services, name);
-            let service = self.service_in(name);
-            let dates = self.dates;
-            let mut next = self;
-            next.services[at] = service.excepted(days_on(dates, date), kind);
-            return WeekStepped { answer, week: next };
+        match exception_place(searched, self.closed, self.taken(), name, date, kind) {
+            Ok(at) => {
+                let days = days_on(self.dates, date);
+                let mut next = self;
+                let service = &mut next.services[at];
+                *service = service.excepted(days, kind);
+                WeekStepped {
+                    answer: Ok(Accepted::Taken),
+                    week: next,
+                }
+            }
+            Err(cause) => WeekStepped {
+                answer: Err(cause),
+                week: self,
+            },
         }
-        WeekStepped { answer, week: self }
     }
 
     // Whether the service that a call names runs on the call's day. A week without dates lets every call pass.
@@ -75,10 +82,9 @@ impl Week {
         if !self.dated {
             return Running::Runs;
         }
-        if !is_known(self.taken(), name) {
+        let Some(service) = self.service_in(name) else {
             return Running::Unknown;
-        }
-        let service = self.service_in(name);
+        };
         let date = self.dates.get(usize::from(day)).copied().unwrap_or(0);
         if service.runs(day, date) {
             Running::Runs

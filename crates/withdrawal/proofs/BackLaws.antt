@@ -18,7 +18,7 @@ use Rattle.settings.specs.declared.Settings.{Settings}
 use Rattle.calls.specs.declared.Call.{Call}
 use Rattle.calls.specs.declared.CallInput.{CallInput}
 use Rattle.calls.specs.declared.Table.{Table}
-use Rattle.calls.specs.declared.Fitted.{Fitted}
+use Rattle.calls.specs.Tried.{Tried}
 use Rattle.calls.specs.Windows.{seen_call, seen}
 use Rattle.calls.specs.Tables.{blank_call, cut, put}
 use Rattle.calls.specs.Calls.{known, call_tests, call_time, call_fit, call_on, ended, goes_on_of}
@@ -27,7 +27,7 @@ use Rattle.calls.specs.Sound.{TableSound}
 use Rattle.calls.proofs.FitLaws.{shrinks}
 use Rattle.calls.proofs.Fits.{Ends, stands, enters, turned, Keeps, ends}
 use Rattle.calls.proofs.SoundLaws.{seen-is, call-tests-fail, put-calls, call-keeps-sound}
-use Rattle.withdrawal.specs.declared.CallKey.{CallKey}
+use Rattle.calls.specs.declared.CallKey.{CallKey}
 use Rattle.withdrawal.specs.Removal.{without_last, key_of, has_key, key_known, withdrawn, TableTakenBack}
 use Rattle.withdrawal.proofs.LeftLaws.{last-gone, is-holding}
 
@@ -76,28 +76,39 @@ record Inside (t : Table) (i : CallInput) (u : Table) : Type 0 where
   room : t.count < 512
   key : has_key (key_of i) call ≡ true
 
-entered : (t : Table) (a d : Option ℕ) (i : CallInput) (f : Fitted) → Ends (Cut t) a d i f → (ended t f).answer ≡ Ok Taken → (ended t f).table.horizon ≡ t.horizon → Inside t i (ended t f).table
+entered : (t : Table) (a d : Option ℕ) (i : CallInput) (f : Tried) → Ends (Cut t) a d i f → (ended t f).answer ≡ Ok Taken
+    → (ended t f).table.horizon ≡ t.horizon → Inside t i (ended t f).table
 entered t a d i _ (stands u p e) q h = let z : ◌≡◌ {A = ℕ} 0 1 = cc in absurd (omega arith)
 entered t a d i _ (turned u c p e f m) q h = let z : ◌≡◌ {A = ℕ} 0 1 = cc in absurd (omega arith)
 entered t a d i _ (enters u c p e r) q h = go p
   where
     go : Cut t u → Inside t i (put u c)
-    go (inl x) = record { call = c; table = ap (λ (y : Table). put y c) x; room = subst (λ (y : Table). y.count < 512) x r; key = seen_key u.horizon a d i c e }
+    go (inl x) =
+        record {
+          call = c;
+          table = ap (λ (y : Table). put y c) x;
+          room = subst (λ (y : Table). y.count < 512) x r;
+          key = seen_key u.horizon a d i c e;
+        }
     go (inr x) = absurd (omega (arith, h))
 
-pub call-entered : (s : Settings) (b : Bool) (n : ℕ) (t : Table) (i : CallInput) → (call_on s b n t i).answer ≡ Ok Taken → (call_on s b n t i).table.horizon ≡ t.horizon → Entered s b n t i
+pub call-entered : (s : Settings) (b : Bool) (n : ℕ) (t : Table) (i : CallInput) → (call_on s b n t i).answer ≡ Ok Taken
+    → (call_on s b n t i).table.horizon ≡ t.horizon → Entered s b n t i
 unfolding call_on call_fit
 call-entered s b n t i q h = go (first_answer (call_tests b n i)) refl q h
   where
-    go : (a : Answer) → first_answer (call_tests b n i) ≡ a → (goes_on_of s t i a).answer ≡ Ok Taken → (goes_on_of s t i a).table.horizon ≡ t.horizon → Entered s b n t i
+    go : (a : Answer) → first_answer (call_tests b n i) ≡ a → (goes_on_of s t i a).answer ≡ Ok Taken
+        → (goes_on_of s t i a).table.horizon ≡ t.horizon → Entered s b n t i
     go (Err w) e x y = let z : ◌≡◌ {A = ℕ} 0 1 = cc in absurd (omega arith)
     go (Ok Outside) e x y = let z : ◌≡◌ {A = ℕ} 0 1 = cc in absurd (omega arith)
     go (Ok Taken) e x y =
-        let w = entered t (call_time s i i.arrival) (call_time s i i.departure) i _ (ends (Cut t) _ _ i (cut_keeps t _ _ i) t (inl refl)) x y in
+        let w =
+        entered t (call_time s i i.arrival) (call_time s i i.departure) i _ (ends (Cut t) _ _ i (cut_keeps t _ _ i) t (inl refl)) x y in
         record { call = w.call; table = rw e w.table; room = w.room; key = w.key; known-key = tests-key b n i e }
 
 -- a call that is not taken, and cut nothing, leaves the table
-stood : (t : Table) (a d : Option ℕ) (i : CallInput) (f : Fitted) → Ends (Cut t) a d i f → is_taken (ended t f).answer ≡ false → (ended t f).table.horizon ≡ t.horizon → (ended t f).table ≡ t
+stood : (t : Table) (a d : Option ℕ) (i : CallInput) (f : Tried) → Ends (Cut t) a d i f → is_taken (ended t f).answer ≡ false
+    → (ended t f).table.horizon ≡ t.horizon → (ended t f).table ≡ t
 stood t a d i _ (stands u p e) q h = go p
   where
     go : Cut t u → u ≡ t
@@ -106,14 +117,17 @@ stood t a d i _ (stands u p e) q h = go p
 stood t a d i _ (turned u c p e f m) q h = refl
 stood t a d i _ (enters u c p e r) q h = absurd (true≢false q)
 
-pub call-stood : (s : Settings) (b : Bool) (n : ℕ) (t : Table) (i : CallInput) → is_taken (call_on s b n t i).answer ≡ false → (call_on s b n t i).table.horizon ≡ t.horizon → (call_on s b n t i).table ≡ t
+pub call-stood : (s : Settings) (b : Bool) (n : ℕ) (t : Table) (i : CallInput) → is_taken (call_on s b n t i).answer ≡ false
+    → (call_on s b n t i).table.horizon ≡ t.horizon → (call_on s b n t i).table ≡ t
 unfolding call_on call_fit
 call-stood s b n t i q h = go (first_answer (call_tests b n i)) q h
   where
-    go : (a : Answer) → is_taken (goes_on_of s t i a).answer ≡ false → (goes_on_of s t i a).table.horizon ≡ t.horizon → (goes_on_of s t i a).table ≡ t
+    go : (a : Answer) → is_taken (goes_on_of s t i a).answer ≡ false → (goes_on_of s t i a).table.horizon ≡ t.horizon
+        → (goes_on_of s t i a).table ≡ t
     go (Err w) x y = refl
     go (Ok Outside) x y = refl
-    go (Ok Taken) x y = stood t (call_time s i i.arrival) (call_time s i i.departure) i _ (ends (Cut t) _ _ i (cut_keeps t _ _ i) t (inl refl)) x y
+    go (Ok Taken) x y =
+        stood t (call_time s i i.arrival) (call_time s i i.departure) i _ (ends (Cut t) _ _ i (cut_keeps t _ _ i) t (inl refl)) x y
 
 -- ---- and taken out again
 
@@ -128,7 +142,8 @@ module _ (t : Table) (s : TableSound t) where
       ∙ take-append-drop t.count t.calls
 
   -- a table with these calls left is t
-  pub left_back : (u : Table) (k : CallKey) → TableSound u → anyb (has_key k) (table_calls u) ≡ true → without_last (has_key k) (table_calls u) ≡ table_calls t
+  pub left_back : (u : Table) (k : CallKey) → TableSound u → anyb (has_key k) (table_calls u) ≡ true
+      → without_last (has_key k) (table_calls u) ≡ table_calls t
       → u.horizon ≡ t.horizon → u.limits ≡ t.limits → withdrawn u k ≡ t
   left_back u k v a e h m = is-holding u k v a ∙ (λ j. record {
     calls = (ap (padded blank_call 512) e ∙ padded-back) j;

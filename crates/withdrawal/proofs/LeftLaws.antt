@@ -15,8 +15,9 @@ use Rattle.calls.specs.declared.Table.{Table}
 use Rattle.calls.specs.Tables.{blank_call}
 use Rattle.calls.specs.Shown.{table_calls}
 use Rattle.calls.specs.Sound.{All, CallSound, AtStop, TableSound, StopsKnown}
-use Rattle.withdrawal.specs.declared.CallKey.{CallKey}
-use Rattle.withdrawal.specs.Removal.{last_of, without_last, closed_up, has_key, withdrawn, LastGoes, WithoutLast, PlaceTells, Leaves, WithdrawnLeaves}
+use Rattle.calls.specs.declared.CallKey.{CallKey}
+use Rattle.withdrawal.specs.Removal.{last_of, without_last, closed_up, has_key, withdrawn, LastGoes, WithoutLast, PlaceTells, Leaves}
+use Rattle.withdrawal.specs.Removal.{WithdrawnLeaves}
 use Rattle.withdrawal.proofs.RemovalLaws.{closing, closed_some}
 
 -- ---- lists
@@ -39,7 +40,8 @@ module _ {A : Type 0} (p : A → Bool) where
             place = rw q (ap suc w.place);
             left = rw q (ap {B = List A} (λ l. x ∷ l) w.left);
           }
-      by ih false q true r h = record { before = []; gone = x; behind = xs; whole = refl; passes = r; last = q; place = rw (q, r) refl; left = rw (q, r) refl }
+      by ih false q true r h =
+          record { before = []; gone = x; behind = xs; whole = refl; passes = r; last = q; place = rw (q, r) refl; left = rw (q, r) refl }
       by ih false q false r h = absurd (false≢true h)
 
   tells : (xs : List A) → eqb (last_of p xs) 0 ≡ not (anyb p xs)
@@ -128,7 +130,8 @@ module _ (t : Table) (k : CallKey) (s : TableSound t) (e : anyb (has_key k) (tab
       ∙ closing_at blank_call w.before w.gone (w.behind ++ blanks)
       ∙ ap (λ (r : List Call). r ++ (blank_call ∷ [])) (sym (append_assoc w.before w.behind blanks))
       ∙ append_assoc (w.before ++ w.behind) blanks (blank_call ∷ [])
-      ∙ ap (λ (r : List Call). w.before ++ w.behind ++ r) (replicate-append-replicate (512 - t.count) 1 blank_call ∙ ap (λ (n : ℕ). replicate n blank_call) more)
+      ∙ ap (λ (r : List Call). w.before ++ w.behind ++ r) (replicate-append-replicate (512 - t.count) 1 blank_call
+      ∙ ap (λ (n : ℕ). replicate n blank_call) more)
       ∙ ap (λ (r : List Call). r ++ replicate (512 - length left) blank_call) (sym w.left)
 
   -- the calls that are left, and blanks behind them
@@ -137,7 +140,9 @@ module _ (t : Table) (k : CallKey) (s : TableSound t) (e : anyb (has_key k) (tab
   is-holding =
       let at : last_of (has_key k) (table_calls t) - 1 ≡ length w.before = omega (arith, w.place) in
       let few : length w.before + 1 ≤ 512 = omega (arith, counted, s.few) in
-      let array = ap (λ (n : ℕ). closed_up blank_call n t.calls) at ∙ sym (closed_some blank_call (length w.before) t.calls s.long (omega (arith, few))) ∙ closed in
+      let array =
+      ap (λ (n : ℕ). closed_up blank_call n t.calls) at ∙ sym (closed_some blank_call (length w.before) t.calls s.long (omega (arith, few)))
+      ∙ closed in
       let count : t.count - 1 ≡ length left = omega (arith, left-count) in
       λ j. record { calls = array j; count = count j; horizon = t.horizon; limits = t.limits }
 

@@ -61,12 +61,14 @@ module _ {A : Type 0} (p : A → Bool) where
   last_end xs ys x e = ap (last_of p) e ∙ last_snoc ys x
 
   -- a turn, from the right
-  pub last_turn : (d : A) (l : List A) (n : ℕ) → 0 < n → n ≤ length l → last_of p (take n l) ≡ cond (p (get_or l (n - 1) d)) n (last_of p (take (n - 1) l))
+  pub last_turn : (d : A) (l : List A) (n : ℕ) → 0 < n → n ≤ length l
+      → last_of p (take n l) ≡ cond (p (get_or l (n - 1) d)) n (last_of p (take (n - 1) l))
   last_turn d l n h g =
       let e : n ≡ suc (n - 1) = omega arith in
       let t : take n l ≡ take (n - 1) l ++ (get_or l (n - 1) d ∷ []) = ap (λ (m : ℕ). take m l) e ∙ take-suc l (n - 1) d (omega arith) in
       let f : suc (length (take (n - 1) l)) ≡ n = omega (arith, length-take-le (n - 1) l (omega arith)) in
-      ap (last_of p) t ∙ last_snoc (take (n - 1) l) (get_or l (n - 1) d) ∙ ap (λ (m : ℕ). cond (p (get_or l (n - 1) d)) m (last_of p (take (n - 1) l))) f
+      ap (last_of p) t ∙ last_snoc (take (n - 1) l) (get_or l (n - 1) d)
+      ∙ ap (λ (m : ℕ). cond (p (get_or l (n - 1) d)) m (last_of p (take (n - 1) l))) f
 
 -- ---- an array closed up
 
@@ -83,7 +85,8 @@ module _ {A : Type 0} (b : A) where
 
   -- b at the place n, moved behind those after it
   pub closed_by : (n : ℕ) (l m : List A) → length l ≡ 512 → n < 512
-      → m ≡ drop 1 (take (512 - n) (drop n (set l n b))) ++ take 1 (take (512 - n) (drop n (set l n b))) → put_mid n (512 - n) (set l n b) m ≡ closed_up b n l
+      → m ≡ drop 1 (take (512 - n) (drop n (set l n b))) ++ take 1 (take (512 - n) (drop n (set l n b)))
+      → put_mid n (512 - n) (set l n b) m ≡ closed_up b n l
   closed_by n l m e h q =
       let long : length (set l n b) ≡ 512 = length-set l n b ∙ e in
       put_mid-rotated n (512 - n) (set l n b) m b (omega arith) (omega arith) q

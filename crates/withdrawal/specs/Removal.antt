@@ -10,7 +10,7 @@ use Rattle.calls.specs.Tables.{blank_call}
 use Rattle.calls.specs.Calls.{call_on, window}
 use Rattle.calls.specs.Shown.{table_calls, Shows}
 use Rattle.calls.specs.Sound.{TableSound, StopsKnown}
-use Rattle.withdrawal.specs.declared.CallKey.{CallKey}
+use Rattle.calls.specs.declared.CallKey.{CallKey}
 
 module _ {A : Type 0} (p : A → Bool) where
   -- the place of the last element that passes the test, counted from 1; 0 where none does

@@ -5,15 +5,7 @@ ghost use Rattle.std.specs.Prelude.{◌≡◌};
 ghost use Rattle.calls.specs.Tables.{blank_call};
 ghost use Rattle.withdrawal.specs.Removal.{counted, last_of, closed_up, has_key, key_known};
 
-use calls::{Call, blank_call};
-
-// What a withdrawal names.
-#[derive(Clone, Copy, Debug, PartialEq, Eq)]
-pub struct CallKey {
-    pub trip: u16,
-    pub day: u8,
-    pub sequence: u32,
-}
+use calls::{Call, CallKey, blank_call};
 
 // Whether a call can have the key: trip 65535 and days above 2 are no call's.
 #[tactic(auto, unfolding(crate::specs::Removal::key_known))]
@@ -23,32 +15,26 @@ pub fn is_known(key: CallKey) -> bool
     key.trip < 65535 && key.day <= 2
 }
 
-// Field by field: no call holds a key that could be compared as a whole.
 #[tactic(auto, unfolding(crate::specs::Removal::has_key))]
 fn has_key(call: Call, key: CallKey) -> bool
     ensures { result ≡ has_key key call }
 {
-    call.trip == key.trip && call.day == key.day && call.sequence == key.sequence
+    call.key() == key
 }
 
 // The place of the last of the calls with the key.
 pub fn last_of(calls: &[Call], key: CallKey) -> Option<usize>
     ensures { counted result ≡ last_of (has_key key) calls.now }
 {
-    let mut from_last = calls.iter().rev();
-    let behind = from_last.position(|&call| has_key(call, key))?;
-    Some(calls.len() - 1 - behind)
+    calls.iter().rposition(|&call| has_key(call, key))
 }
 
-// The calls without the one at the place: it is blanked, and those behind it move down before it. By value:
-// it is changed and handed back, so an array taken by reference would be copied here all the same.
-pub fn without(calls: [Call; 512], at: usize) -> [Call; 512]
-    ensures { result ≡ closed_up blank_call at calls }
+// The call at the place goes: it is blanked, and those behind it move down before it.
+pub fn close_up(calls: &mut [Call; 512], at: usize)
+    ensures { calls.new ≡ closed_up blank_call at calls.old }
 {
-    let mut out = calls;
     if at < 512 {
-        out[at] = blank_call();
-        out[at..].rotate_left(1);
+        calls[at] = blank_call();
+        calls[at..].rotate_left(1);
     }
-    out
 }

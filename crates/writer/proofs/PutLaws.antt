@@ -16,9 +16,10 @@ use Rattle.buffer.proofs.PutLaws.{sets-past}
 use Rattle.texts.specs.declared.Text.{Text}
 use Rattle.texts.specs.Texts.{bytes_of}
 use Rattle.stops.specs.declared.Stop.{Stop}
-use Rattle.stops.specs.Stops.{id_of, name_of}
+use Rattle.stops.specs.Stops.{id_of}
 use Rattle.stops.specs.Sound.{stop_at}
-use Rattle.codec.specs.Shapes.{text, option, write, framed}
+use Rattle.codec.specs.Shapes.{two, Field, Value, number, text, option, write, framed}
+use Rattle.writer.specs.Options.{option_bytes}
 use Rattle.codec.specs.Parts.{parent_id_of}
 
 -- ---- a length put in front of what stands behind it
@@ -71,12 +72,18 @@ put-framed {xs} {a} {b} {c} {d} {e} {f} {n} bo bl p co cl q r fo fl =
     at : a.len < length a.out.now → n ≡ length xs
     at h = omega (arith, p.behind, p.small, bl, q, a.room)
 
--- ---- a stop's texts that may be there
+-- ---- fields that may be there
+
+pub option-is : {T : Type 0} (f : Field) (v : T → Value f) (o : Option T)
+    → option_bytes (λ x. write f (v x)) o ≡ write (option f) (option_map v o)
+option-is f v None = refl
+option-is f v (Some x) = refl
+
+pub number-is : (o : Option ℕ) → option_bytes (λ n. write (number two) n) o ≡ write (option (number two)) o
+number-is None = refl
+number-is (Some n) = refl
 
 module _ (s : Stop) where
-  pub name-is : {o : Option (Text 64)} → o ≡ s.name → write (option text) (option_map bytes_of o) ≡ write (option text) (name_of s)
-  name-is e = ap (λ o. write (option text) (option_map bytes_of o)) e
-
   pub station-is : (stops : List Stop) {o : Option (Text 32)} → o ≡ option_map (λ (p : ℕ). (stop_at stops p).id) s.parent
       → write (option text) (option_map bytes_of o) ≡ write (option text) (parent_id_of stops s)
   station-is stops e = ap (λ o. write (option text) (option_map bytes_of o)) e ∙ ap (write (option text)) (both s.parent)

@@ -1,3 +1,4 @@
 pub mod File
 pub mod Wrote
 pub mod Claims
+pub mod Options

@@ -1,11 +1,12 @@
 // The records of a load: of each the kind, then the fields.
-ghost use Rattle.std.specs.Prelude.{◌≡◌, ℕ, List, Some, option_map, option_copied};
+ghost use Rattle.std.specs.Prelude.{◌≡◌, ℕ, List, Some, option_map};
 ghost use Rattle.stops.specs.declared.Stop.{Stop};
 ghost use Rattle.stops.specs.Stops.{id_of, name_of};
 ghost use Rattle.stops.specs.Sound.{stop_at};
 ghost use Rattle.texts.specs.Texts.{bytes_of};
 ghost use Rattle.buffer.specs.Put.{Put};
 ghost use Rattle.codec.specs.Shapes.{two, four, eight, number, text, option, both, write};
+ghost use Rattle.writer.specs.Options.{option_bytes};
 ghost use Rattle.codec.specs.Kinds.{bits_of, degrees_value, settings_body, stop_body, rule_body, call_body};
 ghost use Rattle.codec.specs.Parts.{at_start, parent_id_of, stop_input_of, type_of, call_input_of};
 
@@ -25,6 +26,69 @@ pub trait Record {
 
     fn put(&self, out: &mut Buffer<'_>, stops: &[Stop])
         ensures { Put 65535 (body stops.now self.now) out.old out.new };
+}
+
+// ---- fields that may be missing
+
+// What may be missing in a record: at most 256 bytes.
+trait Field {
+    ghost bytes: { Self → List ℕ };
+
+    fn put(&self, out: &mut Buffer<'_>)
+        ensures { Put 256 (bytes self.now) out.old out.new };
+}
+
+// The field after the byte 1, or the byte 0.
+fn put_option<T: Field>(out: &mut Buffer<'_>, field: &Option<T>)
+    ensures { Put 257 (option_bytes T.bytes field.now) out.old out.new }
+{
+    match field {
+        Some(there) => {
+            out.byte(1);
+            there.put(out);
+        }
+        None => out.byte(0),
+    }
+}
+
+// A length byte, then as many bytes.
+impl<const N: usize> Field for Text<N> {
+    ghost bytes = { λ t. write text (bytes_of t) };
+
+    fn put(&self, out: &mut Buffer<'_>) {
+        let n = self.len;
+        let bytes = first(&self.bytes, usize::from(n));
+        out.byte(bytes.len() as u8);
+        out.bytes(bytes);
+    }
+}
+
+// A float's bits; the one NaN is 7ff8000000000000.
+fn bits(x: f64) -> u64
+    ensures { result ≡ bits_of x }
+{
+    if x.is_nan() {
+        return 0x7ff8000000000000;
+    }
+    x.to_bits()
+}
+
+impl Field for Degrees {
+    ghost bytes = { λ d. write (both (number eight) (number eight)) (degrees_value d) };
+
+    fn put(&self, out: &mut Buffer<'_>) {
+        out.u64(bits(self.latitude));
+        out.u64(bits(self.longitude));
+    }
+}
+
+// Seconds.
+impl Field for u16 {
+    ghost bytes = { λ n. write (number two) n };
+
+    fn put(&self, out: &mut Buffer<'_>) {
+        out.u16(*self);
+    }
 }
 
 // ---- settings
@@ -52,38 +116,14 @@ impl Record for Settings {
 
 // ---- stop
 
-// A length byte, then as many bytes.
-fn put_text<const N: usize>(out: &mut Buffer<'_>, t: &Text<N>)
-    ensures { Put 256 (write text (bytes_of t.now)) out.old out.new }
-{
-    let n = t.len;
-    let bytes = first(&t.bytes, usize::from(n));
-    out.byte(bytes.len() as u8);
-    out.bytes(bytes);
-}
-
-// A text after the byte 1, or the byte 0. Each option has a match of its own: one for all would take a closure that writes to the buffer.
-fn put_option_text<const N: usize>(out: &mut Buffer<'_>, t: Option<&Text<N>>)
-    ensures { Put 257 (write (option text) (option_map bytes_of (option_copied t.entry))) out.old out.new }
-{
-    match t {
-        Some(t) => {
-            out.byte(1);
-            put_text(out, t);
-        }
-        None => out.byte(0),
-    }
-}
-
 // The id of a stop, blank past the last.
 #[tactic(auto, unfolding(stops::specs::Sound::stop_at))]
 fn stop_id(stops: &[Stop], number: u16) -> Text<32>
     ensures { result ≡ (stop_at stops.now number).id }
 {
-    match stops.get(usize::from(number)) {
-        Some(stop) => stop.id,
-        None => blank_stop().id,
-    }
+    stops
+        .get(usize::from(number))
+        .map_or(blank_stop().id, |stop| stop.id)
 }
 
 fn station_id(stops: &[Stop], parent: Option<u16>) -> Option<Text<32>>
@@ -92,58 +132,21 @@ fn station_id(stops: &[Stop], parent: Option<u16>) -> Option<Text<32>>
     parent.map(|p| stop_id(stops, p))
 }
 
-// A float's bits; the one NaN is 7ff8000000000000.
-fn bits(x: f64) -> u64
-    ensures { result ≡ bits_of x }
-{
-    if x.is_nan() {
-        return 0x7ff8000000000000;
-    }
-    x.to_bits()
-}
-
-// Both degrees after the byte 1, or the byte 0.
-fn put_degrees(out: &mut Buffer<'_>, degrees: Option<Degrees>)
-    ensures { Put 17 (write (option (both (number eight) (number eight))) (option_map degrees_value degrees)) out.old out.new }
-{
-    match degrees {
-        Some(d) => {
-            out.byte(1);
-            out.u64(bits(d.latitude));
-            out.u64(bits(d.longitude));
-        }
-        None => out.byte(0),
-    }
-}
-
 impl Record for Stop {
     ghost body = { λ stops s. stop_body (id_of s) (name_of s) (parent_id_of stops s) (stop_input_of s) };
 
     fn put(&self, out: &mut Buffer<'_>, stops: &[Stop]) {
         out.byte(2);
-        put_text(out, &self.id);
-        put_option_text(out, self.name.as_ref());
-        put_option_text(out, station_id(stops, self.parent).as_ref());
+        self.id.put(out);
+        put_option(out, &self.name);
+        put_option(out, &station_id(stops, self.parent));
         out.byte(self.location_type);
-        put_degrees(out, self.degrees);
+        put_option(out, &self.degrees);
         out.byte(self.members);
     }
 }
 
 // ---- rule
-
-// The seconds after the byte 1, or the byte 0.
-fn put_min_time(out: &mut Buffer<'_>, seconds: Option<u16>)
-    ensures { Put 3 (write (option (number two)) seconds) out.old out.new }
-{
-    match seconds {
-        Some(n) => {
-            out.byte(1);
-            out.u16(n);
-        }
-        None => out.byte(0),
-    }
-}
 
 impl Record for Rule {
     ghost body = { λ _ r. rule_body r };
@@ -153,7 +156,7 @@ impl Record for Rule {
         out.u16(self.from);
         out.u16(self.to);
         out.byte(self.transfer_type);
-        put_min_time(out, self.seconds);
+        put_option(out, &self.seconds);
     }
 }
 

@@ -16,7 +16,7 @@ use Rattle.settings.specs.declared.Settings.{Settings}
 use Rattle.calls.specs.declared.Call.{Call}
 use Rattle.calls.specs.declared.CallInput.{CallInput}
 use Rattle.calls.specs.declared.Table.{Table}
-use Rattle.calls.specs.declared.Fitted.{Fitted}
+use Rattle.calls.specs.Tried.{Tried}
 use Rattle.calls.specs.Windows.{seen_call, seen}
 use Rattle.calls.specs.Tables.{due_by, trim, less}
 use Rattle.calls.specs.Calls.{known, call_tests, call_time, call_fit, call_on, ended, goes_on_of}
@@ -51,7 +51,7 @@ seen-kept : (h : ℕ) (a d : Option ℕ) (i : CallInput) (c : Call) → i.trip <
 unfolding seen_call
 seen-kept h a d i c t k e = subst CallKept (seen-is h a d i c e) (record { trip_known = t; day_known = k })
 
-ended-kept : (u : Table) (a d : Option ℕ) (i : CallInput) → i.trip < 65535 → i.day ≤ 2 → TableKept u → (f : Fitted) → Ends Held a d i f → TableKept (ended u f).table
+ended-kept : (u : Table) (a d : Option ℕ) (i : CallInput) → i.trip < 65535 → i.day ≤ 2 → TableKept u → (f : Tried) → Ends Held a d i f → TableKept (ended u f).table
 ended-kept u a d i x y s _ (stands t p e) = p.kept
 ended-kept u a d i x y s _ (enters t c p e h) =
     subst (All CallKept) (sym (put-calls t c p.sound h)) (all_append CallKept (take t.count t.calls) (c ∷ []) p.kept (seen-kept t.horizon a d i c x y e, tt))

@@ -19,12 +19,11 @@ use Rattle.load.specs.Load.{table_of, with_week}
 use Rattle.load.specs.Steps.{opened, call_spec}
 use Rattle.load.specs.Filling.{Filling, stop, call, rule, service, exception}
 use Rattle.load.specs.Sound.{Sound}
-use Rattle.withdrawal.specs.declared.CallKey.{CallKey}
+use Rattle.calls.specs.declared.CallKey.{CallKey}
 use Rattle.withdrawal.specs.Removal.{without_last, has_key, withdrawn}
 use Rattle.withdrawal.proofs.LeftLaws.{withdrawn-leaves}
-use Rattle.search.specs.declared.Limited.{Limited}
 use Rattle.search.specs.Search.{with_found, with_journeys, search_spec}
-use Rattle.search.specs.Within.{finishes_in, within_spec}
+use Rattle.search.specs.Within.{Answered, finishes_in, within_spec}
 use Rattle.search.proofs.RunLaws.{taken-found, untaken-stays}
 use Rattle.search.proofs.WithinLaws.{taken-within, untaken-within}
 use Rattle.again.specs.Again.{unsearched_of, researched, again, leaves_table_of, added_to, add_spec_of, taken_out, withdraw_spec}
@@ -65,7 +64,7 @@ within-keeps l n w = go (is_taken (within_spec l n).answer) refl
     left ks h m false = sorted-kept l ks h m (Some n) w
 
     go : (b : Bool) → is_taken (within_spec l n).answer ≡ b → Kept (within_spec l n).load
-    go true t = let f = taken-within l n t in subst Kept (sym (ap (λ (r : Limited). r.load) f.is)) (left f.kept f.to f.mark (finishes_in l n))
+    go true t = let f = taken-within l n t in subst Kept (sym (ap (λ (r : Answered). r.load) f.is)) (left f.kept f.to f.mark (finishes_in l n))
     go false t = subst Kept (sym (untaken-within l n t)) w
 
 -- ---- a call on any load, and a withdrawal

@@ -1,7 +1,7 @@
 -- Opening and every step keep what a written load needs; the degrees handed in are f64s.
 use Rattle.std.specs.Prelude.{ℕ, List, [], ◌∷◌}
 use Rattle.calls.specs.declared.CallInput.{CallInput}
-use Rattle.withdrawal.specs.declared.CallKey.{CallKey}
+use Rattle.calls.specs.declared.CallKey.{CallKey}
 use Rattle.load.specs.declared.Load.{Load}
 use Rattle.load.specs.Steps.{Opening, opened}
 use Rattle.load.specs.Filling.{Filling, stop, call, rule, service, exception, filled}

@@ -22,7 +22,7 @@ returns-then-is_known c =
     let a = c.args in
     let less : suc c.in-Some.place - 1 ≡ c.in-Some.place = omega arith in
     out-there a.load a.key (suc c.in-Some.place) _ (sym (ap counted c.in-Some.is) ∙ c.last_of.ensures ∙ ap (last_of (has_key a.key)) c.first-held.ensures) (sym c.is_known.ensures ∙ c.if-is_known.true) (λ q. omega (arith, q))
-    (c.without-left.ensures ∙ ap (λ (n : ℕ). closed_up blank_call n a.load.calls) (sym less))
+    (c.close_up.ensures ∙ ap (λ (n : ℕ). closed_up blank_call n a.load.calls) (sym less))
 
 pub returns : goal.returns
 returns c = out-unknown c.args.load c.args.key (sym c.is_known.ensures ∙ c.if-is_known.false)

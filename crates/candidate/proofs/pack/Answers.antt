@@ -24,7 +24,8 @@ loop-i-preserved g c =
         c.if-stays.array_long,
         omega (arith, w.n-is, i.2),
         λ p says s.
-            rw w.n-is (pack-kept p _ _ _ _ _ lt _ c.row_at-k.ensures (says _ _ w.if-stays.ensures) (i.3 p says s) refl (w.st-is ∙ w.store.ensures)),
+            rw w.n-is (pack-kept p _ _ _ _ _ lt _ c.row_at-k.ensures (says _ _ w.if-stays.ensures) (i.3 p says s) refl
+            (w.st-is ∙ w.store.ensures)),
       )
       | else-stays w ↦ (
         i.0,

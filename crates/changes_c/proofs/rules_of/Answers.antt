@@ -1,6 +1,6 @@
 -- Each call of the closure gives the rule at its place.
 use Rattle.std.proofs.Common.{rules, tests}
-use Rattle.transfer.proofs.Made.{made-table}
+use Rattle.laws.proofs.Made.{made-table}
 use Rattle.rules.specs.Rules.{blank_rule}
 use Rattle.changes_c.specs.Flat.{rule_at, rules_of}
 use Rattle.changes_c.proofs.rules_of.Goals as goal

@@ -1,7 +1,7 @@
 -- Each call of the closure gives the stop at its place.
 use Rattle.std.proofs.Common.{rules, tests}
 use Rattle.stops.specs.Taken.{blank_stop}
-use Rattle.transfer.proofs.Made.{made-table}
+use Rattle.laws.proofs.Made.{made-table}
 use Rattle.changes_c.specs.Plain.{plain_stop, stops_with}
 use Rattle.changes_c.proofs.stops_with.Goals as goal
 

@@ -5,7 +5,7 @@ use Rattle.display.proofs.deal.Goals as goal
 
 pub returns-then-turned_away : goal.returns-then-turned_away
 returns-then-turned_away c =
-    turned c.args.given.now (sym c.turned_away.ensures ∙ c.if-turned_away.true) c.refused.ensures
+    turned c.args.given.now (sym c.turned_away.ensures ∙ c.if-turned_away.true)
 
 pub returns : goal.returns
 returns c =

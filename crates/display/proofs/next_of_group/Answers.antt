@@ -9,5 +9,5 @@ use Rattle.display.proofs.next_of_group.Goals as goal
 
 pub returns : goal.returns
 returns c =
-    next-shown c.args.group c.args.part c.args.second c.args.missed (again {w = w64} (record { sfits = c.after.type_inv }))
+    next-shown c.args.group.now c.args.part c.args.second c.args.missed (again {w = w64} (record { sfits = c.after.type_inv }))
     (c.after.ensures ∙ ap (λ (z : ℤ). after_of z c.args.missed.leave) (again c.ranges.second)) c.best_of_group.ensures

@@ -15,5 +15,7 @@ returns-then-given_twice c = c.if-given_twice.true ∙ sym (or-by _ (sym c.given
 pub returns-else-given_twice : goal.returns-else-given_twice
 unfolding turned_away
 returns-else-given_twice c =
-    c.any_wrong.ensures ∙ ap (λ (z : ℤ). anyb (is_wrong z) c.args.given.now) (again {w = w64} (record { sfits = c.lowest_start.type_inv }) ∙ c.lowest_start.ensures)
+    c.any_wrong.ensures
+    ∙ ap (λ (z : ℤ). anyb (is_wrong z) c.args.given.now) (again {w = w64} (record { sfits = c.lowest_start.type_inv })
+    ∙ c.lowest_start.ensures)
     ∙ sym (or-not _ (sym c.given_twice.ensures ∙ c.if-given_twice.false))

@@ -12,7 +12,8 @@ returns-in_default c =
 
 pub returns-then-control : goal.returns-then-control
 returns-then-control c =
-    sym (c.loop-bytes.invariant ∙ ap (rest _ _ _) c.in-Some.ensures.begins ∙ control-front _ _ _ _ _ c.in-Some.ensures.latin (sym c.control.ensures ∙ c.if-control.true))
+    sym (c.loop-bytes.invariant ∙ ap (rest _ _ _) c.in-Some.ensures.begins
+    ∙ control-front _ _ _ _ _ c.in-Some.ensures.latin (sym c.control.ensures ∙ c.if-control.true))
 
 pub loop-bytes-preserved : goal.loop-bytes-preserved
 loop-bytes-preserved c =

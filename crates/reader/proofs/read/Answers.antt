@@ -1,23 +1,14 @@
 -- The version, the records, the end.
 use mathlib.Core.Path.{ap, ◌∙◌}
 use Rattle.file.specs.Record.{fresh_reader}
-use Rattle.reader.proofs.ReadLaws.{version-room, used-room, read-refused, read-fed, read-ended}
+use Rattle.reader.proofs.ReadLaws.{used-room, read-refused, read-fed, read-ended}
 use Rattle.reader.proofs.read.Goals as goal
 
 pub returns-then-is_refused : goal.returns-then-is_refused
 returns-then-is_refused c = read-refused _ c.version-answer.ensures c.is_refused.ensures c.if-is_refused.true (c.fresh-reader.ensures ∙ ap fresh_reader c.is_second.ensures)
 
-pub slice_bounds-fed-count : goal.slice_bounds-fed-count
-slice_bounds-fed-count c = version-room _ c.version-answer.ensures c.is_refused.ensures c.if-is_refused.false
-
-pub slice_bounds-fed-start : goal.slice_bounds-fed-start
-slice_bounds-fed-start c = version-room _ c.version-answer.ensures c.is_refused.ensures c.if-is_refused.false
-
 pub returns-then-is_refused-2 : goal.returns-then-is_refused-2
 returns-then-is_refused-2 c = read-fed _ c.version-answer.ensures c.is_refused.ensures c.if-is_refused.false (c.fresh-reader.ensures ∙ ap fresh_reader c.is_second.ensures) c.fed-f.ensures c.is_refused-2.ensures c.if-is_refused-2.true
-
-pub overflow_sub-bytes : goal.overflow_sub-bytes
-overflow_sub-bytes c = version-room _ c.version-answer.ensures c.is_refused.ensures c.if-is_refused.false
 
 pub overflow_sub-bytes-2 : goal.overflow_sub-bytes-2
 overflow_sub-bytes-2 c = used-room _ c.version-answer.ensures c.is_refused.ensures c.if-is_refused.false (c.fresh-reader.ensures ∙ ap fresh_reader c.is_second.ensures) c.fed-f.ensures

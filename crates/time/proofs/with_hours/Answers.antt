@@ -14,8 +14,11 @@ returns-then-v-gt1193046 c =
     ∙ sym (c.loop-b.invariant.1 ∙ digit-turn _ _ _ _ _ c.loop-b-test.true (sym c.digit.ensures.value ∙ c.if-not-digit.false) c.from.ensures)
 
 pub loop-b-preserved : goal.loop-b-preserved
-loop-b-preserved c =
-    (omega arith, c.loop-b.invariant.1 ∙ digit-turn _ _ _ _ _ c.loop-b-test.true (sym c.digit.ensures.value ∙ c.if-not-digit.false) c.from.ensures)
+loop-b-preserved c = (
+  omega arith,
+  c.loop-b.invariant.1
+      ∙ digit-turn _ _ _ _ _ c.loop-b-test.true (sym c.digit.ensures.value ∙ c.if-not-digit.false) c.from.ensures,
+)
 
 pub returns : goal.returns
 returns c =

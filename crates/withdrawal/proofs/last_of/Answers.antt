@@ -1,27 +1,11 @@
--- The first call with the key from the right.
+-- The last call with the key.
 use mathlib.Core.Path.{ap, ◌∙◌}
-use native.Mathlib.Omega.{arith}
 use Rattle.std.proofs.Common.{rules, tests}
-use Rattle.std.proofs.lemmas.Iterator.Adapters.{YieldsList-from_rev_slice}
-use Rattle.std.proofs.lemmas.Iterator.Search.{position_from_yields_List}
-use Rattle.withdrawal.specs.Removal.{counted, has_key}
-use Rattle.withdrawal.proofs.LastLaws.{behind-none, behind-within, behind-some}
+use Rattle.withdrawal.specs.Removal.{has_key, last_of}
+use Rattle.withdrawal.proofs.LastLaws.{last-found}
 use Rattle.withdrawal.proofs.last_of.Goals as goal
-
-pub overflow_sub-result : goal.overflow_sub-result
-overflow_sub-result c =
-    let p = has_key c.args.key in
-    let found = position_from_yields_List p _ _ c.position.result c.position.ensures.ran (YieldsList-from_rev_slice c.args.calls.now (search rules)) (λ x b q k. search (rules, tests)) in
-    omega (arith, behind-within p c.args.calls.now c.position.result found c.in_ok-behind.behind c.in_ok-behind.was)
-
-pub returns-in_err-behind : goal.returns-in_err-behind
-returns-in_err-behind c =
-    let p = has_key c.args.key in
-    let found = position_from_yields_List p _ _ c.position.result c.position.ensures.ran (YieldsList-from_rev_slice c.args.calls.now (search rules)) (λ x b q k. search (rules, tests)) in
-    ap counted c.from_residual.ensures ∙ behind-none p c.args.calls.now c.position.result found c.in_err-behind.was
 
 pub returns : goal.returns
 returns c =
-    let p = has_key c.args.key in
-    let found = position_from_yields_List p _ _ c.position.result c.position.ensures.ran (YieldsList-from_rev_slice c.args.calls.now (search rules)) (λ x b q k. search (rules, tests)) in
-    behind-some p c.args.calls.now c.position.result found c.in_ok-behind.behind c.in_ok-behind.was
+    last-found _ _ _ _ (has_key c.args.key) (λ x b q k. search (rules, tests)) c.rposition.result c.rposition.ensures.ran
+    ∙ ap (last_of (has_key c.args.key)) c.iter.ensures.rest

@@ -10,7 +10,8 @@ pub target_walk-requires : goal.target_walk-requires
 target_walk-requires c = digits-small _ c.in-Some.ensures.steps
 
 pub loop-x-preserved : goal.loop-x-preserved
-loop-x-preserved c = (tt, tt, due-turn c.in-Some.ensures.steps c.target_walk.ensures c.arrival_of.ensures c.sooner-t.ensures c.loop-x.invariant.2)
+loop-x-preserved c =
+    (tt, tt, due-turn c.in-Some.ensures.steps c.target_walk.ensures c.arrival_of.ensures c.sooner-t.ensures c.loop-x.invariant.2)
 
 pub returns : goal.returns
 returns c = due-done c.in-None.ensures.steps.0 c.loop-x.invariant.2

@@ -2,7 +2,8 @@
 use Rattle.rides.specs.Loops.{last_alight_rows}
 use Rattle.rides.specs.Sheets.{sheet_of}
 use Rattle.limited_rides.specs.RowEvents.{join_then, last_joined}
-use Rattle.limited_rides.proofs.RunLaws.{nothing, join-then, over-met, offered-met}
+use Rattle.rides.proofs.LoopLaws.{unalighted}
+use Rattle.limited_rides.proofs.RunLaws.{join-then, over-met, offered-met}
 use Rattle.limited_rides.proofs.last.last_alight.Goals as goal
 
 pub returns-then-is_over : goal.returns-then-is_over
@@ -17,4 +18,4 @@ returns-else-is_over c =
 
 pub returns-else-a : goal.returns-else-a
 unfolding last_joined join_then sheet_of
-returns-else-a c = rw (← c.at-a.ensures, c.if-a.false) nothing
+returns-else-a c = unalighted _ _ _ c.at-a.ensures c.if-a.false

@@ -1,12 +1,13 @@
 -- `change_paths` meets its contract: a loop over the first rides.
-use Rattle.rides.proofs.RestLaws.{rest-same}
+use Rattle.rides.specs.Firsts.{firsts_left}
+use Rattle.rides.proofs.RestLaws.{both, for-start, for-turn, rest-none}
 use Rattle.limited_rides.specs.RowEvents.{first_events, row_events}
-use Rattle.limited_rides.proofs.RunLaws.{both, offered-met}
-use Rattle.limited_rides.proofs.TurnLaws.{rest-turn, rest-none, rest-stops}
+use Rattle.limited_rides.proofs.RunLaws.{offered-met}
+use Rattle.limited_rides.proofs.TurnLaws.{rest-stops}
 use Rattle.limited_rides.proofs.paths.change_paths.Goals as goal
 
 pub loop-l-init : goal.loop-l-init
-loop-l-init c = rw c.into_iter-l-iterator.ensures.into_iter_gives (tt, tt, rest-same (c.of-l-items.ensures _))
+loop-l-init c = for-start firsts_left c.into_iter-l-iterator.ensures.into_iter_gives (c.of-l-items.ensures _)
 
 pub returns-then-is_over : goal.returns-then-is_over
 unfolding row_events
@@ -16,7 +17,7 @@ pub loop-l-preserved : goal.loop-l-preserved
 unfolding first_events
 loop-l-preserved c =
     let made = offered-met c.is_over.ensures c.if-is_over.false c.directs.ensures in
-    (tt, tt, rest-turn c.in-Some.ensures.steps c.loop-l.invariant.2 (rw (← c.first_ride-f.ensures) (both made c.change_rides.ensures)))
+    for-turn c.in-Some.ensures.steps c.loop-l.invariant.2 (rw (← c.first_ride-f.ensures) (both made c.change_rides.ensures))
 
 pub returns : goal.returns
 unfolding row_events

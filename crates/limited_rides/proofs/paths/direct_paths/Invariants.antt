@@ -1,17 +1,8 @@
 -- `direct_paths` meets its contract: a loop over the first rides.
-use Rattle.laws.specs.Lists.{span}
-use Rattle.ways.specs.Rides.{first_rides}
-use Rattle.rides.specs.Rows.{first_at, network_of}
-use Rattle.rides.specs.Firsts.{firsts_left}
-use Rattle.rides.specs.Places.{sheet_in, joins_in}
-use Rattle.limited_rides.specs.RowEvents.{first_events}
-use Rattle.limited_rides.proofs.TurnLaws.{Rest}
+use Rattle.limited_rides.proofs.TurnLaws.{PathRest}
 use Rattle.limited_rides.proofs.paths.direct_paths.Given as goal
 
 abbrev pub invariant-loop-l : goal.invariant-loop-l
 invariant-loop-l l =
-    let s = sheet_in l.lent in
-    let joins = joins_in l.lent in
-    let n = l.lent.calls.n in
     (goal.iterator-loop-l).can_next l.l-iterator × (goal.iterator-loop-l).is_finite l.l-iterator
-    × Rest l.fn.st l.fn.tally l.st l.tally (λ f. first_events s joins l.depth n (first_at s f)) (first_rides (network_of s joins) (span 0 n)) (firsts_left l.l-iterator)
+    × PathRest l.lent 0 l.fn.st l.fn.tally l.st l.tally l.l-iterator

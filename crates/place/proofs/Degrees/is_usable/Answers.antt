@@ -25,4 +25,5 @@ pub returns-else-in_reach : goal.returns-else-in_reach
 unfolding usable_degrees
 returns-else-in_reach c =
     let d = c.args.self in
-    c.if-in_reach.false ∙ ap (λ (b : Bool). b && in_reach n180 d.longitude) (sym c.if-in_reach.false ∙ c.in_reach.ensures ∙ first d.latitude)
+    c.if-in_reach.false
+    ∙ ap (λ (b : Bool). b && in_reach n180 d.longitude) (sym c.if-in_reach.false ∙ c.in_reach.ensures ∙ first d.latitude)

@@ -1,7 +1,7 @@
 -- Each call of the closure gives the entry of its stop.
 use Rattle.std.proofs.Common.{rules, tests}
 use Rattle.places.specs.Entries.{blank_entry, entry_at}
-use Rattle.places.proofs.Made.{made-table}
+use Rattle.laws.proofs.Made.{made-table}
 use Rattle.places.proofs.entries.entries_of.Goals as goal
 
 pub returns : goal.returns

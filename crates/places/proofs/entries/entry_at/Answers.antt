@@ -21,6 +21,7 @@ returns c =
     let s = c.unwrap_or-stop.result.now in
     let same : s ≡ stop_at ss i =
     ap (λ (b : Bor Stop). b.now) c.unwrap_or-stop.ensures ∙ now-or c.get.result _
-    ∙ ap (λ (b : Stop). unwrap_or (option_map (λ (x : Bor Stop). x.now) c.get.result) b) c.blank_stop-blank.ensures ∙ c.get.ensures.lookup.4 (omega arith) blank_stop in
+    ∙ ap (λ (b : Stop). unwrap_or (option_map (λ (x : Bor Stop). x.now) c.get.result) b) c.blank_stop-blank.ensures
+    ∙ c.get.ensures.lookup.4 (omega arith) blank_stop in
     ap {B = Entry} (λ (k : PlaceKey). record { id = s.id; stop = i; key = k }) (c.stop_key.ensures ∙ ap (stop_key s) c.parent_id.ensures)
     ∙ ap {B = Entry} (λ (x : Stop). record { id = x.id; stop = i; key = stop_key x (parent_id ss x.parent) }) same

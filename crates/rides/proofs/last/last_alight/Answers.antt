@@ -1,7 +1,7 @@
 -- `last_alight` meets its contract: the targets of the stop, if the call is alightable.
 use Rattle.rides.specs.Loops.{last_alight_rows}
 use Rattle.rides.specs.Sheets.{sheet_of}
-use Rattle.rides.proofs.LoopLaws.{nothing}
+use Rattle.rides.proofs.LoopLaws.{unalighted}
 use Rattle.rides.proofs.last.last_alight.Goals as goal
 
 pub returns-then-a : goal.returns-then-a
@@ -10,4 +10,4 @@ returns-then-a c = rw (← c.at-a.ensures, c.if-a.true, ← c.targets.ensures) c
 
 pub returns-else-a : goal.returns-else-a
 unfolding last_alight_rows sheet_of
-returns-else-a c = rw (← c.at-a.ensures, c.if-a.false) nothing
+returns-else-a c = unalighted _ _ _ c.at-a.ensures c.if-a.false

@@ -13,6 +13,7 @@ unfolding last_at change_row sheet_of offer_of
 returns c =
     rw (← c.at.ensures)
     (single_as
-    (ap (λ (o : Offer). row_of o.leave o.arrival o.rides o.walk o.origin o.target o.board o.alight c.args.r.board c.args.r.alight o.middle_board o.middle_alight)
+    (ap (λ (o : Offer). row_of o.leave o.arrival o.rides o.walk o.origin o.target o.board o.alight
+    c.args.r.board c.args.r.alight o.middle_board o.middle_alight)
     c.offer-first.ensures)
     c.candidate.ensures.0)

@@ -1,18 +1,19 @@
 -- `last_targets` meets its contract: a loop over the targets.
 use Rattle.std.proofs.Common.{refl}
 use Rattle.rides.specs.Loops.{over_bits}
-use Rattle.rides.proofs.LoopLaws.{rest-turn, rest-none, digits-small}
-use Rattle.rides.proofs.RestLaws.{rest-same}
+use Rattle.rides.specs.Places.{digits_left}
+use Rattle.rides.proofs.LoopLaws.{digits-small}
+use Rattle.rides.proofs.RestLaws.{for-start, for-turn, rest-none}
 use Rattle.rides.proofs.last.last_targets.Goals as goal
 
 pub loop-x-init : goal.loop-x-init
-loop-x-init c = rw c.into_iter-x-iterator.ensures.into_iter_gives (tt, tt, rest-same refl)
+loop-x-init c = for-start digits_left c.into_iter-x-iterator.ensures.into_iter_gives refl
 
 pub last_at-requires : goal.last_at-requires
 last_at-requires c = digits-small _ c.in-Some.ensures.steps
 
 pub loop-x-preserved : goal.loop-x-preserved
-loop-x-preserved c = (tt, tt, rest-turn c.in-Some.ensures.steps c.loop-x.invariant.2 c.last_at.ensures)
+loop-x-preserved c = for-turn c.in-Some.ensures.steps c.loop-x.invariant.2 c.last_at.ensures
 
 pub returns : goal.returns
 unfolding over_bits

@@ -8,4 +8,5 @@ use Rattle.rides.proofs.last.last_targets.Given as goal
 abbrev pub invariant-loop-x : goal.invariant-loop-x
 invariant-loop-x l =
     (goal.iterator-loop-x).can_next l.x-iterator × (goal.iterator-loop-x).is_finite l.x-iterator
-    × Rest l.fn.st l.st (last_at (sheet_of l.calls.feed.now) l.f l.r.board l.r.alight) (bits_of l.fn.targets.left) (bits_of l.x-iterator.left)
+    × Rest l.fn.st l.st (last_at (sheet_of l.calls.feed.now) l.f l.r.board l.r.alight) (bits_of l.fn.targets.left)
+    (bits_of l.x-iterator.left)

@@ -13,6 +13,7 @@ unfolding end_at three_row sheet_of offer_of
 returns c =
     rw (← c.at.ensures)
     (single_as
-    (ap (λ (o : Offer). row_of o.leave o.arrival o.rides o.walk o.origin o.target o.board o.alight c.args.r.board c.args.r.alight c.args.p.board c.args.p.alight)
+    (ap (λ (o : Offer). row_of o.leave o.arrival o.rides o.walk o.origin o.target o.board o.alight
+    c.args.r.board c.args.r.alight c.args.p.board c.args.p.alight)
     c.offer-first.ensures)
     c.candidate.ensures.0)

@@ -5,7 +5,7 @@ use Rattle.load.specs.declared.Load.{Load}
 use Rattle.refusal.specs.declared.Accepted.TheVariants.{Taken}
 use Rattle.std.specs.Prelude.{Ok}
 use Rattle.offers.specs.Order.{clashes}
-use Rattle.search.specs.declared.Limited.{Limited}
+use Rattle.search.specs.Within.{Answered}
 use Rattle.search.proofs.Known.{walks-small}
 use Rattle.search.proofs.LimitedLaws.{within-again, within-settings, within-clash, within-falling, within-found}
 use Rattle.search.proofs.within.search_within.Goals as goal
@@ -33,7 +33,7 @@ returns-then-is_refused c =
 pub returns : goal.returns
 returns c =
     let t = c.offered_within-tested.result in
-    ap {B = Limited} (λ (l : Load). record { answer = Ok Taken; load = l; joins = t.joins; finished = t.finished }) c.keep.ensures
+    ap {B = Answered} (λ (l : Load). record { answer = Ok Taken; load = l; joins = t.joins; finished = t.finished }) c.keep.ensures
     ∙ within-found c.args.load c.args.limit c.if-load.false (omega (arith, c.if-settings-gt1.false)) _ c.sorted-calls.ensures c.sorted-calls.type_inv.1.0.1
     _ (c.neighbours_clash.ensures ∙ ap clashes c.first.ensures) c.if-neighbours_clash.false
     c.fresh-st.ensures c.offered_within-tested.ensures (walks-small c.args.load _ c.well_formed.0) _ c.then_some.ensures _ c.is_refused.ensures c.if-is_refused.false

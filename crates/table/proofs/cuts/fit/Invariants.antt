@@ -4,7 +4,9 @@ use Rattle.calls.specs.Tables.{fitted}
 use Rattle.table.proofs.cuts.fit.Given as goal
 
 abbrev pub invariant-loop-call : goal.invariant-loop-call
-invariant-loop-call l = fitted l.t l.a l.d l.input ≡ fitted l.initial.t l.a l.d l.input
+invariant-loop-call l =
+    let i = l.timed in
+    fitted l.t i.arrival i.departure i.input ≡ fitted l.initial.t i.arrival i.departure i.input
 
 abbrev pub decreases-loop-call : goal.decreases-loop-call
 decreases-loop-call l = l.t.horizon

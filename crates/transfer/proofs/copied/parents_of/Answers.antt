@@ -4,7 +4,7 @@ use Prim.Native.Nat.{ℕ}
 use Rattle.std.specs.Option.{unwrap_or}
 use Rattle.stops.specs.Sound.{stop_at}
 use Rattle.transfer.specs.Copied.{parents_of}
-use Rattle.transfer.proofs.Made.{made-table}
+use Rattle.laws.proofs.Made.{made-table}
 use Rattle.transfer.proofs.copied.parents_of.Goals as goal
 
 pub returns : goal.returns

@@ -10,7 +10,8 @@ pub returns-then-passes_over : goal.returns-then-passes_over
 returns-then-passes_over c =
     let s = c.args.self.now in
     met-last c.passes_over.ensures.0
-    (skip-changes _ _ _ s.last.bounded s.counted _ c.bucket_of.ensures.0 refl (passed-at _ c.figures.ensures c.passes_over.ensures.1) c.if-passes_over.true refl c.spend.ensures)
+    (skip-changes _ _ _ s.last.bounded s.counted _ c.bucket_of.ensures.0 refl
+    (passed-at _ c.figures.ensures c.passes_over.ensures.1) c.if-passes_over.true refl c.spend.ensures)
 
 pub returns : goal.returns
 unfolding change_events

@@ -2,8 +2,9 @@
 use Rattle.std.proofs.Common.{refl}
 use Rattle.candidate.proofs.PassedLaws.{passed-at}
 use Rattle.rides.specs.Sheets.{sheet_of}
+use Rattle.rides.proofs.RestLaws.{nothing}
 use Rattle.limited_rides.specs.RowEvents.{board_events}
-use Rattle.limited_rides.proofs.RunLaws.{nothing, met-first, met-last}
+use Rattle.limited_rides.proofs.RunLaws.{met-first, met-last}
 use Rattle.limited_rides.proofs.BlockLaws.{skip-run, skip-apart}
 use Rattle.limited_rides.proofs.last.LastJoins.last_board.Goals as goal
 use Rattle.limited_rides.proofs.last.LastJoins.last_board.Goals.{else-joins-via-then-joins+else-not-passes_over, else-joins-via-else-joins}
@@ -21,7 +22,8 @@ returns-else-joins c =
       | else-joins-via-then-joins+else-not-passes_over w ↦
           rw (← c.at.ensures, c.if-at.true, ← c.joins.ensures, w.if-joins.true, w.st-is)
           (met-last w.passes_over.ensures.0
-          (skip-run _ _ _ s.last.bounded s.counted _ c.requires (rw (← c.at.ensures) c.if-at.true) refl (passed-at _ w.figures.ensures w.passes_over.ensures.1)
+          (skip-run _ _ _ s.last.bounded s.counted _ c.requires (rw (← c.at.ensures) c.if-at.true) refl
+          (passed-at _ w.figures.ensures w.passes_over.ensures.1)
           w.if-not-passes_over.false refl c.spend.ensures))
       | else-joins-via-else-joins w ↦
           rw (← c.at.ensures, c.if-at.true, ← c.joins.ensures, w.if-joins.false, w.st-is)

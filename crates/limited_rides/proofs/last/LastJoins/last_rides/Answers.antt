@@ -1,9 +1,8 @@
 -- `last_rides` meets its contract: a loop over the calls, which ends early where the search is over.
 use Rattle.std.proofs.Common.{refl}
-use Rattle.laws.proofs.Places.{span-cons, span-nil}
-use Rattle.rides.proofs.RestLaws.{rest-same}
+use Rattle.rides.proofs.RestLaws.{rest-same, calls-turn, calls-none}
 use Rattle.limited_rides.specs.RowEvents.{call_events}
-use Rattle.limited_rides.proofs.TurnLaws.{rest-turn, rest-none, rest-stops}
+use Rattle.limited_rides.proofs.TurnLaws.{rest-stops}
 use Rattle.limited_rides.proofs.last.LastJoins.last_rides.Goals as goal
 
 pub loop-j-init : goal.loop-j-init
@@ -14,8 +13,8 @@ unfolding call_events
 returns-then-is_over c = rest-stops c.is_over.ensures c.if-is_over.true c.loop-j.invariant
 
 pub loop-j-preserved : goal.loop-j-preserved
-loop-j-preserved c = rest-turn (span-cons _ _ c.loop-j-test.true) c.loop-j.invariant c.last_board.ensures
+loop-j-preserved c = calls-turn c.loop-j-test.true c.loop-j.invariant c.last_board.ensures
 
 pub returns : goal.returns
 unfolding call_events
-returns c = rest-none (span-nil _ _ c.loop-j-test.false) c.loop-j.invariant
+returns c = calls-none c.loop-j-test.false c.loop-j.invariant

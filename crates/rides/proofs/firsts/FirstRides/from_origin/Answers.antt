@@ -15,4 +15,5 @@ returns-then-can_walk-clause-few c =
     omega (arith, r.calls.fits)
 
 pub returns-clause-rides : goal.returns-clause-rides
-returns-clause-rides c = origin-far _ _ _ _ (rw (← c.origin_walk.ensures, ← c.at.ensures) c.can_walk.ensures) c.if-can_walk.false c.none.ensures
+returns-clause-rides c =
+    origin-far _ _ _ _ (rw (← c.origin_walk.ensures, ← c.at.ensures) c.can_walk.ensures) c.if-can_walk.false c.none.ensures

@@ -26,5 +26,6 @@ pub seek-preserved : goal.seek-preserved
 seek-preserved c =
     let s = c.seek.self in
     c.seek.invariant
-    ∙ next-board s.calls.feed.now s.calls.n s.origin s.board (bits_of c.origins_at-self.result.left) c.in_default.ensures.steps.0 c.in_default-next.ensures.steps.0
+    ∙ next-board s.calls.feed.now s.calls.n s.origin s.board
+    (bits_of c.origins_at-self.result.left) c.in_default.ensures.steps.0 c.in_default-next.ensures.steps.0
     (span-cons s.next s.calls.n c.if-self.true) c.in_default.ensures.steps.1 c.origins_at-self.ensures
