@@ -29,13 +29,13 @@ use Rattle.load.specs.declared.Stepped.{Stepped}
 use Rattle.load.specs.Load.{table_of, with_table, with_week}
 use Rattle.load.specs.Steps.{call_fitted, call_load, plain_call, is_unknown, is_resting, running_tests, gate_answer, closing, call_spec}
 use Rattle.load.specs.Filling.{call}
-use Rattle.load.proofs.AnswerLaws.{step-answered}
+use Rattle.load.proofs.AnswerLaws.{step-answered, insert-two}
 use Rattle.calls.proofs.FallLaws.{never-rises}
 use Rattle.load.proofs.StepLaws.{Called, without, goes_on, stays_out, sent_back, called, gate-passed}
 use Rattle.week.specs.declared.Week.{Week}
 use Rattle.week.specs.declared.Running.{Running}
 use Rattle.week.specs.declared.Running.TheVariants.{Runs}
-use Rattle.week.specs.Weeks.{closed_week, running}
+use Rattle.week.specs.Weeks.{is_dated, closed_week, running}
 use Rattle.week.proofs.StepLaws.{runs-undated}
 use Rattle.offers.specs.Order.{clashes}
 use Rattle.offers.specs.Offers.{sorted}
@@ -44,7 +44,8 @@ use Rattle.search.specs.Search.{would_fall}
 use Rattle.search.specs.Within.{would_fall_within}
 use Rattle.calls.specs.declared.CallKey.{CallKey}
 use Rattle.withdrawal.specs.Removal.{has_key, key_known}
-use Rattle.again.specs.Again.{unsearched_of, researched, again, searched_as, leaves_table_of, added_to, add_spec_of, withdraw_tests, withdraw_answer, taken_out, withdraw_spec}
+use Rattle.again.specs.Again.{unsearched_of, researched, again, searched_as, leaves_table_of, added_to, add_spec_of, withdraw_tests}
+use Rattle.again.specs.Again.{withdraw_answer, taken_out, withdraw_spec}
 use Rattle.again.specs.Causes.{no_room_of, search_tests, again_tests, later_tests, Answered, AddAnswered, WithdrawAnswered, falls_again}
 use Rattle.again.proofs.WeekLaws.{research-week}
 use Rattle.again.proofs.ResearchLaws.{research-first}
@@ -65,7 +66,8 @@ searched-first l m new a more f = go (is_taken (researched l.limit m).answer) re
     first = research-first l.limit m new
 
     go : (b : Bool) → is_taken (researched l.limit m).answer ≡ b
-        → First (cond {A = Stepped} b (record { answer = a; load = (researched l.limit m).load }) (record { answer = (researched l.limit m).answer; load = l })).answer (search_tests l m ++ more)
+        → First (cond {A = Stepped} b (record { answer = a; load = (researched l.limit m).load })
+        (record { answer = (researched l.limit m).answer; load = l })).answer (search_tests l m ++ more)
     go true e = first_past a (search_tests l m) more (first_taken _ (search_tests l m) refl first (taken_is _ e)) f
     go false e = first-append _ (search_tests l m) more first (λ q. false≢true (sym e ∙ ap is_taken q))
 
@@ -75,7 +77,9 @@ unfolding again
 again-same l r q = go (is_refused r.answer) (is_taken (researched l.limit r.load).answer) refl q
   where
     go : (b c : Bool) → is_refused r.answer ≡ b
-        → (let x = cond {A = Stepped} b (record { answer = r.answer; load = l }) (cond {A = Stepped} c (record { answer = r.answer; load = (researched l.limit r.load).load }) (record { answer = (researched l.limit r.load).answer; load = l })) in
+        → (let x = cond {A = Stepped} b (record { answer = r.answer; load = l })
+        (cond {A = Stepped} c (record { answer = r.answer; load = (researched l.limit r.load).load })
+        (record { answer = (researched l.limit r.load).answer; load = l })) in
         is_refused x.answer ≡ true → x.load ≡ l)
     go true c e q = refl
     go false true e q = absurd (true≢false (sym q ∙ e))
@@ -88,7 +92,8 @@ refused-not-taken (Err r) e = refl
 
 -- ---- withdrawal
 
-not_refused : (x y : Bool) → is_refused (cond x (Err FieldRange) (cond y (Err CallUnknown) (Ok Taken))) ≡ false → cond x (Err FieldRange) (cond y (Err CallUnknown) (Ok Taken)) ≡ Ok Taken
+not_refused : (x y : Bool) → is_refused (cond x (Err FieldRange) (cond y (Err CallUnknown) (Ok Taken))) ≡ false
+    → cond x (Err FieldRange) (cond y (Err CallUnknown) (Ok Taken)) ≡ Ok Taken
 not_refused true y e = absurd (true≢false e)
 not_refused false true e = absurd (true≢false e)
 not_refused false false e = refl
@@ -105,7 +110,8 @@ out-same : (l : Load) (k : CallKey) → is_refused (taken_out l k).answer ≡ tr
 unfolding taken_out
 out-same l k e = cond-not _ _ (refused-not-taken (withdraw_answer l k) e)
 
-again-first : (l u : Load) (k : CallKey) → u.searched ≡ false → First (again l (taken_out u k)).answer (withdraw_tests u k ++ search_tests l (taken_out u k).load)
+again-first : (l u : Load) (k : CallKey) → u.searched ≡ false
+    → First (again l (taken_out u k)).answer (withdraw_tests u k ++ search_tests l (taken_out u k).load)
 unfolding again
 again-first l u k new = go (is_refused (taken_out u k).answer) refl
   where
@@ -118,7 +124,9 @@ again-first l u k new = go (is_refused (taken_out u k).answer) refl
     first : First (taken_out u k).answer (withdraw_tests u k)
     first = subst (λ (a : Answer). First a (withdraw_tests u k)) (sym (out-answer u k)) (answer-is-first (withdraw_tests u k))
 
-    go : (b : Bool) → is_refused r.answer ≡ b → First (cond {A = Stepped} b (record { answer = r.answer; load = l }) (searched_as l r.answer (researched l.limit r.load))).answer (ts ++ search_tests l r.load)
+    go : (b : Bool) → is_refused r.answer ≡ b → First
+        (cond {A = Stepped} b (record { answer = r.answer; load = l }) (searched_as l r.answer (researched l.limit r.load))).answer
+        (ts ++ search_tests l r.load)
     go true e = first-append r.answer ts (search_tests l r.load) first (λ q. true≢false (sym e ∙ ap is_refused q))
     go false e =
         let t : r.answer ≡ (Ok Taken) = out-answer u k ∙ tests-taken u k (ap is_refused (sym (out-answer u k)) ∙ e) in
@@ -162,7 +170,8 @@ either-low m l false h = h
 plain-low : (l : Load) (i : CallInput) → (plain_call l i).load.table_horizon ≤ l.table_horizon
 unfolding plain_call
 plain-low l i =
-    either-low (with_table l (call_fitted l i).table) l (is_refused (call_fitted l i).answer) (never-rises l.settings l.searched l.stop_count (table_of l) i)
+    either-low (with_table l (call_fitted l i).table) l (is_refused (call_fitted l i).answer)
+    (never-rises l.settings l.searched l.stop_count (table_of l) i)
 
 module _ (l : Load) (i : CallInput) where
   abbrev u : Load
@@ -216,10 +225,12 @@ module _ (l : Load) (i : CallInput) where
   sent-first : (x : Answer) → first_answer tests ≡ x → is_taken x ≡ false → Goal (record { answer = x; load = u })
   sent-first x e n =
       subst (λ (y : Answer). First y (tests ++ again_tests l a d r u)) (sym (ap (λ (s : Stepped). s.answer) (stands x n)))
-      (first-append x tests (again_tests l a d r u) (subst (λ (y : Answer). First y tests) e (answer-is-first tests)) (λ q. false≢true (sym n ∙ ap is_taken q)))
+      (first-append x tests (again_tests l a d r u) (subst (λ (y : Answer). First y tests) e (answer-is-first tests))
+      (λ q. false≢true (sym n ∙ ap is_taken q)))
 
   -- outside at the table reached
-  outside-first : AllFail tests → outside r.horizon a d ≡ true → r.horizon ≤ l.table_horizon → Goal (record { answer = Ok Outside; load = with_table u r })
+  outside-first : AllFail tests → outside r.horizon a d ≡ true → r.horizon ≤ l.table_horizon
+      → Goal (record { answer = Ok Outside; load = with_table u r })
   unfolding added_to again
   outside-first p o low = go (eqb r.horizon l.table_horizon) refl
     where
@@ -227,14 +238,18 @@ module _ (l : Load) (i : CallInput) where
       m = with_table u r
 
       go : (b : Bool) → eqb r.horizon l.table_horizon ≡ b
-          → First (cond {A = Stepped} b (record { answer = Ok Outside; load = with_week l (with_table u r).week }) (searched_as l (Ok Outside) (researched l.limit (with_table u r)))).answer (tests ++ again_tests l a d r (with_table u r))
+          → First (cond {A = Stepped} b (record { answer = Ok Outside; load = with_week l (with_table u r).week })
+          (searched_as l (Ok Outside) (researched l.limit (with_table u r)))).answer (tests ++ again_tests l a d r (with_table u r))
       go true e =
-          let h : ltb r.horizon l.table_horizon ≡ false = le-ltb r.horizon l.table_horizon (omega (arith, eqb-true r.horizon l.table_horizon e)) in
+          let h : ltb r.horizon l.table_horizon ≡ false =
+          le-ltb r.horizon l.table_horizon (omega (arith, eqb-true r.horizon l.table_horizon e)) in
           first_past (Ok Outside) tests (again_tests l a d r (with_table u r)) p (hit (rw (o, h) refl))
       go false e =
-          let h : ltb r.horizon l.table_horizon ≡ true = lt-ltb r.horizon l.table_horizon (omega (arith, low, eqb-false r.horizon l.table_horizon e)) in
+          let h : ltb r.horizon l.table_horizon ≡ true =
+          lt-ltb r.horizon l.table_horizon (omega (arith, low, eqb-false r.horizon l.table_horizon e)) in
           first_past _ tests (again_tests l a d r (with_table u r)) p
-          (miss (rw (o, h) refl) (miss (rw o refl) (searched-first l (with_table u r) (new-with r) (Ok Outside) ((outside r.horizon a d, Ok Outside) ∷ []) (hit o))))
+          (miss (rw (o, h) refl) (miss (rw o refl) (searched-first l (with_table u r) (new-with r) (Ok Outside)
+          ((outside r.horizon a d, Ok Outside) ∷ []) (hit o))))
 
   -- the horizon of the table reached, where the call is outside there
   reached-low : plain_call u i ≡ record { answer = Ok Outside; load = with_table u r } → r.horizon ≤ l.table_horizon
@@ -246,11 +261,13 @@ module _ (l : Load) (i : CallInput) where
       subst (λ (y : Answer). First y (tests ++ again_tests l a d r u)) (sym (ap (λ (s : Stepped). s.answer) (stands (Err NoRoom) refl)))
       (first_past (Err NoRoom) tests (again_tests l a d r u) p (miss (rw o refl) (hit (rw (o, f) refl))))
 
-  taken-first : AllFail tests → outside r.horizon a d ≡ false → no_room_of r ≡ false → Goal (record { answer = Ok Taken; load = with_table u (put r c) })
+  taken-first : AllFail tests → outside r.horizon a d ≡ false → no_room_of r ≡ false
+      → Goal (record { answer = Ok Taken; load = with_table u (put r c) })
   unfolding added_to again
   taken-first p o f =
       first_past _ tests (again_tests l a d r (with_table u (put r c))) p
-      (miss (rw o refl) (miss (rw (o, f) refl) (searched-first l (with_table u (put r c)) (new-with (put r c)) (Ok Taken) ((outside r.horizon a d, Ok Outside) ∷ []) (miss o none))))
+      (miss (rw o refl) (miss (rw (o, f) refl) (searched-first l (with_table u (put r c)) (new-with (put r c)) (Ok Taken)
+      ((outside r.horizon a d, Ok Outside) ∷ []) (miss o none))))
 
   passed_first : first_answer tests ≡ Ok Taken → Goal (plain_call u i)
   passed_first e = go (outside r.horizon a d) (no_room_of r) refl refl (passed-by e)
@@ -258,7 +275,8 @@ module _ (l : Load) (i : CallInput) where
       p : AllFail tests
       p = call-tests-fail false l.stop_count i e
 
-      go : (o f : Bool) → outside r.horizon a d ≡ o → no_room_of r ≡ f → plain_call u i ≡ made u (fits (table_of l) r c o f) → Goal (plain_call u i)
+      go : (o f : Bool) → outside r.horizon a d ≡ o → no_room_of r ≡ f → plain_call u i ≡ made u (fits (table_of l) r c o f)
+          → Goal (plain_call u i)
       go true f x y q = subst Goal (sym q) (outside-first p x (reached-low q))
       go false true x y q = subst Goal (sym q) (full-first p x y)
       go false false x y q = subst Goal (sym q) (taken-first p x y)
@@ -268,30 +286,37 @@ module _ (l : Load) (i : CallInput) where
     where
       go : (x : Answer) → first_answer tests ≡ x → Goal (plain_call u i)
       go (Ok Taken) e = passed_first e
-      go (Ok Outside) e = subst Goal (sym (sent (Ok Outside) e ∙ ap (λ (m : Load). record { answer = Ok Outside; load = m }) same-table)) (sent-first (Ok Outside) e refl)
+      go (Ok Outside) e = subst Goal (sym (sent (Ok Outside) e ∙ ap (λ (m : Load). record { answer = Ok Outside; load = m }) same-table))
+          (sent-first (Ok Outside) e refl)
       go (Err w) e = subst Goal (sym (sent (Err w) e)) (sent-first (Err w) e refl)
 
 -- ---- and of any service
 
 -- the week doesn't matter to what is answered
-searched-week : (l : Load) (a : Answer) (q : Stepped) (w : Week) → (searched_as l a (record { answer = q.answer; load = with_week q.load w })).answer ≡ (searched_as l a q).answer
+searched-week : (l : Load) (a : Answer) (q : Stepped) (w : Week)
+    → (searched_as l a (record { answer = q.answer; load = with_week q.load w })).answer ≡ (searched_as l a q).answer
 searched-week l a q w = go (is_taken q.answer)
   where
-    go : (b : Bool) → (cond {A = Stepped} b (record { answer = a; load = with_week q.load w }) (record { answer = q.answer; load = l })).answer
+    go : (b : Bool) → (cond {A = Stepped} b (record { answer = a; load = with_week q.load w })
+        (record { answer = q.answer; load = l })).answer
         ≡ (cond {A = Stepped} b (record { answer = a; load = q.load }) (record { answer = q.answer; load = l })).answer
     go true = refl
     go false = refl
 
-week-answer : (l : Load) (a : Answer) (m : Load) (w : Week) → (added_to l (record { answer = a; load = with_week m w })).answer ≡ (added_to l (record { answer = a; load = m })).answer
+week-answer : (l : Load) (a : Answer) (m : Load) (w : Week)
+    → (added_to l (record { answer = a; load = with_week m w })).answer ≡ (added_to l (record { answer = a; load = m })).answer
 unfolding added_to again
 week-answer l a m w = go (leaves_table_of l (record { answer = a; load = m })) (is_refused a)
   where
     go : (b c : Bool)
-        → (cond {A = Stepped} b (record { answer = a; load = with_week l w }) (cond {A = Stepped} c (record { answer = a; load = l }) (searched_as l a (researched l.limit (with_week m w))))).answer
-        ≡ (cond {A = Stepped} b (record { answer = a; load = with_week l m.week }) (cond {A = Stepped} c (record { answer = a; load = l }) (searched_as l a (researched l.limit m)))).answer
+        → (cond {A = Stepped} b (record { answer = a; load = with_week l w })
+        (cond {A = Stepped} c (record { answer = a; load = l }) (searched_as l a (researched l.limit (with_week m w))))).answer
+        ≡ (cond {A = Stepped} b (record { answer = a; load = with_week l m.week })
+        (cond {A = Stepped} c (record { answer = a; load = l }) (searched_as l a (researched l.limit m)))).answer
     go true c = refl
     go false true = refl
-    go false false = ap (λ (q : Stepped). (searched_as l a q).answer) (research-week l.limit m w) ∙ searched-week l a (researched l.limit m) w
+    go false false = ap (λ (q : Stepped). (searched_as l a q).answer) (research-week l.limit m w)
+        ∙ searched-week l a (researched l.limit m) w
 
 search-tests-week : (l m : Load) (w : Week) → search_tests l (with_week m w) ≡ search_tests l m
 unfolding timetable_of would_fall would_fall_within
@@ -300,13 +325,6 @@ search-tests-week l m w = ap (λ (b : Bool). (clashes (sorted (timetable_of m)),
     go : (limit : Option ℕ) → falls_again limit (with_week m w) ≡ falls_again limit m
     go (Some n) = refl
     go None = refl
-
--- two tests more that fail
-insert-two : {a b c d e : Answer} {p q x y : Bool} {ts : List (Bool × Answer)} → x ≡ false → y ≡ false → First a ((p, b) ∷ (q, c) ∷ ts)
-    → First a ((p, b) ∷ (q, c) ∷ (x, d) ∷ (y, e) ∷ ts)
-insert-two u v (hit h) = hit h
-insert-two u v (miss h (hit k)) = miss h (hit k)
-insert-two u v (miss h (miss k f)) = miss h (miss k (miss u (miss v f)))
 
 module _ (l : Load) (name : List ℕ) (i : CallInput) where
   abbrev runs : Running
@@ -336,31 +354,40 @@ module _ (l : Load) (name : List ℕ) (i : CallInput) where
       w = closed_week (u l i).week
 
       go : (b : Bool) → is_refused (plain_call (u l i) i).answer ≡ b
-          → Answers (record { answer = (plain_call (u l i) i).answer; load = cond b (u l i) (with_week (plain_call (u l i) i).load (closed_week (u l i).week)) })
-      go true q = subst (λ (m : Load). Answers (record { answer = (plain_call (u l i) i).answer; load = m })) (plain-unchanged (u l i) q) (plain-answers e)
+          → Answers (record {
+            answer = (plain_call (u l i) i).answer;
+            load = cond b (u l i) (with_week (plain_call (u l i) i).load (closed_week (u l i).week));
+          })
+      go true q = subst (λ (m : Load). Answers (record { answer = (plain_call (u l i) i).answer; load = m })) (plain-unchanged (u l i) q)
+          (plain-answers e)
       go false q =
-          subst (λ (y : Answer). First y (field_tests false l.stop_count i ++ running_tests runs ++ time_tests i ++ rest (with_week (plain_call (u l i) i).load (closed_week (u l i).week))))
+          subst (λ (y : Answer). First y (field_tests false l.stop_count i ++ running_tests runs ++ time_tests i
+          ++ rest (with_week (plain_call (u l i) i).load (closed_week (u l i).week))))
           (sym (week-answer l (plain_call (u l i) i).answer (plain_call (u l i) i).load (closed_week (u l i).week)))
           (week-rest (plain_call (u l i) i).load (closed_week (u l i).week) (added_to l (plain_call (u l i) i)).answer (plain-answers e))
         where
-          week-rest : (m : Load) (v : Week) (y : Answer) → First y (field_tests false l.stop_count i ++ running_tests runs ++ time_tests i ++ rest m)
+          week-rest : (m : Load) (v : Week) (y : Answer)
+              → First y (field_tests false l.stop_count i ++ running_tests runs ++ time_tests i ++ rest m)
               → First y (field_tests false l.stop_count i ++ running_tests runs ++ time_tests i ++ rest (with_week m v))
-          week-rest m v y f = subst (λ (ts : List (Bool × Answer)). First y (field_tests false l.stop_count i ++ running_tests runs ++ time_tests i
+          week-rest m v y f = subst (λ (ts : List (Bool × Answer)).
+              First y (field_tests false l.stop_count i ++ running_tests runs ++ time_tests i
               ++ ((outside (r l i).horizon (a l i) (d l i) && not (ltb (r l i).horizon l.table_horizon), Ok Outside)
               ∷ (not (outside (r l i).horizon (a l i) (d l i)) && no_room_of (r l i), Err NoRoom)
               ∷ ts ++ ((outside (r l i).horizon (a l i) (d l i), Ok Outside) ∷ [])))) (sym (search-tests-week l m v)) f
 
   -- sent back or outside by its service
-  gate-answers : (y : Answer) (w : Week) → gate_answer false l.stop_count runs i ≡ y → is_taken y ≡ false → Answers (record { answer = y; load = with_week (u l i) w })
+  gate-answers : (y : Answer) (w : Week) → gate_answer false l.stop_count runs i ≡ y → is_taken y ≡ false
+      → Answers (record { answer = y; load = with_week (u l i) w })
   unfolding gate_answer
   gate-answers y w e n =
       subst (λ (z : Answer). First z (field_tests false l.stop_count i ++ running_tests runs ++ time_tests i ++ rest (with_week (u l i) w)))
       (sym (week-answer l y (u l i) w ∙ ap (λ (s : Stepped). s.answer) (stands l i y n)))
       (first-append y (field_tests false l.stop_count i ++ running_tests runs) (time_tests i ++ rest (with_week (u l i) w))
-      (subst (λ (z : Answer). First z (field_tests false l.stop_count i ++ running_tests runs)) e (answer-is-first (field_tests false l.stop_count i ++ running_tests runs)))
+      (subst (λ (z : Answer). First z (field_tests false l.stop_count i ++ running_tests runs)) e
+      (answer-is-first (field_tests false l.stop_count i ++ running_tests runs)))
       (λ q. false≢true (sym n ∙ ap is_taken q)))
 
-  undated-runs : l.week.dated ≡ false → runs ≡ Runs
+  undated-runs : is_dated l.week ≡ false → runs ≡ Runs
   undated-runs e = sym (runs-undated l.week name i.day e)
 
   call-answers : Answers (call_spec (u l i) name i)
@@ -378,26 +405,34 @@ module _ (l : Load) (name : List ℕ) (i : CallInput) where
   unfolding unsearched_of
   refused-week e = ap (λ (m : Load). m.week) ((step-answered (u l i) (call name i)).unchanged e)
 
-added-same : (l : Load) (r : Stepped) → (is_refused r.answer ≡ true → r.load.week ≡ l.week) → is_refused (added_to l r).answer ≡ true → (added_to l r).load ≡ l
+added-same : (l : Load) (r : Stepped) → (is_refused r.answer ≡ true → r.load.week ≡ l.week) → is_refused (added_to l r).answer ≡ true
+    → (added_to l r).load ≡ l
 unfolding added_to
 added-same l r h q = go (leaves_table_of l r) q
   where
-    go : (b : Bool) → (let x = cond {A = Stepped} b (record { answer = r.answer; load = with_week l r.load.week }) (again l r) in is_refused x.answer ≡ true → x.load ≡ l)
+    go : (b : Bool) → (let x = cond {A = Stepped} b (record { answer = r.answer; load = with_week l r.load.week }) (again l r) in
+        is_refused x.answer ≡ true → x.load ≡ l)
     go true q = ap (with_week l) (h q)
     go false q = again-same l r q
 
 -- 15 is no test of a call, whose load is not searched where it is done
 abbrev called_by : Load → List ℕ → CallInput → Bool → List (Bool × Answer)
-called_by l name i b = (not (known l.stop_count i), Err FieldRange) ∷ running_tests (running l.week name i.day) ++ time_tests i ++ later_tests b l name i
+called_by l name i b = (not (known l.stop_count i), Err FieldRange) ∷ running_tests (running l.week name i.day) ++ time_tests i
+    ++ later_tests b l name i
 
 pub add-answered : AddAnswered
 unfolding add_spec_of
 add-answered l name i = go l.searched refl
   where
-    go : (b : Bool) → l.searched ≡ b → Answered (cond b (added_to l (call_spec (unsearched_of l) name i)) (call_spec l name i)) l (called_by l name i b)
+    go : (b : Bool) → l.searched ≡ b → Answered (cond b (added_to l (call_spec (unsearched_of l) name i)) (call_spec l name i)) l
+        (called_by l name i b)
     go true e =
         let f = past_one (call-answers l name i) refl in
-        record { first = f; taken = first_taken _ _ refl f; unchanged = added-same l (call_spec (unsearched_of l) name i) (refused-week l name i) }
+        record {
+          first = f;
+          taken = first_taken _ _ refl f;
+          unchanged = added-same l (call_spec (unsearched_of l) name i) (refused-week l name i);
+        }
     go false e =
         let w = step-answered l (call name i) in
         let f : First (call_spec l name i).answer (called_by l name i false) = past_one w.first e in

@@ -28,7 +28,15 @@ use Rattle.again.proofs.SoundLaws.{there-goes}
 
 -- a sound unsearched load has its table's horizon and mark
 table-back : (l : Load) → Sound l → l.searched ≡ false → with_table l (table_of l) ≡ l
-table-back l s u = λ j. with_seen l (table_of l) (record { journeys = l.journeys; count = l.journey_count; horizon = sym (s.same_horizon u) j; limits = sym (s.same_limits u) j; searched = l.searched; limit = l.limit })
+table-back l s u = λ j. with_seen l (table_of l)
+    (record {
+      journeys = l.journeys;
+      count = l.journey_count;
+      horizon = sym (s.same_horizon u) j;
+      limits = sym (s.same_limits u) j;
+      searched = l.searched;
+      limit = l.limit;
+    })
 
 -- a call that is taken and cuts nothing is put into the table, and the services are closed
 pub record Put (l : Load) (name : List ℕ) (i : CallInput) : Type 0 where
@@ -46,7 +54,8 @@ call-put l name i s q h =
     let plain = taken-is-plain l name i s q in
     let t : (call_fitted l i).answer ≡ (Ok Taken) = sym (ap (λ (r : Stepped). r.answer) plain) ∙ q in
     let in_table : (plain_call l i).load ≡ with_table l (call_fitted l i).table = cond-not _ _ (ap is_refused t) in
-    let is : (call_spec l name i).load ≡ closed_load (with_table l (call_fitted l i).table) = ap (λ (r : Stepped). r.load) plain ∙ ap closed_load in_table in
+    let is : (call_spec l name i).load ≡ closed_load (with_table l (call_fitted l i).table) =
+    ap (λ (r : Stepped). r.load) plain ∙ ap closed_load in_table in
     let w = call-entered l.settings l.searched l.stop_count (table_of l) i t (sym (ap (λ (m : Load). m.table_horizon) is) ∙ h) in
     record {
       call = w.call;
@@ -66,12 +75,14 @@ put-goes l c k s u r e f v =
     ∙ ap (λ (m : Load). record { answer = Ok Taken; load = m }) (table-back l s u)
 
 pub taken-back-new : (l : Load) (name : List ℕ) (i : CallInput) → Kept l → l.searched ≡ false → (add_spec_of l name i).answer ≡ Ok Taken
-    → (add_spec_of l name i).load.table_horizon ≡ l.table_horizon → withdraw_spec (add_spec_of l name i).load (key_of i) ≡ record { answer = Ok Taken; load = closed_load l }
+    → (add_spec_of l name i).load.table_horizon ≡ l.table_horizon
+    → withdraw_spec (add_spec_of l name i).load (key_of i) ≡ record { answer = Ok Taken; load = closed_load l }
 unfolding add_spec_of withdraw_spec
 taken-back-new l name i kept u q h =
     let s = kept.sound in
     let as_call : add_spec_of l name i ≡ call_spec l name i = cond-not _ _ u in
-    let w = call-put l name i s (sym (ap (λ (r : Stepped). r.answer) as_call) ∙ q) (sym (ap (λ (r : Stepped). r.load.table_horizon) as_call) ∙ h) in
+    let w = call-put l name i s (sym (ap (λ (r : Stepped). r.answer) as_call) ∙ q)
+    (sym (ap (λ (r : Stepped). r.load.table_horizon) as_call) ∙ h) in
     ap (λ (m : Load). withdraw_spec m (key_of i)) (ap (λ (r : Stepped). r.load) as_call ∙ w.is)
     ∙ cond-not _ _ u
     ∙ put-goes (closed_load l) w.call (key_of i) (closed-kept l kept).sound u w.room w.known-key w.key w.sound

@@ -43,7 +43,8 @@ no-clash : (x z : Call) → earlier x z ≡ true → (Run x z → x.departure �
 unfolding clash
 no-clash x z e f = go (eqb x.trip z.trip) refl (eqb x.day z.day) refl
   where
-    go : (a : Bool) → eqb x.trip z.trip ≡ a → (b : Bool) → eqb x.day z.day ≡ b → (a && (b && (eqb x.sequence z.sequence || ltb z.arrival x.departure))) ≡ false
+    go : (a : Bool) → eqb x.trip z.trip ≡ a → (b : Bool) → eqb x.day z.day ≡ b
+        → (a && (b && (eqb x.sequence z.sequence || ltb z.arrival x.departure))) ≡ false
     go false p b q = refl
     go true p false q = refl
     go true p true q =
@@ -69,7 +70,8 @@ module _ (p : Call → Bool) where
   mem-without [] z m = m
   mem-without (x ∷ l) z m = go (anyb p l) (p x) m (mem-without l z)
     where
-      go : (b c : Bool) → Memᴰ z (cond b (x ∷ without_last p l) (cond c l (x ∷ l))) → (Memᴰ z (without_last p l) → Memᴰ z l) → Memᴰ z (x ∷ l)
+      go : (b c : Bool) → Memᴰ z (cond b (x ∷ without_last p l) (cond c l (x ∷ l))) → (Memᴰ z (without_last p l) → Memᴰ z l)
+          → Memᴰ z (x ∷ l)
       go true c n ih = by (Memᴰ.cases_cons n)
         where
           by : (z ≡ x) ⊎ Memᴰ z (without_last p l) → Memᴰ z (x ∷ l)
@@ -91,22 +93,26 @@ clear_apart : (l : List Call) → AllApart l → clashes (in_order_of l) ≡ fal
 clear_apart l a = ap clashes (ordered-sort earlier l (apart-ordered l a)) ∙ apart-clear l a
 
 -- the calls of a searched load
-own-apart : (l : Load) → Sound l → researched l.limit (unsearched_of l) ≡ record { answer = Ok Taken; load = l } → AllApart (table_calls (table_of l))
+own-apart : (l : Load) → Sound l → researched l.limit (unsearched_of l) ≡ record { answer = Ok Taken; load = l }
+    → AllApart (table_calls (table_of l))
 unfolding timetable_of
 own-apart l s e =
     let clear = own-clear l e in
-    subst AllApart (sym (own-sorted l e)) (all_apart (in_order_of (table_calls (table_of l))) (accepted-rising (table_calls (table_of l)) clear) (accepted-follows (table_calls (table_of l)) clear (sound-timed l s)))
+    subst AllApart (sym (own-sorted l e)) (all_apart (in_order_of (table_calls (table_of l)))
+    (accepted-rising (table_calls (table_of l)) clear) (accepted-follows (table_calls (table_of l)) clear (sound-timed l s)))
 
 reads : (l : Load) → sorted (timetable_of l) ≡ in_order_of (table_calls (table_of l))
 unfolding timetable_of
 reads l = refl
 
-left-clear : (l : Load) (k : CallKey) → Sound l → AllApart (table_calls (table_of l)) → clashes (sorted (timetable_of (taken_out (unsearched_of l) k).load)) ≡ false
+left-clear : (l : Load) (k : CallKey) → Sound l → AllApart (table_calls (table_of l))
+    → clashes (sorted (timetable_of (taken_out (unsearched_of l) k).load)) ≡ false
 unfolding unsearched_of
 left-clear l k s a =
     out_cases (unsearched_of l) k (λ r. clashes (sorted (timetable_of r.load)) ≡ false) (λ e. stays) (λ e f. stays)
     (λ g.
-    ap clashes (reads (with_table (unsearched_of l) (withdrawn (table_of l) k)) ∙ ap in_order_of (withdrawn-leaves (table_of l) k s.table g.there).calls)
+    ap clashes (reads (with_table (unsearched_of l) (withdrawn (table_of l) k))
+    ∙ ap in_order_of (withdrawn-leaves (table_of l) k s.table g.there).calls)
     ∙ clear_apart (without_last (has_key k) (table_calls (table_of l))) (apart-without (has_key k) (table_calls (table_of l)) a))
   where
     stays : clashes (sorted (timetable_of (unsearched_of l))) ≡ false

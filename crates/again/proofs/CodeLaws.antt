@@ -23,7 +23,8 @@ use Rattle.load.specs.declared.Load.{Load}
 use Rattle.load.specs.declared.Stepped.{Stepped}
 use Rattle.load.specs.Load.{table_of, with_table, with_week}
 use Rattle.load.specs.Steps.{call_spec}
-use Rattle.again.specs.Again.{unsearched_of, researched, searched_as, again, leaves_table_of, added_to, add_spec_of, taken_out, withdraw_spec}
+use Rattle.again.specs.Again.{unsearched_of, researched, searched_as, again, leaves_table_of, added_to, add_spec_of, taken_out}
+use Rattle.again.specs.Again.{withdraw_spec}
 
 -- ---- searched again
 
@@ -54,12 +55,14 @@ module _ (l : Load) (r : Stepped) where
   unfolding added_to
   added-stays t h = sym (cond-by {p = leaves_table_of l r} _ _ (rw (t, eq-eqb _ _ h) refl))
 
-  pub added-cut : (q : Stepped) → q ≡ again l r → is_taken r.answer ≡ false → (r.load.table_horizon ≡ l.table_horizon → ⊥) → q ≡ added_to l r
+  pub added-cut : (q : Stepped) → q ≡ again l r → is_taken r.answer ≡ false → (r.load.table_horizon ≡ l.table_horizon → ⊥)
+      → q ≡ added_to l r
   unfolding added_to
   added-cut q is t h = is ∙ sym (cond-not {p = leaves_table_of l r} _ _ (rw (t, ne_eqb _ _ h) refl))
 
 module _ (l : Load) (name : List ℕ) (i : CallInput) where
-  pub add-searched : (u : Load) (r q : Stepped) → u ≡ unsearched_of l → r ≡ call_spec u name i → q ≡ added_to l r → l.searched ≡ true → q ≡ add_spec_of l name i
+  pub add-searched : (u : Load) (r q : Stepped) → u ≡ unsearched_of l → r ≡ call_spec u name i → q ≡ added_to l r → l.searched ≡ true
+      → q ≡ add_spec_of l name i
   unfolding add_spec_of
   add-searched u r q eu er eq e = eq ∙ ap (added_to l) (er ∙ ap (λ (m : Load). call_spec m name i) eu) ∙ sym (cond-by _ _ e)
 
@@ -74,26 +77,39 @@ module _ (l : Load) (k : CallKey) where
   unfolding taken_out first_answer
   out-unknown e = rw e refl
 
-  pub out_none : (n : ℕ) → n ≡ last_of (has_key k) (table_calls (table_of l)) → key_known k ≡ true → n ≡ 0 → ◌≡◌ {A = Stepped} (record { answer = Err CallUnknown; load = l }) (taken_out l k)
+  pub out_none : (n : ℕ) → n ≡ last_of (has_key k) (table_calls (table_of l)) → key_known k ≡ true → n ≡ 0
+      → ◌≡◌ {A = Stepped} (record { answer = Err CallUnknown; load = l }) (taken_out l k)
   unfolding taken_out first_answer
   out_none n is e z =
-      let none : not (anyb (has_key k) (table_calls (table_of l))) ≡ true = sym (place-tells (has_key k) (table_calls (table_of l))) ∙ eq-eqb _ 0 (sym is ∙ z) in
+      let none : not (anyb (has_key k) (table_calls (table_of l))) ≡ true =
+      sym (place-tells (has_key k) (table_calls (table_of l))) ∙ eq-eqb _ 0 (sym is ∙ z) in
       rw (e, none) refl
 
-  pub out-there : (n : ℕ) (cs : List Call) → n ≡ last_of (has_key k) (table_calls (table_of l)) → key_known k ≡ true → (n ≡ 0 → ⊥) → cs ≡ closed_up blank_call (n - 1) l.calls
-      → ◌≡◌ {A = Stepped} (record { answer = Ok Taken; load = with_table l (record { calls = cs; count = l.call_count - 1; horizon = l.table_horizon; limits = l.table_limits }) }) (taken_out l k)
+  pub out-there : (n : ℕ) (cs : List Call) → n ≡ last_of (has_key k) (table_calls (table_of l)) → key_known k ≡ true → (n ≡ 0 → ⊥)
+      → cs ≡ closed_up blank_call (n - 1) l.calls
+      → ◌≡◌ {A = Stepped} (record {
+        answer = Ok Taken;
+        load = with_table l (record { calls = cs; count = l.call_count - 1; horizon = l.table_horizon; limits = l.table_limits });
+      })
+      (taken_out l k)
   unfolding taken_out first_answer withdrawn
   out-there n cs is e z ec =
-      let some : not (anyb (has_key k) (table_calls (table_of l))) ≡ false = sym (place-tells (has_key k) (table_calls (table_of l))) ∙ ne_eqb _ 0 (λ q. z (is ∙ q)) in
-      let array : cs ≡ closed_up blank_call (last_of (has_key k) (table_calls (table_of l)) - 1) l.calls = ec ∙ ap (λ (m : ℕ). closed_up blank_call (m - 1) l.calls) is in
-      ap (λ (x : List Call). record { answer = Ok Taken; load = with_table l (record { calls = x; count = l.call_count - 1; horizon = l.table_horizon; limits = l.table_limits }) }) array
+      let some : not (anyb (has_key k) (table_calls (table_of l))) ≡ false =
+      sym (place-tells (has_key k) (table_calls (table_of l))) ∙ ne_eqb _ 0 (λ q. z (is ∙ q)) in
+      let array : cs ≡ closed_up blank_call (last_of (has_key k) (table_calls (table_of l)) - 1) l.calls =
+      ec ∙ ap (λ (m : ℕ). closed_up blank_call (m - 1) l.calls) is in
+      ap (λ (x : List Call). record {
+        answer = Ok Taken;
+        load = with_table l (record { calls = x; count = l.call_count - 1; horizon = l.table_horizon; limits = l.table_limits });
+      }) array
       ∙ rw (e, some) refl
 
   -- a call is there to be taken off
   pub counted : (n : ℕ) → n ≡ last_of (has_key k) (table_calls (table_of l)) → (n ≡ 0 → ⊥) → 1 ≤ l.call_count
   counted n is z = omega (arith, last-counted (has_key k) l.calls l.call_count, is, z)
 
-  pub withdraw-searched : (u : Load) (r q : Stepped) → u ≡ unsearched_of l → r ≡ taken_out u k → q ≡ again l r → l.searched ≡ true → q ≡ withdraw_spec l k
+  pub withdraw-searched : (u : Load) (r q : Stepped) → u ≡ unsearched_of l → r ≡ taken_out u k → q ≡ again l r → l.searched ≡ true
+      → q ≡ withdraw_spec l k
   unfolding withdraw_spec
   withdraw-searched u r q eu er eq e = eq ∙ ap (again l) (er ∙ ap (λ (m : Load). taken_out m k) eu) ∙ sym (cond-by _ _ e)
 

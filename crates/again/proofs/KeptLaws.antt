@@ -30,7 +30,8 @@ use Rattle.search.proofs.WithinLaws.{untaken-within, within-sound}
 use Rattle.again.specs.Again.{unsearched_of, researched, again, leaves_table_of, added_to, add_spec_of, taken_out, withdraw_spec}
 use Rattle.again.specs.Causes.{UnknownExactly}
 use Rattle.again.specs.Claims.{Kept, SearchKept, WithinKept, AddKept, WithdrawKept, TakenBack, NeverWider}
-use Rattle.again.proofs.SoundLaws.{unsearched-new, unsearched-sound, there-goes, none_stays, taken-out-sound, taken-out-searched, taken-out-horizon}
+use Rattle.again.proofs.SoundLaws.{unsearched-new, unsearched-sound, there-goes, none_stays, taken-out-sound, taken-out-searched}
+use Rattle.again.proofs.SoundLaws.{taken-out-horizon}
 use Rattle.again.proofs.WeekLaws.{week-kept}
 use Rattle.again.proofs.OwnLaws.{found-own, within-own}
 use Rattle.again.proofs.ResearchLaws.{research-cases, research-first, researched-horizon}
@@ -66,7 +67,8 @@ unfolding again
 again_kept l r w n = go (is_refused r.answer) (is_taken (researched l.limit r.load).answer)
   where
     go : (b c : Bool) → Kept (cond {A = Stepped} b (record { answer = r.answer; load = l })
-        (cond {A = Stepped} c (record { answer = r.answer; load = (researched l.limit r.load).load }) (record { answer = (researched l.limit r.load).answer; load = l }))).load
+        (cond {A = Stepped} c (record { answer = r.answer; load = (researched l.limit r.load).load })
+        (record { answer = (researched l.limit r.load).answer; load = l }))).load
     go true c = w
     go false true = research-kept l.limit r.load n
     go false false = w
@@ -101,7 +103,8 @@ unfolding add_spec_of
 add_kept l name i w = go l.searched refl
   where
     go : (b : Bool) → l.searched ≡ b → Kept (cond b (added_to l (call_spec (unsearched_of l) name i)) (call_spec l name i)).load
-    go true e = added-kept l (call_spec (unsearched_of l) name i) w (call_kept (unsearched_of l) name i (unsearched-sound l w.sound) (unsearched-new l))
+    go true e = added-kept l (call_spec (unsearched_of l) name i) w
+        (call_kept (unsearched_of l) name i (unsearched-sound l w.sound) (unsearched-new l))
     go false e = call_kept l name i w.sound e
 
 pub withdraw-kept : WithdrawKept
@@ -109,13 +112,15 @@ unfolding withdraw_spec
 withdraw-kept l k w = go l.searched refl
   where
     go : (b : Bool) → l.searched ≡ b → Kept (cond b (again l (taken_out (unsearched_of l) k)) (taken_out l k)).load
-    go true e = again_kept l (taken_out (unsearched_of l) k) w (out-kept (unsearched_of l) k (unsearched-sound l w.sound) (unsearched-new l))
+    go true e = again_kept l (taken_out (unsearched_of l) k) w
+        (out-kept (unsearched_of l) k (unsearched-sound l w.sound) (unsearched-new l))
     go false e = out-kept l k w.sound e
 
 pub taken_back : TakenBack
 taken_back l name i w q h = go l.searched refl
   where
-    go : (b : Bool) → l.searched ≡ b → withdraw_spec (add_spec_of l name i).load (key_of i) ≡ record { answer = Ok Taken; load = closed_load l }
+    go : (b : Bool) → l.searched ≡ b → withdraw_spec (add_spec_of l name i).load (key_of i)
+        ≡ record { answer = Ok Taken; load = closed_load l }
     go true e = searched-taken-back l name i w e q h
     go false e = taken-back-new l name i w e q h
 
@@ -125,15 +130,17 @@ back-horizon : (l : Load) → (unsearched_of l).table_horizon ≡ l.table_horizo
 unfolding unsearched_of
 back-horizon l = refl
 
--- the load itself, or one with the horizon of what the step made of its unsearched load
-again-horizon : (P : ℕ → Type 0) (l : Load) (r : Stepped) → P l.table_horizon → P r.load.table_horizon → P (again l r).load.table_horizon
+-- of what a search leaves as it was: that of the load itself, or of what the step made of its unsearched load
+pub again-keeps : {A : Type 0} (f : Load → A) → ((limit : Option ℕ) (m : Load) → f (researched limit m).load ≡ f m)
+    → (P : A → Type 0) (l : Load) (r : Stepped) → P (f l) → P (f r.load) → P (f (again l r).load)
 unfolding again
-again-horizon P l r p q = go (is_refused r.answer) (is_taken (researched l.limit r.load).answer)
+again-keeps f same P l r p q = go (is_refused r.answer) (is_taken (researched l.limit r.load).answer)
   where
-    go : (b c : Bool) → P (cond {A = Stepped} b (record { answer = r.answer; load = l })
-        (cond {A = Stepped} c (record { answer = r.answer; load = (researched l.limit r.load).load }) (record { answer = (researched l.limit r.load).answer; load = l }))).load.table_horizon
+    go : (b c : Bool) → P (f (cond {A = Stepped} b (record { answer = r.answer; load = l })
+        (cond {A = Stepped} c (record { answer = r.answer; load = (researched l.limit r.load).load })
+        (record { answer = (researched l.limit r.load).answer; load = l }))).load)
     go true c = p
-    go false true = subst P (sym (researched-horizon l.limit r.load)) q
+    go false true = subst P (sym (same l.limit r.load)) q
     go false false = p
 
 add-lower : (l : Load) (name : List ℕ) (i : CallInput) → (add_spec_of l name i).load.table_horizon ≤ l.table_horizon
@@ -144,9 +151,14 @@ add-lower l name i = go l.searched (leaves_table_of l (call_spec (unsearched_of 
     made = omega (arith, never-rises (unsearched_of l) (call name i), back-horizon l)
 
     go : (b c : Bool)
-        → (cond b (cond {A = Stepped} c (record { answer = (call_spec (unsearched_of l) name i).answer; load = with_week l (call_spec (unsearched_of l) name i).load.week }) (again l (call_spec (unsearched_of l) name i))) (call_spec l name i)).load.table_horizon ≤ l.table_horizon
+        → (cond b (cond {A = Stepped} c (record {
+          answer = (call_spec (unsearched_of l) name i).answer;
+          load = with_week l (call_spec (unsearched_of l) name i).load.week;
+        }) (again l (call_spec (unsearched_of l) name i)))
+        (call_spec l name i)).load.table_horizon ≤ l.table_horizon
     go true true = omega arith
-    go true false = again-horizon (λ h. h ≤ l.table_horizon) l (call_spec (unsearched_of l) name i) (omega arith) made
+    go true false = again-keeps (λ m. m.table_horizon) researched-horizon (λ h. h ≤ l.table_horizon) l
+        (call_spec (unsearched_of l) name i) (omega arith) made
     go false c = never-rises l (call name i)
 
 withdraw-same : (l : Load) (k : CallKey) → (withdraw_spec l k).load.table_horizon ≡ l.table_horizon
@@ -154,7 +166,8 @@ unfolding withdraw_spec
 withdraw-same l k = go l.searched
   where
     go : (b : Bool) → (cond b (again l (taken_out (unsearched_of l) k)) (taken_out l k)).load.table_horizon ≡ l.table_horizon
-    go true = again-horizon (λ h. h ≡ l.table_horizon) l (taken_out (unsearched_of l) k) refl (taken-out-horizon (unsearched_of l) k ∙ back-horizon l)
+    go true = again-keeps (λ m. m.table_horizon) researched-horizon (λ h. h ≡ l.table_horizon) l (taken_out (unsearched_of l) k) refl
+        (taken-out-horizon (unsearched_of l) k ∙ back-horizon l)
     go false = taken-out-horizon l k
 
 pub never_wider : NeverWider
@@ -176,7 +189,8 @@ again-number : (l m : Load) → m.searched ≡ false → (again l (record { answ
 unfolding again
 again-number l m n q = go (is_taken (researched l.limit m).answer) q
   where
-    go : (c : Bool) → (cond {A = Stepped} c (record { answer = Ok Taken; load = (researched l.limit m).load }) (record { answer = (researched l.limit m).answer; load = l })).answer ≡ Err CallUnknown → ⊥
+    go : (c : Bool) → (cond {A = Stepped} c (record { answer = Ok Taken; load = (researched l.limit m).load })
+        (record { answer = (researched l.limit m).answer; load = l })).answer ≡ Err CallUnknown → ⊥
     go true e = let z = ap answer_number e in omega (arith, z)
     go false e = search-number l.limit m n e
 
@@ -200,7 +214,8 @@ module _ (l : Load) (k : CallKey) (known : key_known k ≡ true) where
       go : (b : Bool) → (cond b (again l (taken_out (unsearched_of l) k)) (taken_out l k)).answer ≡ Err CallUnknown → ⊥
       go true q =
           let is = there-goes (unsearched_of l) k known (ap (anyb (has_key k)) same-calls ∙ e) in
-          again-number l (with_table (unsearched_of l) (withdrawn (table_of (unsearched_of l)) k)) (unsearched-new l) (sym (ap (λ (r : Stepped). (again l r).answer) is) ∙ q)
+          again-number l (with_table (unsearched_of l) (withdrawn (table_of (unsearched_of l)) k)) (unsearched-new l)
+          (sym (ap (λ (r : Stepped). (again l r).answer) is) ∙ q)
       go false q = let z = ap answer_number (sym (ap (λ (r : Stepped). r.answer) (there-goes l k known e)) ∙ q) in omega (arith, z)
 
 pub unknown-exactly : UnknownExactly

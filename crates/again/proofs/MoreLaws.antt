@@ -45,7 +45,8 @@ module _ (c : Call) where
   -- what is behind c is of b's trip and day only if c is
   stops-before : (b y : Call) → earlier b c ≡ true → earlier c y ≡ true → same_run b c ≡ false → same_run b y ≡ false
   stops-before b y p q n =
-      not-true (same_run b y) (λ e. true≢false (sym (run-same b c (between b c y (strict_earlier.asym b c p) (strict_earlier.asym c y q) (same-run b y e))) ∙ n))
+      not-true (same_run b y) (λ e. true≢false (sym
+      (run-same b c (between b c y (strict_earlier.asym b c p) (strict_earlier.asym c y q) (same-run b y e))) ∙ n))
 
   more-alights : (b : Call) (ys : List Call) → Behind b ys → length (alights b ys) ≤ length (alights b (insert_by earlier c ys))
   more-alights b [] w = omega arith
@@ -61,19 +62,23 @@ module _ (c : Call) where
           → length (alights b (y ∷ ys)) ≤ length (filterb (λ (x : Call). x.alight) (cond s (c ∷ take_while (same_run b) (y ∷ ys)) []))
       front true e p q = grows c.alight c (alights b (y ∷ ys))
       front false e p q =
-          let none : alights b (y ∷ ys) ≡ [] = ap (λ (t : Bool). filterb (λ (x : Call). x.alight) (cond t (y ∷ take_while (same_run b) ys) [])) (stops-before b y p q e) in
+          let none : alights b (y ∷ ys) ≡ [] = ap (λ (t : Bool).
+          filterb (λ (x : Call). x.alight) (cond t (y ∷ take_while (same_run b) ys) [])) (stops-before b y p q e) in
           omega (arith, ap length none)
 
       by : (t : Bool) → earlier y c ≡ t
-          → (((z : Call) → Memᴰ z (cond t (y ∷ insert_by earlier c ys) (c ∷ y ∷ ys)) → earlier b z ≡ true) × Rising (cond t (y ∷ insert_by earlier c ys) (c ∷ y ∷ ys)))
+          → (((z : Call) → Memᴰ z (cond t (y ∷ insert_by earlier c ys) (c ∷ y ∷ ys)) → earlier b z ≡ true)
+          × Rising (cond t (y ∷ insert_by earlier c ys) (c ∷ y ∷ ys)))
           → (Behind b ys → length (alights b ys) ≤ length (alights b (insert_by earlier c ys)))
           → length (alights b (y ∷ ys)) ≤ length (alights b (cond t (y ∷ insert_by earlier c ys) (c ∷ y ∷ ys)))
       by true e w ih = first (same_run b y) (ih ((λ z m. w.0 z (Memᴰ.tail m)), w.1.1))
       by false e w ih = front (same_run b c) refl (w.0 c (Memᴰ.head refl)) (w.1.0 y (Memᴰ.head refl))
 
   -- of whatever is made of each call and of where one alights from it, by how many these are
-  module _ {A : Type 0} (F : Call → List Call → List A) (more : (b : Call) (xs ys : List Call) → length (alights b xs) ≤ length (alights b ys) → length (F b xs) ≤ length (F b ys)) where
-    more-tails : (ys : List Call) → Rising (insert_by earlier c ys) → length (over_tails F ys) ≤ length (over_tails F (insert_by earlier c ys))
+  module _ {A : Type 0} (F : Call → List Call → List A)
+      (more : (b : Call) (xs ys : List Call) → length (alights b xs) ≤ length (alights b ys) → length (F b xs) ≤ length (F b ys)) where
+    more-tails : (ys : List Call) → Rising (insert_by earlier c ys)
+        → length (over_tails F ys) ≤ length (over_tails F (insert_by earlier c ys))
     more-tails [] r = omega arith
     more-tails (y ∷ ys) r = by (earlier y c) r (more-tails ys)
       where
@@ -82,12 +87,19 @@ module _ (c : Call) where
             → length (over_tails F (y ∷ ys)) ≤ length (over_tails F (cond t (y ∷ insert_by earlier c ys) (c ∷ y ∷ ys)))
         by true w ih =
             let here = more y ys (insert_by earlier c ys) (more-alights y ys w) in
-            omega (arith, here, ih w.1, length-append (F y ys) (over_tails F ys), length-append (F y (insert_by earlier c ys)) (over_tails F (insert_by earlier c ys)))
+            omega (
+              arith,
+              here,
+              ih w.1,
+              length-append (F y ys) (over_tails F ys),
+              length-append (F y (insert_by earlier c ys)) (over_tails F (insert_by earlier c ys)),
+            )
         by false w ih = omega (arith, length-append (F c (y ∷ ys)) (over_tails F (y ∷ ys)))
 
 -- ---- rides and first rides
 
-legs-long : (b : Bool) (x : Call) (xs ys : List Call) → length xs ≤ length ys → length (cond b (map (leg x) xs) []) ≤ length (cond b (map (leg x) ys) [])
+legs-long : (b : Bool) (x : Call) (xs ys : List Call) → length xs ≤ length ys
+    → length (cond b (map (leg x) xs) []) ≤ length (cond b (map (leg x) ys) [])
 legs-long true x xs ys h = omega (arith, length-map xs (leg x), length-map ys (leg x), h)
 legs-long false x xs ys h = omega arith
 
@@ -95,7 +107,15 @@ firsts-long : (x : Call) (os : List ℕ) (xs ys : List Call) → length xs ≤ l
     → length (concat_map (λ o. map (first_ride o x) xs) os) ≤ length (concat_map (λ o. map (first_ride o x) ys) os)
 firsts-long x [] xs ys h = omega arith
 firsts-long x (o ∷ os) xs ys h =
-    omega (arith, firsts-long x os xs ys h, h, length-map xs (first_ride o x), length-map ys (first_ride o x), length-append (map (first_ride o x) xs) (concat_map (λ o. map (first_ride o x) xs) os), length-append (map (first_ride o x) ys) (concat_map (λ o. map (first_ride o x) ys) os))
+    omega (
+      arith,
+      firsts-long x os xs ys h,
+      h,
+      length-map xs (first_ride o x),
+      length-map ys (first_ride o x),
+      length-append (map (first_ride o x) xs) (concat_map (λ o. map (first_ride o x) xs) os),
+      length-append (map (first_ride o x) ys) (concat_map (λ o. map (first_ride o x) ys) os),
+    )
 
 either-long : (b : Bool) (x : Call) (os : List ℕ) (xs ys : List Call) → length xs ≤ length ys
     → length (cond b (concat_map (λ o. map (first_ride o x) xs) os) []) ≤ length (cond b (concat_map (λ o. map (first_ride o x) ys) os) [])
@@ -105,7 +125,8 @@ either-long false x os xs ys h = omega arith
 module _ (t : Timetable) (c : Call) (ys : List Call) (r : Rising (insert_by earlier c ys)) where
   more-rides : length (rides (network_of t) ys) ≤ length (rides (network_of t) (insert_by earlier c ys))
   unfolding rides network_of
-  more-rides = more-tails c (λ b later. cond b.board (map (leg b) (alights b later)) []) (λ b xs zs h. legs-long b.board b (alights b xs) (alights b zs) h) ys r
+  more-rides = more-tails c (λ b later. cond b.board (map (leg b) (alights b later)) [])
+      (λ b xs zs h. legs-long b.board b (alights b xs) (alights b zs) h) ys r
 
   more-firsts : length (first_rides (network_of t) ys) ≤ length (first_rides (network_of t) (insert_by earlier c ys))
   unfolding first_rides network_of
@@ -127,9 +148,14 @@ unfolding all_joins network_of
 more-joins t c clear =
     let up = rises t.calls c clear in
     let at = put-sorted t.calls c clear in
-    rw at (less-joins (eqb t.max_transfers 1) (length (first_rides (network_of t) (in_order_of t.calls))) (length (rides (network_of t) (in_order_of t.calls))) (length (first_rides (network_of t) (insert_by earlier c (in_order_of t.calls)))) (length (rides (network_of t) (insert_by earlier c (in_order_of t.calls))))
+    rw at (less-joins (eqb t.max_transfers 1) (length (first_rides (network_of t) (in_order_of t.calls)))
+    (length (rides (network_of t) (in_order_of t.calls)))
+    (length (first_rides (network_of t) (insert_by earlier c (in_order_of t.calls))))
+    (length (rides (network_of t) (insert_by earlier c (in_order_of t.calls))))
     (more-firsts t c (in_order_of t.calls) up) (more-rides t c (in_order_of t.calls) up))
 
-pub stopped-with-more : (n : ℕ) (t : Timetable) (c : Call) → clashes (in_order_of (t.calls ++ c ∷ [])) ≡ false → finished_within n t ≡ false → finished_within n (with_call t c) ≡ false
+pub stopped-with-more : (n : ℕ) (t : Timetable) (c : Call) → clashes (in_order_of (t.calls ++ c ∷ [])) ≡ false
+    → finished_within n t ≡ false → finished_within n (with_call t c) ≡ false
 stopped-with-more n t c clear e =
-    not-true (finished_within n (with_call t c)) (λ f. true≢false (sym ((finished-within n t).1 (omega (arith, (finished-within n (with_call t c)).0 f, more-joins t c clear))) ∙ e))
+    not-true (finished_within n (with_call t c))
+    (λ f. true≢false (sym ((finished-within n t).1 (omega (arith, (finished-within n (with_call t c)).0 f, more-joins t c clear))) ∙ e))

@@ -53,24 +53,32 @@ module _ (m : Load) (ks : List Journey) (h k : ℕ) (limit : Option ℕ) (s : So
   unfolding outcome_of timetable_of unsearched_of
   same_outcome =
       search-in-any-order (timetable_of m) (in_order_of (take m.call_count m.calls)) m.table_horizon m.table_limits reordered
-      ∙ ap (λ (cs : List Call). search_of (with_calls (timetable_of m) cs) m.table_horizon m.table_limits) (sym (sorted_front m.call_count m.calls))
+      ∙ ap (λ (cs : List Call). search_of (with_calls (timetable_of m) cs) m.table_horizon m.table_limits)
+      (sym (sorted_front m.call_count m.calls))
 
   same-within : (n : ℕ) → outcome_within m n ≡ outcome_within back n
   unfolding outcome_within timetable_of unsearched_of
   same-within n =
       (within-in-any-order n (timetable_of m) (in_order_of (take m.call_count m.calls)) m.table_horizon m.table_limits reordered).outcome
-      ∙ ap (λ (cs : List Call). search_within n (with_calls (timetable_of m) cs) m.table_horizon m.table_limits) (sym (sorted_front m.call_count m.calls))
+      ∙ ap (λ (cs : List Call). search_within n (with_calls (timetable_of m) cs) m.table_horizon m.table_limits)
+      (sym (sorted_front m.call_count m.calls))
 
   same-finishes : (n : ℕ) → clashes (sorted (timetable_of m)) ≡ false → finishes_in m n ≡ finishes_in back n
   unfolding finishes_in timetable_of unsearched_of
   same-finishes n clear =
-      (within-in-any-order n (timetable_of m) (in_order_of (take m.call_count m.calls)) m.table_horizon m.table_limits reordered).finishes clear
+      (within-in-any-order n (timetable_of m) (in_order_of (take m.call_count m.calls)) m.table_horizon m.table_limits reordered).finishes
+      clear
       ∙ ap (λ (cs : List Call). finished_within n (with_calls (timetable_of m) cs)) (sym (sorted_front m.call_count m.calls))
 
   same_load : with_found back ks h k limit ≡ with_found m ks h k limit
   unfolding unsearched_of
   same_load =
-      ap (λ (cs : List Call). with_seen m (record { calls = cs; count = m.call_count; horizon = m.table_horizon; limits = m.table_limits }) seen)
+      ap (λ (cs : List Call). with_seen m (record {
+        calls = cs;
+        count = m.call_count;
+        horizon = m.table_horizon;
+        limits = m.table_limits;
+      }) seen)
       (sorted-again m.call_count m.calls s.table.few s.table.long)
 
 same-change : (m : Load) → (unsearched_of m).settings.max_transfers ≡ m.settings.max_transfers
@@ -83,25 +91,31 @@ own-full m ks h k s e =
     let x : Load = unsearched_of (with_journeys m ks h k) in
     researched-full (unsearched_of (with_journeys m ks h k))
     ∙ search-runs (unsearched_of (with_journeys m ks h k)) (unsearched-new (with_journeys m ks h k))
-    ∙ ap (λ (o : Outcome). record { answer = answer_of o; load = settled (unsearched_of (with_journeys m ks h k)) o }) (sym (same_outcome m ks h k None s) ∙ e)
+    ∙ ap (λ (o : Outcome). record { answer = answer_of o; load = settled (unsearched_of (with_journeys m ks h k)) o })
+    (sym (same_outcome m ks h k None s) ∙ e)
     ∙ ap (λ (l : Load). record { answer = Ok Taken; load = l }) (same_load m ks h k None s)
 
-stopped-is : (m : Load) (n : ℕ) (ks : List Journey) (h k : ℕ) → Sound m → m.settings.max_transfers ≤ 1 → outcome_within m n ≡ found ks h k → finishes_in m n ≡ false
+stopped-is : (m : Load) (n : ℕ) (ks : List Journey) (h k : ℕ) → Sound m → m.settings.max_transfers ≤ 1 → outcome_within m n ≡ found ks h k
+    → finishes_in m n ≡ false
     → researched (Some n) (unsearched_of (with_found m ks h k (Some n))) ≡ record { answer = Ok Taken; load = with_found m ks h k (Some n) }
 stopped-is m n ks h k s one e f =
     let u : Load = unsearched_of (with_found m ks h k (Some n)) in
-    let few : (unsearched_of (with_found m ks h k (Some n))).settings.max_transfers ≤ 1 = subst (λ (x : ℕ). x ≤ 1) (sym (same-change (with_found m ks h k (Some n)))) one in
+    let few : (unsearched_of (with_found m ks h k (Some n))).settings.max_transfers ≤ 1 =
+    subst (λ (x : ℕ). x ≤ 1) (sym (same-change (with_found m ks h k (Some n)))) one in
     let clear = within-clear m n ks h k e in
     researched-within n (unsearched_of (with_found m ks h k (Some n))) few
     ∙ ap step_of (within-runs (unsearched_of (with_found m ks h k (Some n))) n (unsearched-new (with_found m ks h k (Some n))) few)
-    ∙ ap (λ (o : Outcome). step_of (ran_within (unsearched_of (with_found m ks h k (Some n))) n o)) (sym (same-within m ks h k (Some n) s n) ∙ e)
-    ∙ ap (λ (l : Load). record { answer = Ok Taken; load = l }) (cond-not _ _ (sym (same-finishes m ks h k (Some n) s n clear) ∙ f) ∙ same_load m ks h k (Some n) s)
+    ∙ ap (λ (o : Outcome). step_of (ran_within (unsearched_of (with_found m ks h k (Some n))) n o))
+    (sym (same-within m ks h k (Some n) s n) ∙ e)
+    ∙ ap (λ (l : Load). record { answer = Ok Taken; load = l })
+    (cond-not _ _ (sym (same-finishes m ks h k (Some n) s n clear) ∙ f) ∙ same_load m ks h k (Some n) s)
 
 -- the load that an accepted search leaves
 pub found-own : (m : Load) → Sound m → is_taken (search_spec m).answer ≡ true → Own (search_spec m).load
 found-own m s t d =
     let w = taken-found m t in
-    subst (λ (l : Load). researched l.limit (unsearched_of l) ≡ record { answer = Ok Taken; load = l }) (sym (ap (λ (r : Stepped). r.load) w.is))
+    subst (λ (l : Load). researched l.limit (unsearched_of l) ≡ record { answer = Ok Taken; load = l })
+    (sym (ap (λ (r : Stepped). r.load) w.is))
     (own-full m w.kept w.to w.mark s w.outcome)
 
 stopped-own : (m : Load) (n : ℕ) → Sound m → finishes_in m n ≡ false → is_taken (within_spec m n).answer ≡ true → Own (within_spec m n).load
@@ -131,7 +145,8 @@ Is l = researched l.limit (unsearched_of l) ≡ record { answer = Ok Taken; load
 module _ (l : Load) (s : Sound l) (o : Is l) (n : ℕ) (e : l.limit ≡ Some n) where
   own-within : step_of (within_spec (unsearched_of l) n) ≡ record { answer = Ok Taken; load = l }
   own-within =
-      let few : (unsearched_of l).settings.max_transfers ≤ 1 = subst (λ (x : ℕ). x ≤ 1) (sym (same-change l)) (s.stopped_change (ap is_some e)) in
+      let few : (unsearched_of l).settings.max_transfers ≤ 1 =
+      subst (λ (x : ℕ). x ≤ 1) (sym (same-change l)) (s.stopped_change (ap is_some e)) in
       sym (researched-within n (unsearched_of l) few) ∙ ap (λ (x : Option ℕ). researched x (unsearched_of l)) (sym e) ∙ o
 
   own-leaves : WithinLeaves (unsearched_of l) n
@@ -162,6 +177,11 @@ own-stopped l k n e =
     let w = own-leaves l k.sound o n e in
     let f = own-unfinished l k.sound o n e in
     record {
-      is = λ i. record { answer = (q i).answer; load = (q i).load; joins = (w.counts ∙ ap (joins_within n) (same-timetable l)) i; finished = (w.says ∙ f) i };
+      is = λ i. record {
+        answer = (q i).answer;
+        load = (q i).load;
+        joins = (w.counts ∙ ap (joins_within n) (same-timetable l)) i;
+        finished = (w.says ∙ f) i;
+      };
       unfinished = sym (same-finish l n) ∙ f;
     }

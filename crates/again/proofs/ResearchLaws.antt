@@ -24,7 +24,8 @@ use Rattle.search.specs.Within.{outcome_within, finishes_in, within_spec, step_o
 use Rattle.search.proofs.RunLaws.{taken-found, untaken-stays}
 use Rattle.search.proofs.AnswerLaws.{search-answered}
 use Rattle.search.proofs.SearchSound.{search-sound}
-use Rattle.search.proofs.WithinLaws.{within_first, ran-answer, within-runs, taken-within, untaken-within, within-clear, within-sound, finished-is-search}
+use Rattle.search.proofs.WithinLaws.{within_first, ran-answer, within-runs, taken-within, untaken-within, within-clear, within-sound}
+use Rattle.search.proofs.WithinLaws.{finished-is-search}
 use Rattle.again.specs.Again.{researched}
 use Rattle.again.specs.Causes.{falls_again}
 
@@ -34,7 +35,8 @@ pub record Limits (limit : Option ℕ) (m : Load) (n : ℕ) : Type 0 where
   pub one : m.settings.max_transfers ≤ 1
 
 -- of any property of the search, by which of the two it is
-pub research-cases : (limit : Option ℕ) (m : Load) (P : Stepped → Type 0) → ((n : ℕ) → Limits limit m n → P (step_of (within_spec m n))) → P (search_spec m)
+pub research-cases : (limit : Option ℕ) (m : Load) (P : Stepped → Type 0) → ((n : ℕ) → Limits limit m n → P (step_of (within_spec m n)))
+    → P (search_spec m)
     → P (researched limit m)
 unfolding researched
 research-cases None m P within full = full
@@ -69,7 +71,8 @@ research-first None m new = past_one (search-answered m).first new
 research-first (Some n) m new = go (leb m.settings.max_transfers 1) refl
   where
     go : (c : Bool) → leb m.settings.max_transfers 1 ≡ c
-        → First (cond c (step_of (within_spec m n)) (search_spec m)).answer ((clashes (sorted (timetable_of m)), Err Neighbours) ∷ (cond c (would_fall_within m n) (would_fall m), Err NoRoom) ∷ [])
+        → First (cond c (step_of (within_spec m n)) (search_spec m)).answer
+        ((clashes (sorted (timetable_of m)), Err Neighbours) ∷ (cond c (would_fall_within m n) (would_fall m), Err NoRoom) ∷ [])
     go true e =
         let q = within-runs m n new (leb-true m.settings.max_transfers 1 e) in
         subst (λ (a : Answer). First a ((clashes (sorted (timetable_of m)), Err Neighbours) ∷ (would_fall_within m n, Err NoRoom) ∷ []))
@@ -78,7 +81,8 @@ research-first (Some n) m new = go (leb m.settings.max_transfers 1) refl
 
 -- ---- what is found
 
--- an accepted search: of a load that was not searched, whose calls don't clash; these journeys, and the limit at which it was stopped, if it was
+-- an accepted search: of a load that was not searched, whose calls don't clash; these journeys, and the limit at which it was stopped, if
+-- it was
 pub record Researched (before : Option ℕ) (m : Load) : Type 0 where
   pub new : m.searched ≡ false
   pub kept : List Journey
@@ -96,9 +100,18 @@ module _ (limit : Option ℕ) (m : Load) where
   found-full : researched limit m ≡ search_spec m → is_taken (search_spec m).answer ≡ true → Researched limit m
   found-full q t =
       let w = taken-found m t in
-      record { new = w.new; kept = w.kept; to = w.to; mark = w.mark; limit = None; is = q ∙ w.is; clear = full-clear m w.to w.mark w.kept w.outcome }
+      record {
+        new = w.new;
+        kept = w.kept;
+        to = w.to;
+        mark = w.mark;
+        limit = None;
+        is = q ∙ w.is;
+        clear = full-clear m w.to w.mark w.kept w.outcome;
+      }
 
-  found-stopped : (n : ℕ) → researched limit m ≡ step_of (within_spec m n) → finishes_in m n ≡ false → is_taken (within_spec m n).answer ≡ true → Researched limit m
+  found-stopped : (n : ℕ) → researched limit m ≡ step_of (within_spec m n) → finishes_in m n ≡ false
+      → is_taken (within_spec m n).answer ≡ true → Researched limit m
   found-stopped n q e t =
       let w = taken-within m n t in
       record {

@@ -34,7 +34,8 @@ use Rattle.search.specs.Within.{finishes_in, step_of}
 use Rattle.calls.specs.declared.CallKey.{CallKey}
 use Rattle.withdrawal.specs.Removal.{without_last, key_of, has_key, key_known}
 use Rattle.withdrawal.proofs.BackLaws.{left_back}
-use Rattle.again.specs.Again.{unsearched_of, researched, again, searched_as, leaves_table_of, added_to, add_spec_of, taken_out, withdraw_spec}
+use Rattle.again.specs.Again.{unsearched_of, researched, again, searched_as, leaves_table_of, added_to, add_spec_of, taken_out}
+use Rattle.again.specs.Again.{withdraw_spec}
 use Rattle.again.proofs.SortLaws.{sorted-gone, sorted-there}
 use Rattle.search.proofs.RunLaws.{taken-found}
 use Rattle.search.proofs.WithinLaws.{taken-within}
@@ -67,7 +68,8 @@ added : (l : Load) (r : Stepped) → (added_to l r).answer ≡ Ok Taken → Adds
 unfolding added_to again
 added l r q = go (leaves_table_of l r) (is_refused r.answer) (is_taken (researched l.limit r.load).answer) refl refl refl q
   where
-    go : (b c d : Bool) → leaves_table_of l r ≡ b → is_refused r.answer ≡ c → is_taken (researched l.limit r.load).answer ≡ d → (added_by l r b c d).answer ≡ Ok Taken → Adds l r (added_by l r b c d).load
+    go : (b c d : Bool) → leaves_table_of l r ≡ b → is_refused r.answer ≡ c → is_taken (researched l.limit r.load).answer ≡ d
+        → (added_by l r b c d).answer ≡ Ok Taken → Adds l r (added_by l r b c d).load
     go true c d e f g q = absurd (not-both (is_taken r.answer) (eqb r.load.table_horizon l.table_horizon) (ap is_taken q) e)
     go false true d e f g q = absurd (true≢false (sym f ∙ ap is_refused q))
     go false false true e f g q = record { answer = q; accepted = g; is = refl }
@@ -75,15 +77,18 @@ added l r q = go (leaves_table_of l r) (is_refused r.answer) (is_taken (research
 
 -- ---- the calls of a searched load are in order
 
-pub own-sorted : (l : Load) → researched l.limit (unsearched_of l) ≡ record { answer = Ok Taken; load = l } → table_calls (table_of l) ≡ in_order_of (table_calls (table_of l))
+pub own-sorted : (l : Load) → researched l.limit (unsearched_of l) ≡ record { answer = Ok Taken; load = l }
+    → table_calls (table_of l) ≡ in_order_of (table_calls (table_of l))
 unfolding unsearched_of
 own-sorted l e =
     let w = taken-researched l.limit (unsearched_of l) (ap (λ (r : Stepped). is_taken r.answer) e) in
-    let same : l.calls ≡ sort_first l.call_count l.calls = sym (ap (λ (r : Stepped). r.load.calls) e) ∙ ap (λ (r : Stepped). r.load.calls) w.is in
+    let same : l.calls ≡ sort_first l.call_count l.calls =
+    sym (ap (λ (r : Stepped). r.load.calls) e) ∙ ap (λ (r : Stepped). r.load.calls) w.is in
     ap (take l.call_count) same ∙ sorted_front l.call_count l.calls
 
 -- and none clash
-pub own-clear : (l : Load) → researched l.limit (unsearched_of l) ≡ record { answer = Ok Taken; load = l } → clashes (in_order_of (table_calls (table_of l))) ≡ false
+pub own-clear : (l : Load) → researched l.limit (unsearched_of l) ≡ record { answer = Ok Taken; load = l }
+    → clashes (in_order_of (table_calls (table_of l))) ≡ false
 unfolding timetable_of unsearched_of
 own-clear l e = (taken-researched l.limit (unsearched_of l) (ap (λ (r : Stepped). is_taken r.answer) e)).clear
 
@@ -96,7 +101,8 @@ unfolding unsearched_of
 kept-count l h = h
 
 -- u is unsearched, c was put into its table, and the search of that found ks and was stopped as l's was; the key of c is taken out again
-module _ (l : Load) (s : Sound l) (c : Call) (k : CallKey) (room : l.call_count < 512) (known : key_known k ≡ true) (key : has_key k c ≡ true)
+module _ (l : Load) (s : Sound l) (c : Call) (k : CallKey) (room : l.call_count < 512) (known : key_known k ≡ true)
+    (key : has_key k c ≡ true)
     (own : researched l.limit (unsearched_of l) ≡ record { answer = Ok Taken; load = l }) (ks : List Journey) (h m : ℕ) where
   abbrev u : Load
   u = unsearched_of l
@@ -121,14 +127,18 @@ module _ (l : Load) (s : Sound l) (c : Call) (k : CallKey) (room : l.call_count 
   unfolding timetable_of unsearched_of
   clear-with e = ap (λ (ys : List Call). clashes (in_order_of ys)) (sym calls-with) ∙ e
 
-  goes_back : Sound n → clashes (sorted (timetable_of with-c)) ≡ false → taken_out (unsearched_of n) k ≡ record { answer = Ok Taken; load = u }
+  goes_back : Sound n → clashes (sorted (timetable_of with-c)) ≡ false
+      → taken_out (unsearched_of n) k ≡ record { answer = Ok Taken; load = u }
   unfolding unsearched_of
   goes_back sn e =
       let clear = clear-with e in
-      let left : without_last (has_key k) (table_calls (table_of (unsearched_of n))) ≡ table_calls (table_of u) = ap (without_last (has_key k)) calls-sorted ∙ sorted-gone cs c clear k key ∙ sym (own-sorted l own) in
-      let there : anyb (has_key k) (table_calls (table_of (unsearched_of n))) ≡ true = ap (anyb (has_key k)) calls-sorted ∙ sorted-there cs c clear k key in
+      let left : without_last (has_key k) (table_calls (table_of (unsearched_of n))) ≡ table_calls (table_of u) =
+      ap (without_last (has_key k)) calls-sorted ∙ sorted-gone cs c clear k key ∙ sym (own-sorted l own) in
+      let there : anyb (has_key k) (table_calls (table_of (unsearched_of n))) ≡ true =
+      ap (anyb (has_key k)) calls-sorted ∙ sorted-there cs c clear k key in
       there-goes (unsearched_of n) k known there
-      ∙ ap (λ (t : Table). record { answer = Ok Taken; load = with_table (unsearched_of n) t }) (left_back (table_of u) s.table (table_of (unsearched_of n)) k sn.table there left refl refl)
+      ∙ ap (λ (t : Table). record { answer = Ok Taken; load = with_table (unsearched_of n) t })
+      (left_back (table_of u) s.table (table_of (unsearched_of n)) k sn.table there left refl refl)
 
   back : Sound n → clashes (sorted (timetable_of with-c)) ≡ false → withdraw_spec n k ≡ record { answer = Ok Taken; load = l }
   unfolding withdraw_spec again
@@ -142,12 +152,14 @@ module _ (l : Load) (s : Sound l) (c : Call) (k : CallKey) (room : l.call_count 
       ∙ stopped-with-more j (timetable_of (unsearched_of l)) c (clear-with e) f
 
 -- the unsearched load with its services closed, and c put in
-same-with : (l : Load) (c : Call) → with_table (closed_load (unsearched_of l)) (put (table_of (unsearched_of l)) c) ≡ with_table (unsearched_of (closed_load l)) (put (table_of (unsearched_of (closed_load l))) c)
+same-with : (l : Load) (c : Call) → with_table (closed_load (unsearched_of l)) (put (table_of (unsearched_of l)) c)
+    ≡ with_table (unsearched_of (closed_load l)) (put (table_of (unsearched_of (closed_load l))) c)
 unfolding unsearched_of
 same-with l c = refl
 
 -- with c put in, the settings are l's
-with-one : (l : Load) (c : Call) → Sound l → stopped l ≡ true → (with_table (unsearched_of l) (put (table_of (unsearched_of l)) c)).settings.max_transfers ≤ 1
+with-one : (l : Load) (c : Call) → Sound l → stopped l ≡ true
+    → (with_table (unsearched_of l) (put (table_of (unsearched_of l)) c)).settings.max_transfers ≤ 1
 unfolding unsearched_of
 with-one l c s e = s.stopped_change e
 
@@ -160,7 +172,8 @@ record Same (limit : Option ℕ) (m : Load) : Type 0 where
   clear : clashes (sorted (timetable_of m)) ≡ false
 
 stopped-same : (limit : Option ℕ) (m : Load) → (is_some limit ≡ true → m.settings.max_transfers ≤ 1)
-    → ((n : ℕ) → limit ≡ Some n → clashes (sorted (timetable_of m)) ≡ false → finishes_in m n ≡ false) → is_taken (researched limit m).answer ≡ true → Same limit m
+    → ((n : ℕ) → limit ≡ Some n → clashes (sorted (timetable_of m)) ≡ false → finishes_in m n ≡ false)
+    → is_taken (researched limit m).answer ≡ true → Same limit m
 stopped-same None m one stays t =
     let q = researched-full m in
     let w = taken-found m (sym (ap (λ (r : Stepped). is_taken r.answer) q) ∙ t) in
@@ -184,7 +197,8 @@ stopped-same (Some n) m one stays t =
     }
 
 pub searched-taken-back : (l : Load) (name : List ℕ) (i : CallInput) → Kept l → l.searched ≡ true → (add_spec_of l name i).answer ≡ Ok Taken
-    → (add_spec_of l name i).load.table_horizon ≡ l.table_horizon → withdraw_spec (add_spec_of l name i).load (key_of i) ≡ record { answer = Ok Taken; load = closed_load l }
+    → (add_spec_of l name i).load.table_horizon ≡ l.table_horizon
+    → withdraw_spec (add_spec_of l name i).load (key_of i) ≡ record { answer = Ok Taken; load = closed_load l }
 unfolding add_spec_of
 searched-taken-back l name i kept d q h =
     let u : Load = unsearched_of l in
@@ -192,7 +206,8 @@ searched-taken-back l name i kept d q h =
     let su = unsearched-sound l kept.sound in
     let as_added : add_spec_of l name i ≡ added_to l (call_spec u name i) = cond-by _ _ d in
     let a = added l (call_spec u name i) (sym (ap (λ (r : Stepped). r.answer) as_added) ∙ q) in
-    let is : (add_spec_of l name i).load ≡ (researched l.limit (call_spec u name i).load).load = ap (λ (r : Stepped). r.load) as_added ∙ a.is in
+    let is : (add_spec_of l name i).load ≡ (researched l.limit (call_spec u name i).load).load =
+    ap (λ (r : Stepped). r.load) as_added ∙ a.is in
     let same : (call_spec u name i).load.table_horizon ≡ u.table_horizon =
     sym (researched-horizon l.limit (call_spec u name i).load) ∙ sym (ap (λ (m : Load). m.table_horizon) is) ∙ h ∙ kept-horizon l in
     let w = call-put u name i su a.answer same in
@@ -200,10 +215,12 @@ searched-taken-back l name i kept d q h =
     let m : Load = with_table (unsearched_of big) (put (table_of (unsearched_of big)) w.call) in
     let made : (call_spec u name i).load ≡ m = w.is ∙ same-with l w.call in
     let f = own-unfinished big k.sound (k.own d) in
-    let g = stopped-same l.limit m (with-one big w.call k.sound) (λ j x clear. stops-again big k.sound w.call (key_of i) (kept-count l w.room) w.known-key w.key (k.own d) [] 0 0 j clear (f j x))
+    let g = stopped-same l.limit m (with-one big w.call k.sound)
+    (λ j x clear. stops-again big k.sound w.call (key_of i) (kept-count l w.room) w.known-key w.key (k.own d) [] 0 0 j clear (f j x))
     (ap (λ (x : Load). is_taken (researched l.limit x).answer) (sym made) ∙ a.accepted) in
     let n : Load = with_found m g.kept g.to g.mark l.limit in
-    let to-n : (researched l.limit (call_spec u name i).load).load ≡ n = ap (λ (x : Load). (researched l.limit x).load) made ∙ ap (λ (r : Stepped). r.load) g.is in
+    let to-n : (researched l.limit (call_spec u name i).load).load ≡ n =
+    ap (λ (x : Load). (researched l.limit x).load) made ∙ ap (λ (r : Stepped). r.load) g.is in
     let sn : Sound n = subst Sound to-n (researched-sound l.limit (call_spec u name i).load (fill-keeps-sound u (call name i) su)) in
     ap (λ (x : Load). withdraw_spec x (key_of i)) (is ∙ to-n)
     ∙ back big k.sound w.call (key_of i) (kept-count l w.room) w.known-key w.key (k.own d) g.kept g.to g.mark sn g.clear

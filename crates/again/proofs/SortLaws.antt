@@ -1,4 +1,5 @@
--- A list in order is its own sort; the call put in last is, once they are sorted and none clash, where its key is, and taking it out gives the others sorted.
+-- A list in order is its own sort; the call put in last is, once they are sorted and none clash, where its key is, and taking it out
+-- gives the others sorted.
 use Prim.Native.Nat.{ℕ, ◌≤◌}
 use mathlib.Core.Path.{◌≡◌, refl, sym, ap, subst, ◌∙◌}
 use mathlib.Core.Logic.{◌⊎◌, inl, inr}
@@ -51,7 +52,8 @@ module _ {A : Type 0} (lt : A → A → Bool) where
   put-gone p x [] e n = rw e refl
   put-gone p x (y ∷ ys) e n = by (lt y x) (p y) refl (put-gone p x ys e) n
     where
-      by : (b c : Bool) → p y ≡ c → (anyb p ys ≡ false → without_last p (insert_by lt x ys) ≡ ys) → (c || anyb p ys) ≡ false → without_last p (cond b (y ∷ insert_by lt x ys) (x ∷ y ∷ ys)) ≡ y ∷ ys
+      by : (b c : Bool) → p y ≡ c → (anyb p ys ≡ false → without_last p (insert_by lt x ys) ≡ ys) → (c || anyb p ys) ≡ false
+          → without_last p (cond b (y ∷ insert_by lt x ys) (x ∷ y ∷ ys)) ≡ y ∷ ys
       by b true q ih m = absurd (true≢false m)
       by true false q ih m = rw (put-there p x ys e) (ap {B = List A} (λ l. y ∷ l) (ih m))
       by false false q ih m = rw (q, m, e) refl
@@ -84,7 +86,8 @@ record OfKey (k : CallKey) (c : Call) : Type 0 where
 of-key : (k : CallKey) (c : Call) → has_key k c ≡ true → OfKey k c
 unfolding has_key
 of-key k c e =
-    let two : (eqb c.day k.day && eqb c.sequence k.sequence) ≡ true = and-true-right (eqb c.trip k.trip) (eqb c.day k.day && eqb c.sequence k.sequence) e in
+    let two : (eqb c.day k.day && eqb c.sequence k.sequence) ≡ true =
+    and-true-right (eqb c.trip k.trip) (eqb c.day k.day && eqb c.sequence k.sequence) e in
     record {
       trip = eqb-true _ _ (and-true-left (eqb c.trip k.trip) (eqb c.day k.day && eqb c.sequence k.sequence) e);
       day = eqb-true _ _ (and-true-left (eqb c.day k.day) (eqb c.sequence k.sequence) two);
@@ -108,7 +111,9 @@ apart : (c : Call) (ys : List Call) → Rising (insert_by earlier c ys) → (z :
 apart c [] r z m = absurd (Memᴰ.not-nil m)
 apart c (y ∷ ys) r z m = by (earlier y c) refl r (λ q. apart c ys q z)
   where
-    by : (b : Bool) → earlier y c ≡ b → Rising (cond b (y ∷ insert_by earlier c ys) (c ∷ y ∷ ys)) → (Rising (insert_by earlier c ys) → Memᴰ z ys → (earlier z c ≡ true) ⊎ (earlier c z ≡ true)) → (earlier z c ≡ true) ⊎ (earlier c z ≡ true)
+    by : (b : Bool) → earlier y c ≡ b → Rising (cond b (y ∷ insert_by earlier c ys) (c ∷ y ∷ ys))
+        → (Rising (insert_by earlier c ys) → Memᴰ z ys → (earlier z c ≡ true) ⊎ (earlier c z ≡ true))
+        → (earlier z c ≡ true) ⊎ (earlier c z ≡ true)
     by false e q ih = inr (q.0 z m)
     by true e q ih = go (Memᴰ.cases_cons m)
       where
@@ -133,7 +138,8 @@ module _ (xs : List Call) (c : Call) (clear : clashes (in_order_of (xs ++ (c ∷
   rises = rw (← put-sorted) (accepted-rising (xs ++ (c ∷ [])) clear)
 
   pub sorted-gone : (k : CallKey) → has_key k c ≡ true → without_last (has_key k) (in_order_of (xs ++ (c ∷ []))) ≡ in_order_of xs
-  sorted-gone k e = ap (without_last (has_key k)) put-sorted ∙ put-gone earlier (has_key k) c (in_order_of xs) e (none_other k c (in_order_of xs) e rises)
+  sorted-gone k e = ap (without_last (has_key k)) put-sorted
+      ∙ put-gone earlier (has_key k) c (in_order_of xs) e (none_other k c (in_order_of xs) e rises)
 
   pub sorted-there : (k : CallKey) → has_key k c ≡ true → anyb (has_key k) (in_order_of (xs ++ (c ∷ []))) ≡ true
   sorted-there k e = ap (anyb (has_key k)) put-sorted ∙ put-there earlier (has_key k) c (in_order_of xs) e
@@ -144,12 +150,14 @@ middle-perm : (bs cs : List Call) (g : Call) → Permᴰ (bs ++ (g ∷ cs)) (g �
 middle-perm [] cs g = Permᴰ.refl (g ∷ cs)
 middle-perm (b ∷ bs) cs g = Permᴰ.trans (Permᴰ.cons refl (middle-perm bs cs g)) (Permᴰ.swap refl refl)
 
-pub sorted-without : (ws : List Call) (k : CallKey) → clashes (in_order_of ws) ≡ false → anyb (has_key k) ws ≡ true → without_last (has_key k) (in_order_of ws) ≡ in_order_of (without_last (has_key k) ws)
+pub sorted-without : (ws : List Call) (k : CallKey) → clashes (in_order_of ws) ≡ false → anyb (has_key k) ws ≡ true
+    → without_last (has_key k) (in_order_of ws) ≡ in_order_of (without_last (has_key k) ws)
 sorted-without ws k clear e =
     let w = without-last (has_key k) ws e in
     let rest : List Call = w.before ++ w.behind in
     let there : in_order_of ws ≡ insert_by earlier w.gone (in_order_of rest) =
-    ap in_order_of w.whole ∙ sort-same earlier strict_earlier (middle-perm w.before w.behind w.gone) (subst (Keyed earlier) w.whole (accepted-keyed ws clear)) in
+    ap in_order_of w.whole ∙ sort-same earlier strict_earlier (middle-perm w.before w.behind w.gone)
+    (subst (Keyed earlier) w.whole (accepted-keyed ws clear)) in
     let up : Rising (insert_by earlier w.gone (in_order_of rest)) = subst Rising there (accepted-rising ws clear) in
     ap (without_last (has_key k)) there
     ∙ put-gone earlier (has_key k) w.gone (in_order_of rest) w.passes (none_other k w.gone (in_order_of rest) w.passes up)

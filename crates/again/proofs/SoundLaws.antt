@@ -15,6 +15,7 @@ use Rattle.load.specs.declared.Load.{Load}
 use Rattle.load.specs.declared.Stepped.{Stepped}
 use Rattle.load.specs.Load.{table_of, with_table}
 use Rattle.load.specs.Sound.{Sound}
+use Rattle.load.proofs.SoundLaws.{with-table-sound}
 use Rattle.again.specs.Again.{unsearched_of, taken_out}
 
 pub unsearched-new : (l : Load) → (unsearched_of l).searched ≡ false
@@ -59,7 +60,8 @@ module _ (l : Load) (k : CallKey) where
   unfolding taken_out first_answer
   unknown-stays e = rw e refl
 
-  pub none_stays : key_known k ≡ true → anyb (has_key k) (table_calls (table_of l)) ≡ false → taken_out l k ≡ record { answer = Err CallUnknown; load = l }
+  pub none_stays : key_known k ≡ true → anyb (has_key k) (table_calls (table_of l)) ≡ false
+      → taken_out l k ≡ record { answer = Err CallUnknown; load = l }
   unfolding taken_out first_answer
   none_stays e f = rw (e, f) refl
 
@@ -80,22 +82,7 @@ module _ (l : Load) (k : CallKey) where
   unfolding withdrawn
   goes-sound s e =
       let w = withdrawn-leaves (table_of l) k s.table e in
-      record {
-        stops = s.stops;
-        table = w.sound;
-        calls_known = w.known l.stop_count s.calls_known;
-        rules = s.rules;
-        few = s.few;
-        long = s.long;
-        blank = s.blank;
-        in_order = s.in_order;
-        none_kept = s.none_kept;
-        same_horizon = λ e. refl;
-        same_limits = λ e. refl;
-        stopped_search = s.stopped_search;
-        stopped_change = s.stopped_change;
-        week = s.week;
-      }
+      with-table-sound l (withdrawn (table_of l) k) s w.sound (w.known l.stop_count s.calls_known)
 
   pub taken-out-sound : Sound l → Sound (taken_out l k).load
   taken-out-sound s = out_cases (λ r. Sound r.load) (λ e. s) (λ e f. s) (λ g. goes-sound s g.there)

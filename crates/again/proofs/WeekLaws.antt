@@ -13,7 +13,7 @@ use Rattle.refusal.specs.First.{is_refused, is_taken}
 use Rattle.calls.specs.declared.CallInput.{CallInput}
 use Rattle.profile.specs.declared.Journey.{Journey}
 use Rattle.week.specs.declared.Week.{Week}
-use Rattle.week.specs.Weeks.{undated_week, closed_week}
+use Rattle.week.specs.Weeks.{is_dated, undated_week, closed_week}
 use Rattle.week.specs.Sound.{WeekSound}
 use Rattle.week.proofs.SoundLaws.{closed-sound}
 use Rattle.offers.specs.Search.{Outcome, clashing, falling, found, answer_of}
@@ -35,19 +35,23 @@ with_week_of w r = record { answer = r.answer; load = with_week r.load w }
 
 -- ---- the search
 
-pub search-week : (m : Load) (w : Week) → search_spec (with_week m w) ≡ record { answer = (search_spec m).answer; load = with_week (search_spec m).load w }
+pub search-week : (m : Load) (w : Week) → search_spec (with_week m w)
+    ≡ record { answer = (search_spec m).answer; load = with_week (search_spec m).load w }
 unfolding search_spec outcome_of timetable_of
 search-week m w = go m.searched (outcome_of m)
   where
-    go : (b : Bool) (o : Outcome) → cond {A = Stepped} b (record { answer = Err AlreadySearched; load = with_week m w }) (record { answer = answer_of o; load = settled (with_week m w) o })
-        ≡ with_week_of w (cond {A = Stepped} b (record { answer = Err AlreadySearched; load = m }) (record { answer = answer_of o; load = settled m o }))
+    go : (b : Bool) (o : Outcome) → cond {A = Stepped} b (record { answer = Err AlreadySearched; load = with_week m w })
+        (record { answer = answer_of o; load = settled (with_week m w) o })
+        ≡ with_week_of w (cond {A = Stepped} b (record { answer = Err AlreadySearched; load = m })
+        (record { answer = answer_of o; load = settled m o }))
     go true o = refl
     go false clashing = refl
     go false falling = refl
     go false (found ks h k) = refl
 
 found-week : (m : Load) (n : ℕ) (w : Week) (ks : List Journey) (h k : ℕ) (f : Bool)
-    → cond f (with_journeys (with_week m w) ks h k) (with_found (with_week m w) ks h k (Some n)) ≡ with_week (cond f (with_journeys m ks h k) (with_found m ks h k (Some n))) w
+    → cond f (with_journeys (with_week m w) ks h k) (with_found (with_week m w) ks h k (Some n))
+    ≡ with_week (cond f (with_journeys m ks h k) (with_found m ks h k (Some n))) w
 found-week m n w ks h k true = refl
 found-week m n w ks h k false = refl
 
@@ -56,8 +60,10 @@ unfolding within_spec outcome_within finishes_in timetable_of
 within-week m n w = go m.searched (ltb 1 m.settings.max_transfers) (outcome_within m n)
   where
     go : (b c : Bool) (o : Outcome)
-        → step_of (cond b (sent_back_of (with_week m w) (Err AlreadySearched)) (cond c (sent_back_of (with_week m w) (Err SettingsRange)) (ran_within (with_week m w) n o)))
-        ≡ with_week_of w (step_of (cond b (sent_back_of m (Err AlreadySearched)) (cond c (sent_back_of m (Err SettingsRange)) (ran_within m n o))))
+        → step_of (cond b (sent_back_of (with_week m w) (Err AlreadySearched))
+        (cond c (sent_back_of (with_week m w) (Err SettingsRange)) (ran_within (with_week m w) n o)))
+        ≡ with_week_of w (step_of (cond b (sent_back_of m (Err AlreadySearched))
+        (cond c (sent_back_of m (Err SettingsRange)) (ran_within m n o))))
     go true c o = refl
     go false true o = refl
     go false false clashing = refl
@@ -70,7 +76,8 @@ unfolding researched
 research-week None m w = search-week m w
 research-week (Some n) m w = go (leb m.settings.max_transfers 1)
   where
-    go : (c : Bool) → cond c (step_of (within_spec (with_week m w) n)) (search_spec (with_week m w)) ≡ with_week_of w (cond c (step_of (within_spec m n)) (search_spec m))
+    go : (c : Bool) → cond c (step_of (within_spec (with_week m w) n)) (search_spec (with_week m w))
+        ≡ with_week_of w (cond c (step_of (within_spec m n)) (search_spec m))
     go true = within-week m n w
     go false = search-week m w
 
@@ -87,13 +94,14 @@ closed-kept l k = week-kept l (closed_week l.week) (closed-sound l.week k.sound.
 -- ---- the call
 
 -- a week without dates is closed
-undated-closed : (w : Week) → WeekSound w → w.dated ≡ false → closed_week w ≡ w
+undated-closed : (w : Week) → WeekSound w → is_dated w ≡ false → closed_week w ≡ w
 unfolding undated_week
 undated-closed w s d = let e = s.undated d in ap closed_week e ∙ sym e
 
 pub closed_same : ClosedSame
 closed_same l s (inl d) = ap (with_week l) (undated-closed l.week s.week d)
-closed_same l s (inr c) = λ j. with_week l (record { dated = l.week.dated; dates = l.week.dates; services = l.week.services; service_count = l.week.service_count; closed = sym c j })
+closed_same l s (inr c) = λ j. with_week l (record
+    { dates = l.week.dates; services = l.week.services; service_count = l.week.service_count; closed = sym c j })
 
 either-week : (m l : Load) (b : Bool) → m.week ≡ l.week → (cond b l m).week ≡ l.week
 either-week m l true e = refl
@@ -103,16 +111,20 @@ plain-week : (l : Load) (i : CallInput) → (plain_call l i).load.week ≡ l.wee
 unfolding plain_call
 plain-week l i = either-week (with_table l (call_fitted l i).table) l (is_refused (call_fitted l i).answer) refl
 
-closing-is : (l : Load) (i : CallInput) → is_refused (plain_call l i).answer ≡ false → closing l (plain_call l i) ≡ record { answer = (plain_call l i).answer; load = closed_load (plain_call l i).load }
+closing-is : (l : Load) (i : CallInput) → is_refused (plain_call l i).answer ≡ false
+    → closing l (plain_call l i) ≡ record { answer = (plain_call l i).answer; load = closed_load (plain_call l i).load }
 closing-is l i e =
     let same : (closing l (plain_call l i)).load ≡ with_week (plain_call l i).load (closed_week l.week) = cond-not _ _ e in
-    let week : with_week (plain_call l i).load (closed_week l.week) ≡ closed_load (plain_call l i).load = ap (λ (w : Week). with_week (plain_call l i).load (closed_week w)) (sym (plain-week l i)) in
+    let week : with_week (plain_call l i).load (closed_week l.week) ≡ closed_load (plain_call l i).load =
+    ap (λ (w : Week). with_week (plain_call l i).load (closed_week w)) (sym (plain-week l i)) in
     λ j. record { answer = (plain_call l i).answer; load = (same ∙ week) j }
 
-without_is : (l : Load) (i : CallInput) → Sound l → l.week.dated ≡ false → plain_call l i ≡ record { answer = (plain_call l i).answer; load = closed_load (plain_call l i).load }
+without_is : (l : Load) (i : CallInput) → Sound l → is_dated l.week ≡ false
+    → plain_call l i ≡ record { answer = (plain_call l i).answer; load = closed_load (plain_call l i).load }
 without_is l i s d =
     let e = plain-week l i in
-    let w : closed_week (plain_call l i).load.week ≡ (plain_call l i).load.week = ap closed_week e ∙ undated-closed l.week s.week d ∙ sym e in
+    let w : closed_week (plain_call l i).load.week ≡ (plain_call l i).load.week =
+    ap closed_week e ∙ undated-closed l.week s.week d ∙ sym e in
     λ j. record { answer = (plain_call l i).answer; load = with_week (plain_call l i).load (sym w j) }
 
 -- a call that is taken is the plain call, and the services are closed
@@ -120,7 +132,8 @@ pub taken-is-plain : (l : Load) (name : List ℕ) (i : CallInput) → Sound l �
     → call_spec l name i ≡ record { answer = (plain_call l i).answer; load = closed_load (plain_call l i).load }
 taken-is-plain l name i s q = go _ (called l name i) q
   where
-    go : (r : Stepped) → Called l name i r → r.answer ≡ Ok Taken → r ≡ record { answer = (plain_call l i).answer; load = closed_load (plain_call l i).load }
+    go : (r : Stepped) → Called l name i r → r.answer ≡ Ok Taken
+        → r ≡ record { answer = (plain_call l i).answer; load = closed_load (plain_call l i).load }
     go _ (without d) q = without_is l i s d
     go _ (goes_on d e) q = closing-is l i (ap is_refused q)
     go _ (stays_out d e) q = absurd (false≢true (ap is_taken q))

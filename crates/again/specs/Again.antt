@@ -31,8 +31,8 @@ unsearched_of l =
 
 -- ---- searched again
 
--- m searched: within the limit at which the search before it was stopped, if it was, and in full otherwise. A load that steps stop has at most
--- one change (`Sound`)
+-- m searched: within the limit at which the search before it was stopped, if it was, and in full otherwise. A load that steps stop has at
+-- most one change (`Sound`)
 unfoldable pub researched : Option ℕ → Load → Stepped
 researched (Some n) m = cond (leb m.settings.max_transfers 1) (step_of (within_spec m n)) (search_spec m)
 researched None m = search_spec m
@@ -72,7 +72,10 @@ withdraw_answer l k = first_answer (withdraw_tests l k)
 
 -- of an unsearched load
 unfoldable pub taken_out : Load → CallKey → Stepped
-taken_out l k = record { answer = withdraw_answer l k; load = cond (is_taken (withdraw_answer l k)) (with_table l (withdrawn (table_of l) k)) l }
+taken_out l k = record {
+  answer = withdraw_answer l k;
+  load = cond (is_taken (withdraw_answer l k)) (with_table l (withdrawn (table_of l) k)) l;
+}
 
 unfoldable pub withdraw_spec : Load → CallKey → Stepped
 withdraw_spec l k = cond l.searched (again l (taken_out (unsearched_of l) k)) (taken_out l k)

@@ -15,9 +15,10 @@ use Rattle.search.specs.Search.{search_spec}
 use Rattle.search.specs.Within.{finishes_in, within_spec}
 use Rattle.limited.specs.Limited.{joins_within, all_joins}
 use Rattle.again.specs.Again.{unsearched_of, researched, add_spec_of, taken_out, withdraw_spec}
+use Rattle.week.specs.Weeks.{is_dated}
 
--- a searched load is the search of its own table: the list is the one that a fresh search of the load gives, in full or, where it was stopped,
--- within its limit
+-- a searched load is the search of its own table: the list is the one that a fresh search of the load gives, in full or, where it was
+-- stopped, within its limit
 abbrev pub Own : Load → Type 0
 Own l = l.searched ≡ true → researched l.limit (unsearched_of l) ≡ record { answer = Ok Taken; load = l }
 
@@ -41,10 +42,12 @@ WithdrawKept = (l : Load) (k : CallKey) → Kept l → Kept (withdraw_spec l k).
 
 -- so a finished searched load is the full search of its own table; and of one that was stopped the search within its limit is not finished
 abbrev pub OwnFinished : Type 0
-OwnFinished = (l : Load) → Kept l → l.searched ≡ true → l.limit ≡ None → search_spec (unsearched_of l) ≡ record { answer = Ok Taken; load = l }
+OwnFinished = (l : Load) → Kept l → l.searched ≡ true → l.limit ≡ None
+    → search_spec (unsearched_of l) ≡ record { answer = Ok Taken; load = l }
 
 pub record Stops (n : ℕ) (l : Load) : Type 0 where
-  pub is : within_spec (unsearched_of l) n ≡ record { answer = Ok Taken; load = l; joins = joins_within n (timetable_of l); finished = false }
+  pub is : within_spec (unsearched_of l) n ≡ record
+      { answer = Ok Taken; load = l; joins = joins_within n (timetable_of l); finished = false }
   pub unfinished : finishes_in l n ≡ false
 
 abbrev pub OwnStopped : Type 0
@@ -52,7 +55,8 @@ OwnStopped = (l : Load) → Kept l → (n : ℕ) → l.limit ≡ Some n → Stop
 
 -- a call more has no fewer joins: a search that was stopped is stopped with it too
 abbrev pub MoreJoins : Type 0
-MoreJoins = (t : Timetable) (c : Call) → clashes (in_order_of (t.calls ++ c ∷ [])) ≡ false → all_joins t ≤ all_joins (with_calls t (t.calls ++ c ∷ []))
+MoreJoins = (t : Timetable) (c : Call) → clashes (in_order_of (t.calls ++ c ∷ [])) ≡ false
+    → all_joins t ≤ all_joins (with_calls t (t.calls ++ c ∷ []))
 
 -- withdrawing straight after taking gives back the load, unsearched, finished or stopped, save that services stay closed, if the table's
 -- horizon didn't fall
@@ -63,7 +67,7 @@ TakenBack = (l : Load) (name : List ℕ) (i : CallInput) → Kept l
 
 -- a load without dates has its services closed from the start, and so has one that has answered a call: they are given back exactly
 abbrev pub ClosedSame : Type 0
-ClosedSame = (l : Load) → Sound l → (l.week.dated ≡ false) ⊎ (l.week.closed ≡ true) → closed_load l ≡ l
+ClosedSame = (l : Load) → Sound l → (is_dated l.week ≡ false) ⊎ (l.week.closed ≡ true) → closed_load l ≡ l
 
 -- the table's horizon never rises
 abbrev pub NeverWider : Type 0

@@ -36,7 +36,8 @@ only-order l a b ks js x y p e g h =
       others = other ∙ sym (ap (λ (m : Load). with_stored m b.calls) g.is);
       stored = subst (λ (z : ℕ). Permᴰ (take z a.calls) (take z b.calls)) (sym count)
           (subst (λ (z : List Call). Permᴰ z (take (n + length ks) b.calls)) (sym g.calls)
-          (subst (λ (z : List Call). Permᴰ (take n l.calls ++ ks) z) (sym (ap (λ (z : ℕ). take z b.calls) (sym many) ∙ h.calls)) (Permᴰ.append_left (take n l.calls) p)));
+          (subst (λ (z : List Call). Permᴰ (take n l.calls ++ ks) z) (sym (ap (λ (z : ℕ). take z b.calls) (sym many) ∙ h.calls))
+          (Permᴰ.append_left (take n l.calls) p)));
       unused = ap (λ (z : ℕ). drop z a.calls) count
           ∙ g.rest
           ∙ ap (λ (z : ℕ). drop z l.calls) (sym many)
@@ -63,11 +64,13 @@ module _ (l : Load) (s : Sound l) (xs ys : List Named) (p : Permᴰ xs ys) where
       let f : cramped l ys ≡ false = sym cramped-alike ∙ e in
       let x = answered-alone xs l s e in
       let y = answered-alone ys l s f in
-      let o = only-order l (called l xs) (called l ys) (entering l xs) (entering l ys) _ _ enter-alike answer-alike (grown xs l s e) (grown ys l s f) in
+      let o = only-order l (called l xs) (called l ys) (entering l xs) (entering l ys) _ _ enter-alike answer-alike (grown xs l s e)
+      (grown ys l s f) in
       record {
         alone = x;
         alone' = y;
-        each = subst (λ (z : List _). Permᴰ z (answers l ys)) (sym x) (subst (λ (z : List _). Permᴰ (map (answer_first l) xs) z) (sym y) (perm-map (answer_first l) p));
+        each = subst (λ (z : List _). Permᴰ z (answers l ys)) (sym x)
+            (subst (λ (z : List _). Permᴰ (map (answer_first l) xs) z) (sym y) (perm-map (answer_first l) p));
         before = o;
         searched = search-order-unread (called l xs) (called l ys) o;
         limited = λ n. limited-order-unread n (called l xs) (called l ys) o;

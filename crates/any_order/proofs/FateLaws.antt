@@ -29,7 +29,7 @@ use Rattle.calls.proofs.FitLaws.{cut-shrinks}
 use Rattle.calls.proofs.Fits.{Ends, stands, enters, turned, Keeps, ends}
 use Rattle.calls.proofs.SoundLaws.{passed}
 use Rattle.calls.proofs.ShownLaws.{refused-same}
-use Rattle.week.specs.Weeks.{undated_week, closed_week, running}
+use Rattle.week.specs.Weeks.{is_dated, undated_week, closed_week, running}
 use Rattle.load.specs.declared.Load.{Load}
 use Rattle.load.specs.declared.Stepped.{Stepped}
 use Rattle.load.specs.Load.{table_of, seen_of, with_seen, with_table, with_week}
@@ -64,7 +64,7 @@ abbrev gate_of : Load → Named → Answer
 gate_of l c = gate_answer l.searched l.stop_count (running l.week c.0 c.1.day) c.1
 
 unfoldable pub fate : Load → Named → Fate
-fate l c = cond l.week.dated (test_fate (gate_of l c) (plain_fate l c.1)) (plain_fate l c.1)
+fate l c = cond (is_dated l.week) (test_fate (gate_of l c) (plain_fate l c.1)) (plain_fate l c.1)
 
 -- the answer, and the load that is left: an answered call closes the services
 abbrev pub said : Fate → Answer
@@ -126,7 +126,8 @@ module _ (s : Settings) (b : Bool) (n : ℕ) (t : Table) (i : CallInput) (k : Ca
 
   full-turns : first_answer (call_tests b n i) ≡ Ok Taken → call_seen s t.horizon i ≡ Some k → 512 ≤ t.count → Turned (call_on s b n t i)
   unfolding call_on call_fit
-  full-turns q e h = subst (λ (a : Answer). Turned (goes_on_of s t i a)) (sym q) (turns e h _ (ends (Down t) arr dep i (down-keeps arr dep i t) t (inl refl)))
+  full-turns q e h = subst (λ (a : Answer). Turned (goes_on_of s t i a)) (sym q)
+      (turns e h _ (ends (Down t) arr dep i (down-keeps arr dep i t) t (inl refl)))
 
 -- ---- the step without dates
 
@@ -140,7 +141,8 @@ record Comes (l : Load) (r : Stepped) (f : Fate) (m : Load) : Type 0 where
   room : fits l.call_count f ≡ true → r ≡ record { answer = said f; load = m }
   full : fits l.call_count f ≡ false → cramps l r ≡ true
 
-roomy : (l : Load) (r : Stepped) (f : Fate) (m : Load) → fits l.call_count f ≡ true → r ≡ record { answer = said f; load = m } → Comes l r f m
+roomy : (l : Load) (r : Stepped) (f : Fate) (m : Load) → fits l.call_count f ≡ true → r ≡ record { answer = said f; load = m }
+    → Comes l r f m
 roomy l r f m t e = record { room = λ q. e; full = λ q. absurd (true≢false (sym t ∙ q)) }
 
 module _ (l : Load) (i : CallInput) (s : Sound l) where
@@ -149,9 +151,17 @@ module _ (l : Load) (i : CallInput) (s : Sound l) where
 
   -- until the search, the load's horizon and mark are the table's
   as_seen : l.searched ≡ false → (cs : List Call) (n : ℕ)
-      → (let t : Table = record { calls = cs; count = n; horizon = l.table_horizon; limits = l.table_limits } in with_table l t ≡ with_seen l t (seen_of l))
+      → (let t : Table = record { calls = cs; count = n; horizon = l.table_horizon; limits = l.table_limits } in
+      with_table l t ≡ with_seen l t (seen_of l))
   as_seen u cs n = λ k. with_seen l (record { calls = cs; count = n; horizon = l.table_horizon; limits = l.table_limits })
-      (record { journeys = l.journeys; count = l.journey_count; horizon = sym (s.same_horizon u) k; limits = sym (s.same_limits u) k; searched = l.searched; limit = l.limit })
+      (record {
+        journeys = l.journeys;
+        count = l.journey_count;
+        horizon = sym (s.same_horizon u) k;
+        limits = sym (s.same_limits u) k;
+        searched = l.searched;
+        limit = l.limit;
+      })
 
   is-outside : l.searched ≡ false → uncut_on l.settings l.searched l.stop_count l.call_count l.table_horizon i ≡ Beyond
       → plain_call l i ≡ record { answer = Ok Outside; load = l }
@@ -165,36 +175,52 @@ module _ (l : Load) (i : CallInput) (s : Sound l) where
       go false e = e
       go true e = absurd (true≢false (ap is_refused (fields.searched l.searched l.stop_count i e ∙ q)))
 
-  full-cramps : (k : Call) → tested ≡ Ok Taken → call_seen l.settings l.table_horizon i ≡ Some k → 512 ≤ l.call_count → cramps l (plain_call l i) ≡ true
+  full-cramps : (k : Call) → tested ≡ Ok Taken → call_seen l.settings l.table_horizon i ≡ Some k → 512 ≤ l.call_count
+      → cramps l (plain_call l i) ≡ true
   unfolding plain_call
   full-cramps k q e h = go (full-turns l.settings l.searched l.stop_count (table_of l) i k q e h)
     where
       falls : (call_fitted l i).table.horizon < l.table_horizon → (b : Bool) → is_refused (call_fitted l i).answer ≡ b
           → ltb (cond b l (with_table l (call_fitted l i).table)).table_horizon l.table_horizon ≡ true
-      falls m true z = absurd (omega (arith, m, ap (λ (t : Table). t.horizon) (refused-same l.settings l.searched l.stop_count (table_of l) i z)))
+      falls m true z = absurd (omega (
+        arith,
+        m,
+        ap (λ (t : Table). t.horizon)
+            (refused-same l.settings l.searched l.stop_count (table_of l) i z),
+      ))
       falls m false z = lt-ltb (call_fitted l i).table.horizon l.table_horizon m
 
       go : ((call_fitted l i).answer ≡ Err NoRoom) ⊎ ((call_fitted l i).table.horizon < l.table_horizon) → cramps l (plain_call l i) ≡ true
-      go (inl a) = or-true-left (eqb (answer_number (call_fitted l i).answer) 11) (ltb (plain_call l i).load.table_horizon l.table_horizon) (ap (λ (x : Answer). eqb (answer_number x) 11) a)
-      go (inr m) = or_true_right (eqb (answer_number (call_fitted l i).answer) 11) (ltb (plain_call l i).load.table_horizon l.table_horizon) (falls m (is_refused (call_fitted l i).answer) refl)
+      go (inl a) = or-true-left (eqb (answer_number (call_fitted l i).answer) 11)
+          (ltb (plain_call l i).load.table_horizon l.table_horizon) (ap (λ (x : Answer). eqb (answer_number x) 11) a)
+      go (inr m) = or_true_right (eqb (answer_number (call_fitted l i).answer) 11)
+          (ltb (plain_call l i).load.table_horizon l.table_horizon) (falls m (is_refused (call_fitted l i).answer) refl)
 
-  by-view : tested ≡ Ok Taken → (v : Option Call) → call_seen l.settings l.table_horizon i ≡ v → Comes l (plain_call l i) (seen_fate v) (plain_left l (seen_fate v))
+  by-view : tested ≡ Ok Taken → (v : Option Call) → call_seen l.settings l.table_horizon i ≡ v
+      → Comes l (plain_call l i) (seen_fate v) (plain_left l (seen_fate v))
   unfolding uncut_on
-  by-view q None e = roomy l (plain_call l i) out l refl (is-outside (passed _ _ i q).unsearched (λ k. uncut_by (q k) (uncut_view l.call_count (e k))))
+  by-view q None e = roomy l (plain_call l i) out l refl
+      (is-outside (passed _ _ i q).unsearched (λ k. uncut_by (q k) (uncut_view l.call_count (e k))))
   by-view q (Some c) e = record { room = λ h. goes_in h; full = λ h. full-cramps c q e (ltb-false _ _ h) }
     where
       goes_in : ltb l.call_count 512 ≡ true → plain_call l i ≡ record { answer = Ok Taken; load = stored l c }
       goes_in h =
           call-goes-in l i c ((λ k. uncut_by (q k) (uncut_view l.call_count (e k))) ∙ cond-by _ _ h)
-          ∙ (λ k. record { answer = Ok Taken; load = as_seen (passed _ _ i q).unsearched (put (table_of l) c).calls (put (table_of l) c).count k })
+          ∙ (λ k. record {
+            answer = Ok Taken;
+            load = as_seen (passed _ _ i q).unsearched (put (table_of l) c).calls
+                (put (table_of l) c).count k;
+          })
 
   by_tests : (a : Answer) → tested ≡ a
       → (let f = test_fate a (seen_fate (call_seen l.settings l.table_horizon i)) in Comes l (plain_call l i) f (plain_left l f))
   unfolding uncut_on
   by_tests (Ok Taken) q = by-view q _ refl
-  by_tests (Ok Outside) q = roomy l (plain_call l i) out l refl (is-outside (unsearched-outside q) (λ k. uncut_by (q k) (uncut_view l.call_count (call_seen l.settings l.table_horizon i))))
+  by_tests (Ok Outside) q = roomy l (plain_call l i) out l refl
+      (is-outside (unsearched-outside q) (λ k. uncut_by (q k) (uncut_view l.call_count (call_seen l.settings l.table_horizon i))))
   by_tests (Err r) q =
-      roomy l (plain_call l i) (sent r) l refl (sym (call-refused l i _ (fields.sent_back l.settings l.searched l.stop_count (table_of l) i (Err r) r (sym q) refl) refl))
+      roomy l (plain_call l i) (sent r) l refl (sym
+      (call-refused l i _ (fields.sent_back l.settings l.searched l.stop_count (table_of l) i (Err r) r (sym q) refl) refl))
 
   plain-comes : Comes l (plain_call l i) (plain_fate l i) (plain_left l (plain_fate l i))
   plain-comes = by_tests tested refl
@@ -202,7 +228,7 @@ module _ (l : Load) (i : CallInput) (s : Sound l) where
 -- ---- the step with its service
 
 -- without dates the services are closed from the start
-shut : (l : Load) → Sound l → l.week.dated ≡ false → (f : Fate) → plain_left l f ≡ left l f
+shut : (l : Load) → Sound l → is_dated l.week ≡ false → (f : Fate) → plain_left l f ≡ left l f
 unfolding undated_week
 shut l s d f = go f
   where
@@ -221,7 +247,8 @@ shuts l out = refl
 shuts l (goes c) = refl
 
 closing-cramps : (l : Load) (i : CallInput) → cramps l (closing l (plain_call l i)) ≡ cramps l (plain_call l i)
-closing-cramps l i = λ k. eqb (answer_number (plain_call l i).answer) 11 || ltb (closing_same (λ (m : Load). m.table_horizon) l i (λ m w. refl) k) l.table_horizon
+closing-cramps l i = λ k. eqb (answer_number (plain_call l i).answer) 11 || ltb
+    (closing_same (λ (m : Load). m.table_horizon) l i (λ m w. refl) k) l.table_horizon
 
 module _ (l : Load) (name : List ℕ) (i : CallInput) (s : Sound l) where
   abbrev Comes-to : Stepped → Fate → Type 0
@@ -230,16 +257,20 @@ module _ (l : Load) (name : List ℕ) (i : CallInput) (s : Sound l) where
   by-service : (r : Stepped) → Called l name i r → Comes-to r (fate l (name, i))
   unfolding fate
   by-service _ (without d) =
-      subst (Comes-to (plain_call l i)) (sym (cond-not _ _ d)) (subst (Comes l (plain_call l i) (plain_fate l i)) (shut l s d (plain_fate l i)) (plain-comes l i s))
-  by-service _ (goes_on d e) = subst (Comes-to (closing l (plain_call l i))) (sym (cond-by _ _ d ∙ ap (λ (a : Answer). test_fate a (plain_fate l i)) e)) closed
+      subst (Comes-to (plain_call l i)) (sym (cond-not _ _ d))
+      (subst (Comes l (plain_call l i) (plain_fate l i)) (shut l s d (plain_fate l i)) (plain-comes l i s))
+  by-service _ (goes_on d e) = subst (Comes-to (closing l (plain_call l i)))
+      (sym (cond-by _ _ d ∙ ap (λ (a : Answer). test_fate a (plain_fate l i)) e)) closed
     where
       closed : Comes-to (closing l (plain_call l i)) (plain_fate l i)
       closed = record {
         room = λ h. ap (closing l) ((plain-comes l i s).room h) ∙ shuts l (plain_fate l i);
         full = λ h. closing-cramps l i ∙ (plain-comes l i s).full h;
       }
-  by-service r (stays_out d e) = subst (Comes-to r) (sym (cond-by _ _ d ∙ ap (λ (a : Answer). test_fate a (plain_fate l i)) e)) (roomy l r out (closed_load l) refl refl)
-  by-service r (sent_back d w e) = subst (Comes-to r) (sym (cond-by _ _ d ∙ ap (λ (a : Answer). test_fate a (plain_fate l i)) e)) (roomy l r (sent w) l refl refl)
+  by-service r (stays_out d e) = subst (Comes-to r) (sym (cond-by _ _ d ∙ ap (λ (a : Answer). test_fate a (plain_fate l i)) e))
+      (roomy l r out (closed_load l) refl refl)
+  by-service r (sent_back d w e) = subst (Comes-to r) (sym (cond-by _ _ d ∙ ap (λ (a : Answer). test_fate a (plain_fate l i)) e))
+      (roomy l r (sent w) l refl refl)
 
 -- ---- no call is sent back with 11 before the table
 
@@ -262,17 +293,21 @@ test-not (Err r) f p q = p
 
 fate-not : (l : Load) (c : Named) → not11 (said (fate l c))
 unfolding fate gate_answer call_tests
-fate-not l c = go l.week.dated
+fate-not l c = go (is_dated l.week)
   where
     view : (v : Option Call) → not11 (said (seen_fate v))
     view None = refl
     view (Some k) = refl
 
     plain : not11 (said (plain_fate l c.1))
-    plain = test-not (first_answer (call_tests l.searched l.stop_count c.1)) (seen_fate (call_seen l.settings l.table_horizon c.1)) (first-not (call_tests l.searched l.stop_count c.1) (refl, (refl, (refl, (refl, tt))))) (view (call_seen l.settings l.table_horizon c.1))
+    plain = test-not (first_answer (call_tests l.searched l.stop_count c.1)) (seen_fate (call_seen l.settings l.table_horizon c.1))
+        (first-not (call_tests l.searched l.stop_count c.1) (refl, (refl, (refl, (refl, tt)))))
+        (view (call_seen l.settings l.table_horizon c.1))
 
     go : (b : Bool) → not11 (said (cond b (test_fate (gate_of l c) (plain_fate l c.1)) (plain_fate l c.1)))
-    go true = test-not (gate_of l c) (plain_fate l c.1) (first-not (field_tests l.searched l.stop_count c.1 ++ running_tests (running l.week c.0 c.1.day)) (refl, (refl, (refl, (refl, tt))))) plain
+    go true = test-not (gate_of l c) (plain_fate l c.1)
+        (first-not (field_tests l.searched l.stop_count c.1 ++ running_tests (running l.week c.0 c.1.day))
+        (refl, (refl, (refl, (refl, tt))))) plain
     go false = plain
 
 -- ---- the step

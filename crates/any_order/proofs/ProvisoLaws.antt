@@ -46,7 +46,8 @@ unfolding entering
 enter-all zero l c k e = refl
 enter-all (suc n) l c k e = λ j. into (e j) ++ enter-all n l c k e j
 
-enter-first : (n : ℕ) (l : Load) (c d : Named) (k j : Call) → fate l c ≡ goes k → fate l d ≡ goes j → entering l (c ∷ replicate n d) ≡ k ∷ replicate n j
+enter-first : (n : ℕ) (l : Load) (c d : Named) (k j : Call) → fate l c ≡ goes k → fate l d ≡ goes j
+    → entering l (c ∷ replicate n d) ≡ k ∷ replicate n j
 unfolding entering
 enter-first n l c d k j e f = λ x. into (e x) ++ enter-all n l d j f x
 
@@ -56,14 +57,17 @@ map-all f (suc n) a = ap (λ (bs : List _). f a ∷ bs) (map-all f n a)
 
 -- ---- a call that meets a full table, which is cut once
 
-module _ (s : Settings) (n : ℕ) (t : Table) (i : CallInput) (k : Call) (q : first_answer (call_tests false n i) ≡ Ok Taken) (e : call_seen s t.horizon i ≡ Some k) (full : 512 ≤ t.count) (above : 3600 ≤ less t.horizon) where
-  then-taken : (j : Call) → call_seen s (less t.horizon) i ≡ Some j → length (trim_all (less t.horizon) (take t.count t.calls)) < 512 → (call_on s false n t i).answer ≡ Ok Taken
+module _ (s : Settings) (n : ℕ) (t : Table) (i : CallInput) (k : Call) (q : first_answer (call_tests false n i) ≡ Ok Taken)
+    (e : call_seen s t.horizon i ≡ Some k) (full : 512 ≤ t.count) (above : 3600 ≤ less t.horizon) where
+  then-taken : (j : Call) → call_seen s (less t.horizon) i ≡ Some j → length (trim_all (less t.horizon) (take t.count t.calls)) < 512
+      → (call_on s false n t i).answer ≡ Ok Taken
   unfolding call_fit cut
   then-taken j o r =
       let c = cut (less t.horizon) t in
       let a = call_time s i i.arrival in
       let d = call_time s i i.departure in
-      let f : ◌≡◌ {A = Tried} (record { answer = Ok Taken; table = put c j }) (call_fit s t i) = fit.room a d i c j o r ∙ fit.cuts a d i t k e full above in
+      let f : ◌≡◌ {A = Tried} (record { answer = Ok Taken; table = put c j }) (call_fit s t i) = fit.room a d i c j o r
+      ∙ fit.cuts a d i t k e full above in
       sym (ap (λ (x : Tried). x.answer) (changed s false n t i (record { answer = Ok Taken; table = put c j }) (sym q) f refl))
 
   then-outside : call_seen s (less t.horizon) i ≡ None → (call_on s false n t i).answer ≡ Ok Outside
@@ -72,13 +76,25 @@ module _ (s : Settings) (n : ℕ) (t : Table) (i : CallInput) (k : Call) (q : fi
       let c = cut (less t.horizon) t in
       let a = call_time s i i.arrival in
       let d = call_time s i i.departure in
-      let f : ◌≡◌ {A = Tried} (record { answer = Ok Outside; table = c }) (call_fit s t i) = fit.outside a d i c o ∙ fit.cuts a d i t k e full above in
+      let f : ◌≡◌ {A = Tried} (record { answer = Ok Outside; table = c }) (call_fit s t i) = fit.outside a d i c o
+      ∙ fit.cuts a d i t k e full above in
       sym (ap (λ (x : Tried). x.answer) (changed s false n t i (record { answer = Ok Outside; table = c }) (sym q) f refl))
 
 -- ---- the load with one stop
 
 call_at : ℕ → Call
-call_at n = record { trip = 1; day = 0; sequence = 1; stop = 0; arrival = n; departure = n; board = true; alight = true; board_request = false; alight_request = false }
+call_at n = record {
+  trip = 1;
+  day = 0;
+  sequence = 1;
+  stop = 0;
+  arrival = n;
+  departure = n;
+  board = true;
+  alight = true;
+  board_request = false;
+  alight_request = false;
+}
 
 abbrev full_table : List Call → Table
 full_table cs = record { calls = cs; count = 512; horizon = 21600; limits = 0 }
@@ -88,7 +104,8 @@ record Computed : Type 0 where
   early-goes : fate one_stop (at 1000) ≡ goes (call_at 1000)
   late-goes : fate one_stop (at 20000) ≡ goes (call_at 20000)
   late-taken : (calling one_stop (at 20000)).answer ≡ Ok Taken
-  asks : (cs : List Call) (b : Bool) (c : Named) → (calling (made_of one_stop cs 512 b) c).answer ≡ (call_on blank_settings false 1 (full_table cs) c.1).answer
+  asks : (cs : List Call) (b : Bool) (c : Named)
+      → (calling (made_of one_stop cs 512 b) c).answer ≡ (call_on blank_settings false 1 (full_table cs) c.1).answer
   early-passes : first_answer (call_tests false 1 (at 1000).1) ≡ Ok Taken
   late-passes : first_answer (call_tests false 1 (at 20000).1) ≡ Ok Taken
   early-seen : call_seen blank_settings 21600 (at 1000).1 ≡ Some (call_at 1000)
@@ -98,7 +115,9 @@ record Computed : Type 0 where
   late-cut : due_by 16200 (call_at 20000) ≡ false
 
 computed : Computed
-unfolding first_answer near walks_of canonical_of station_of id_wrong is_known type_wrong name_needed name_wrong stop_tests stop_at stop_of held known call_tests call_fit fitted call_on time_after seen_call seen empty_of undated_week stop_spec plain_call call_spec fate call_at
+unfolding first_answer near walks_of canonical_of station_of id_wrong is_known type_wrong name_needed name_wrong stop_tests stop_at
+    stop_of held known call_tests call_fit fitted call_on time_after seen_call seen empty_of undated_week stop_spec plain_call call_spec
+    fate call_at
 computed = record {
   none_yet = refl;
   early-goes = refl;
@@ -114,7 +133,8 @@ computed = record {
   late-cut = refl;
 }
   where
-    asks : (cs : List Call) (b : Bool) (c : Named) → (calling (made_of one_stop cs 512 b) c).answer ≡ (call_on blank_settings false 1 (full_table cs) c.1).answer
+    asks : (cs : List Call) (b : Bool) (c : Named)
+        → (calling (made_of one_stop cs 512 b) c).answer ≡ (call_on blank_settings false 1 (full_table cs) c.1).answer
     asks cs true c = refl
     asks cs false c = refl
 
@@ -128,17 +148,21 @@ module _ (cs : List Named) (ks : List Call) (e : entering one_stop cs ≡ ks) (m
       room-for-all (undated blank_settings) stop_alone cs few
 
   grew : Grown one_stop ks (answered one_stop cs) (called one_stop cs)
-  grew = subst (λ (xs : List Call). Grown one_stop xs (answered one_stop cs) (called one_stop cs)) e (grown cs one_stop (made-sound (undated blank_settings) stop_alone) fits_all)
+  grew = subst (λ (xs : List Call). Grown one_stop xs (answered one_stop cs) (called one_stop cs)) e
+      (grown cs one_stop (made-sound (undated blank_settings) stop_alone) fits_all)
 
   count : one_stop.call_count + length ks ≡ 512
   count = let z = computed.none_yet in omega arith
 
   shows : take 512 (called one_stop cs).calls ≡ ks
-  shows = ap (λ (x : ℕ). take x (called one_stop cs).calls) (sym count) ∙ grew.calls ∙ ap (λ (x : ℕ). take x one_stop.calls ++ ks) computed.none_yet
+  shows = ap (λ (x : ℕ). take x (called one_stop cs).calls) (sym count) ∙ grew.calls
+      ∙ ap (λ (x : ℕ). take x one_stop.calls ++ ks) computed.none_yet
 
-  asked : (c : Named) → (calling (called one_stop cs) c).answer ≡ (call_on blank_settings false 1 (full_table (called one_stop cs).calls) c.1).answer
+  asked : (c : Named) → (calling (called one_stop cs) c).answer
+      ≡ (call_on blank_settings false 1 (full_table (called one_stop cs).calls) c.1).answer
   asked c =
-      ap (λ (m : Load). (calling m c).answer) (grew.is ∙ ap (λ (x : ℕ). made_of one_stop (called one_stop cs).calls x (answered one_stop cs)) count)
+      ap (λ (m : Load). (calling m c).answer) (grew.is
+      ∙ ap (λ (x : ℕ). made_of one_stop (called one_stop cs).calls x (answered one_stop cs)) count)
       ∙ computed.asks (called one_stop cs).calls (answered one_stop cs) c
 
 abbrev lates : List Named
@@ -151,22 +175,26 @@ taken-last : (calling (called one_stop lates) (at 1000)).answer ≡ Ok Taken
 taken-last =
     let t = full_table (called one_stop lates).calls in
     let none : trim_all 16200 (take 512 (called one_stop lates).calls) ≡ [] =
-    ap (trim_all 16200) (shows lates (replicate 512 (call_at 20000)) late-all refl refl) ∙ none-due 16200 512 (call_at 20000) computed.late-cut in
+    ap (trim_all 16200) (shows lates (replicate 512 (call_at 20000)) late-all refl refl)
+    ∙ none-due 16200 512 (call_at 20000) computed.late-cut in
     let few : length (trim_all 16200 (take 512 (called one_stop lates).calls)) ≡ 0 = ap length none in
     asked lates (replicate 512 (call_at 20000)) late-all refl refl (at 1000)
-    ∙ then-taken blank_settings 1 t (at 1000).1 (call_at 1000) computed.early-passes computed.early-seen (omega arith) (omega arith) (call_at 1000) computed.early-then (omega arith)
+    ∙ then-taken blank_settings 1 t (at 1000).1 (call_at 1000) computed.early-passes computed.early-seen (omega arith) (omega arith)
+    (call_at 1000) computed.early-then (omega arith)
 
 outside-last : (calling (called one_stop (at 1000 ∷ replicate 511 (at 20000))) (at 20000)).answer ≡ Ok Outside
 outside-last =
     let cs = at 1000 ∷ replicate 511 (at 20000) in
     let e = enter-first 511 one_stop (at 1000) (at 20000) (call_at 1000) (call_at 20000) computed.early-goes computed.late-goes in
     asked cs (call_at 1000 ∷ replicate 511 (call_at 20000)) e refl refl (at 20000)
-    ∙ then-outside blank_settings 1 (full_table (called one_stop cs).calls) (at 20000).1 (call_at 20000) computed.late-passes computed.late-seen (omega arith) (omega arith) computed.late-then
+    ∙ then-outside blank_settings 1 (full_table (called one_stop cs).calls) (at 20000).1
+    (call_at 20000) computed.late-passes computed.late-seen (omega arith) (omega arith) computed.late-then
 
 pub proviso-needed : ProvisoNeeded
 proviso-needed = record {
   late_first =
-      answered-alone lates one_stop (made-sound (undated blank_settings) stop_alone) (fits_all lates (replicate 512 (call_at 20000)) late-all refl refl)
+      answered-alone lates one_stop (made-sound (undated blank_settings) stop_alone)
+      (fits_all lates (replicate 512 (call_at 20000)) late-all refl refl)
       ∙ map-all (answer_first one_stop) 512 (at 20000)
       ∙ ap (λ (a : Answer). replicate 512 (at 20000, a)) computed.late-taken;
   early_last = taken-last;

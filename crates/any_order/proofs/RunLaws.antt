@@ -90,7 +90,8 @@ over_first l c cs h = go (fate l c)
     go : (f : Fate) → over (left l f) cs ≡ ltb 512 (l.call_count + length (into f ++ entering l cs))
     go (sent r) = refl
     go out = ap (λ (ks : List Call). ltb 512 (l.call_count + length ks)) (entering-left l out cs)
-    go (goes k) = (λ j. ltb 512 (l.call_count + 1 + length (entering-left l (goes k) cs j))) ∙ ap (ltb 512) (moved l.call_count (length (entering l cs)))
+    go (goes k) = (λ j. ltb 512 (l.call_count + 1 + length (entering-left l (goes k) cs j)))
+        ∙ ap (ltb 512) (moved l.call_count (length (entering l cs)))
       where
         moved : (n m : ℕ) → n + 1 + m ≡ n + suc m
         moved n m = omega arith
@@ -113,7 +114,8 @@ cramped-over (c ∷ cs) l s = go (λ z. cramped-over cs (left l (fate l c)) z) (
         → (b : Bool) → fits l.call_count (fate l c) ≡ b → (cramps l (calling l c) || cramped (calling l c).load cs) ≡ over l (c ∷ cs)
     go later true h =
         let w = steps l c s h in
-        or-not (cramped (calling l c).load cs) (cramps-not l c s h) ∙ ap (λ (m : Load). cramped m cs) w.next ∙ later w.sound ∙ over_first l c cs h
+        or-not (cramped (calling l c).load cs) (cramps-not l c s h) ∙ ap (λ (m : Load). cramped m cs) w.next ∙ later w.sound
+        ∙ over_first l c cs h
     go later false h = or-by (cramped (calling l c).load cs) (cramps-full l c s h) ∙ sym (over-full l c cs h)
 
 -- ---- the answers
@@ -123,8 +125,11 @@ unfolding told
 told-are [] l s e = refl
 told-are (c ∷ cs) l s e =
     let w = steps l c s (fitted l c s (or-false-left (cramps l (calling l c)) (cramped (calling l c).load cs) e)) in
-    let r : cramped (left l (fate l c)) cs ≡ false = subst (λ (m : Load). cramped m cs ≡ false) w.next (or-false-right (cramps l (calling l c)) (cramped (calling l c).load cs) e) in
-    (λ k. (c, (w.is k).answer) ∷ answers (w.next k) cs) ∙ ap (λ (xs : List (Named × Answer)). (c, said (fate l c)) ∷ xs) (told-are cs (left l (fate l c)) w.sound r ∙ told-left l (fate l c) cs)
+    let r : cramped (left l (fate l c)) cs ≡ false =
+    subst (λ (m : Load). cramped m cs ≡ false) w.next (or-false-right (cramps l (calling l c)) (cramped (calling l c).load cs) e) in
+    (λ k. (c, (w.is k).answer) ∷ answers (w.next k) cs)
+    ∙ ap (λ (xs : List (Named × Answer)). (c, said (fate l c)) ∷ xs)
+    (told-are cs (left l (fate l c)) w.sound r ∙ told-left l (fate l c) cs)
 
 -- as many as there is room for: each is answered as it is alone
 firsts-are : (cs : List Named) (l : Load) → Sound l → l.call_count + length (entering l cs) ≤ 512 → map (answer_first l) cs ≡ told l cs
@@ -172,7 +177,8 @@ closed-twice : (l : Load) (cs : List Call) (n : ℕ) (b : Bool) → made_of (clo
 closed-twice l cs n true = refl
 closed-twice l cs n false = refl
 
-first-grown : (l : Load) (f : Fate) (ks : List Call) (b : Bool) (m : Load) → length l.calls ≡ 512 → fits l.call_count f ≡ true → Grown (left l f) ks b m
+first-grown : (l : Load) (f : Fate) (ks : List Call) (b : Bool) (m : Load) → length l.calls ≡ 512 → fits l.call_count f ≡ true
+    → Grown (left l f) ks b m
     → Grown l (into f ++ ks) (not (is_refused (said f)) || b) m
 first-grown l (sent r) ks b m e h g = g
 first-grown l out ks b m e h g = record { is = g.is ∙ closed-twice l m.calls (l.call_count + length ks) b; calls = g.calls; rest = g.rest }
@@ -180,11 +186,14 @@ first-grown l (goes k) ks b m e h g =
     let n = l.call_count in
     let low : n < length l.calls = omega (arith, ltb-true n 512 h) in
     let moved : n + 1 + length ks ≡ n + suc (length ks) = omega arith in
-    let more : take (n + 1) (set l.calls n k) ≡ take n l.calls ++ (k ∷ []) = ap (λ (x : ℕ). take x (set l.calls n k)) (add-one n) ∙ take-suc-set l.calls n k low in
+    let more : take (n + 1) (set l.calls n k) ≡ take n l.calls ++ (k ∷ []) =
+    ap (λ (x : ℕ). take x (set l.calls n k)) (add-one n) ∙ take-suc-set l.calls n k low in
     record {
       is = g.is ∙ closed-twice (stored l k) m.calls (n + 1 + length ks) b ∙ ap (λ (x : ℕ). made_of l m.calls x true) moved;
-      calls = ap (λ (x : ℕ). take x m.calls) (sym moved) ∙ g.calls ∙ ap (λ (xs : List Call). xs ++ ks) more ∙ append_assoc (take n l.calls) (k ∷ []) ks;
-      rest = ap (λ (x : ℕ). drop x m.calls) (sym moved) ∙ g.rest ∙ drop-set-lt (n + 1 + length ks) l.calls n k (omega arith) ∙ ap (λ (x : ℕ). drop x l.calls) moved;
+      calls = ap (λ (x : ℕ). take x m.calls) (sym moved) ∙ g.calls ∙ ap (λ (xs : List Call). xs ++ ks) more
+          ∙ append_assoc (take n l.calls) (k ∷ []) ks;
+      rest = ap (λ (x : ℕ). drop x m.calls) (sym moved) ∙ g.rest ∙ drop-set-lt (n + 1 + length ks) l.calls n k (omega arith)
+          ∙ ap (λ (x : ℕ). drop x l.calls) moved;
     }
 
 pub grown : (cs : List Named) (l : Load) → Sound l → cramped l cs ≡ false → Grown l (entering l cs) (answered l cs) (called l cs)
@@ -193,11 +202,14 @@ grown [] l s e = none-grown l
 grown (c ∷ cs) l s e =
     let h = fitted l c s (or-false-left (cramps l (calling l c)) (cramped (calling l c).load cs) e) in
     let w = steps l c s h in
-    let r : cramped (left l (fate l c)) cs ≡ false = subst (λ (m : Load). cramped m cs ≡ false) w.next (or-false-right (cramps l (calling l c)) (cramped (calling l c).load cs) e) in
+    let r : cramped (left l (fate l c)) cs ≡ false =
+    subst (λ (m : Load). cramped m cs ≡ false) w.next (or-false-right (cramps l (calling l c)) (cramped (calling l c).load cs) e) in
     let g : Grown (left l (fate l c)) (entering l cs) (answered l cs) (called (calling l c).load cs) =
-    subst (λ (m : Load). Grown (left l (fate l c)) (entering l cs) (answered l cs) (called m cs)) (sym w.next) (same (grown cs (left l (fate l c)) w.sound r)) in
+    subst (λ (m : Load). Grown (left l (fate l c)) (entering l cs) (answered l cs) (called m cs)) (sym w.next)
+    (same (grown cs (left l (fate l c)) w.sound r)) in
     first-grown l (fate l c) (entering l cs) (answered l cs) _ s.table.long h g
   where
-    same : {m : Load} → Grown (left l (fate l c)) (entering (left l (fate l c)) cs) (answered (left l (fate l c)) cs) m → Grown (left l (fate l c)) (entering l cs) (answered l cs) m
+    same : {m : Load} → Grown (left l (fate l c)) (entering (left l (fate l c)) cs) (answered (left l (fate l c)) cs) m
+        → Grown (left l (fate l c)) (entering l cs) (answered l cs) m
     same {m} g = subst (λ (ks : List Call). Grown (left l (fate l c)) ks (answered l cs) m) (entering-left l (fate l c) cs)
         (subst (λ (b : Bool). Grown (left l (fate l c)) (entering (left l (fate l c)) cs) b m) (answered-left l (fate l c) cs) g)

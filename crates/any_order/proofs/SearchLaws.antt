@@ -48,16 +48,25 @@ module _ (a : Load) (cs : List Call) where
     -- accepted calls have one order
     same-sorted : (ks : List Journey) (h m : ℕ) → outcome_of a ≡ found ks h m → in_order_of (take n a.calls) ≡ in_order_of (take n cs)
     unfolding outcome_of timetable_of
-    same-sorted ks h m e = accepted-any-order (take n a.calls) (take n cs) p (search-found (timetable_of a) a.table_horizon a.table_limits h m ks e).0
+    same-sorted ks h m e = accepted-any-order (take n a.calls) (take n cs) p
+        (search-found (timetable_of a) a.table_horizon a.table_limits h m ks e).0
 
     abbrev ran : Load → Outcome → Stepped
     ran l o = record { answer = answer_of o; load = settled l o }
 
     -- the loads with what both found, their calls in one order
-    found-load : (ks : List Journey) (h m : ℕ) (limit : Option ℕ) → in_order_of (take n a.calls) ≡ in_order_of (take n cs) → with_found a ks h m limit ≡ with_found other ks h m limit
+    found-load : (ks : List Journey) (h m : ℕ) (limit : Option ℕ) → in_order_of (take n a.calls) ≡ in_order_of (take n cs)
+        → with_found a ks h m limit ≡ with_found other ks h m limit
     found-load ks h m limit e = λ k. with_seen a
         (record { calls = e k ++ u k; count = n; horizon = a.table_horizon; limits = a.table_limits })
-        (record { journeys = (with_found a ks h m limit).journeys; count = (with_found a ks h m limit).journey_count; horizon = h; limits = m; searched = true; limit = limit })
+        (record {
+          journeys = (with_found a ks h m limit).journeys;
+          count = (with_found a ks h m limit).journey_count;
+          horizon = h;
+          limits = m;
+          searched = true;
+          limit = limit;
+        })
 
     -- of loads not searched before
     same_load : (o : Outcome) → outcome_of a ≡ o → is_refused (answer_of o) ≡ false → settled a o ≡ settled other o
@@ -68,14 +77,18 @@ module _ (a : Load) (cs : List Call) where
     alike : Alike search_spec a other
     alike = record {
       answer = answer a.searched refl;
-      refused = λ e. ((search-answered a).unchanged e, (search-answered other).unchanged (ap is_refused (sym (answer a.searched refl)) ∙ e));
+      refused = λ e. (
+        (search-answered a).unchanged e,
+        (search-answered other).unchanged (ap is_refused (sym (answer a.searched refl)) ∙ e),
+      );
       accepted = λ e. accepted a.searched refl e;
     }
       where
         answer : (b : Bool) → a.searched ≡ b → (search_spec a).answer ≡ (search_spec other).answer
         answer true e = ap (λ (r : Stepped). r.answer) (search-again a e) ∙ sym (ap (λ (r : Stepped). r.answer) (search-again other e))
         answer false e =
-            ap (λ (r : Stepped). r.answer) (search-runs a e) ∙ ap answer_of same_outcome ∙ sym (ap (λ (r : Stepped). r.answer) (search-runs other e))
+            ap (λ (r : Stepped). r.answer) (search-runs a e) ∙ ap answer_of same_outcome
+            ∙ sym (ap (λ (r : Stepped). r.answer) (search-runs other e))
 
         accepted : (b : Bool) → a.searched ≡ b → is_refused (search_spec a).answer ≡ false → (search_spec a).load ≡ (search_spec other).load
         accepted true e q = absurd (true≢false (sym (ap (λ (r : Stepped). is_refused r.answer) (search-again a e)) ∙ q))
@@ -101,7 +114,8 @@ module _ (a : Load) (cs : List Call) where
       one-order clear = accepted-any-order (take n a.calls) (take n cs) p clear
 
       either-load : (ks : List Journey) (h m : ℕ) (f : Bool) → in_order_of (take n a.calls) ≡ in_order_of (take n cs)
-          → cond f (with_journeys a ks h m) (with_found a ks h m (Some j)) ≡ cond f (with_journeys other ks h m) (with_found other ks h m (Some j))
+          → cond f (with_journeys a ks h m) (with_found a ks h m (Some j))
+          ≡ cond f (with_journeys other ks h m) (with_found other ks h m (Some j))
       either-load ks h m true e = found-load ks h m None e
       either-load ks h m false e = found-load ks h m (Some j) e
 
@@ -127,19 +141,22 @@ module _ (a : Load) (cs : List Call) where
       by_answer false false falling = refl
       by_answer false false (found ks h m) = refl
 
-      by-load : (b c : Bool) (o : Outcome) → outcome_within a j ≡ o → is_refused (by a b c o).answer ≡ false → (by a b c o).load ≡ (by other b c o).load
+      by-load : (b c : Bool) (o : Outcome) → outcome_within a j ≡ o → is_refused (by a b c o).answer ≡ false
+          → (by a b c o).load ≡ (by other b c o).load
       by-load true c o e q = absurd (true≢false q)
       by-load false true o e q = absurd (true≢false q)
       by-load false false clashing e q = absurd (true≢false q)
       by-load false false falling e q = absurd (true≢false q)
       by-load false false (found ks h m) e q =
           let clear = within-clear a j ks h m e in
-          either-load ks h m (finishes_in a j) (one-order clear) ∙ ap (λ (f : Bool). cond f (with_journeys other ks h m) (with_found other ks h m (Some j))) (same-finishes clear)
+          either-load ks h m (finishes_in a j) (one-order clear)
+          ∙ ap (λ (f : Bool). cond f (with_journeys other ks h m) (with_found other ks h m (Some j))) (same-finishes clear)
 
       limited-alike : Alike (λ l. step_of (within_spec l j)) a other
       limited-alike =
           let same : (within_spec a j).answer ≡ (within_spec other j).answer =
-          ap (λ (w : Answered). w.answer) of-first ∙ by_answer a.searched wide (outcome_within a j) ∙ sym (ap (λ (w : Answered). w.answer) of-second) in
+          ap (λ (w : Answered). w.answer) of-first ∙ by_answer a.searched wide (outcome_within a j)
+          ∙ sym (ap (λ (w : Answered). w.answer) of-second) in
           record {
             answer = same;
             refused = λ e. ((within-answered a j).unchanged e, (within-answered other j).unchanged (ap is_refused (sym same) ∙ e));

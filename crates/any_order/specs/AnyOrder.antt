@@ -1,5 +1,5 @@
--- **Request 14.** Loads opened alike and handed the same stops, services, exceptions and rules in one order, then the same calls in two. "The same
--- calls" are a bag: refused and repeated ones are among them.
+-- **Request 14.** Loads opened alike and handed the same stops, services, exceptions and rules in one order, then the same calls in two.
+-- "The same calls" are a bag: refused and repeated ones are among them.
 use Rattle.std.specs.Prelude.{ℕ, ◌+◌, ◌≤◌, ◌≡◌, false, length}
 use mathlib.Core.List.{List, map, Permᴰ}
 use Rattle.load.specs.declared.Load.{Load}

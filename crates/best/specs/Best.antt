@@ -37,4 +37,5 @@ next_spec l s j = best_spec l (after_of s j.leave)
 
 -- of a searched load whose list is in order, best is that of the whole list, at every second
 abbrev pub BestOfAll : Type 0
-BestOfAll = (l : Load) → l.searched ≡ true → Ordered journey_figures (kept_of l) → (s : ℤ) → best_spec l s ≡ best_of_of (kept_of l) l.horizon s
+BestOfAll = (l : Load) → l.searched ≡ true → Ordered journey_figures (kept_of l) → (s : ℤ)
+    → best_spec l s ≡ best_of_of (kept_of l) l.horizon s

@@ -1,4 +1,4 @@
--- A turn of the loop that finds best: what was found, and one journey more.
+-- At which second best is asked, and a turn of the loop that finds it: what was found, and one journey more.
 use Rattle.std.specs.Prelude.{cond, ℕ, leb, ltb, ℤ, pos, negsuc, None, Option, Some}
 use Rattle.profile.specs.declared.Journey.{Journey}
 use Rattle.profile.specs.Figures.{prefer}
@@ -13,7 +13,7 @@ keep_of (Some b) j = cond (prefer (journey_figures b) (journey_figures j)) (Some
 unfoldable pub better_of : ℕ → Option Journey → Journey → Option Journey
 better_of t f j = cond (leb t j.leave) (keep_of f j) f
 
--- none before 0 and after the horizon h
-unfoldable pub turn_of : ℕ → ℤ → Option Journey → Journey → Option Journey
-turn_of h (pos t) f j = cond (ltb h t) f (better_of t f j)
-turn_of h (negsuc t) f j = f
+-- the second that a query is answered at: none before 0 and after the horizon h
+unfoldable pub asked : ℕ → ℤ → Option ℕ
+asked h (pos t) = cond (ltb h t) None (Some t)
+asked h (negsuc t) = None

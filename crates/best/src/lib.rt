@@ -5,7 +5,7 @@
 ghost use Rattle.std.specs.Prelude.{◌≡◌, leb};
 ghost use Rattle.std.specs.List.{find};
 ghost use Rattle.best.specs.Best.{best_of_of, first_leaving, after_of, best_spec, next_spec};
-ghost use Rattle.best.specs.Turn.{better_of, turn_of};
+ghost use Rattle.best.specs.Turn.{asked, better_of};
 
 use load::Load;
 use prefix::first;
@@ -27,14 +27,14 @@ fn better(found: Option<Journey>, j: Journey, second: u64) -> Option<Journey>
     }
 }
 
-// What is found after a journey more: none before 0 and after the horizon.
-fn turn(found: Option<Journey>, j: Journey, horizon: u16, second: i64) -> Option<Journey>
-    ensures { result ≡ turn_of horizon second found j }
+// The second, where a query at it is answered: none before 0 and after the horizon.
+fn asked(horizon: u16, second: i64) -> Option<u64>
+    ensures { result ≡ asked horizon second }
 {
     if second < 0 || second as u64 > horizon as u64 {
-        return found;
+        return None;
     }
-    better(found, j, second as u64)
+    Some(second as u64)
 }
 
 // Best over the journeys, in any order and of any number; of full ties the first. No struct of the three parameters: each caller takes
@@ -42,9 +42,8 @@ fn turn(found: Option<Journey>, j: Journey, horizon: u16, second: i64) -> Option
 pub fn best_over(journeys: &[Journey], horizon: u16, second: i64) -> Option<Journey>
     ensures { result ≡ best_of_of journeys.now horizon second }
 {
-    journeys
-        .iter()
-        .fold(None, |found, j| turn(found, *j, horizon, second))
+    let t = asked(horizon, second)?;
+    journeys.iter().fold(None, |found, j| better(found, *j, t))
 }
 
 // The first of the journeys that leaves at t or later; it reads no further.
@@ -58,10 +57,7 @@ fn first_from(journeys: &[Journey], t: u64) -> Option<Journey>
 pub fn first_leaving(journeys: &[Journey], horizon: u16, second: i64) -> Option<Journey>
     ensures { result ≡ first_leaving journeys.now horizon second }
 {
-    if second < 0 || (horizon as u64) < second as u64 {
-        return None;
-    }
-    first_from(journeys, second as u64)
+    first_from(journeys, asked(horizon, second)?)
 }
 
 // The best journey that leaves at or after the second; none of an unsearched load.

@@ -21,7 +21,7 @@ use Rattle.calls.specs.Windows.{time_of, time_after, after, within, held, allowe
 use Rattle.calls.specs.Tables.{blank_call, due_by, trim, trim_all, cut, less, put}
 use Rattle.laws.proofs.Bools.{and-true-left}
 use Rattle.refusal.specs.First.{first_answer, AllFail, Answer}
-use Rattle.refusal.proofs.FirstLaws.{taken-all-fail}
+use Rattle.refusal.proofs.FirstLaws.{taken-all-fail, never-taken}
 use Rattle.settings.specs.Settings.{near}
 use Rattle.calls.specs.Calls.{un_timed, known, call_tests, call_time, call_fit, call_on, ended, goes_on_of}
 use Rattle.calls.specs.Sound.{All, one_of, horizons, CallSound, TableSound, EmptySound, CallKeepsSound}
@@ -206,13 +206,7 @@ pub record Passed (b : Bool) (n : ℕ) (i : CallInput) : Type 0 where
 -- every test fails where the tests answer taken
 pub call-tests-fail : (b : Bool) (n : ℕ) (i : CallInput) → first_answer (call_tests b n i) ≡ Ok Taken → AllFail (call_tests b n i)
 unfolding call_tests
-call-tests-fail b n i e = taken-all-fail (call_tests b n i) (
-  (λ q. let z : ◌≡◌ {A = ℕ} 0 1 = cc in omega arith),
-  (
-    (λ q. let z : ◌≡◌ {A = ℕ} 0 1 = cc in omega arith),
-    ((λ q. let z : ◌≡◌ {A = ℕ} 0 1 = cc in omega arith), ((λ q. let z : ◌≡◌ {A = ℕ} 0 1 = cc in omega arith), tt)),
-  ),
-) e
+call-tests-fail b n i e = taken-all-fail (call_tests b n i) (never-taken (call_tests b n i) refl) e
 
 first-true : (a b c d e : Bool) → (a && b && c && d && e) ≡ true → a ≡ true
 first-true true b c d e q = refl

@@ -1,4 +1,5 @@
--- A table that the steps make: its count is in range, the tail blank, calls ordered and within the horizon, marks only where they mean something.
+-- A table that the steps make: its count is in range, the tail blank, calls ordered and within the horizon, marks only where they mean
+-- something.
 use Rattle.std.specs.Prelude.{ℕ, ◌-◌, ◌≤◌, ◌<◌, ◌≡◌, Bool, true, cond, List, [], ◌∷◌, eqb, length, take, drop, replicate}
 use Rattle.settings.specs.declared.Settings.{Settings}
 use Rattle.calls.specs.declared.Call.{Call}
@@ -47,7 +48,8 @@ CallKeepsSound = (s : Settings) (b : Bool) (n : ℕ) (t : Table) (i : CallInput)
 
 -- the call step, of a load with n stops, keeps its calls at these; and so do more stops
 abbrev pub CallKeepsKnown : Type 0
-CallKeepsKnown = (s : Settings) (b : Bool) (n : ℕ) (t : Table) (i : CallInput) → TableSound t → StopsKnown n t → StopsKnown n (call_on s b n t i).table
+CallKeepsKnown = (s : Settings) (b : Bool) (n : ℕ) (t : Table) (i : CallInput) → TableSound t → StopsKnown n t
+    → StopsKnown n (call_on s b n t i).table
 
 abbrev pub MoreStopsKnown : Type 0
 MoreStopsKnown = (n m : ℕ) (t : Table) → n ≤ m → StopsKnown n t → StopsKnown m t

@@ -1,6 +1,7 @@
 -- The table of calls, and what a 513th call does to it.
 use Rattle.refusal.specs.declared.Accepted.TheVariants.{Taken, Outside}
-use Rattle.std.specs.Prelude.{ℕ, zero, suc, ◌+◌, ◌-◌, ◌/◌, List, Bool, false, cond, take, length, set, ltb, leb, None, Option, Some, Err, Ok}
+use Rattle.std.specs.Prelude.{ℕ, zero, suc, ◌+◌, ◌-◌, ◌/◌, List, Bool, false, cond, take, length, set, ltb, leb, None, Option, Some, Err}
+use Rattle.std.specs.Prelude.{Ok}
 use Rattle.calls.specs.declared.Call.{Call}
 use Rattle.calls.specs.declared.CallInput.{CallInput}
 use Rattle.calls.specs.declared.CallKey.{CallKey}

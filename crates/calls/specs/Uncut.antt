@@ -31,4 +31,5 @@ pub record Told (s : Settings) (searched : Bool) (stops : ℕ) (t : Table) (i : 
   pub outside : u ≡ Beyond → call_on s searched stops t i ≡ record { answer = Ok Outside; table = t }
 
 abbrev pub UncutTells : Type 0
-UncutTells = (s : Settings) (searched : Bool) (stops : ℕ) (t : Table) (i : CallInput) → Told s searched stops t i (uncut_on s searched stops t.count t.horizon i)
+UncutTells = (s : Settings) (searched : Bool) (stops : ℕ) (t : Table) (i : CallInput)
+    → Told s searched stops t i (uncut_on s searched stops t.count t.horizon i)

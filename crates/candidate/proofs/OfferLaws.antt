@@ -12,7 +12,7 @@ use lib.ListN.{length, get_or, set, take, length-set, length-take, length-append
 use lib.Seq.{get_or-set_same, get_or-set_other, take-suc-set, take_all, ext_get_or, get_or-take}
 use Rattle.laws.specs.Lists.{filterb}
 use Rattle.laws.proofs.Lists.{length-filterb-lt}
-use Rattle.profile.specs.declared.Row.{Row}
+use Rattle.profile.specs.Found.{Row}
 use Rattle.profile.specs.Figures.{covᶠ, dueᶠ}
 use Rattle.profile.specs.Kept.{going, refused, latest, too_late}
 use Rattle.profile.specs.Walk.{passes}

@@ -10,7 +10,7 @@ use lib.Dec.{leb, ltb}
 use lib.ListN.{take}
 use borrow.Author.Tests.{le-leb, le-ltb, lt-ltb, ltb-true, ltb-false}
 use Rattle.laws.proofs.Bools.{and-true, or-true-cases, test}
-use Rattle.profile.specs.declared.Row.{Row}
+use Rattle.profile.specs.Found.{Row}
 use Rattle.profile.specs.declared.figures.Figures.{Figures}
 use Rattle.profile.specs.Figures.{lexb}
 use Rattle.profile.specs.Kept.{St, going, refused, too_late}

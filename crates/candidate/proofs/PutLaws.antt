@@ -11,7 +11,7 @@ use lib.Dec.{ltb}
 use borrow.Author.Tests.{ltb-true, ltb-false}
 use Rattle.laws.proofs.Bools.{test}
 use Rattle.laws.proofs.Arrays.{length-puts, puts_low, puts-high, puts-in}
-use Rattle.profile.specs.declared.Row.{Row}
+use Rattle.profile.specs.Found.{Row}
 use Rattle.profile.specs.Journeys.{row, no_row}
 use Rattle.state.specs.Layout.{slots, width, count_place, size}
 use Rattle.state.specs.View.{row_at, rows}

@@ -15,7 +15,7 @@ use Rattle.profile.specs.Journeys.{cov, due, no_row}
 use Rattle.profile.specs.Kept.{latest}
 use Rattle.profile.specs.Walk.{place, near}
 use Rattle.profile.proofs.WalkLaws.{place-le, place-before, passes-found, passes_none}
-use Rattle.profile.specs.declared.Row.{Row}
+use Rattle.profile.specs.Found.{Row}
 use Rattle.state.specs.Layout.{slots, size}
 use Rattle.state.specs.View.{row_at, rows, count_of}
 use Rattle.candidate.specs.Pieces.{put_row, near_to, near_at, Skipped, passing, uncovered, Packed, latest_due}

@@ -9,7 +9,7 @@ use lib.Dec.{ltb}
 use borrow.Author.Tests.{ltb-true, ltb-false, lt-ltb, le-ltb, le-leb, leb-false}
 use lib.ListN.{get_or, take}
 use Rattle.laws.proofs.Bools.{test}
-use Rattle.profile.specs.declared.Row.{Row}
+use Rattle.profile.specs.Found.{Row}
 use Rattle.profile.specs.Journeys.{cov}
 use Rattle.profile.proofs.CoverLaws.{cov-early}
 use Rattle.profile.proofs.FiguresLaws.{lexb-total}

@@ -2,18 +2,13 @@
 use Rattle.std.specs.Prelude.{◌≡◌, Bool, true, ◌||◌, ℕ, ltb}
 use mathlib.Core.List.{List, [], Memᴰ}
 use Rattle.laws.specs.Lists.{foldl}
-use Rattle.profile.specs.declared.Row.{Row}
+use Rattle.profile.specs.Found.{Row}
 use Rattle.profile.specs.declared.figures.Figures.{Figures}
 use Rattle.profile.specs.Figures.{covᶠ, dueᶠ}
 use Rattle.profile.specs.Kept.{St, going, refused, searched, too_late}
 use Rattle.profile.specs.Walk.{walk, walk_reads}
 use Rattle.profile.specs.Journeys.{row_figures, row_of, cov, due}
-use Rattle.candidate.specs.declared.Offer.{Offer}
 use Rattle.candidate.specs.Pieces.{passing}
-
--- the row of an offer
-abbrev pub offered : Offer → Row
-offered o = row_of o.leave o.arrival o.rides o.walk o.origin o.target o.board o.alight o.board2 o.alight2 o.middle_board o.middle_alight
 
 -- a row with these figures
 abbrev pub with_figures : Figures → Row
@@ -42,4 +37,5 @@ passed_over refused o = true
 
 -- where a row would be passed over, what it equals or beats leaves the state as it is, so that those offers need not be made
 abbrev pub OffersCovered : Type 0
-OffersCovered = (s : St Row) (b : Row) (os : List Row) → passed_over s b ≡ true → ((o : Row) → Memᴰ o os → cov b o ≡ true) → foldl offer_to s os ≡ s
+OffersCovered = (s : St Row) (b : Row) (os : List Row) → passed_over s b ≡ true → ((o : Row) → Memᴰ o os → cov b o ≡ true)
+    → foldl offer_to s os ≡ s

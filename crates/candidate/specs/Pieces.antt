@@ -1,8 +1,9 @@
 -- What the private functions of an offer do to the array, piece by piece.
-use Rattle.std.specs.Prelude.{Result, Ok, Err, ◌≡◌, Bool, not, cond, List, [], ◌∷◌, ℕ, ◌+◌, ◌*◌, ◌≤◌, leb, ltb, get_or, length, set, take, drop}
+use Rattle.std.specs.Prelude.{Result, Ok, Err, ◌≡◌, Bool, not, cond, List, [], ◌∷◌, ℕ, ◌+◌, ◌*◌, ◌≤◌, leb, ltb, get_or, length, set, take}
+use Rattle.std.specs.Prelude.{drop}
 use Rattle.laws.specs.Lists.{filterb}
 use Rattle.laws.specs.Arrays.{puts}
-use Rattle.profile.specs.declared.Row.{Row}
+use Rattle.profile.specs.Found.{Row}
 use Rattle.profile.specs.Figures.{lexb}
 use Rattle.profile.specs.Kept.{St, latest, settle}
 use Rattle.profile.specs.Walk.{place, near, passes}

@@ -2,20 +2,20 @@
 #![tactic(auto)]
 
 ghost use Rattle.std.specs.Prelude.{◌≡◌, Bool, [], ◌∷◌, ◌++◌, ◌+◌, ◌*◌, ◌≤◌, ◌<◌, length, set, take};
-ghost use Rattle.profile.specs.declared.Row.{Row};
+ghost use Rattle.profile.specs.Found.{Row};
 ghost use Rattle.profile.specs.Journeys.{due};
 ghost use Rattle.state.specs.Layout.{slots, width, size};
 ghost use Rattle.state.specs.View.{row_at, rows, count_of, horizon_of, view};
-ghost use Rattle.candidate.specs.Offer.{offered, with_figures, offer_to, reads_to, passed_over};
+ghost use Rattle.candidate.specs.Offer.{with_figures, offer_to, reads_to, passed_over};
 ghost use Rattle.candidate.specs.Pieces.{stored, put_row, Ends, Packed, Open, latest_due, settled};
 
 mod walk;
 
 use crate::walk::first_near;
 use profile::figures::Figures;
-use profile::{Row, no_row};
+use profile::{Found, Row, no_row};
 use state::layout::{COUNT, HORIZON, LIMITS, REFUSED, SLOTS, State, WIDTH};
-use state::{count, horizon, row_at, too_late};
+use state::{count, row_at, too_late};
 
 // Stores a row in slot i. That there is such a slot is asked, here, in `store` and in `state: slot_at`: a place read from a type would be
 // opened at every use.
@@ -149,45 +149,21 @@ fn consider(st: &mut State, o: Row) -> usize
     walked(st, c, o)
 }
 
-// The arrival of an offer that is due in time. The bound makes the cast exact, and stands here once.
-fn narrow(horizon: u16, arrival: u32) -> u16
-    requires { arrival ≤ horizon }
-    ensures { result ≡ arrival }
-{
-    arrival as u16
-}
-
-// A journey as it is offered: the numbers of a row, with an arrival that may be past 65535, and so due after every horizon. No `Row`, whose
-// arrival is below 65536; one type for both would need a parameter at each use.
-#[derive(Clone, Copy, Debug, PartialEq, Eq)]
-pub struct Offer {
-    pub leave: u16,
-    pub arrival: u32,
-    pub rides: u16,
-    pub walk: u16,
-    pub origin: u16,
-    pub target: u16,
-    pub board: u16,
-    pub alight: u16,
-    pub board2: u16,
-    pub alight2: u16,
-    pub middle_board: u16,
-    pub middle_alight: u16,
-}
+// A journey as it is offered, with an arrival that may be past 65535, and so due after every horizon.
+pub type Offer = Found<u32>;
 
 // Offers a journey; how many kept journeys are read.
 pub fn candidate(st: &mut State, offer: Offer) -> usize
-    ensures { (view st.new ≡ offer_to (view st.old) (offered offer)) × (result ≡ reads_to (view st.old) (offered offer)) }
+    ensures { (view st.new ≡ offer_to (view st.old) offer) × (result ≡ reads_to (view st.old) offer) }
 {
     if too_late(st, offer.arrival) {
         return 0;
     }
-    let due = narrow(horizon(st), offer.arrival);
     consider(
         st,
         Row {
             leave: offer.leave,
-            arrival: due,
+            arrival: offer.arrival as u16,
             rides: offer.rides,
             walk: offer.walk,
             origin: offer.origin,

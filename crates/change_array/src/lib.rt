@@ -61,7 +61,8 @@ fn named_stops(feed: &Feed, calls: usize) -> [bool; 128]
     marks
 }
 
-// The rows of the marked stops.
+// The rows of the marked stops. By number, and not over the array's chunks: once a loop over `chunks_exact_mut` or `as_chunks_mut` ends, a
+// proof knows the array's length and none of its elements (tried).
 fn marked_rows(marks: &[bool; 128], transfers: &Transfers) -> Changes
     ensures { (from to : ℕ) → from < 128 → get_or marks.now from false ≡ true → to < 128
         → get_or result (from * 128 + to) 0 ≡ entry_in transfers.now from to }

@@ -18,7 +18,8 @@ stop_with id name latitude longitude = record {
 -- the stop at place k of lists of numbers
 unfoldable pub plain_stop : List ℕ → List ℕ → List Float → List Float → ℕ → Stop
 unfolding stop_with
-plain_stop ids names latitudes longitudes k = stop_with (get_or ids k 0) (get_or names k 0) (get_or latitudes k nan) (get_or longitudes k nan)
+plain_stop ids names latitudes longitudes k = stop_with (get_or ids k 0) (get_or names k 0) (get_or latitudes k nan)
+    (get_or longitudes k nan)
 
 -- 128 of them
 unfoldable pub stops_with : List ℕ → List ℕ → List Float → List Float → List Stop

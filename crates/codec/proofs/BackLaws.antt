@@ -24,7 +24,9 @@ use Rattle.rules.specs.declared.Rule.{Rule}
 use Rattle.fields.specs.Numbers.{signed_of}
 use Rattle.fields.specs.Second.{second_settings_in, second_settings_filled_of}
 use Rattle.codec.specs.Shapes.{two, four, eight, number, bytes, text, option, both, Value, Fits}
-use Rattle.codec.specs.Kinds.{unsigned_of, call_shape, call_value, call_from, call_body, rule_shape, rule_value, rule_from, rule_body, degrees_value, degrees_from, stop_shape, stop_value, stop_from, stop_body, DegreesHeld, settings_shape, settings_value, settings_from, settings_body, search_body, SettingsHeld, StopBack, Back}
+use Rattle.codec.specs.Kinds.{unsigned_of, call_shape, call_value, call_from, call_body, rule_shape, rule_value, rule_from, rule_body}
+use Rattle.codec.specs.Kinds.{degrees_value, degrees_from, stop_shape, stop_value, stop_from, stop_body, DegreesHeld, settings_shape}
+use Rattle.codec.specs.Kinds.{settings_value, settings_from, settings_body, search_body, SettingsHeld, StopBack, Back}
 use Rattle.codec.proofs.ShapeLaws.{record-trip}
 use Rattle.codec.proofs.KindLaws.{by_shape}
 
@@ -39,7 +41,10 @@ signed_back (negsuc n) h =
     cond-not _ _ (le-ltb (18446744073709551615 - n) 9223372036854775808 (omega (arith, k))) ∙ ap negsuc e
 
 degrees-back : (given : Option Degrees) → DegreesHeld given → option_map degrees_from (option_map degrees_value given) ≡ given
-degrees-back (Some d) h = λ t. Some (record { latitude = of_bits-to_bits binary64 d.latitude h.latitude t; longitude = of_bits-to_bits binary64 d.longitude h.longitude t })
+degrees-back (Some d) h = λ t. Some (record {
+  latitude = of_bits-to_bits binary64 d.latitude h.latitude t;
+  longitude = of_bits-to_bits binary64 d.longitude h.longitude t;
+})
 degrees-back None h = refl
 
 -- ---- the kinds
@@ -50,7 +55,8 @@ call_back i = refl
 rule-back : (i : Rule) → rule_from (rule_value i) ≡ i
 rule-back i = refl
 
-stop-back : (id : List ℕ) (name parent : Option (List ℕ)) (i : StopInput) → DegreesHeld i.degrees → stop_from (stop_value id name parent i) ≡ i
+stop-back : (id : List ℕ) (name parent : Option (List ℕ)) (i : StopInput) → DegreesHeld i.degrees
+    → stop_from (stop_value id name parent i) ≡ i
 stop-back id name parent i h = λ t. record { location_type = i.location_type; degrees = degrees-back i.degrees h t; members = i.members }
 
 -- ---- settings
@@ -83,7 +89,8 @@ settings-back s h = λ t. record {
   transfer_seconds = s.transfer_seconds;
   max_transfers = s.max_transfers;
   now = signed_back s.now h.now_fits t;
-  epochs = ((λ r. signed_back _ (h.epochs_fit 0) r ∷ signed_back _ (h.epochs_fit 1) r ∷ signed_back _ (h.epochs_fit 2) r ∷ []) ∙ three s.epochs h.days) t;
+  epochs = ((λ r. signed_back _ (h.epochs_fit 0) r ∷ signed_back _ (h.epochs_fit 1) r ∷ signed_back _ (h.epochs_fit 2) r ∷ [])
+      ∙ three s.epochs h.days) t;
 }
 
 -- ---- records
@@ -113,7 +120,8 @@ stop-fits id name parent i = (tt, (go name, (go parent, (tt, (at i.degrees, tt))
     at (Some d) = (tt, tt)
     at None = tt
 
-stop-record : (id : List ℕ) (name parent : Option (List ℕ)) (i : StopInput) → DegreesHeld i.degrees → StopBack id name parent i (stop_body id name parent i)
+stop-record : (id : List ℕ) (name parent : Option (List ℕ)) (i : StopInput) → DegreesHeld i.degrees
+    → StopBack id name parent i (stop_body id name parent i)
 unfolding stop_body
 stop-record id name parent i h =
     let r = record-trip 2 stop_shape (stop_value id name parent i) (stop-fits id name parent i) in
@@ -130,15 +138,29 @@ settings-record : (s : Settings) → SettingsHeld s
 unfolding settings_body
 settings-record s h =
     let shape = settings_shape true s.origins s.targets in
-    let r = record-trip 1 shape (settings_value s) (tt, (tt, (length-take-le s.origins s.origin_walks h.origin_walks, (length-take-le s.targets s.target_walks h.target_walks, (tt, (tt, (tt, (tt, (tt, tt))))))))) in
-    (by_shape.second_settings_filled _ ∙ r.1, by_shape.second_settings _ ∙ ap (λ (v : Value shape). canonical_of (settings_from true s.origins s.targets v)) r.0 ∙ settings-back s h)
+    let r = record-trip 1 shape (settings_value s) (
+      tt,
+      (
+        tt,
+        (
+          length-take-le s.origins s.origin_walks h.origin_walks,
+          (length-take-le s.targets s.target_walks h.target_walks, (tt, (tt, (tt, (tt, (tt, tt)))))),
+        ),
+      ),
+    ) in (
+      by_shape.second_settings_filled _ ∙ r.1,
+      by_shape.second_settings _
+          ∙ ap (λ (v : Value shape). canonical_of (settings_from true s.origins s.targets v)) r.0 ∙ settings-back s h,
+    )
 
 pub back : Back
 unfolding call_body rule_body stop_body settings_body search_body
 back =
     record {
-      call = λ i. let r = record-trip 3 call_shape (call_value i) (call_fits i) in (by_shape.call_filled _ ∙ r.1, by_shape.call _ ∙ ap call_from r.0 ∙ call_back i);
-      rule = λ i. let r = record-trip 4 rule_shape (rule_value i) (rule_fits i) in (by_shape.rule_filled _ ∙ r.1, by_shape.rule _ ∙ ap rule_from r.0 ∙ rule-back i);
+      call = λ i. let r = record-trip 3 call_shape (call_value i) (call_fits i) in
+          (by_shape.call_filled _ ∙ r.1, by_shape.call _ ∙ ap call_from r.0 ∙ call_back i);
+      rule = λ i. let r = record-trip 4 rule_shape (rule_value i) (rule_fits i) in
+          (by_shape.rule_filled _ ∙ r.1, by_shape.rule _ ∙ ap rule_from r.0 ∙ rule-back i);
       stop = stop-record;
       settings = settings-record;
       search = by_shape.search_filled search_body ∙ (record-trip 5 (bytes 0) [] refl).1;

@@ -11,11 +11,14 @@ use lib.Seq.{get_or-take, get_or-drop}
 use borrow.Author.Tests.{ltb-true}
 use Rattle.settings.specs.Settings.{kept_walk, walks_of, canonical_of}
 use Rattle.fields.specs.Numbers.{byte_at, u16_at, u32_at, i64_at, f64_at}
-use Rattle.fields.specs.Layout.{has_at, mark_at, option_text_at, option_end, option_text_end, name_at, parent_at, type_at, position_at, minutes_at, target_walks_at, settings_filled_of, stop_filled_of, call_filled_of, rule_filled_of, search_filled_of}
+use Rattle.fields.specs.Layout.{has_at, mark_at, option_text_at, option_end, option_text_end, name_at, parent_at, type_at, position_at}
+use Rattle.fields.specs.Layout.{minutes_at, target_walks_at, settings_filled_of, stop_filled_of, call_filled_of, rule_filled_of}
+use Rattle.fields.specs.Layout.{search_filled_of}
 use Rattle.fields.specs.Records.{walks_at, settings_in, degrees_at, stop_in, seconds_at, call_in, min_time_at, rule_in}
 use Rattle.fields.specs.Second.{seconds_place, second_settings_in, second_settings_filled_of}
 use Rattle.codec.specs.Shapes.{two, four, eight, number, bytes, text, option, both, end, read, fills}
-use Rattle.codec.specs.Kinds.{call_shape, call_from, rule_shape, rule_from, degrees_from, stop_shape, stop_from, settings_shape_of, settings_from, ByShape}
+use Rattle.codec.specs.Kinds.{call_shape, call_from, rule_shape, rule_from, degrees_from, stop_shape, stop_from, settings_shape_of}
+use Rattle.codec.specs.Kinds.{settings_from, ByShape}
 
 -- ---- tests in another order
 
@@ -78,7 +81,8 @@ call-is b = λ t. record {
 call-filled-is : (b : List ℕ) → call_filled_of b ≡ fills call_shape b
 unfolding call_filled_of option_end
 call-filled-is b =
-    λ t. eqb (plus-two (option_end b (option_end b 10 4) 4) t) (length b) && (sym (plain-mark b 10) t && sym (last-mark b (option_end b 10 4)) t)
+    λ t. eqb (plus-two (option_end b (option_end b 10 4) 4) t) (length b) &&
+    (sym (plain-mark b 10) t && sym (last-mark b (option_end b 10 4)) t)
 
 rule-is : (b : List ℕ) → rule_in b ≡ rule_from (read rule_shape b 1)
 unfolding rule_in
@@ -119,7 +123,8 @@ stop-parent-is b = text-read b (parent_at b)
 stop-filled-is : (b : List ℕ) → stop_filled_of b ≡ fills stop_shape b
 unfolding stop_filled_of option_text_end
 stop-filled-is b =
-    λ t. eqb (degrees-end b (position_at b) t + 1) (length b) && (sym (plain-mark b (name_at b)) t && (sym (plain-mark b (parent_at b)) t && sym (last-mark b (position_at b)) t))
+    λ t. eqb (degrees-end b (position_at b) t + 1) (length b) &&
+    (sym (plain-mark b (name_at b)) t && (sym (plain-mark b (parent_at b)) t && sym (last-mark b (position_at b)) t))
 
 -- ---- settings
 
@@ -134,7 +139,8 @@ walks-kept : (b : List ℕ) (at n : ℕ) → walks_of n (walks_at b at) ≡ walk
 unfolding walks_of walks_at
 walks-kept b at n =
     let e : at + 0 ≡ at = omega arith in
-    λ t. (sym (ap (λ (k : ℕ). kept_walk n 0 (byte_at b k)) e) ∙ walk_kept b at n 0) t ∷ walk_kept b at n 1 t ∷ walk_kept b at n 2 t ∷ walk_kept b at n 3 t ∷ []
+    λ t. (sym (ap (λ (k : ℕ). kept_walk n 0 (byte_at b k)) e) ∙ walk_kept b at n 0) t ∷ walk_kept b at n 1 t ∷ walk_kept b at n 2 t
+    ∷ walk_kept b at n 3 t ∷ []
 
 -- the places of the last fields: from the minutes, and from the seconds
 module _ (n : ℕ) where
@@ -168,7 +174,8 @@ module _ (n : ℕ) where
   second-end : n + 35 ≡ n + 2 + 1 + 8 + 8 + 8 + 8
   second-end = omega arith
 
-settings-is : (b : List ℕ) → canonical_of (settings_in b) ≡ canonical_of (settings_from false (byte_at b 1) (byte_at b 2) (read (settings_shape_of false b) b 1))
+settings-is : (b : List ℕ) → canonical_of (settings_in b)
+    ≡ canonical_of (settings_from false (byte_at b 1) (byte_at b 2) (read (settings_shape_of false b) b 1))
 unfolding canonical_of settings_in
 settings-is b = λ t. record {
   origins = byte_at b 1;
@@ -186,7 +193,8 @@ unfolding settings_filled_of
 settings-filled-is b = ap (λ (n : ℕ). eqb n (length b)) (at-end (minutes_at b)) ∙ sym (and_right _)
 
 second-settings-is : (b : List ℕ)
-    → canonical_of (second_settings_in b) ≡ canonical_of (settings_from true (byte_at b 1) (byte_at b 2) (read (settings_shape_of true b) b 1))
+    → canonical_of (second_settings_in b) ≡ canonical_of
+    (settings_from true (byte_at b 1) (byte_at b 2) (read (settings_shape_of true b) b 1))
 unfolding canonical_of second_settings_in
 second-settings-is b = λ t. record {
   origins = byte_at b 1;
@@ -196,7 +204,8 @@ second-settings-is b = λ t. record {
   transfer_seconds = u16_at b (seconds_place b);
   max_transfers = byte_at b (seconds_place b + 2);
   now = i64_at b (second-now (seconds_place b) t);
-  epochs = i64_at b (second-first (seconds_place b) t) ∷ i64_at b (second-second (seconds_place b) t) ∷ i64_at b (second-third (seconds_place b) t) ∷ [];
+  epochs = i64_at b (second-first (seconds_place b) t) ∷ i64_at b (second-second (seconds_place b) t)
+      ∷ i64_at b (second-third (seconds_place b) t) ∷ [];
 }
 
 second-settings-filled-is : (b : List ℕ) → second_settings_filled_of b ≡ fills (settings_shape_of true b) b

@@ -1,5 +1,6 @@
 -- The fields of each kind of record, in document 01's order, and the values that stand in them.
-use Rattle.std.specs.Prelude.{ℕ, ◌*◌, ◌-◌, ◌≤◌, ◌≡◌, Bool, true, false, cond, List, [], ◌∷◌, T, ℤ, pos, negsuc, length, take, get_or, Float, None, Some, Option, option_map}
+use Rattle.std.specs.Prelude.{ℕ, ◌*◌, ◌-◌, ◌≤◌, ◌≡◌, Bool, true, false, cond, List, [], ◌∷◌, T, ℤ, pos, negsuc, length, take, get_or}
+use Rattle.std.specs.Prelude.{Float, None, Some, Option, option_map}
 use Rattle.std.specs.Float.{binary64}
 use Rattle.std.specs.Float.Ieee.{of_bits, to_bits, fits}
 use Rattle.std.specs.Int.{w64}
@@ -11,7 +12,8 @@ use Rattle.stops.specs.declared.StopInput.{StopInput}
 use Rattle.calls.specs.declared.CallInput.{CallInput}
 use Rattle.rules.specs.declared.Rule.{Rule}
 use Rattle.fields.specs.Numbers.{byte_at, signed_of}
-use Rattle.fields.specs.Layout.{option_text_at, text_at, name_at, parent_at, settings_filled_of, stop_filled_of, call_filled_of, rule_filled_of, search_filled_of}
+use Rattle.fields.specs.Layout.{option_text_at, text_at, name_at, parent_at, settings_filled_of, stop_filled_of, call_filled_of}
+use Rattle.fields.specs.Layout.{rule_filled_of, search_filled_of}
 use Rattle.fields.specs.Records.{settings_in, stop_in, call_in, rule_in}
 use Rattle.fields.specs.Second.{second_settings_in, second_settings_filled_of}
 use Rattle.codec.specs.Shapes.{Size, one, two, four, eight, Field, number, bytes, text, option, both, Value, read, body, fills}
@@ -34,7 +36,8 @@ float_of n = of_bits binary64 n
 
 abbrev pub call_shape : Field
 call_shape =
-    both (number two) (both (number one) (both (number four) (both (number two) (both (option (number four)) (both (option (number four)) (both (number one) (number one)))))))
+    both (number two) (both (number one) (both (number four)
+    (both (number two) (both (option (number four)) (both (option (number four)) (both (number one) (number one)))))))
 
 abbrev pub call_value : CallInput → Value call_shape
 call_value i = (i.trip, (i.day, (i.sequence, (i.stop, (i.arrival, (i.departure, (i.pickup, i.drop_off)))))))
@@ -72,7 +75,8 @@ rule_body i = body 4 rule_shape (rule_value i)
 
 abbrev pub stop_shape : Field
 stop_shape =
-    both text (both (option text) (both (option text) (both (number one) (both (option (both (number eight) (number eight))) (number one)))))
+    both text (both (option text) (both (option text)
+    (both (number one) (both (option (both (number eight) (number eight))) (number one)))))
 
 abbrev pub degrees_value : Degrees → ℕ × ℕ
 degrees_value d = (bits_of d.latitude, bits_of d.longitude)
@@ -112,7 +116,8 @@ settings_shape second o t =
     (both (number one)
     (both (bytes o)
     (both (bytes t)
-    (both (number (transfer_size second)) (both (number one) (both (number eight) (both (number eight) (both (number eight) (number eight)))))))))
+    (both (number (transfer_size second)) (both (number one)
+    (both (number eight) (both (number eight) (both (number eight) (number eight)))))))))
 
 -- by the number of origins and of targets in a body
 abbrev pub settings_shape_of : Bool → List ℕ → Field
@@ -170,10 +175,12 @@ pub record ByShape : Type 0 where
   pub stop_parent : (b : List ℕ) → option_text_at b (parent_at b) ≡ (read stop_shape b 1).1.1.0
   pub stop_filled : (b : List ℕ) → stop_filled_of b ≡ fills stop_shape b
   -- up to the walks past the counts, which opening leaves out
-  pub settings : (b : List ℕ) → canonical_of (settings_in b) ≡ canonical_of (settings_from false (byte_at b 1) (byte_at b 2) (read (settings_shape_of false b) b 1))
+  pub settings : (b : List ℕ) → canonical_of (settings_in b)
+      ≡ canonical_of (settings_from false (byte_at b 1) (byte_at b 2) (read (settings_shape_of false b) b 1))
   pub settings_filled : (b : List ℕ) → settings_filled_of b ≡ fills (settings_shape_of false b) b
   pub second_settings : (b : List ℕ)
-      → canonical_of (second_settings_in b) ≡ canonical_of (settings_from true (byte_at b 1) (byte_at b 2) (read (settings_shape_of true b) b 1))
+      → canonical_of (second_settings_in b) ≡ canonical_of
+      (settings_from true (byte_at b 1) (byte_at b 2) (read (settings_shape_of true b) b 1))
   pub second_settings_filled : (b : List ℕ) → second_settings_filled_of b ≡ fills (settings_shape_of true b) b
   pub search_filled : (b : List ℕ) → search_filled_of b ≡ fills (bytes 0) b
 
@@ -197,7 +204,8 @@ pub record StopBack (id : List ℕ) (name parent : Option (List ℕ)) (i : StopI
 pub record Back : Type 0 where
   pub call : (i : CallInput) → (call_filled_of (call_body i) ≡ true) × (call_in (call_body i) ≡ i)
   pub rule : (i : Rule) → (rule_filled_of (rule_body i) ≡ true) × (rule_in (rule_body i) ≡ i)
-  pub stop : (id : List ℕ) (name parent : Option (List ℕ)) (i : StopInput) → DegreesHeld i.degrees → StopBack id name parent i (stop_body id name parent i)
+  pub stop : (id : List ℕ) (name parent : Option (List ℕ)) (i : StopInput) → DegreesHeld i.degrees
+      → StopBack id name parent i (stop_body id name parent i)
   pub settings : (s : Settings) → SettingsHeld s
       → (second_settings_filled_of (settings_body s) ≡ true) × (canonical_of (second_settings_in (settings_body s)) ≡ canonical_of s)
   pub search : search_filled_of search_body ≡ true

@@ -1,5 +1,6 @@
 -- Descriptions of fields: the bytes that are written of a value, and what is read from a place of a record.
-use Rattle.std.specs.Prelude.{ℕ, ◌+◌, ◌/◌, ◌%◌, ◌≤◌, ◌≡◌, Bool, true, cond, ◌&&◌, List, [], ◌∷◌, ◌++◌, eqb, length, take, drop, None, Option, Some}
+use Rattle.std.specs.Prelude.{ℕ, ◌+◌, ◌/◌, ◌%◌, ◌≤◌, ◌≡◌, Bool, true, cond, ◌&&◌, List, [], ◌∷◌, ◌++◌, eqb, length, take, drop, None}
+use Rattle.std.specs.Prelude.{Option, Some}
 use Rattle.buffer.specs.Bytes.{two_bytes, four_bytes, eight_bytes}
 use Rattle.fields.specs.Numbers.{byte_at, u16_at, u32_at, u64_at}
 use Rattle.fields.specs.Layout.{text_end, text_at, has_at, mark_at}

@@ -40,16 +40,19 @@ shown-mem : (v : Option Call) (c : Call) → Memᴰ c (shown v) → v ≡ Some c
 shown-mem (Some d) c m = ap Some (sym (Memᴰ.eq_of_singleton m))
 shown-mem None c m = absurd (Memᴰ.not-nil m)
 
-windowed-mem : (s : Settings) (h : ℕ) (is : List CallInput) (c : Call) → Memᴰ c (windowed s h is) → (i : CallInput) × Memᴰ i is × (window s h i ≡ Some c)
+windowed-mem : (s : Settings) (h : ℕ) (is : List CallInput) (c : Call) → Memᴰ c (windowed s h is)
+    → (i : CallInput) × Memᴰ i is × (window s h i ≡ Some c)
 windowed-mem s h [] c m = absurd (Memᴰ.not-nil m)
 windowed-mem s h (i ∷ is) c m = go (Memᴰ.append_cases (shown (window s h i)) m) (λ n. windowed-mem s h is c n)
   where
-    go : Memᴰ c (shown (window s h i)) ⊎ Memᴰ c (windowed s h is) → (Memᴰ c (windowed s h is) → (j : CallInput) × Memᴰ j is × (window s h j ≡ Some c))
+    go : Memᴰ c (shown (window s h i)) ⊎ Memᴰ c (windowed s h is)
+        → (Memᴰ c (windowed s h is) → (j : CallInput) × Memᴰ j is × (window s h j ≡ Some c))
         → (j : CallInput) × Memᴰ j (i ∷ is) × (window s h j ≡ Some c)
     go (inl n) ih = (i, Memᴰ.head refl, shown-mem (window s h i) c n)
     go (inr n) ih = let (j, k, e) = ih n in (j, Memᴰ.tail k, e)
 
-mem-windowed : (s : Settings) (h : ℕ) (c : Call) {i : CallInput} {is : List CallInput} → Memᴰ i is → window s h i ≡ Some c → Memᴰ c (windowed s h is)
+mem-windowed : (s : Settings) (h : ℕ) (c : Call) {i : CallInput} {is : List CallInput} → Memᴰ i is → window s h i ≡ Some c
+    → Memᴰ c (windowed s h is)
 mem-windowed s h c (Memᴰ.head {x = j} {xs = js} q) e =
     Memᴰ.append_left (windowed s h js) (subst (λ (v : Option Call). Memᴰ c (shown v)) (sym (ap (window s h) (sym q) ∙ e)) (Memᴰ.head refl))
 mem-windowed s h c (Memᴰ.tail {x = j} {xs = js} m) e = Memᴰ.append_right (shown (window s h j)) (mem-windowed s h c m e)
@@ -94,7 +97,8 @@ module _ (s : Settings) (p : Load) (fs : List Filling) (w : Start s p fs) (o : O
 
   call-out : (i : CallInput) (c : Call) → Memᴰ i (calls_in fs) → Seen s h i c → Memᴰ c calls
   call-out i c m v =
-      let e : window p.settings h i ≡ Some c = ap (λ (z : Settings). window z h i) w.settings ∙ window_same s h i ∙ seen-shown s h i (o.clock i.day (w.held.days i m)) c v in
+      let e : window p.settings h i ≡ Some c = ap (λ (z : Settings). window z h i) w.settings ∙ window_same s h i
+      ∙ seen-shown s h i (o.clock i.day (w.held.days i m)) c v in
       subst (Memᴰ c) (sym w.held.calls) (mem-windowed p.settings h c m e)
 
   pub leg-in : (b a : Call) → by-load.Rides calls b a → Leg F b a
@@ -128,13 +132,15 @@ module _ (s : Settings) (p : Load) (fs : List Filling) (w : Start s p fs) (o : O
   -- ---- members
 
   member-in : (x bit m : ℕ) → x < p.stop_count → (stop_at p.stops x).members / 2 ^ bit % 2 ≡ 1 → Member (stops_in fs) x bit
-  member-in x bit m l e = let v = w.held.each x l in record { given = v.given; at = v.at; set = ap (λ (n : ℕ). n / 2 ^ bit % 2) (sym v.members) ∙ e }
+  member-in x bit m l e = let v = w.held.each x l in
+      record { given = v.given; at = v.at; set = ap (λ (n : ℕ). n / 2 ^ bit % 2) (sym v.members) ∙ e }
 
   member-out : (x bit : ℕ) → Member (stops_in fs) x bit → (stop_at p.stops x).members / 2 ^ bit % 2 ≡ 1
   member-out x bit v =
       let l : x < p.stop_count = omega (arith, nth-below (stops_in fs) x v.given v.at, w.held.stops) in
       let u = w.held.each x l in
-      ap (λ (n : ℕ). n / 2 ^ bit % 2) (u.members ∙ ap (λ (g : StopGiven). g.input.members) (nth-one (stops_in fs) x u.given v.given u.at v.at)) ∙ v.set
+      ap (λ (n : ℕ). n / 2 ^ bit % 2) (u.members ∙ ap (λ (g : StopGiven). g.input.members)
+      (nth-one (stops_in fs) x u.given v.given u.at v.at)) ∙ v.set
 
   -- ---- settings
 
@@ -165,26 +171,37 @@ module _ (s : Settings) (p : Load) (fs : List Filling) (w : Start s p fs) (o : O
   unfolding timetable_of
   starts-in b k l v = (omega (arith, v.count, origins), member-in b.stop k 0 l (digit_set k (stop_at p.stops b.stop).members v.member))
 
-  pub starts-out : (b : Call) (k : ℕ) → k < s.origins → Member (stops_in fs) b.stop k → t.origin_walk k * 60 ≤ b.departure → by-load.Starts t b k
+  pub starts-out : (b : Call) (k : ℕ) → k < s.origins → Member (stops_in fs) b.stop k → t.origin_walk k * 60 ≤ b.departure
+      → by-load.Starts t b k
   unfolding timetable_of
-  starts-out b k l m q = record { count = omega (arith, origins, o.origins); member = set-digit k (stop_at p.stops b.stop).members (member-out b.stop k m); walked = q }
+  starts-out b k l m q = record {
+    count = omega (arith, origins, o.origins);
+    member = set-digit k (stop_at p.stops b.stop).members (member-out b.stop k m);
+    walked = q;
+  }
 
   pub ends-in : (a : Call) (k : ℕ) → a.stop < p.stop_count → by-load.Ends t a k → (k < s.targets) × Member (stops_in fs) a.stop (4 + k)
   unfolding timetable_of
-  ends-in a k l v =
-      (omega (arith, v.count, targets), member-in a.stop (4 + k) 0 l (ap (λ (n : ℕ). n % 2) (sym (upper k (stop_at p.stops a.stop).members)) ∙ digit_set k ((stop_at p.stops a.stop).members / 16) v.member))
+  ends-in a k l v = (
+    omega (arith, v.count, targets),
+    member-in a.stop (4 + k) 0 l
+        (ap (λ (n : ℕ). n % 2) (sym (upper k (stop_at p.stops a.stop).members))
+        ∙ digit_set k ((stop_at p.stops a.stop).members / 16) v.member),
+  )
 
   pub ends-out : (a : Call) (k : ℕ) → k < s.targets → Member (stops_in fs) a.stop (4 + k) → by-load.Ends t a k
   unfolding timetable_of
   ends-out a k l m = record {
     count = omega (arith, targets, o.targets);
-    member = set-digit k ((stop_at p.stops a.stop).members / 16) (ap (λ (n : ℕ). n % 2) (upper k (stop_at p.stops a.stop).members) ∙ member-out a.stop (4 + k) m);
+    member = set-digit k ((stop_at p.stops a.stop).members / 16)
+        (ap (λ (n : ℕ). n % 2) (upper k (stop_at p.stops a.stop).members) ∙ member-out a.stop (4 + k) m);
   }
 
   -- ---- journeys
 
   -- what stands between origin and target, of n rides
-  pub between_in : (n : ℕ) (b x a : Call) (m l : Ride) (i k : ℕ) → b.stop < p.stop_count → a.stop < p.stop_count → by-load.Starts t b i → by-load.Ends t a k
+  pub between_in : (n : ℕ) (b x a : Call) (m l : Ride) (i k : ℕ) → b.stop < p.stop_count → a.stop < p.stop_count → by-load.Starts t b i
+      → by-load.Ends t a k
       → Between F b a (journey_of t n (ride_of b x) m l a.arrival i k)
   between_in n b x a m l i k hb ha v u =
       let (c, w') = starts-in b i hb v in
@@ -199,26 +216,40 @@ module _ (s : Settings) (p : Load) (fs : List Filling) (w : Start s p fs) (o : O
         arrival = ap (λ (z : ℕ). a.arrival + z * 60) (target_walk k d);
       }
 
-  pub between-out : (n : ℕ) (b x a : Call) (j : Journey) (m l : Ride) → Between F b a j → j.rides ≡ n → j.first ≡ ride_of b x → j.middle ≡ m → j.last ≡ l
+  pub between-out : (n : ℕ) (b x a : Call) (j : Journey) (m l : Ride) → Between F b a j → j.rides ≡ n → j.first ≡ ride_of b x
+      → j.middle ≡ m → j.last ≡ l
       → j ≡ journey_of t n (ride_of b x) m l a.arrival j.origin j.target
   between-out n b x a j m l v r f y e =
       let q : j.walk ≡ t.origin_walk j.origin = v.walk ∙ sym (origin_walk j.origin v.origin) in
       let d : j.leave ≡ b.departure - t.origin_walk j.origin * 60 = leaves j.leave j.walk (t.origin_walk j.origin) b.departure v.leave q in
-      let g : j.arrival ≡ a.arrival + t.target_walk j.target * 60 = v.arrival ∙ ap (λ (z : ℕ). a.arrival + z * 60) (sym (target_walk j.target v.target)) in
-      λ i. record { leave = d i; arrival = g i; rides = r i; walk = q i; origin = j.origin; target = j.target; first = f i; middle = y i; last = e i }
+      let g : j.arrival ≡ a.arrival + t.target_walk j.target * 60 =
+      v.arrival ∙ ap (λ (z : ℕ). a.arrival + z * 60) (sym (target_walk j.target v.target)) in
+      λ i. record {
+        leave = d i;
+        arrival = g i;
+        rides = r i;
+        walk = q i;
+        origin = j.origin;
+        target = j.target;
+        first = f i;
+        middle = y i;
+        last = e i;
+      }
     where
       leaves : (x y z d : ℕ) → x + y * 60 ≡ d → y ≡ z → x ≡ d - z * 60
       leaves x y z d e q = omega arith
 
   pub starts-of : (b a : Call) (j : Journey) → Between F b a j → by-load.Starts t b j.origin
-  starts-of b a j v = starts-out b j.origin v.origin v.from (late j.leave j.walk (t.origin_walk j.origin) b.departure v.leave (v.walk ∙ sym (origin_walk j.origin v.origin)))
+  starts-of b a j v = starts-out b j.origin v.origin v.from
+      (late j.leave j.walk (t.origin_walk j.origin) b.departure v.leave (v.walk ∙ sym (origin_walk j.origin v.origin)))
     where
       late : (x y z d : ℕ) → x + y * 60 ≡ d → y ≡ z → z * 60 ≤ d
       late x y z d e q = omega arith
 
   -- ---- both ways
 
-  unfoldable pub direct-in : (b a : Call) (i k : ℕ) → by-load.Rides calls b a → by-load.Starts t b i → by-load.Ends t a k → Direct F (direct_of t (ride_of b a) i k)
+  unfoldable pub direct-in : (b a : Call) (i k : ℕ) → by-load.Rides calls b a → by-load.Starts t b i → by-load.Ends t a k
+      → Direct F (direct_of t (ride_of b a) i k)
   direct-in b a i k r v u = record {
     b = b;
     a = a;
@@ -230,7 +261,8 @@ module _ (s : Settings) (p : Load) (fs : List Filling) (w : Start s p fs) (o : O
     last = refl;
   }
 
-  unfoldable pub change-in : (b a c d : Call) (i k : ℕ) → 1 ≤ t.max_transfers → by-load.Rides calls b a → by-load.Rides calls c d → t.joins (ride_of b a) c ≡ true
+  unfoldable pub change-in : (b a c d : Call) (i k : ℕ) → 1 ≤ t.max_transfers → by-load.Rides calls b a → by-load.Rides calls c d
+      → t.joins (ride_of b a) c ≡ true
       → by-load.Starts t b i → by-load.Ends t d k → Changing F (change_of t (ride_of b a) (ride_of c d) i k)
   unfolding timetable_of
   change-in b a c d i k e r r' q v u = record {
@@ -249,8 +281,10 @@ module _ (s : Settings) (p : Load) (fs : List Filling) (w : Start s p fs) (o : O
     last = is-ride c d;
   }
 
-  unfoldable pub three-in : (b a c d x y : Call) (i k : ℕ) → 2 ≤ t.max_transfers → by-load.Rides calls b a → by-load.Rides calls c d → by-load.Rides calls x y
-      → t.joins (ride_of b a) c ≡ true → t.joins (ride_of c d) x ≡ true → by-load.Starts t b i → by-load.Ends t y k → Through F (three_of t (ride_of b a) (ride_of c d) (ride_of x y) i k)
+  unfoldable pub three-in : (b a c d x y : Call) (i k : ℕ) → 2 ≤ t.max_transfers → by-load.Rides calls b a → by-load.Rides calls c d
+      → by-load.Rides calls x y
+      → t.joins (ride_of b a) c ≡ true → t.joins (ride_of c d) x ≡ true → by-load.Starts t b i → by-load.Ends t y k
+      → Through F (three_of t (ride_of b a) (ride_of c d) (ride_of x y) i k)
   unfolding timetable_of
   three-in b a c d x y i k e r r' r'' q q' v u = record {
     b = b;
@@ -278,7 +312,8 @@ module _ (s : Settings) (p : Load) (fs : List Filling) (w : Start s p fs) (o : O
   admitted-in j (inr (inl v)) =
       inr (inl (subst (Changing F) (sym v.is) (change-in v.b v.a v.c v.d v.o v.k v.may v.first v.last v.joined v.starts v.ends)))
   admitted-in j (inr (inr v)) =
-      inr (inr (subst (Through F) (sym v.is) (three-in v.b v.a v.c v.d v.e v.g v.o v.k v.may v.first v.middle v.last v.joins_middle v.joins_last v.starts v.ends)))
+      inr (inr (subst (Through F) (sym v.is) (three-in v.b v.a v.c v.d v.e v.g v.o v.k v.may v.first v.middle v.last v.joins_middle
+      v.joins_last v.starts v.ends)))
 
   unfoldable pub direct-out : (j : Journey) → Direct F j → by-load.Direct t j
   unfolding timetable_of
@@ -311,7 +346,8 @@ module _ (s : Settings) (p : Load) (fs : List Filling) (w : Start s p fs) (o : O
         starts = starts-of v.b v.d j v.between;
         ends = ends-out v.d j.target v.between.target v.between.to;
         joined = joins-out s p fs w v.b v.a v.c f.run.trip f.run.day (known v.a f.to) (known v.c l.from) v.joins;
-        is = between-out 2 v.b v.a v.d j no_ride (ride_of v.c v.d) v.between v.rides (ride-is v.b v.a j.first v.first) v.middle (ride-is v.c v.d j.last v.last);
+        is = between-out 2 v.b v.a v.d j no_ride (ride_of v.c v.d) v.between v.rides (ride-is v.b v.a j.first v.first) v.middle
+            (ride-is v.c v.d j.last v.last);
       }
 
   unfoldable pub three-out : (j : Journey) → Through F j → by-load.Three t j
@@ -337,7 +373,8 @@ module _ (s : Settings) (p : Load) (fs : List Filling) (w : Start s p fs) (o : O
         ends = ends-out v.g j.target v.between.target v.between.to;
         joins_middle = joins-out s p fs w v.b v.a v.c f.run.trip f.run.day (known v.a f.to) (known v.c m.from) v.joins;
         joins_last = joins-out s p fs w v.c v.d v.e m.run.trip m.run.day (known v.d m.to) (known v.e l.from) v.joins';
-        is = between-out 3 v.b v.a v.g j (ride_of v.c v.d) (ride_of v.e v.g) v.between v.rides (ride-is v.b v.a j.first v.first) (ride-is v.c v.d j.middle v.middle) (ride-is v.e v.g j.last v.last);
+        is = between-out 3 v.b v.a v.g j (ride_of v.c v.d) (ride_of v.e v.g) v.between v.rides (ride-is v.b v.a j.first v.first)
+            (ride-is v.c v.d j.middle v.middle) (ride-is v.e v.g j.last v.last);
       }
 
   admitted-out : (j : Journey) → Admits F j → by-load.Admitted t j

@@ -26,7 +26,8 @@ named_filling s h k (exception name date kind) = false
 
 abbrev pub taken_after : Load → Step → List Filling → List Filling
 taken_after l (filling x) fs = fs ++ cond (is_taken (stepped l (filling x)).answer) (x ∷ []) []
-taken_after l (withdraw k) fs = cond (is_taken (stepped l (withdraw k)).answer) (without_last (named_filling l.settings l.table_horizon k) fs) fs
+taken_after l (withdraw k) fs = cond (is_taken (stepped l (withdraw k)).answer)
+    (without_last (named_filling l.settings l.table_horizon k) fs) fs
 taken_after l search fs = fs
 taken_after l (limited n) fs = fs
 
@@ -49,7 +50,8 @@ pub call-in : (fs : List Filling) (name : List ℕ) (i : CallInput) → Memᴰ (
 call-in [] name i m = absurd (Memᴰ.not-nil m)
 call-in (x ∷ fs) name i m = go x (Memᴰ.cases_cons m) (call-in fs name i)
   where
-    go : (x : Filling) → (call name i ≡ x) ⊎ Memᴰ (call name i) fs → (Memᴰ (call name i) fs → Memᴰ i (calls_in fs)) → Memᴰ i (calls_in (x ∷ fs))
+    go : (x : Filling) → (call name i ≡ x) ⊎ Memᴰ (call name i) fs → (Memᴰ (call name i) fs → Memᴰ i (calls_in fs))
+        → Memᴰ i (calls_in (x ∷ fs))
     go (call n j) (inl e) ih = Memᴰ.head (ap (input_in i) e)
     go (call n j) (inr k) ih = Memᴰ.tail (ih k)
     go (stop id n p j) (inl e) ih = absurd (cc)
@@ -70,7 +72,8 @@ without-mem p (y ∷ xs) x m = go (anyb p xs) (p y) m (without-mem p xs x)
     by m ih (inl e) = Memᴰ.head e
     by m ih (inr k) = Memᴰ.tail (ih k)
 
-    go : (b c : Bool) → Memᴰ x (cond b (y ∷ without_last p xs) (cond c xs (y ∷ xs))) → (Memᴰ x (without_last p xs) → Memᴰ x xs) → Memᴰ x (y ∷ xs)
+    go : (b c : Bool) → Memᴰ x (cond b (y ∷ without_last p xs) (cond c xs (y ∷ xs))) → (Memᴰ x (without_last p xs) → Memᴰ x xs)
+        → Memᴰ x (y ∷ xs)
     go true c m ih = by m ih (Memᴰ.cases_cons m)
     go false true m ih = Memᴰ.tail m
     go false false m ih = m

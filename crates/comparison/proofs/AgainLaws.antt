@@ -37,7 +37,8 @@ use Rattle.comparison.specs.Horizon.{Fits, outside, room, full, cut}
 use Rattle.comparison.specs.Withdrawal.{InTable, NoneSuch, Withdrawn}
 use Rattle.comparison.specs.Causes.{Cause, First, numbers_of, causes_of, left_causes}
 use Rattle.comparison.specs.Runs as runs
-use Rattle.comparison.specs.Runs.{Again, in_full, within, After, sent_back, a_stop, a_rule, a_call, resting, a_service, an_exception, a_withdrawal, a_search, a_limited, Runs, end, step}
+use Rattle.comparison.specs.Runs.{Again, in_full, within, After, sent_back, a_stop, a_rule, a_call, resting, a_service, an_exception}
+use Rattle.comparison.specs.Runs.{a_withdrawal, a_search, a_limited, Runs, end, step}
 use Rattle.comparison.specs.Again.{there_and_back_of, Withdrawals}
 use Rattle.comparison.proofs.GoneLaws.{one-withdrawn}
 use Rattle.comparison.proofs.AddedLaws.{fits_low}
@@ -51,20 +52,23 @@ use Rattle.comparison.proofs.DemandLaws.{in_order, whole, ends_so}
 -- ---- there and back
 
 -- a call that is taken is in the table
-fits-there : {s : Settings} {is : List CallInput} {i : CallInput} {h m g n : ℕ} {x : Answer} → Fits s is i h m x g n → x ≡ Ok Taken → InTable s g i
+fits-there : {s : Settings} {is : List CallInput} {i : CallInput} {h m g n : ℕ} {x : Answer} → Fits s is i h m x g n → x ≡ Ok Taken
+    → InTable s g i
 fits-there (outside f) e = absurd (cc)
 fits-there (room {c = c} v w q) e = (c, v)
 fits-there (full v w q r) e = absurd (cc)
 fits-there (cut v w q r k) e = fits-there k e
 
 -- what a search again leaves as it was
-again-keeps : {A : Type 0} {s : Settings} {t u : State} (f : State → A) → ((k : Option ℕ) (v : State) → f (done k v) ≡ f v) → Again s t u → f u ≡ f t
+again-keeps : {A : Type 0} {s : Settings} {t u : State} (f : State → A) → ((k : Option ℕ) (v : State) → f (done k v) ≡ f v) → Again s t u
+    → f u ≡ f t
 again-keeps f e (in_full q) = refl
 again-keeps {t = t} f e (within {n = n} {finishes = true} q w) = e None t
 again-keeps {t = t} f e (within {n = n} {finishes = false} q w) = e (Some n) t
 
 -- what is taken after the two
-taken-same : (s : Settings) (t v : State) (name : List ℕ) (i : CallInput) → Runs s t (there_and_back_of name i) (Ok Taken ∷ Ok Taken ∷ []) v → v.taken ≡ t.taken
+taken-same : (s : Settings) (t v : State) (name : List ℕ) (i : CallInput)
+    → Runs s t (there_and_back_of name i) (Ok Taken ∷ Ok Taken ∷ []) v → v.taken ≡ t.taken
 taken-same s t v name i (step f (a_call {h = h} {m = m} {u = u} q g) (step p (a_withdrawal {u = y} w r) end)) =
     let et : u.taken ≡ t.taken ++ call name i ∷ [] = again-keeps (λ (x : State). x.taken) (λ k x. refl) g in
     let eh : u.horizon ≡ h = again-keeps (λ (x : State). x.horizon) (λ k x. refl) g in
@@ -87,7 +91,8 @@ head_of d [] = d
 head_of d (a ∷ rs) = a
 
 -- the rest by the load, which is given back
-there_and_back : (o : Opening) (xs : List Step) (rs : List Answer) (t v : State) (name : List ℕ) (i : CallInput) → Opens o → Runs o.settings (fresh o.dates) xs rs t
+there_and_back : (o : Opening) (xs : List Step) (rs : List Answer) (t v : State) (name : List ℕ) (i : CallInput) → Opens o
+    → Runs o.settings (fresh o.dates) xs rs t
     → Runs o.settings t (there_and_back_of name i) (Ok Taken ∷ Ok Taken ∷ []) v → v.horizon ≡ t.horizon → v ≡ shut t
 there_and_back o xs rs t v name i w r q e = kept ∙ (λ k. keeping (shut t) (taken-same o.settings t v name i q k))
   where
@@ -152,7 +157,8 @@ first-number a (c ∷ cs) (inr (n, f)) = go (first-number a cs f)
     go (inl e) = inl e
     go (inr m) = inr (mathlib.Core.List.Memᴰ.tail m)
 
-never-15 : (s : Settings) (t : State) (name : List ℕ) (i : CallInput) → First (Err AlreadySearched) (causes_of s t (filling (call name i))) → ⊥
+never-15 : (s : Settings) (t : State) (name : List ℕ) (i : CallInput)
+    → First (Err AlreadySearched) (causes_of s t (filling (call name i))) → ⊥
 never-15 s t name i f = go (first-number (Err AlreadySearched) (causes_of s t (filling (call name i))) f)
   where
     unlisted : (b : Bool) → anyb (eqb 15) (numbers b (filling (call name i))) ≡ false
@@ -171,7 +177,8 @@ not-24 true s t k (inl (q, e)) = cc
 not-24 true s t k (inr (q, inl (p, e))) = cc
 not-24 true s t k (inr (q, inr (p, e))) = cc
 
-unknown-exactly : (s : Settings) (t : State) (k : CallKey) (a : Answer) → First a (causes_of s t (withdraw k)) → k.trip < 65535 → k.day ≤ 2 → (a ≡ Err CallUnknown) ↔ NoneSuch s t.horizon k (calls_in t.taken)
+unknown-exactly : (s : Settings) (t : State) (k : CallKey) (a : Answer) → First a (causes_of s t (withdraw k)) → k.trip < 65535
+    → k.day ≤ 2 → (a ≡ Err CallUnknown) ↔ NoneSuch s t.horizon k (calls_in t.taken)
 unknown-exactly s t k a (inl (inl q, e)) h l = absurd (omega arith)
 unknown-exactly s t k a (inl (inr q, e)) h l = absurd (omega arith)
 unknown-exactly s t k a (inr (q, inl (n, e))) h l = (λ x. n, λ x. e)
@@ -180,7 +187,8 @@ unknown-exactly s t k a (inr (q, inr (n, f))) h l = (
   λ x. absurd (n x),
 )
 
-not-14 : (a : Answer) {p q c f : Bool} → tests.First a ((p, Err FieldRange) ∷ (q, Err CallUnknown) ∷ (c, Err Neighbours) ∷ (f, Err NoRoom) ∷ []) → c ≡ false → a ≡ Err Neighbours → ⊥
+not-14 : (a : Answer) {p q c f : Bool} → tests.First a
+    ((p, Err FieldRange) ∷ (q, Err CallUnknown) ∷ (c, Err Neighbours) ∷ (f, Err NoRoom) ∷ []) → c ≡ false → a ≡ Err Neighbours → ⊥
 not-14 _ (hit e) x z = cc
 not-14 _ (miss e (hit g)) x z = cc
 not-14 _ (miss e (miss g (hit k))) x z = true≢false (sym k ∙ x)
@@ -196,7 +204,9 @@ never-14 : (o : Opening) (xs : List Step) (k : CallKey) → (stepped (end_of o x
 never-14 o xs k e = go (end_of o xs).searched refl (step-answered (end_of o xs) (withdraw k)).first
   where
     go : (b : Bool) → (end_of o xs).searched ≡ b
-        → tests.First (withdraw_spec (end_of o xs) k).answer (cond b (withdraw_tests (unsearched_of (end_of o xs)) k ++ search_tests (end_of o xs) (taken_out (unsearched_of (end_of o xs)) k).load) (withdraw_tests (end_of o xs) k)) → ⊥
+        → tests.First (withdraw_spec (end_of o xs) k).answer
+        (cond b (withdraw_tests (unsearched_of (end_of o xs)) k
+        ++ search_tests (end_of o xs) (taken_out (unsearched_of (end_of o xs)) k).load) (withdraw_tests (end_of o xs) k)) → ⊥
     go true d f = not-14 (withdraw_spec (end_of o xs) k).answer f (end-clear o xs k d) e
     go false d f = plain-14 (withdraw_spec (end_of o xs) k).answer f e
 

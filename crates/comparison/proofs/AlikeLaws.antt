@@ -60,8 +60,16 @@ reads-alike g (Some j) None e = go (leb j.arrival g) refl e
     go false p q = inl (leb-false j.arrival g p, tt)
 reads-alike g (Some j) (Some j') e = go (leb j.arrival g) refl (leb j'.arrival g) refl e
   where
-    go : (b : Bool) → leb j.arrival g ≡ b → (b' : Bool) → leb j'.arrival g ≡ b' → cond b (Some (journey_figures j)) None ≡ cond b' (Some (journey_figures j')) None → Alike g (Some j) (Some j')
-    go true p true p' q = inr (record { j = j; j' = j'; is = refl; is' = refl; due = leb-true j.arrival g p; same = same-figures j j' (some_same (journey_figures j) (journey_figures j') q) })
+    go : (b : Bool) → leb j.arrival g ≡ b → (b' : Bool) → leb j'.arrival g ≡ b'
+        → cond b (Some (journey_figures j)) None ≡ cond b' (Some (journey_figures j')) None → Alike g (Some j) (Some j')
+    go true p true p' q = inr (record {
+      j = j;
+      j' = j';
+      is = refl;
+      is' = refl;
+      due = leb-true j.arrival g p;
+      same = same-figures j j' (some_same (journey_figures j) (journey_figures j') q);
+    })
     go true p false p' q = absurd (none-some (journey_figures j) (sym q))
     go false p true p' q = absurd (none-some (journey_figures j') q)
     go false p false p' q = inl (leb-false j.arrival g p, leb-false j'.arrival g p')

@@ -1,4 +1,5 @@
--- Beside the calls: lists that give the same stops, rules, services and exceptions. A searched load holds what was taken with the calls in order.
+-- Beside the calls: lists that give the same stops, rules, services and exceptions. A searched load holds what was taken with the calls
+-- in order.
 use Prim.Native.Nat.{ℕ}
 use mathlib.Core.Path.{◌≡◌, refl, sym, ap, subst, ◌∙◌}
 use mathlib.Core.Bool.{cond}
@@ -9,7 +10,7 @@ use Rattle.laws.proofs.Sort.{sort-perm}
 use Rattle.services.specs.Exceptions.{Exception, after_all}
 use Rattle.stops.specs.Texts.{same_bytes_of}
 use Rattle.week.specs.declared.Week.{Week}
-use Rattle.week.specs.Weeks.{service_of}
+use Rattle.week.specs.Weeks.{dates_in, service_of}
 use Rattle.settings.specs.declared.Settings.{Settings}
 use Rattle.calls.specs.declared.CallInput.{CallInput}
 use Rattle.rules.specs.declared.Rule.{Rule}
@@ -44,7 +45,12 @@ pub beside_back : {gs fs : List Filling} → Beside gs fs → Beside fs gs
 beside_back b = record { stops = sym b.stops; rules = sym b.rules; services = sym b.services; exceptions = λ n. sym (b.exceptions n) }
 
 pub beside-on : {hs gs fs : List Filling} → Beside hs gs → Beside gs fs → Beside hs fs
-beside-on a b = record { stops = a.stops ∙ b.stops; rules = a.rules ∙ b.rules; services = a.services ∙ b.services; exceptions = λ n. a.exceptions n ∙ b.exceptions n }
+beside-on a b = record {
+  stops = a.stops ∙ b.stops;
+  rules = a.rules ∙ b.rules;
+  services = a.services ∙ b.services;
+  exceptions = λ n. a.exceptions n ∙ b.exceptions n;
+}
 
 pub like-back : {gs fs : List Filling} → Like gs fs → Like fs gs
 like-back w = record { beside = beside_back w.beside; calls = Permᴰ.symm w.calls }
@@ -55,18 +61,21 @@ beside-more gs fs xs b = record {
   stops = stops-append gs xs ∙ ap (λ (r : List StopGiven). r ++ stops_in xs) b.stops ∙ sym (stops-append fs xs);
   rules = rules-append gs xs ∙ ap (λ (r : List Rule). r ++ rules_in xs) b.rules ∙ sym (rules-append fs xs);
   services = services-append gs xs ∙ ap (λ (r : List ServiceGiven). r ++ services_in xs) b.services ∙ sym (services-append fs xs);
-  exceptions = λ n. exceptions-append n gs xs ∙ ap (λ (r : List Exception). r ++ exceptions_of n xs) (b.exceptions n) ∙ sym (exceptions-append n fs xs);
+  exceptions = λ n. exceptions-append n gs xs ∙ ap (λ (r : List Exception). r ++ exceptions_of n xs) (b.exceptions n)
+      ∙ sym (exceptions-append n fs xs);
 }
 
 pub like-more : (gs fs xs : List Filling) → Like gs fs → Like (gs ++ xs) (fs ++ xs)
 like-more gs fs xs w = record {
   beside = beside-more gs fs xs w.beside;
   calls = subst (λ (r : List CallInput). Permᴰ r (calls_in (fs ++ xs))) (sym (calls-append gs xs))
-      (subst (λ (r : List CallInput). Permᴰ (calls_in gs ++ calls_in xs) r) (sym (calls-append fs xs)) (Permᴰ.append_right (calls_in xs) w.calls));
+      (subst (λ (r : List CallInput). Permᴰ (calls_in gs ++ calls_in xs) r) (sym (calls-append fs xs))
+      (Permᴰ.append_right (calls_in xs) w.calls));
 }
 
 -- a call less
-pub beside-less : (before behind : List Filling) (name : List ℕ) (i : CallInput) → Beside (before ++ behind) (before ++ call name i ∷ behind)
+pub beside-less : (before behind : List Filling) (name : List ℕ) (i : CallInput)
+    → Beside (before ++ behind) (before ++ call name i ∷ behind)
 beside-less before behind name i = record {
   stops = stops-append before behind ∙ sym (stops-append before (call name i ∷ behind));
   rules = rules-append before behind ∙ sym (rules-append before (call name i ∷ behind));
@@ -114,7 +123,8 @@ module _ (is : List CallInput) where
 
   stops-of : (fs : List Filling) → stops_in (others fs ++ unnamed is) ≡ stops_in fs
   stops-of [] = no-stops is
-  stops-of (stop id name parent i ∷ fs) = ap {B = List StopGiven} (λ r. record { id = id; name = name; parent = parent; input = i } ∷ r) (stops-of fs)
+  stops-of (stop id name parent i ∷ fs) = ap {B = List StopGiven} (λ r. record { id = id; name = name; parent = parent; input = i } ∷ r)
+      (stops-of fs)
   stops-of (call name i ∷ fs) = stops-of fs
   stops-of (rule i ∷ fs) = stops-of fs
   stops-of (service name weekdays start end ∷ fs) = stops-of fs
@@ -133,7 +143,8 @@ module _ (is : List CallInput) where
   services-of (stop id name parent i ∷ fs) = services-of fs
   services-of (call name i ∷ fs) = services-of fs
   services-of (rule i ∷ fs) = services-of fs
-  services-of (service name weekdays start end ∷ fs) = ap {B = List ServiceGiven} (λ r. record { name = name; weekdays = weekdays; start = start; end = end } ∷ r) (services-of fs)
+  services-of (service name weekdays start end ∷ fs) =
+      ap {B = List ServiceGiven} (λ r. record { name = name; weekdays = weekdays; start = start; end = end } ∷ r) (services-of fs)
   services-of (exception name date kind ∷ fs) = services-of fs
 
   exceptions-of : (n : List ℕ) (fs : List Filling) → exceptions_of n (others fs ++ unnamed is) ≡ exceptions_of n fs
@@ -160,7 +171,12 @@ pub apart-like : (fs : List Filling) → Like (apart fs) fs
 apart-like fs =
     let is = raw_order (calls_in fs) in
     record {
-      beside = record { stops = stops-of is fs; rules = rules-of is fs; services = services-of is fs; exceptions = λ n. exceptions-of is n fs };
+      beside = record {
+        stops = stops-of is fs;
+        rules = rules-of is fs;
+        services = services-of is fs;
+        exceptions = λ n. exceptions-of is n fs;
+      };
       calls = subst (λ (r : List CallInput). Permᴰ r (calls_in fs)) (sym (apart-calls fs)) (sort-perm raw_earlier (calls_in fs));
     }
 
@@ -169,7 +185,8 @@ apart-like fs =
 pub week-beside : (w : Week) (gs fs : List Filling) → Beside gs fs → WeekHeld w fs → WeekHeld w gs
 unfolding held_service
 week-beside w gs fs b v = record {
-  services = v.services ∙ sym (λ k. map (λ (g : ServiceGiven). after_all w.dates (service_of g.name g.weekdays g.start g.end) (b.exceptions g.name k)) (b.services k));
+  services = v.services ∙ sym (λ k. map (λ (g : ServiceGiven).
+      after_all (dates_in w) (service_of g.name g.weekdays g.start g.end) (b.exceptions g.name k)) (b.services k));
   short = λ g m. v.short g (subst (Memᴰ g) b.services m);
   apart = subst Apart (sym b.services) v.apart;
   orphan = λ n e. b.exceptions n ∙ v.orphan n (ap (anyb (given n)) (sym b.services) ∙ e);
@@ -177,13 +194,25 @@ week-beside w gs fs b v = record {
 }
 
 -- what is given to a search by gs is what fs gives, with the calls of gs
-pub feed-beside : (s : Settings) (t : State) (gs fs : List Filling) → Beside gs fs → feed_of s (keeping t gs) ≡ handing (feed_of s (keeping t fs)) (calls_in gs)
-feed-beside s t gs fs b = λ k. record { settings = s; stops = b.stops k; rules = b.rules k; calls = calls_in gs; horizon = t.horizon; Place = OnePlace (b.stops k) }
+pub feed-beside : (s : Settings) (t : State) (gs fs : List Filling) → Beside gs fs
+    → feed_of s (keeping t gs) ≡ handing (feed_of s (keeping t fs)) (calls_in gs)
+feed-beside s t gs fs b = λ k. record {
+  settings = s;
+  stops = b.stops k;
+  rules = b.rules k;
+  calls = calls_in gs;
+  horizon = t.horizon;
+  Place = OnePlace (b.stops k);
+}
 
-pub admits-like : (s : Settings) (t : State) (gs fs : List Filling) → Like gs fs → (j : Journey) → Admits (feed_of s (keeping t gs)) j → Admits (feed_of s (keeping t fs)) j
+pub admits-like : (s : Settings) (t : State) (gs fs : List Filling) → Like gs fs → (j : Journey) → Admits (feed_of s (keeping t gs)) j
+    → Admits (feed_of s (keeping t fs)) j
 admits-like s t gs fs w j a =
-    admits-perm (feed_of s (keeping t fs)) (calls_in gs) (calls_in fs) w.calls j (subst (λ (F : Feed). Admits F j) (feed-beside s t gs fs w.beside) a)
+    admits-perm (feed_of s (keeping t fs)) (calls_in gs) (calls_in fs) w.calls j
+    (subst (λ (F : Feed). Admits F j) (feed-beside s t gs fs w.beside) a)
 
-pub offered-like : (s : Settings) (t : State) (gs fs : List Filling) (os : List Journey) → Like gs fs → Offered (feed_of s (keeping t gs)) os → Offered (feed_of s (keeping t fs)) os
+pub offered-like : (s : Settings) (t : State) (gs fs : List Filling) (os : List Journey) → Like gs fs
+    → Offered (feed_of s (keeping t gs)) os → Offered (feed_of s (keeping t fs)) os
 offered-like s t gs fs os w a =
-    offered-perm (feed_of s (keeping t fs)) (calls_in gs) (calls_in fs) os w.calls (subst (λ (F : Feed). Offered F os) (feed-beside s t gs fs w.beside) a)
+    offered-perm (feed_of s (keeping t fs)) (calls_in gs) (calls_in fs) os w.calls
+    (subst (λ (F : Feed). Offered F os) (feed-beside s t gs fs w.beside) a)

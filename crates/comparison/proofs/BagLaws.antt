@@ -28,22 +28,28 @@ module _ (s : Settings) (h : ℕ) where
   unseen-as : {i j : CallInput} → i ≡ j → ((c : Call) → Seen s h i c → ⊥) → (c : Call) → Seen s h j c → ⊥
   unseen-as e f c v = f c (seen_as (sym e) v)
 
-  pub shown-perm : {is js : List CallInput} {cs : List Call} → Permᴰ is js → Shown s h is cs → (ds : List Call) × Shown s h js ds × Permᴰ cs ds
+  pub shown-perm : {is js : List CallInput} {cs : List Call} → Permᴰ is js → Shown s h is cs
+      → (ds : List Call) × Shown s h js ds × Permᴰ cs ds
   shown-perm Permᴰ.nil empty = ([], empty, Permᴰ.nil)
   shown-perm (Permᴰ.cons e p) (one {c = c} v w) = let (ds, u, q) = shown-perm p w in (c ∷ ds, one (seen_as e v) u, Permᴰ.cons refl q)
   shown-perm (Permᴰ.cons e p) (pass f w) = let (ds, u, q) = shown-perm p w in (ds, pass (unseen-as e f) u, q)
-  shown-perm (Permᴰ.swap e f) (one {c = c} v (one {c = d} {cs = cs} v' w)) = (d ∷ c ∷ cs, one (seen_as f v') (one (seen_as e v) w), Permᴰ.swap refl refl)
-  shown-perm (Permᴰ.swap e f) (one {c = c} v (pass {cs = cs} g w)) = (c ∷ cs, pass (unseen-as f g) (one (seen_as e v) w), Permᴰ.refl (c ∷ cs))
-  shown-perm (Permᴰ.swap e f) (pass g (one {c = d} {cs = cs} v w)) = (d ∷ cs, one (seen_as f v) (pass (unseen-as e g) w), Permᴰ.refl (d ∷ cs))
+  shown-perm (Permᴰ.swap e f) (one {c = c} v (one {c = d} {cs = cs} v' w)) =
+      (d ∷ c ∷ cs, one (seen_as f v') (one (seen_as e v) w), Permᴰ.swap refl refl)
+  shown-perm (Permᴰ.swap e f) (one {c = c} v (pass {cs = cs} g w)) =
+      (c ∷ cs, pass (unseen-as f g) (one (seen_as e v) w), Permᴰ.refl (c ∷ cs))
+  shown-perm (Permᴰ.swap e f) (pass g (one {c = d} {cs = cs} v w)) =
+      (d ∷ cs, one (seen_as f v) (pass (unseen-as e g) w), Permᴰ.refl (d ∷ cs))
   shown-perm (Permᴰ.swap e f) (pass g (pass {cs = cs} k w)) = (cs, pass (unseen-as f k) (pass (unseen-as e g) w), Permᴰ.refl cs)
   shown-perm (Permᴰ.trans p q) w = let (ds, u, r) = shown-perm p w in let (es, x, y) = shown-perm q u in (es, x, Permᴰ.trans r y)
 
 -- a call fits
-pub fits-perm : (s : Settings) (i : CallInput) {is js : List CallInput} {h m g n : ℕ} {a : Answer} → Permᴰ is js → Fits s is i h m a g n → Fits s js i h m a g n
+pub fits-perm : (s : Settings) (i : CallInput) {is js : List CallInput} {h m g n : ℕ} {a : Answer} → Permᴰ is js → Fits s is i h m a g n
+    → Fits s js i h m a g n
 fits-perm s i p (outside f) = outside f
 fits-perm s i {h = h} p (room v w q) = let (ds, u, r) = shown-perm s h p w in room v u (omega (arith, perm-length r, q))
 fits-perm s i {h = h} p (full v w q l) = let (ds, u, r) = shown-perm s h p w in full v u (omega (arith, perm-length r, q)) l
-fits-perm s i {h = h} p (cut v w q l z) = let (ds, u, r) = shown-perm s h p w in cut v u (omega (arith, perm-length r, q)) l (fits-perm s i p z)
+fits-perm s i {h = h} p (cut v w q l z) = let (ds, u, r) =
+    shown-perm s h p w in cut v u (omega (arith, perm-length r, q)) l (fits-perm s i p z)
 
 -- neighbours clash
 pub clashing-perm : (s : Settings) (h : ℕ) {is js : List CallInput} → Permᴰ is js → Clashing s h is → Clashing s h js
@@ -76,11 +82,20 @@ module _ (F : Feed) (is js : List CallInput) (p : Permᴰ is js) where
   B = handing F js
 
   change-perm : (x y n : ℕ) → Change A x y n → Change B x y n
-  change-perm x y n (inl w) = inl (record { by = w.by; chosen = record { taken = w.chosen.taken; applies = w.chosen.applies; highest = w.chosen.highest }; gives = w.gives })
+  change-perm x y n (inl w) = inl (record {
+    by = w.by;
+    chosen = record { taken = w.chosen.taken; applies = w.chosen.applies; highest = w.chosen.highest };
+    gives = w.gives;
+  })
   change-perm x y n (inr w) = inr (record { no_rule = w.no_rule; near = w.near; takes = w.takes })
 
   joins-perm : (a c : Call) → Joins A a c → Joins B a c
-  joins-perm a c w = record { differs = w.differs; seconds = w.seconds; change = change-perm a.stop c.stop w.seconds w.change; in_time = w.in_time }
+  joins-perm a c w = record {
+    differs = w.differs;
+    seconds = w.seconds;
+    change = change-perm a.stop c.stop w.seconds w.change;
+    in_time = w.in_time;
+  }
 
   pub leg-perm : (b a : Call) → Leg A b a → Leg B b a
   leg-perm b a w = record {
@@ -98,10 +113,27 @@ module _ (F : Feed) (is js : List CallInput) (p : Permᴰ is js) where
   }
 
   between-perm : (b a : Call) (j : Journey) → Between A b a j → Between B b a j
-  between-perm b a j w = record { origin = w.origin; target = w.target; from = w.from; to = w.to; walk = w.walk; leave = w.leave; arrival = w.arrival }
+  between-perm b a j w = record {
+    origin = w.origin;
+    target = w.target;
+    from = w.from;
+    to = w.to;
+    walk = w.walk;
+    leave = w.leave;
+    arrival = w.arrival;
+  }
 
   unfoldable direct-perm : (j : Journey) → Direct A j → Direct B j
-  direct-perm j w = record { b = w.b; a = w.a; leg = leg-perm w.b w.a w.leg; between = between-perm w.b w.a j w.between; rides = w.rides; first = w.first; middle = w.middle; last = w.last }
+  direct-perm j w = record {
+    b = w.b;
+    a = w.a;
+    leg = leg-perm w.b w.a w.leg;
+    between = between-perm w.b w.a j w.between;
+    rides = w.rides;
+    first = w.first;
+    middle = w.middle;
+    last = w.last;
+  }
 
   unfoldable changing-perm : (j : Journey) → Changing A j → Changing B j
   changing-perm j w = record {
@@ -158,7 +190,8 @@ module _ (F : Feed) (is js : List CallInput) (p : Permᴰ is js) where
   each-perm (e ∷ es) [] w = absurd w
   each-perm (e ∷ es) (j ∷ js) w = (gives-perm e j w.0, each-perm es js w.1)
 
-pub offered-perm : (F : Feed) (is js : List CallInput) (os : List Journey) → Permᴰ is js → Offered (handing F is) os → Offered (handing F js) os
+pub offered-perm : (F : Feed) (is js : List CallInput) (os : List Journey) → Permᴰ is js → Offered (handing F is) os
+    → Offered (handing F js) os
 offered-perm F is js os p w = record {
   offers = w.offers;
   ascending = w.ascending;

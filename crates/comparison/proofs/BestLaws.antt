@@ -25,7 +25,8 @@ pref p q = prefer (journey_figures p) (journey_figures q)
 
 -- journeys of equal figures are preferred alike
 same-pref : (p q : Journey) → Same p q → pref p q ≡ true
-same-pref p q s = subst (λ (f : Figures). prefer (journey_figures p) f ≡ true) (λ i. record { leave = s.leave i; arrival = s.arrival i; rides = s.rides i; walk = s.walk i }) (prefer-refl (journey_figures p))
+same-pref p q s = subst (λ (f : Figures). prefer (journey_figures p) f ≡ true)
+    (λ i. record { leave = s.leave i; arrival = s.arrival i; rides = s.rides i; walk = s.walk i }) (prefer-refl (journey_figures p))
 
 -- the same as `IsBest`, by the program's test
 record Top (ks : List Journey) (t : ℕ) (j : Journey) : Type 0 where
@@ -96,7 +97,8 @@ module _ (t : ℕ) (x : Journey) (ks : List Journey) where
       best k p (inr m) l = w.best k m l
 
       by : (b : Bool) → pref x y ≡ b → Picks (x ∷ ks) t (cond b (Some x) (Some y))
-      by true p = head (leb-true t x.leave e) (λ k m l. prefer-trans (journey_figures x) (journey_figures y) (journey_figures k) p (w.best k m l))
+      by true p = head (leb-true t x.leave e) (λ k m l.
+          prefer-trans (journey_figures x) (journey_figures y) (journey_figures k) p (w.best k m l))
       by false p = record {
         before = x ∷ w.before;
         behind = w.behind;
@@ -113,13 +115,24 @@ picks t (x ∷ ks) = go (leb t x.leave) refl (picks t ks)
     rest : List Journey
     rest = filterb (λ k. leb t k.leave) ks
 
-    go : (b : Bool) → leb t x.leave ≡ b → Picks ks t (pick journey_figures rest) → Picks (x ∷ ks) t (pick journey_figures (cond b (x ∷ rest) rest))
+    go : (b : Bool) → leb t x.leave ≡ b → Picks ks t (pick journey_figures rest)
+        → Picks (x ∷ ks) t (pick journey_figures (cond b (x ∷ rest) rest))
     go true e w = offer t x ks e (pick journey_figures rest) w
     go false e w = skip t x ks e (pick journey_figures rest) w
 
 stated : (ks : List Journey) (h t : ℕ) → t ≤ h → (r : Option Journey) → Picks ks t r → BestAt ks h (pos t) r
 stated ks h t l None w = inr w
-stated ks h t l (Some j) w = (l, record { before = w.before; behind = w.behind; kept = w.kept; in_time = w.in_time; best = λ k m q. prefer-in j k (w.best k m q); first = w.first })
+stated ks h t l (Some j) w = (
+  l,
+  record {
+    before = w.before;
+    behind = w.behind;
+    kept = w.kept;
+    in_time = w.in_time;
+    best = λ k m q. prefer-in j k (w.best k m q);
+    first = w.first;
+  },
+)
 
 pub best-at : (ks : List Journey) (h : ℕ) (z : ℤ) → BestAt ks h z (bestℤ journey_figures ks h z)
 best-at ks h (negsuc t) = tt

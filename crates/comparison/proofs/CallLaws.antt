@@ -40,7 +40,7 @@ use Rattle.comparison.specs.Causes.{Cause, Reversed, Fitting, window_causes, cal
 use Rattle.comparison.proofs.Deciding.{Decides, Matches, dec-not-ltb, dec-not-leb, dec-or, dec-nand, dec-as}
 use Rattle.comparison.proofs.OneLaws.{one-fits}
 use Rattle.comparison.proofs.SettingLaws.{Opened}
-use Rattle.comparison.proofs.WeekLaws.{WeekHeld, dates_of, dec-unknown, dec-resting}
+use Rattle.comparison.proofs.WeekLaws.{WeekHeld, dec-unknown, dec-resting}
 use Rattle.comparison.proofs.StartLaws.{Start, state_at}
 use Rattle.comparison.proofs.HorizonLaws.{fits, showing}
 
@@ -95,7 +95,12 @@ module _ (i : CallInput) where
       go (Some a) (Some d) p q =
           let e : reversed i ≡ ltb d a = λ k. ltb (unwrap_or (q k) 0) (unwrap_or (p k) 0) in (
             λ t. record { a = a; d = d; arrives = p; departs = q; after = ltb-true d a (sym e ∙ t) },
-            λ v. e ∙ lt-ltb d a (omega (arith, v.after, some-injective v.a a (sym v.arrives ∙ p), some-injective v.d d (sym v.departs ∙ q))),
+            λ v. e ∙ lt-ltb d a (omega (
+              arith,
+              v.after,
+              some-injective v.a a (sym v.arrives ∙ p),
+              some-injective v.d d (sym v.departs ∙ q),
+            )),
           )
 
 -- ---- the window and the cuts
@@ -123,12 +128,14 @@ pub record Passes (week : Week) (n : ℕ) (name : List ℕ) (i : CallInput) : Ty
   pub present : un_timed i ≡ false
   pub forward : reversed i ≡ false
 
-module _ (t : State) (week : Week) (n : ℕ) (v : WeekHeld week t.taken) (dates : t.dates ≡ dates_of week) (stops : n ≡ length (stops_in t.taken)) (name : List ℕ) (i : CallInput) where
+module _ (t : State) (week : Week) (n : ℕ) (v : WeekHeld week t.taken) (dates : t.dates ≡ week.dates)
+    (stops : n ≡ length (stops_in t.taken)) (name : List ℕ) (i : CallInput) where
   pub front-match : (ts : List (Bool × Answer)) (cs : List Cause) → (Passes week n name i → Matches ts cs)
       → Matches ((not (known n i), Err FieldRange) ∷ running_tests (running week name i.day) ++ time_tests i ++ ts) (call_front t name i cs)
   front-match ts cs rest = (
     refl,
-    subst (λ (k : ℕ). Decides (not (known n i)) (k ≤ i.stop ⊎ 65535 ≤ i.trip ⊎ 2 < i.day ⊎ 3 < i.pickup ⊎ 3 < i.drop_off)) stops (dec-fields i n),
+    subst (λ (k : ℕ). Decides (not (known n i)) (k ≤ i.stop ⊎ 65535 ≤ i.trip ⊎ 2 < i.day ⊎ 3 < i.pickup ⊎ 3 < i.drop_off)) stops
+        (dec-fields i n),
     λ k. (
       refl,
       dec-unknown v t refl dates name i.day,
@@ -172,13 +179,20 @@ module _ (s : Settings) (l : Load) (fs : List Filling) (w : Start s l fs) (o : O
   module _ (present : un_timed i ≡ false) (day : i.day ≤ 2) where
     pub fitting : Fits s (calls_in fs) i t.horizon t.limits (two out filled) (call_fit z t i).table.horizon (call_fit z t i).table.limits
     fitting =
-        subst (λ (x : Answer). Fits s (calls_in fs) i t.horizon t.limits x (call_fit z t i).table.horizon (call_fit z t i).table.limits) fit-answer
+        subst (λ (x : Answer). Fits s (calls_in fs) i t.horizon t.limits x (call_fit z t i).table.horizon (call_fit z t i).table.limits)
+        fit-answer
         (fits s o (calls_in fs) w.held.days i present day t (showing s l fs w))
 
     dec-fitting : (x : Answer) → (two out filled ≡ x) ↔ Fitting s (state_at l fs) i x
     dec-fitting x = (
-      λ e. ((call_fit z t i).table.horizon, (call_fit z t i).table.limits, subst (λ (y : Answer). Fits s (calls_in fs) i t.horizon t.limits y (call_fit z t i).table.horizon (call_fit z t i).table.limits) e fitting),
-      λ (h, m, f). (one-fits s (calls_in fs) i t.horizon t.limits (two out filled) x (call_fit z t i).table.horizon h (call_fit z t i).table.limits m fitting f).answer,
+      λ e. (
+        (call_fit z t i).table.horizon,
+        (call_fit z t i).table.limits,
+        subst (λ (y : Answer). Fits s (calls_in fs) i t.horizon t.limits y (call_fit z t i).table.horizon (call_fit z t i).table.limits)
+            e fitting,
+      ),
+      λ (h, m, f). (one-fits s (calls_in fs) i t.horizon t.limits (two out filled) x (call_fit z t i).table.horizon h
+          (call_fit z t i).table.limits m fitting f).answer,
     )
 
     dec-out : Decides out (Fitting s (state_at l fs) i (Ok Outside))
@@ -188,16 +202,21 @@ module _ (s : Settings) (l : Load) (fs : List Filling) (w : Start s l fs) (o : O
     dec-full e = let f = dec-fitting (Err NoRoom) in dec-as filled f.0 f.1 (two-full out filled e)
 
   windowed-so : l.searched ≡ false → (name : List ℕ) → un_timed i ≡ false → i.day ≤ 2 → (b : Bool) → l.searched ≡ b
-      → Matches (cond b (again_tests l a d (reached t a d) (call_spec (unsearched_of l) name i).load) (tests.call_window z t i)) (window_causes b s (state_at l fs) name i)
+      → Matches (cond b (again_tests l a d (reached t a d) (call_spec (unsearched_of l) name i).load) (tests.call_window z t i))
+      (window_causes b s (state_at l fs) name i)
   windowed-so f name u day true e = absurd (true≢false (sym e ∙ f))
   windowed-so f name u day false e = (refl, dec-out u day, λ q. (refl, dec-full u day q, λ r. tt))
 
   pub call-match : (name : List ℕ) → Matches (add_causes l name i) (call_causes s (state_at l fs) name i)
   call-match name =
-      subst (λ (x : Settings). Matches ((not (known l.stop_count i), Err FieldRange) ∷ running_tests (running l.week name i.day) ++ time_tests i
-      ++ cond l.searched (again_tests l (call_time x i i.arrival) (call_time x i i.departure) (reached t (call_time x i i.arrival) (call_time x i i.departure)) (call_spec (unsearched_of l) name i).load) (tests.call_window x t i))
+      subst (λ (x : Settings). Matches ((not (known l.stop_count i), Err FieldRange) ∷ running_tests (running l.week name i.day)
+      ++ time_tests i
+      ++ cond l.searched (again_tests l (call_time x i i.arrival) (call_time x i i.departure)
+      (reached t (call_time x i i.arrival) (call_time x i i.departure)) (call_spec (unsearched_of l) name i).load)
+      (tests.call_window x t i))
       (call_causes s (state_at l fs) name i))
       (sym w.settings)
       (front-match (state_at l fs) l.week l.stop_count w.held.week refl w.held.stops name i
-      (cond l.searched (again_tests l a d (reached t a d) (call_spec (unsearched_of l) name i).load) (tests.call_window z t i)) (window_causes l.searched s (state_at l fs) name i)
+      (cond l.searched (again_tests l a d (reached t a d) (call_spec (unsearched_of l) name i).load) (tests.call_window z t i))
+      (window_causes l.searched s (state_at l fs) name i)
       (λ p. windowed-so w.fresh name p.present (day_known i l.stop_count p.right) l.searched refl))

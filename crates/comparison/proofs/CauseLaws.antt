@@ -40,7 +40,8 @@ use Rattle.comparison.specs.Admitted.{Nth}
 use Rattle.comparison.specs.Services.{NoDate}
 use Rattle.comparison.specs.Causes.{Beyond, date_causes, opening_causes, Needed, Orphan, TooLong, stop_causes, rule_causes}
 use Rattle.comparison.proofs.NthLaws.{nth-below, nth-one, bytes_same, same_bytes}
-use Rattle.comparison.proofs.Deciding.{Decides, Matches, dec-ltb, dec-leb, dec-eqb, dec-not-ltb, dec-not-leb, dec-is, dec-none, dec-some, dec-or, dec-and, dec-nand, dec-as}
+use Rattle.comparison.proofs.Deciding.{Decides, Matches, dec-ltb, dec-leb, dec-eqb, dec-not-ltb, dec-not-leb, dec-is, dec-none, dec-some}
+use Rattle.comparison.proofs.Deciding.{dec-or, dec-and, dec-nand, dec-as}
 use Rattle.stops.proofs.SoundLaws.{found}
 use Rattle.comparison.proofs.StartLaws.{Start, state_at}
 
@@ -49,7 +50,8 @@ use Rattle.comparison.proofs.StartLaws.{Start, state_at}
 dec-far : (z : ℤ) → Decides (not (near z)) (Beyond z)
 unfolding near
 dec-far (pos n) = dec-not-leb n 1099511627776
-dec-far (negsuc n) = dec-as (not (not (ltb 1099511627775 n) && true)) (λ l. omega arith) (λ l. omega arith) (twice (ltb 1099511627775 n) (dec-ltb 1099511627775 n))
+dec-far (negsuc n) = dec-as (not (not (ltb 1099511627775 n) && true)) (λ l. omega arith) (λ l. omega arith)
+    (twice (ltb 1099511627775 n) (dec-ltb 1099511627775 n))
   where
     twice : (b : Bool) → Decides b (1099511627775 < n) → Decides (not (not b && true)) (1099511627775 < n)
     twice true d = d
@@ -125,7 +127,8 @@ there p [] k m h e = absurd (omega arith)
 there p (s ∷ ss) k m h e = go (p s) refl m h e (λ j. there p ss (k + 1) j)
   where
     go : (b : Bool) → p s ≡ b → (j : ℕ) → j < suc (length ss) → p (get_or (s ∷ ss) j blank_stop) ≡ true
-        → ((i : ℕ) → i < length ss → p (get_or ss i blank_stop) ≡ true → is_some (find_stop p ss (k + 1)) ≡ true) → is_some (cond b (Some k) (find_stop p ss (k + 1))) ≡ true
+        → ((i : ℕ) → i < length ss → p (get_or ss i blank_stop) ≡ true → is_some (find_stop p ss (k + 1)) ≡ true)
+        → is_some (cond b (Some k) (find_stop p ss (k + 1))) ≡ true
     go true q j l f ih = refl
     go false q zero l f ih = absurd (true≢false (sym f ∙ q))
     go false q (suc j) l f ih = ih j (omega arith) f
@@ -163,12 +166,19 @@ module _ (s : Settings) (l : Load) (fs : List Filling) (w : Start s l fs) where
           let f = found (is_it b id) (take n l.stops) 0 m q in
           let h : m < n = omega (arith, f.1, long) in
           let z : m - 0 ≡ m = omega arith in
-          let g : get_or (take n l.stops) (m - 0) blank_stop ≡ get_or l.stops m blank_stop = ap (λ (j : ℕ). get_or (take n l.stops) j blank_stop) z ∙ get_or-take n l.stops m blank_stop h in
+          let g : get_or (take n l.stops) (m - 0) blank_stop ≡ get_or l.stops m blank_stop =
+          ap (λ (j : ℕ). get_or (take n l.stops) j blank_stop) z ∙ get_or-take n l.stops m blank_stop h in
           let v = w.held.each m h in
           let r : is_it b id (stop_at l.stops m) ≡ true = sym (ap (is_it b id) g) ∙ f.2 in
           let t = and-true-left (type_fits b (stop_at l.stops m).location_type) _ r in
-          let y : same_bytes_of (id_of (stop_at l.stops m)) id ≡ true = and-true-right (type_fits b (stop_at l.stops m).location_type) _ r in
-          (v.given, nth-mem (stops_in fs) m v.given v.at, sym v.id ∙ bytes_same _ _ y, λ c. sym v.kind ∙ fits_in b (stop_at l.stops m).location_type t c)
+          let y : same_bytes_of (id_of (stop_at l.stops m)) id ≡ true =
+          and-true-right (type_fits b (stop_at l.stops m).location_type) _ r in (
+            v.given,
+            nth-mem (stops_in fs) m v.given v.at,
+            sym v.id ∙ bytes_same _ _ y,
+            λ c. sym v.kind
+                ∙ fits_in b (stop_at l.stops m).location_type t c,
+          )
 
       back : Known b id → is_some (find_stop (is_it b id) (take n l.stops) 0) ≡ true
       back (g, i, e, f) =
@@ -176,15 +186,20 @@ module _ (s : Settings) (l : Load) (fs : List Filling) (w : Start s l fs) where
           let h : k < n = omega (arith, nth-below (stops_in fs) k g v, w.held.stops) in
           let u = w.held.each k h in
           let q : u.given ≡ g = nth-one (stops_in fs) k u.given g u.at v in
-          let t : type_fits b (stop_at l.stops k).location_type ≡ true = fits_out b (stop_at l.stops k).location_type (λ c. u.kind ∙ ap (λ (x : StopGiven). x.input.location_type) q ∙ f c) in
-          let y : same_bytes_of (id_of (stop_at l.stops k)) id ≡ true = ap (λ (x : List ℕ). same_bytes_of x id) (u.id ∙ ap (λ (x : StopGiven). x.id) q ∙ e) ∙ same_bytes id in
-          there (is_it b id) (take n l.stops) 0 k (omega (arith, long)) (ap (is_it b id) (get_or-take n l.stops k blank_stop h) ∙ and-true _ _ t y)
+          let t : type_fits b (stop_at l.stops k).location_type ≡ true =
+          fits_out b (stop_at l.stops k).location_type (λ c. u.kind ∙ ap (λ (x : StopGiven). x.input.location_type) q ∙ f c) in
+          let y : same_bytes_of (id_of (stop_at l.stops k)) id ≡ true =
+          ap (λ (x : List ℕ). same_bytes_of x id) (u.id ∙ ap (λ (x : StopGiven). x.id) q ∙ e) ∙ same_bytes id in
+          there (is_it b id) (take n l.stops) 0 k (omega (arith, long))
+          (ap (is_it b id) (get_or-take n l.stops k blank_stop h) ∙ and-true _ _ t y)
 
   dec-id : (id : List ℕ) → Decides (is_known l.stops n id) ((g : StopGiven) × Memᴰ g (stops_in fs) × (g.id ≡ id))
   unfolding is_known
-  dec-id id = dec-as (is_some (find_stop (is_it false id) (take n l.stops) 0)) (λ (g, m, e, f). (g, m, e)) (λ (g, m, e). (g, m, e, λ q. absurd (false≢true q))) (dec-known false id)
+  dec-id id = dec-as (is_some (find_stop (is_it false id) (take n l.stops) 0)) (λ (g, m, e, f). (g, m, e))
+      (λ (g, m, e). (g, m, e, λ q. absurd (false≢true q))) (dec-known false id)
 
-  dec-parent : (parent : Option (List ℕ)) → Decides (is_some parent && not (is_some (station_of l.stops n parent))) (Orphan (stops_in fs) parent)
+  dec-parent : (parent : Option (List ℕ)) → Decides (is_some parent && not (is_some (station_of l.stops n parent)))
+      (Orphan (stops_in fs) parent)
   unfolding station_of
   dec-parent None = (λ e. absurd (false≢true e), λ (p, e, f). absurd (none-ne-some p e))
   dec-parent (Some id) = (
@@ -197,7 +212,8 @@ module _ (s : Settings) (l : Load) (fs : List Filling) (w : Start s l fs) where
   dec-needed parent i =
       dec-as (eqb i.location_type 0 && not (is_some parent) && is_usable i.degrees)
       (λ ((a, b), c). record { type_zero = a; no_parent = b; usable = c }) (λ v. ((v.type_zero, v.no_parent), v.usable))
-      (dec-and (eqb i.location_type 0 && not (is_some parent)) _ (dec-and (eqb i.location_type 0) (not (is_some parent)) (dec-eqb i.location_type 0) (dec-none parent))
+      (dec-and (eqb i.location_type 0 && not (is_some parent)) _
+      (dec-and (eqb i.location_type 0) (not (is_some parent)) (dec-eqb i.location_type 0) (dec-none parent))
       (dec-is (is_usable i.degrees)))
 
   dec-name : (name parent : Option (List ℕ)) (id : List ℕ) (i : StopInput)
@@ -205,16 +221,19 @@ module _ (s : Settings) (l : Load) (fs : List Filling) (w : Start s l fs) where
   unfolding name_wrong
   dec-name (Some t) parent id i =
       dec-or (ltb 64 (length t)) _
-      (dec-as (ltb 64 (length t)) (λ h. (t, refl, h)) (λ (u, e, h). subst (λ (x : List ℕ). 64 < length x) (sym (some-injective t u e)) h) (dec-ltb 64 (length t)))
+      (dec-as (ltb 64 (length t)) (λ h. (t, refl, h)) (λ (u, e, h). subst (λ (x : List ℕ). 64 < length x) (sym (some-injective t u e)) h)
+      (dec-ltb 64 (length t)))
       (dec-and (name_needed parent i) (unusable t) (dec-needed parent i) (dec-is (unusable t)))
   dec-name None parent id i =
-      dec-as (name_needed parent i && unusable id) inr only (dec-and (name_needed parent i) (unusable id) (dec-needed parent i) (dec-is (unusable id)))
+      dec-as (name_needed parent i && unusable id) inr only
+      (dec-and (name_needed parent i) (unusable id) (dec-needed parent i) (dec-is (unusable id)))
     where
       only : TooLong None ⊎ (Needed parent i × (unusable id ≡ true)) → Needed parent i × (unusable id ≡ true)
       only (inl (t, e, h)) = absurd (none-ne-some t e)
       only (inr w) = w
 
-  pub stop-match : (id : List ℕ) (name parent : Option (List ℕ)) (i : StopInput) → Matches (stop_tests l.searched l.stops n (station_in l parent) id name parent i) (stop_causes (state_at l fs) id name parent i)
+  pub stop-match : (id : List ℕ) (name parent : Option (List ℕ)) (i : StopInput)
+      → Matches (stop_tests l.searched l.stops n (station_in l parent) id name parent i) (stop_causes (state_at l fs) id name parent i)
   unfolding stop_tests id_wrong type_wrong
   stop-match id name parent i = (
     refl,
@@ -227,7 +246,8 @@ module _ (s : Settings) (l : Load) (fs : List Filling) (w : Start s l fs) where
         dec-id id,
         λ c. (
           refl,
-          dec-or (ltb 1 i.location_type) _ (dec-ltb 1 i.location_type) (dec-and (eqb i.location_type 1) (is_some parent) (dec-eqb i.location_type 1) (dec-some parent)),
+          dec-or (ltb 1 i.location_type) _ (dec-ltb 1 i.location_type)
+              (dec-and (eqb i.location_type 1) (is_some parent) (dec-eqb i.location_type 1) (dec-some parent)),
           λ d. (
             refl,
             dec-parent parent,
@@ -244,8 +264,10 @@ module _ (s : Settings) (l : Load) (fs : List Filling) (w : Start s l fs) where
 
   -- ---- rules
 
-  dec-pair : (i : Rule) → Decides (anyb (same_pair i.from i.to) (take l.rule_count l.rules)) ((q : Rule) × Memᴰ q (rules_in fs) × (q.from ≡ i.from) × (q.to ≡ i.to))
-  dec-pair i = subst (λ (rs : List Rule). Decides (anyb (same_pair i.from i.to) rs) ((q : Rule) × Memᴰ q (rules_in fs) × (q.from ≡ i.from) × (q.to ≡ i.to))) (sym w.held.rules) (fore, back)
+  dec-pair : (i : Rule) → Decides (anyb (same_pair i.from i.to) (take l.rule_count l.rules))
+      ((q : Rule) × Memᴰ q (rules_in fs) × (q.from ≡ i.from) × (q.to ≡ i.to))
+  dec-pair i = subst (λ (rs : List Rule). Decides (anyb (same_pair i.from i.to) rs)
+      ((q : Rule) × Memᴰ q (rules_in fs) × (q.from ≡ i.from) × (q.to ≡ i.to))) (sym w.held.rules) (fore, back)
     where
       fore : anyb (same_pair i.from i.to) (rules_in fs) ≡ true → (q : Rule) × Memᴰ q (rules_in fs) × (q.from ≡ i.from) × (q.to ≡ i.to)
       fore e =
@@ -261,7 +283,9 @@ module _ (s : Settings) (l : Load) (fs : List Filling) (w : Start s l fs) where
       only : 3 < k ⊎ ((k ≡ 2) × (Some v ≡ None)) → 3 < k
       only (inl h) = h
       only (inr (a, e)) = absurd (some-ne-none v e)
-  dec-type k None = dec-as (not (not (eqb k 2) && leb k 3)) turn back (dec-nand (not (eqb k 2)) (leb k 3) (dec-as (not (not (eqb k 2))) (λ e. e) (λ e. e) (twice (eqb k 2) (dec-eqb k 2))) (dec-not-leb k 3))
+  dec-type k None = dec-as (not (not (eqb k 2) && leb k 3)) turn back
+      (dec-nand (not (eqb k 2)) (leb k 3) (dec-as (not (not (eqb k 2))) (λ e. e) (λ e. e) (twice (eqb k 2) (dec-eqb k 2)))
+      (dec-not-leb k 3))
     where
       twice : (b : Bool) → Decides b (k ≡ 2) → Decides (not (not b)) (k ≡ 2)
       twice true d = d
@@ -292,7 +316,16 @@ module _ (s : Settings) (l : Load) (fs : List Filling) (w : Start s l fs) where
       λ b. (
         refl,
         dec-type i.transfer_type i.seconds,
-        λ c. (refl, dec-pair i, λ d. (refl, subst (λ (k : ℕ). Decides (leb 128 l.rule_count) (128 ≤ k)) rule-count (dec-leb 128 l.rule_count), λ e. tt)),
+        λ c. (
+          refl,
+          dec-pair i,
+          λ d. (
+            refl,
+            subst (λ (k : ℕ). Decides (leb 128 l.rule_count) (128 ≤ k)) rule-count
+                (dec-leb 128 l.rule_count),
+            λ e. tt,
+          ),
+        ),
       ),
     ),
   )

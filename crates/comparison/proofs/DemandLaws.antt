@@ -54,7 +54,8 @@ use Rattle.comparison.specs.Events.{Within}
 use Rattle.comparison.specs.Falls.{Falls}
 use Rattle.comparison.specs.Causes.{First, numbers_of, date_causes, opening_causes, window_causes, call_front, left_causes, causes_of}
 use Rattle.comparison.specs.Runs.{Runs, Admitted, Finished}
-use Rattle.comparison.specs.Demands.{answers_from, LaterOf, Queried, answer, calls, Fills, ListOf, Lists, ListsWithin, Demand1, Demand2, Second, Alike, MatchedBy, Demand3}
+use Rattle.comparison.specs.Demands.{answers_from, LaterOf, Queried, answer, calls, Fills, ListOf, Lists, ListsWithin, Demand1, Demand2}
+use Rattle.comparison.specs.Demands.{Second, Alike, MatchedBy, Demand3}
 use Rattle.comparison.proofs.OrderLaws.{covers-in, covers_out}
 use Rattle.comparison.proofs.AlikeLaws.{alike-reads, reads-alike, second-in, in-second, earlier-is}
 use Rattle.comparison.proofs.KeptLaws.{front-holds}
@@ -183,7 +184,8 @@ module _ (s : Opening) (o : Opens s) (xs : List Step) (d : (end_of s xs).searche
   admits-so j =
       let f = admits s.settings u (apart gs) start (opens s o) j in (
         λ a. subst (λ (G : Feed). Admits G j) same-feeds (admits-like s.settings (state_at u gs) (apart gs) gs (apart-like gs) j (f.0 a)),
-        λ a. f.1 (admits-like s.settings (state_at u gs) gs (apart gs) (like-back (apart-like gs)) j (subst (λ (G : Feed). Admits G j) (sym same-feeds) a)),
+        λ a. f.1 (admits-like s.settings (state_at u gs) gs (apart gs) (like-back (apart-like gs)) j
+            (subst (λ (G : Feed). Admits G j) (sym same-feeds) a)),
       )
 
   own-so : (end_of s xs).limit ≡ None → OwnFound (end_of s xs) (own_offers (end_of s xs))
@@ -192,14 +194,17 @@ module _ (s : Opening) (o : Opens s) (xs : List Step) (d : (end_of s xs).searche
   offered-so : (end_of s xs).limit ≡ None → Offered (feed_of s.settings (ending s o xs)) (own_offers (end_of s xs))
   offered-so e =
       subst (λ (G : Feed). Offered G (own_offers l)) same-feeds
-      (offered-like s.settings (state_at u gs) (apart gs) gs (own_offers l) (apart-like gs) (offered-is s.settings u (apart gs) start (opens s o) (own-so e).clear))
+      (offered-like s.settings (state_at u gs) (apart gs) gs (own_offers l) (apart-like gs)
+      (offered-is s.settings u (apart gs) start (opens s o) (own-so e).clear))
 
   -- of one that was stopped at the limit n
   within-so : (n : ℕ) → (end_of s xs).limit ≡ Some n → Within (feed_of s.settings (ending s o xs)) n (own_within n (end_of s xs)) n false
   within-so n e =
       let k = (whole s o xs).stands.kept in
-      let w = within-here s.settings u (apart gs) start (opens s o) n (stopped-found l k n e).clear (same-few l (k.sound.stopped_change (ap is_some e))) in
-      let v = subst (λ (b : Bool). Within (feed_of s.settings (state_at u (apart gs))) n (own_within n l) (joins_within n (timetable_of u)) b) (unfinished-so l k n e) w in
+      let w = within-here s.settings u (apart gs) start (opens s o) n (stopped-found l k n e).clear
+      (same-few l (k.sound.stopped_change (ap is_some e))) in
+      let v = subst (λ (b : Bool). Within (feed_of s.settings (state_at u (apart gs))) n (own_within n l)
+      (joins_within n (timetable_of u)) b) (unfinished-so l k n e) w in
       stopped-count (feed_of s.settings (ending s o xs)) n (own_within n l) (joins_within n (timetable_of u))
       (subst (λ (G : Feed). Within G n (own_within n l) (joins_within n (timetable_of u)) false) same-feeds
       (within-like s.settings (state_at u gs) (apart gs) gs n (own_within n l) (joins_within n (timetable_of u)) false (apart-like gs) v))
@@ -208,9 +213,16 @@ module _ (s : Opening) (o : Opens s) (xs : List Step) (d : (end_of s xs).searche
   unfolding unsearched_of
   ordered-so =
       let w = start in
-      let (ds, v, p) = shown-perm s.settings l.table_horizon (apart-like gs).calls (table-shown s.settings (opens s o) (calls_in (apart gs)) w.held.days (table_of u) (showing s.settings u (apart gs) w)) in
+      let (ds, v, p) = shown-perm s.settings l.table_horizon (apart-like gs).calls
+      (table-shown s.settings (opens s o) (calls_in (apart gs)) w.held.days (table_of u) (showing s.settings u (apart gs) w)) in
       let e = own-sorted l ((whole s o xs).stands.kept.own d) in
-      record { seen = ds; shown = v; same = p; in_order = subst InOrder (sym e) (order-in (in_order_of (table_calls (table_of l))) (put-in-order (table_calls (table_of l))).1) }
+      record {
+        seen = ds;
+        shown = v;
+        same = p;
+        in_order = subst InOrder (sym e)
+            (order-in (in_order_of (table_calls (table_of l))) (put-in-order (table_calls (table_of l))).1);
+      }
 
 pub same-admitted : (s : Opening) (xs : List Step) → Opens s → (j : Journey) → by-load.Admitted s xs j ↔ Admitted s xs j
 same-admitted s xs o j = (fore, back)
@@ -238,7 +250,8 @@ module _ (s : Opening) (o : Opens s) (xs : List Step) where
   fills d =
       let w = (whole s o xs).stands.new d in
       record {
-        shown = table-shown s.settings (opens s o) (calls_in (whole s o xs).taken) w.held.days (table_of (end_of s xs)) (showing s.settings (end_of s xs) (whole s o xs).taken w);
+        shown = table-shown s.settings (opens s o) (calls_in (whole s o xs).taken) w.held.days (table_of (end_of s xs))
+            (showing s.settings (end_of s xs) (whole s o xs).taken w);
         kept = ap (λ (n : ℕ). take n (end_of s xs).journeys) (w.sound.none_kept d);
         horizon = w.sound.same_horizon d;
         limits = w.sound.same_limits d;
@@ -250,8 +263,10 @@ module _ (s : Opening) (o : Opens s) (xs : List Step) where
   list_of d os e = record {
     ordered = ordered-so s o xs d;
     holds = front-holds (end_of s xs).horizon os (kept_of (end_of s xs)) e.unbeaten;
-    falls = subst (Falls [] (end_of s xs).table_horizon (end_of s xs).table_limits os) (ap ends_at e.fell) (fall-falls [] os (end_of s xs).table_horizon (end_of s xs).table_limits (omega arith));
-    best = λ z. subst (BestAt (kept_of (end_of s xs)) (end_of s xs).horizon z) (sym (best-asks (end_of s xs) (handed-sound s xs o).1 d z)) (best-at (kept_of (end_of s xs)) (end_of s xs).horizon z);
+    falls = subst (Falls [] (end_of s xs).table_horizon (end_of s xs).table_limits os) (ap ends_at e.fell)
+        (fall-falls [] os (end_of s xs).table_horizon (end_of s xs).table_limits (omega arith));
+    best = λ z. subst (BestAt (kept_of (end_of s xs)) (end_of s xs).horizon z) (sym (best-asks (end_of s xs) (handed-sound s xs o).1 d z))
+        (best-at (kept_of (end_of s xs)) (end_of s xs).horizon z);
   }
 
   lists : (end_of s xs).searched ≡ true → (end_of s xs).limit ≡ None → Lists s xs (ending s o xs)
@@ -262,8 +277,11 @@ module _ (s : Opening) (o : Opens s) (xs : List Step) where
         offers = own_offers (end_of s xs);
         offered = offered-so s o xs d f;
         admitted = λ j.
-            let g = offers-admitted (timetable_of (unsearched_of (end_of s xs))) e.clear j in
-            (λ m. (same-admitted s xs o j).0 (d, (own-admits s xs d j).1 (g.0 m)), λ x. g.1 ((own-admits s xs d j).0 ((same-admitted s xs o j).1 x).1));
+            let g = offers-admitted (timetable_of (unsearched_of (end_of s xs))) e.clear j in (
+              λ m. (same-admitted s xs o j).0 (d, (own-admits s xs d j).1 (g.0 m)),
+              λ x.
+                  g.1 ((own-admits s xs d j).0 ((same-admitted s xs o j).1 x).1),
+            );
         list = list_of d (own_offers (end_of s xs)) e;
         complete = λ j a l. let (k, b, e') = w.complete j ((same-admitted s xs o j).1 a) l in (k, b, covers-in k j e');
       }
@@ -272,11 +290,16 @@ module _ (s : Opening) (o : Opens s) (xs : List Step) where
   lists-within n e =
       let k = (whole s o xs).stands.kept in
       let d = k.sound.stopped_search (ap is_some e) in
-      record { offers = own_within n (end_of s xs); offered = within-so s o xs d n e; list = list_of d (own_within n (end_of s xs)) (stopped-found (end_of s xs) k n e) }
+      record {
+        offers = own_within n (end_of s xs);
+        offered = within-so s o xs d n e;
+        list = list_of d (own_within n (end_of s xs)) (stopped-found (end_of s xs) k n e);
+      }
 
 pub demand-2 : Demand2
 demand-2 s xs rs v o w =
-    subst (λ (t : State). (t.searched ≡ false → Fills s xs t) × (t.searched ≡ true → t.stopped ≡ None → Lists s xs t) × ((n : ℕ) → t.stopped ≡ Some n → ListsWithin s xs t n)) (ends_so s o xs rs v w)
+    subst (λ (t : State). (t.searched ≡ false → Fills s xs t) × (t.searched ≡ true → t.stopped ≡ None → Lists s xs t)
+    × ((n : ℕ) → t.stopped ≡ Some n → ListsWithin s xs t n)) (ends_so s o xs rs v w)
     (fills s o xs, lists s o xs, lists-within s o xs)
 
 -- ---- 3
@@ -288,20 +311,27 @@ matched g s s' xs xs' o o' = (
   λ c j a l. let (k, b, e) = c j ((same-admitted s xs o j).0 a) l in (k, (same-admitted s' xs' o' k).1 b, covers_out k j e),
 )
 
-at-earlier : (s s' : Opening) (xs xs' : List Step) (g : ℕ) → g ≡ min (end_of s xs).horizon (end_of s' xs').horizon → s.settings.now ≡ s'.settings.now → Opens s → Opens s'
-    → stopped (end_of s xs) ≡ false → stopped (end_of s' xs') ≡ false → ((z : ℤ) → Second z → Alike g (answer s xs z) (answer s' xs' z)) ↔ (MatchedBy g s xs s' xs' × MatchedBy g s' xs' s xs)
+at-earlier : (s s' : Opening) (xs xs' : List Step) (g : ℕ) → g ≡ min (end_of s xs).horizon (end_of s' xs').horizon
+    → s.settings.now ≡ s'.settings.now → Opens s → Opens s'
+    → stopped (end_of s xs) ≡ false → stopped (end_of s' xs') ≡ false
+    → ((z : ℤ) → Second z → Alike g (answer s xs z) (answer s' xs' z)) ↔ (MatchedBy g s xs s' xs' × MatchedBy g s' xs' s xs)
 at-earlier s s' xs xs' g e n o o' f f' = (
-  λ f. let (a, b) = whole.0 (λ z i. alike-reads g (answer s xs z) (answer s' xs' z) (f z (in-second z i))) in ((matched g s s' xs xs' o o').0 a, (matched g s' s xs' xs o' o).0 b),
-  λ (a, b) z i. reads-alike g (answer s xs z) (answer s' xs' z) (whole.1 ((matched g s s' xs xs' o o').1 a, (matched g s' s xs' xs o' o).1 b) z (second-in z i)),
+  λ f. let (a, b) = whole.0 (λ z i. alike-reads g (answer s xs z) (answer s' xs' z) (f z (in-second z i))) in
+      ((matched g s s' xs xs' o o').0 a, (matched g s' s xs' xs o' o).0 b),
+  λ (a, b) z i. reads-alike g (answer s xs z) (answer s' xs' z)
+      (whole.1 ((matched g s s' xs xs' o o').1 a, (matched g s' s xs' xs o' o).1 b) z (second-in z i)),
 )
   where
     whole : ((z : ℤ) → I64 z → read_by journey_figures g (answer s xs z) ≡ read_by journey_figures g (answer s' xs' z))
         ↔ (CoveredBy g (by-load.Admitted s xs) (by-load.Admitted s' xs') × CoveredBy g (by-load.Admitted s' xs') (by-load.Admitted s xs))
-    whole = subst (λ (k : ℕ). ((z : ℤ) → I64 z → read_by journey_figures k (answer s xs z) ≡ read_by journey_figures k (answer s' xs' z)) ↔ (CoveredBy k (by-load.Admitted s xs) (by-load.Admitted s' xs') × CoveredBy k (by-load.Admitted s' xs') (by-load.Admitted s xs))) (sym e) (best-agrees s s' xs xs' n o o' f f')
+    whole = subst (λ (k : ℕ). ((z : ℤ) → I64 z → read_by journey_figures k (answer s xs z) ≡ read_by journey_figures k (answer s' xs' z))
+        ↔ (CoveredBy k (by-load.Admitted s xs) (by-load.Admitted s' xs') × CoveredBy k (by-load.Admitted s' xs') (by-load.Admitted s xs)))
+        (sym e) (best-agrees s s' xs xs' n o o' f f')
 
 -- no stopped search, by what was handed in and by the load
 pub finished-load : (s : Opening) (xs : List Step) → Opens s → Finished s xs → stopped (end_of s xs) ≡ false
 finished-load s xs o f = ap (λ (t : State). is_some t.stopped) (ends_so s o xs f.answers f.end f.runs) ∙ ap is_some f.finished
 
 pub demand-3 : Demand3
-demand-3 s s' xs xs' g n o o' f f' e = at-earlier s s' xs xs' g (earlier-is g _ _ e) n o o' (finished-load s xs o f) (finished-load s' xs' o' f')
+demand-3 s s' xs xs' g n o o' f f' e = at-earlier s s' xs xs' g (earlier-is g _ _ e) n o o' (finished-load s xs o f)
+    (finished-load s' xs' o' f')

@@ -53,14 +53,19 @@ module _ (gs : List Group) (n : ℕ) (s : Opening) (xs : List Step) (o : Opens s
   listed : (k : Journey) → Memᴰ k (kept_of (end_of s xs)) → (k.arrival ≤ (end_of s xs).horizon) × (k.leave ≤ k.arrival)
   listed k m = go (end_of s xs).limit refl
     where
-      by : (os : List Journey) → OwnFound (end_of s xs) os → (Memᴰ k os → k.leave ≤ k.arrival) → (k.arrival ≤ (end_of s xs).horizon) × (k.leave ≤ k.arrival)
+      by : (os : List Journey) → OwnFound (end_of s xs) os → (Memᴰ k os → k.leave ≤ k.arrival)
+          → (k.arrival ≤ (end_of s xs).horizon) × (k.leave ≤ k.arrival)
       by os w f =
-          let (i, h) = after-mem (covᶠ journey_figures) (dueᶠ journey_figures) (end_of s xs).horizon _ os (sort-mem (sooner journey_figures) (front (covᶠ journey_figures) (dueᶠ journey_figures) (end_of s xs).horizon os) (subst (Memᴰ k) w.unbeaten m)) in
+          let (i, h) = after-mem (covᶠ journey_figures) (dueᶠ journey_figures) (end_of s xs).horizon _ os
+          (sort-mem (sooner journey_figures) (front (covᶠ journey_figures) (dueᶠ journey_figures) (end_of s xs).horizon os)
+          (subst (Memᴰ k) w.unbeaten m)) in
           (h, f i)
 
       go : (limit : Option ℕ) → (end_of s xs).limit ≡ limit → (k.arrival ≤ (end_of s xs).horizon) × (k.leave ≤ k.arrival)
-      go (Some n) e = by (own_within n (end_of s xs)) (stopped-found (end_of s xs) (end_kept s xs) n e) (within-ahead (end_of s xs) (end_kept s xs) n e k)
-      go None e = by (own_offers (end_of s xs)) (own-found (end_of s xs) (end_kept s xs) searched e) (own-ahead (end_of s xs) (end_kept s xs) (own-found (end_of s xs) (end_kept s xs) searched e).clear k)
+      go (Some n) e = by (own_within n (end_of s xs)) (stopped-found (end_of s xs) (end_kept s xs) n e)
+          (within-ahead (end_of s xs) (end_kept s xs) n e k)
+      go None e = by (own_offers (end_of s xs)) (own-found (end_of s xs) (end_kept s xs) searched e)
+          (own-ahead (end_of s xs) (end_kept s xs) (own-found (end_of s xs) (end_kept s xs) searched e).clear k)
 
   due : (k : Journey) → Memᴰ k (kept_of (end_of s xs)) → k.arrival ≤ (end_of s xs).horizon
   due k m = (listed k m).0
@@ -83,9 +88,14 @@ module _ (gs : List Group) (n : ℕ) (s : Opening) (xs : List Step) (o : Opens s
 
 displays-agree : DisplaysAgree
 displays-agree gs gs' n n' s s' xs xs' g e o o' t t' v v' r = (
-  λ f. let (a, b) = whole.0 (λ z i. sym (ap (read_by journey_figures g) (asked gs n s xs o v z)) ∙ alike-reads g (answer_in gs n s xs z) (answer_in gs' n' s' xs' z) (f z (in-second z i)) ∙ ap (read_by journey_figures g) (asked gs' n' s' xs' o' v' z)) in
+  λ f. let (a, b) = whole.0 (λ z i. sym (ap (read_by journey_figures g) (asked gs n s xs o v z))
+      ∙ alike-reads g (answer_in gs n s xs z) (answer_in gs' n' s' xs' z) (f z (in-second z i))
+      ∙ ap (read_by journey_figures g) (asked gs' n' s' xs' o' v' z)) in
       ((matched g s s' xs xs' o o').0 a, (matched g s' s xs' xs o' o).0 b),
-  λ (a, b) z i. reads-alike g (answer_in gs n s xs z) (answer_in gs' n' s' xs' z) (ap (read_by journey_figures g) (asked gs n s xs o v z) ∙ whole.1 ((matched g s s' xs xs' o o').1 a, (matched g s' s xs' xs o' o).1 b) z (second-in z i) ∙ sym (ap (read_by journey_figures g) (asked gs' n' s' xs' o' v' z))),
+  λ (a, b) z i. reads-alike g (answer_in gs n s xs z) (answer_in gs' n' s' xs' z)
+      (ap (read_by journey_figures g) (asked gs n s xs o v z)
+      ∙ whole.1 ((matched g s s' xs xs' o o').1 a, (matched g s' s xs' xs o' o).1 b) z (second-in z i)
+      ∙ sym (ap (read_by journey_figures g) (asked gs' n' s' xs' o' v' z))),
 )
   where
     w : ℕ
@@ -95,12 +105,14 @@ displays-agree gs gs' n n' s s' xs xs' g e o o' t t' v v' r = (
     w' = window_in gs' n'
 
     Reads : ℕ → Type 0
-    Reads k = ((z : ℤ) → I64 z → read_by journey_figures k (bestℤ journey_figures (within w (kept_of (end_of s xs))) w z) ≡ read_by journey_figures k (bestℤ journey_figures (within w' (kept_of (end_of s' xs'))) w' z))
+    Reads k = ((z : ℤ) → I64 z → read_by journey_figures k (bestℤ journey_figures (within w (kept_of (end_of s xs))) w z)
+        ≡ read_by journey_figures k (bestℤ journey_figures (within w' (kept_of (end_of s' xs'))) w' z))
         ↔ (CoveredBy k (by-load.Admitted s xs) (by-load.Admitted s' xs') × CoveredBy k (by-load.Admitted s' xs') (by-load.Admitted s xs))
 
     whole : Reads g
     whole = subst Reads (sym (earlier-is g w w' r))
-        (agrees-within s s' xs xs' w w' o o' (searched gs n s xs o v) (searched gs' n' s' xs' o' v') (finished-load s xs o t) (finished-load s' xs' o' t') (window-under gs n s xs o v) (window-under gs' n' s' xs' o' v'))
+        (agrees-within s s' xs xs' w w' o o' (searched gs n s xs o v) (searched gs' n' s' xs' o' v') (finished-load s xs o t)
+        (finished-load s' xs' o' t') (window-under gs n s xs o v) (window-under gs' n' s' xs' o' v'))
 
 pub displays : Displays
 displays = record {
@@ -110,6 +122,7 @@ displays = record {
       sym (start_is gs n s xs o v) ∙ (not-away gs a.stands (group_of n (end_of s xs)) v.given).start
       ∙ sym (not-away gs a.stands (group_of n' (end_of s' xs')) v'.given).start ∙ start_is gs n' s' xs' o' v';
   window = window-under;
-  best = λ gs n s xs o v z. best-by-group gs n (end_of s xs) (given gs n s xs o v) (ordered gs n s xs o v) (ahead gs n s xs o v) v.shows (window-under gs n s xs o v) z;
+  best = λ gs n s xs o v z. best-by-group gs n (end_of s xs) (given gs n s xs o v) (ordered gs n s xs o v) (ahead gs n s xs o v) v.shows
+      (window-under gs n s xs o v) z;
   met = displayed;
 }

@@ -22,7 +22,8 @@ use Rattle.comparison.specs.Neighbours.{CallBefore}
 use Rattle.comparison.specs.OfferOrder.{Offer, Before}
 use Rattle.comparison.specs.Events.{Event, join, offer, Precedes, InTurn, joins_in, offers_in, Stops, finished, stopped}
 use Rattle.comparison.proofs.Pairs.{Pairs, pairs-append, pairs-cond, pairs-concat, pairs-map}
-use Rattle.comparison.proofs.OfferLaws.{by_alone, by_changing, to_j, RideBefore, FirstBefore, rides-pairs, firsts-pairs, sooner, bits, targets, ride-sooner, alone-pairs}
+use Rattle.comparison.proofs.OfferLaws.{by_alone, by_changing, to_j, RideBefore, FirstBefore, rides-pairs, firsts-pairs, sooner, bits}
+use Rattle.comparison.proofs.OfferLaws.{targets, ride-sooner, alone-pairs}
 
 -- what the program comes to, an offer being named by its calls; and the same as stated here
 abbrev pub Keyed : Type 0
@@ -87,7 +88,9 @@ module _ (t : Timetable) (s : List Call) (p : Pairs CallBefore s) where
     abbrev directs_by : List Keyed
     directs_by = map offered (directs (network_of t) by_alone by_changing f)
 
-    of-last : (l : Leg Call) (b : Bool) (x : Keyed) → Memᴰ x (map offered (cond b (map (by_changing f l) ((network_of t).targets l.a)) [])) → (k : ℕ) × (offered (by_changing f l k) ≡ x)
+    of-last : (l : Leg Call) (b : Bool) (x : Keyed)
+        → Memᴰ x (map offered (cond b (map (by_changing f l) ((network_of t).targets l.a)) []))
+        → (k : ℕ) × (offered (by_changing f l k) ≡ x)
     of-last l b x m =
         let (y, i, e) = Memᴰ.of_map offered (cond b (map (by_changing f l) ((network_of t).targets l.a)) []) m in
         let (k, j, q) = Memᴰ.of_map (by_changing f l) ((network_of t).targets l.a) (cond-mem b _ i).1 in
@@ -97,7 +100,8 @@ module _ (t : Timetable) (s : List Call) (p : Pairs CallBefore s) where
     unfolding join_events
     of-ride l x m = go (Memᴰ.cases_cons m)
       where
-        go : (x ≡ tested (join_of f l)) ⊎ Memᴰ x (map offered (cond ((network_of t).joins f.ride l.b) (map (by_changing f l) ((network_of t).targets l.a)) [])) → OfRide f l x
+        go : (x ≡ tested (join_of f l)) ⊎ Memᴰ x (map offered
+            (cond ((network_of t).joins f.ride l.b) (map (by_changing f l) ((network_of t).targets l.a)) [])) → OfRide f l x
         go (inl e) = subst (OfRide f l) (sym e) pair
         go (inr n) = let (k, e) = of-last l ((network_of t).joins f.ride l.b) x n in subst (OfRide f l) e (change k)
 
@@ -115,10 +119,12 @@ module _ (t : Timetable) (s : List Call) (p : Pairs CallBefore s) where
     ride-turns : (l : Leg Call) → Pairs Turn (joins_by l)
     unfolding join_events
     ride-turns l = (
-      λ x m. let (k, e) = of-last l ((network_of t).joins f.ride l.b) x m in subst (Turn (tested (join_of f l))) e (inr (refl, inr (refl, inr (refl, inr (refl, inr (refl, tt)))))),
+      λ x m. let (k, e) = of-last l ((network_of t).joins f.ride l.b) x m in
+          subst (Turn (tested (join_of f l))) e (inr (refl, inr (refl, inr (refl, inr (refl, inr (refl, tt)))))),
       pairs-map Turn Before offered (cond ((network_of t).joins f.ride l.b) (map (by_changing f l) ((network_of t).targets l.a)) [])
           (pairs-cond Before ((network_of t).joins f.ride l.b) (map (by_changing f l) ((network_of t).targets l.a))
-          (pairs-map Before ◌<◌ (by_changing f l) ((network_of t).targets l.a) (targets t s p l.a) (λ k k' h. inr (refl, inr (refl, inr (refl, inr (refl, inr (refl, h)))))))) (λ x y h. h),
+          (pairs-map Before ◌<◌ (by_changing f l) ((network_of t).targets l.a) (targets t s p l.a)
+          (λ k k' h. inr (refl, inr (refl, inr (refl, inr (refl, inr (refl, h)))))))) (λ x y h. h),
     )
 
     change-turns : Pairs Turn changes_by
@@ -129,7 +135,9 @@ module _ (t : Timetable) (s : List Call) (p : Pairs CallBefore s) where
 
     first-turns : Pairs Turn (directs_by ++ cond (eqb depth 1) changes_by [])
     first-turns =
-        pairs-append Turn directs_by (cond (eqb depth 1) changes_by []) (pairs-map Turn Before offered (directs (network_of t) by_alone by_changing f) (alone-pairs t s p depth f) (λ x y h. h)) (pairs-cond Turn (eqb depth 1) changes_by change-turns)
+        pairs-append Turn directs_by (cond (eqb depth 1) changes_by [])
+        (pairs-map Turn Before offered (directs (network_of t) by_alone by_changing f) (alone-pairs t s p depth f) (λ x y h. h))
+        (pairs-cond Turn (eqb depth 1) changes_by change-turns)
         (λ x y m n. let (k, e) = of-direct x m in let (l, v) = of-change y (cond-mem (eqb depth 1) changes_by n).1 in
         subst (λ (z : Keyed). Turn z y) e (after-direct f k l y v))
 
@@ -143,7 +151,8 @@ module _ (t : Timetable) (s : List Call) (p : Pairs CallBefore s) where
   pub turns : (depth : ℕ) → Pairs Turn (events (network_of t) by_alone by_changing depth s)
   unfolding events
   turns depth =
-      pairs-concat Turn FirstBefore (λ f. directs_by depth f ++ cond (eqb depth 1) (changes_by depth f) []) (first_rides (network_of t) s) (firsts-pairs (network_of t) (bits t s p) s p) (first-turns depth)
+      pairs-concat Turn FirstBefore (λ f. directs_by depth f ++ cond (eqb depth 1) (changes_by depth f) []) (first_rides (network_of t) s)
+      (firsts-pairs (network_of t) (bits t s p) s p) (first-turns depth)
       (λ f g w x y m n. by_first f g w x y (of-first depth f x m) (of-first depth g y n))
 
 pub in_turn : (xs : List Keyed) → Pairs Turn xs → InTurn (map stated xs)
@@ -169,9 +178,11 @@ after-offer : (n : ℕ) (x : Offer) (es front : List Event) (b : Bool) → Stops
 after-offer n x es front _ (finished e h) = finished (ap {B = List Event} (λ r. offer x ∷ r) e) h
 after-offer n x es front _ (stopped b o a c d rest e h) = stopped b o a c d rest (ap {B = List Event} (λ r. offer x ∷ r) e) h
 
-after-join : (n : ℕ) (j : Join Call) (es front : List Event) (b : Bool) → Stops n es front b → Stops (suc n) (stated (tested j) ∷ es) (stated (tested j) ∷ front) b
+after-join : (n : ℕ) (j : Join Call) (es front : List Event) (b : Bool) → Stops n es front b
+    → Stops (suc n) (stated (tested j) ∷ es) (stated (tested j) ∷ front) b
 after-join n j es front _ (finished e h) = finished (ap {B = List Event} (λ r. stated (tested j) ∷ r) e) (omega arith)
-after-join n j es front _ (stopped b o a c d rest e h) = stopped b o a c d rest (ap {B = List Event} (λ r. stated (tested j) ∷ r) e) (ap suc h)
+after-join n j es front _ (stopped b o a c d rest e h) =
+    stopped b o a c d rest (ap {B = List Event} (λ r. stated (tested j) ∷ r) e) (ap suc h)
 
 pub stops_so : (n : ℕ) (xs : List Keyed) → Stops n (map stated xs) (map stated (up_to n xs)) (by.finished n xs)
 stops_so n [] = finished refl (omega arith)
@@ -191,8 +202,16 @@ played t x = event_by (λ (c : Call). c) (to_j t) x
 same-events : (t : Timetable) → map (played t) (keyed_of t) ≡ events_of t
 unfolding events_of
 same-events t =
-    events-of-images (network_of t) (network_of t) (λ c. c) t.max_transfers (sorted t) (to_j t) by_alone by_changing (direct_by t) (change_by t)
-    (record { same = λ x y m n. refl; board = λ x m. refl; alight = λ x m. refl; origins = λ x m. refl; targets = λ x m. refl; joins = λ e x y z m n o. refl })
+    events-of-images (network_of t) (network_of t) (λ c. c) t.max_transfers (sorted t) (to_j t) by_alone by_changing (direct_by t)
+    (change_by t)
+    (record {
+      same = λ x y m n. refl;
+      board = λ x m. refl;
+      alight = λ x m. refl;
+      origins = λ x m. refl;
+      targets = λ x m. refl;
+      joins = λ e x y z m n o. refl;
+    })
     (record { alone = λ f k r o m. refl; changing = λ e f l k r o i m. refl })
     ∙ ap (events (network_of t) (direct_by t) (change_by t) t.max_transfers) (map-id (sorted t))
 
@@ -221,11 +240,13 @@ module _ (t : Timetable) where
 
   pub offers-keyed : (n : ℕ) → map (to_j t) (offers_of (up_to n (keyed_of t))) ≡ offers_within n t
   unfolding offers_within
-  offers-keyed n = sym (offers-played (up_to n (keyed_of t))) ∙ ap offers_of (sym (upto-played n (keyed_of t)) ∙ ap (up_to n) (same-events t))
+  offers-keyed n = sym (offers-played (up_to n (keyed_of t)))
+      ∙ ap offers_of (sym (upto-played n (keyed_of t)) ∙ ap (up_to n) (same-events t))
 
   pub count-keyed : (n : ℕ) → by.joins_in (up_to n (keyed_of t)) ≡ joins_within n t
   unfolding joins_within
-  count-keyed n = ap lib.ListN.length (sym (joins-played (up_to n (keyed_of t))) ∙ ap joins_of (sym (upto-played n (keyed_of t)) ∙ ap (up_to n) (same-events t)))
+  count-keyed n = ap lib.ListN.length (sym (joins-played (up_to n (keyed_of t)))
+      ∙ ap joins_of (sym (upto-played n (keyed_of t)) ∙ ap (up_to n) (same-events t)))
 
   pub finished-keyed : (n : ℕ) → by.finished n (keyed_of t) ≡ finished_within n t
   unfolding finished_within

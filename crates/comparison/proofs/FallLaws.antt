@@ -50,23 +50,41 @@ latest-is (k ∷ q ∷ ks) l = more k (q ∷ ks) (latest due (q ∷ ks)) (latest
         top x (inr m) = omega (arith, w.top x m)
 
         go : (b : Bool) → leb a k.arrival ≡ b → Latest (k ∷ rest) (max k.arrival a)
-        go true e = record { one = k; there = Memᴰ.head refl; is = omega (arith, leb-true a k.arrival e); top = λ x m. top x (Memᴰ.cases_cons m) }
-        go false e = record { one = w.one; there = Memᴰ.tail w.there; is = omega (arith, w.is, leb-false a k.arrival e); top = λ x m. top x (Memᴰ.cases_cons m) }
+        go true e = record {
+          one = k;
+          there = Memᴰ.head refl;
+          is = omega (arith, leb-true a k.arrival e);
+          top = λ x m. top x (Memᴰ.cases_cons m);
+        }
+        go false e = record {
+          one = w.one;
+          there = Memᴰ.tail w.there;
+          is = omega (arith, w.is, leb-false a k.arrival e);
+          top = λ x m. top x (Memᴰ.cases_cons m);
+        }
 
 -- as many, and the same latest, where the list is put in order
 listed : (ks : List Journey) → length (ordered journey_figures ks) ≡ length ks
 listed ks = length-sort (sooner journey_figures) ks
 
 latest-listed : (ks : List Journey) (a : ℕ) → Latest ks a → Latest (ordered journey_figures ks) a
-latest-listed ks a w = record { one = w.one; there = mem-sort (sooner journey_figures) ks w.there; is = w.is; top = λ k m. w.top k (sort-mem (sooner journey_figures) ks m) }
+latest-listed ks a w = record {
+  one = w.one;
+  there = mem-sort (sooner journey_figures) ks w.there;
+  is = w.is;
+  top = λ k m. w.top k (sort-mem (sooner journey_figures) ks m);
+}
 
 -- after a fall at 65 there are at most 64
-fewer : (h : ℕ) (os : List Journey) (a : ℕ) → length (standing h os) ≡ 65 → Latest (standing h os) a → 3600 ≤ a - 1 → length (standing (a - 1) os) ≤ 64
+fewer : (h : ℕ) (os : List Journey) (a : ℕ) → length (standing h os) ≡ 65 → Latest (standing h os) a → 3600 ≤ a - 1
+    → length (standing (a - 1) os) ≤ 64
 fewer h os a n w low =
     let d : w.one.arrival ≤ h = (after-mem (covᶠ journey_figures) (dueᶠ journey_figures) h [] os w.there).1 in
-    let e : filterb (λ k. leb (due k) (a - 1)) (standing h os) ≡ standing (a - 1) os = after-due (covᶠ journey_figures) (dueᶠ journey_figures) (a - 1) h [] os (omega (arith, w.is)) in
+    let e : filterb (λ k. leb (due k) (a - 1)) (standing h os) ≡ standing (a - 1) os =
+    after-due (covᶠ journey_figures) (dueᶠ journey_figures) (a - 1) h [] os (omega (arith, w.is)) in
     let f : leb (due w.one) (a - 1) ≡ false = borrow.Author.Tests.lt-leb (due w.one) (a - 1) (omega (arith, w.is)) in
-    let l : length (filterb (λ k. leb (due k) (a - 1)) (standing h os)) < length (standing h os) = length-filterb-lt (λ k. leb (due k) (a - 1)) w.there f in
+    let l : length (filterb (λ k. leb (due k) (a - 1)) (standing h os)) < length (standing h os) =
+    length-filterb-lt (λ k. leb (due k) (a - 1)) w.there f in
     omega (arith, ap length e)
 
 abbrev pub end_of : Ends → End
@@ -87,12 +105,14 @@ fall-falls pre (o ∷ os) h m few = go (leb (length f) 64) refl (λ h' m' l. fal
     c = latest due f - 1
 
     Later : Type 0
-    Later = (h' m' : ℕ) → length (standing h' (pre ++ o ∷ [])) ≤ 64 → Falls (pre ++ o ∷ []) h' m' os (end_of (ended h' m' (pre ++ o ∷ []) os))
+    Later = (h' m' : ℕ) → length (standing h' (pre ++ o ∷ [])) ≤ 64
+        → Falls (pre ++ o ∷ []) h' m' os (end_of (ended h' m' (pre ++ o ∷ []) os))
 
     kept : Holds h (pre ++ o ∷ []) (ordered journey_figures f)
     kept = front-holds h (pre ++ o ∷ []) (ordered journey_figures f) refl
 
-    cut : leb (length f) 64 ≡ false → (b : Bool) → ltb c 3600 ≡ b → Later → Falls pre h m (o ∷ os) (end_of (cond b never (ended c 1 (pre ++ o ∷ []) os)))
+    cut : leb (length f) 64 ≡ false → (b : Bool) → ltb c 3600 ≡ b → Later
+        → Falls pre h m (o ∷ os) (end_of (cond b never (ended c 1 (pre ++ o ∷ []) os)))
     cut p b q ih = low b q
       where
         many : length f ≡ 65
@@ -105,9 +125,11 @@ fall-falls pre (o ∷ os) h m few = go (leb (length f) 64) refl (λ h' m' l. fal
         low true q = sinks {a = latest due f} kept (listed f ∙ many) (latest-listed f (latest due f) top) (ltb-true c 3600 q)
         low false q =
             let deep : 3600 ≤ latest due f - 1 = ltb-false c 3600 q in
-            falls {a = latest due f} kept (listed f ∙ many) (latest-listed f (latest due f) top) deep (ih c 1 (fewer h (pre ++ o ∷ []) (latest due f) many top deep))
+            falls {a = latest due f} kept (listed f ∙ many) (latest-listed f (latest due f) top) deep
+            (ih c 1 (fewer h (pre ++ o ∷ []) (latest due f) many top deep))
 
-    go : (b : Bool) → leb (length f) 64 ≡ b → Later → Falls pre h m (o ∷ os) (end_of (cond b (ended h m (pre ++ o ∷ []) os) (cond (ltb c 3600) never (ended c 1 (pre ++ o ∷ []) os))))
+    go : (b : Bool) → leb (length f) 64 ≡ b → Later
+        → Falls pre h m (o ∷ os) (end_of (cond b (ended h m (pre ++ o ∷ []) os) (cond (ltb c 3600) never (ended c 1 (pre ++ o ∷ []) os))))
     go true p ih = stays kept (omega (arith, listed f, leb-true (length f) 64 p)) (ih h m (leb-true (length f) 64 p))
     go false p ih = cut p (ltb c 3600) refl ih
 
@@ -124,7 +146,8 @@ goes-once p q (inl a) (inr (b, w)) = omega arith
 goes-once p q (inr (a, v)) (inl b) = omega arith
 goes-once p q (inr (a, v)) (inr (b, w)) = by-rides v w
   where
-    by-walk : (p.walk < q.walk) ⊎ ((p.walk ≡ q.walk) × (q.leave < p.leave)) → (q.walk < p.walk) ⊎ ((q.walk ≡ p.walk) × (p.leave < q.leave)) → ⊥
+    by-walk : (p.walk < q.walk) ⊎ ((p.walk ≡ q.walk) × (q.leave < p.leave))
+        → (q.walk < p.walk) ⊎ ((q.walk ≡ p.walk) × (p.leave < q.leave)) → ⊥
     by-walk (inl x) (inl y) = omega arith
     by-walk (inl x) (inr (y, u)) = omega arith
     by-walk (inr (x, t)) (inl y) = omega arith
@@ -155,8 +178,11 @@ one-fall pre h m _ e d (stays {o = o} v l w) (falls v' n t q w') = absurd (omega
 one-fall pre h m _ e d (stays {o = o} v l w) (sinks v' n t q) = absurd (omega (arith, ap length (one_list h (pre ++ o ∷ []) _ _ v v')))
 one-fall pre h m _ e d (falls {o = o} v n t q w) (stays v' l' w') = absurd (omega (arith, ap length (one_list h (pre ++ o ∷ []) _ _ v v')))
 one-fall pre h m _ e d (falls {os = os} {o = o} {a = a} v n t q w) (falls {a = b} v' n' t' q' w') =
-    one-fall (pre ++ o ∷ []) (a - 1) 1 os e d w (subst (λ (x : ℕ). Falls (pre ++ o ∷ []) (x - 1) 1 os d) (one-latest _ _ b a (one_list h (pre ++ o ∷ []) _ _ v' v) t' t) w')
-one-fall pre h m _ e d (falls {o = o} {a = a} v n t q w) (sinks {a = b} v' n' t' q') = absurd (omega (arith, one-latest _ _ a b (one_list h (pre ++ o ∷ []) _ _ v v') t t'))
+    one-fall (pre ++ o ∷ []) (a - 1) 1 os e d w (subst (λ (x : ℕ). Falls (pre ++ o ∷ []) (x - 1) 1 os d)
+    (one-latest _ _ b a (one_list h (pre ++ o ∷ []) _ _ v' v) t' t) w')
+one-fall pre h m _ e d (falls {o = o} {a = a} v n t q w) (sinks {a = b} v' n' t' q') = absurd
+    (omega (arith, one-latest _ _ a b (one_list h (pre ++ o ∷ []) _ _ v v') t t'))
 one-fall pre h m _ e d (sinks {o = o} v n t q) (stays v' l' w') = absurd (omega (arith, ap length (one_list h (pre ++ o ∷ []) _ _ v v')))
-one-fall pre h m _ e d (sinks {o = o} {a = a} v n t q) (falls {a = b} v' n' t' q' w') = absurd (omega (arith, one-latest _ _ a b (one_list h (pre ++ o ∷ []) _ _ v v') t t'))
+one-fall pre h m _ e d (sinks {o = o} {a = a} v n t q) (falls {a = b} v' n' t' q' w') = absurd
+    (omega (arith, one-latest _ _ a b (one_list h (pre ++ o ∷ []) _ _ v v') t t'))
 one-fall pre h m _ _ _ (sinks v n t q) (sinks v' n' t' q') = refl

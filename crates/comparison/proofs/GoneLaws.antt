@@ -37,8 +37,11 @@ dec-key k = dec-nand (ltb k.trip 65535) (leb k.day 2) (dec-not-ltb k.trip 65535)
 key_in : (k : CallKey) (c : Call) → has_key k c ≡ true → (c.trip ≡ k.trip) × (c.day ≡ k.day) × (c.sequence ≡ k.sequence)
 unfolding has_key
 key_in k c e =
-    let f = and-true-right (eqb c.trip k.trip) _ e in
-    (eqb-true c.trip k.trip (and-true-left _ _ e), eqb-true c.day k.day (and-true-left _ _ f), eqb-true c.sequence k.sequence (and-true-right (eqb c.day k.day) _ f))
+    let f = and-true-right (eqb c.trip k.trip) _ e in (
+      eqb-true c.trip k.trip (and-true-left _ _ e),
+      eqb-true c.day k.day (and-true-left _ _ f),
+      eqb-true c.sequence k.sequence (and-true-right (eqb c.day k.day) _ f),
+    )
 
 key-out : (k : CallKey) (c : Call) → c.trip ≡ k.trip → c.day ≡ k.day → c.sequence ≡ k.sequence → has_key k c ≡ true
 unfolding has_key
@@ -69,12 +72,16 @@ module _ (z : Settings) (h : ℕ) (k : CallKey) where
   calls-without [] = refl
   calls-without (stop id name parent i ∷ fs) = other-stays (stop id name parent i) fs refl (λ gs. refl) (calls-without fs) (anyb p fs) refl
   calls-without (rule i ∷ fs) = other-stays (rule i) fs refl (λ gs. refl) (calls-without fs) (anyb p fs) refl
-  calls-without (service name weekdays start end ∷ fs) = other-stays (service name weekdays start end) fs refl (λ gs. refl) (calls-without fs) (anyb p fs) refl
-  calls-without (exception name date kind ∷ fs) = other-stays (exception name date kind) fs refl (λ gs. refl) (calls-without fs) (anyb p fs) refl
-  calls-without (call name i ∷ fs) = go (anyb p fs) (anyb (named_in z h k) (calls_in fs)) (any-calls fs) (named_in z h k i) (calls-without fs)
+  calls-without (service name weekdays start end ∷ fs) =
+      other-stays (service name weekdays start end) fs refl (λ gs. refl) (calls-without fs) (anyb p fs) refl
+  calls-without (exception name date kind ∷ fs) =
+      other-stays (exception name date kind) fs refl (λ gs. refl) (calls-without fs) (anyb p fs) refl
+  calls-without (call name i ∷ fs) = go (anyb p fs) (anyb (named_in z h k) (calls_in fs)) (any-calls fs) (named_in z h k i)
+      (calls-without fs)
     where
       go : (b c : Bool) → b ≡ c → (d : Bool) → calls_in (without_last p fs) ≡ without_last (named_in z h k) (calls_in fs)
-          → calls_in (cond b (call name i ∷ without_last p fs) (cond d fs (call name i ∷ fs))) ≡ cond c (i ∷ without_last (named_in z h k) (calls_in fs)) (cond d (calls_in fs) (i ∷ calls_in fs))
+          → calls_in (cond b (call name i ∷ without_last p fs) (cond d fs (call name i ∷ fs)))
+          ≡ cond c (i ∷ without_last (named_in z h k) (calls_in fs)) (cond d (calls_in fs) (i ∷ calls_in fs))
       go true true e d ih = ap {B = List CallInput} (λ r. i ∷ r) ih
       go true false e d ih = absurd (true≢false e)
       go false true e d ih = absurd (false≢true e)
@@ -100,33 +107,42 @@ module _ (s : Settings) (o : Opened s) (h : ℕ) (k : CallKey) where
   pub dec-such : (i : CallInput) → i.day ≤ 2 → Decides (named_in z h k i) (HasKey k i × InTable s h i)
   dec-such i d = (
     λ e. shown-such i (window s h i) refl (sym (same-named i) ∙ e),
-    λ (q, (c, w)). same-named i ∙ ap (shown_key k) (seen-shown s h i (o.clock i.day d) c w) ∙ key-out k c (w.trip ∙ q.trip) (w.day ∙ q.day) (w.sequence ∙ q.sequence),
+    λ (q, (c, w)). same-named i ∙ ap (shown_key k) (seen-shown s h i (o.clock i.day d) c w)
+        ∙ key-out k c (w.trip ∙ q.trip) (w.day ∙ q.day) (w.sequence ∙ q.sequence),
   )
 
-  pub dec-none : (is : List CallInput) → ((j : CallInput) → Memᴰ j is → j.day ≤ 2) → Decides (not (anyb (named_in z h k) is)) (NoneSuch s h k is)
+  pub dec-none : (is : List CallInput) → ((j : CallInput) → Memᴰ j is → j.day ≤ 2)
+      → Decides (not (anyb (named_in z h k) is)) (NoneSuch s h k is)
   dec-none is days = (
     λ e i m q t. true≢false (sym ((dec-such i (days i m)).1 (q, t)) ∙ anyb-not (named_in z h k) (of-not (anyb (named_in z h k) is) e) m),
-    λ f. ap not (not-true (anyb (named_in z h k) is) (λ e. let (i, m, q) = anyb-mem (named_in z h k) is e in let (a, b) = (dec-such i (days i m)).0 q in f i m a b)),
+    λ f. ap not (not-true (anyb (named_in z h k) is)
+        (λ e. let (i, m, q) = anyb-mem (named_in z h k) is e in let (a, b) = (dec-such i (days i m)).0 q in f i m a b)),
   )
 
   -- the last of them goes
-  pub gone-is : (t : State) → t.horizon ≡ h → ((j : CallInput) → Memᴰ j (calls_in t.taken) → j.day ≤ 2) → anyb (named_filling z h k) t.taken ≡ true
+  pub gone-is : (t : State) → t.horizon ≡ h → ((j : CallInput) → Memᴰ j (calls_in t.taken) → j.day ≤ 2)
+      → anyb (named_filling z h k) t.taken ≡ true
       → Withdrawn s t k (keeping t (without_last (named_filling z h k) t.taken))
   gone-is t eh days e = by w.gone refl w.passes
     where
       w : LastGoes (named_filling z h k) t.taken
       w = goes (named_filling z h k) t.taken e
 
-      by : (g : Filling) → w.gone ≡ g → named_filling z h k g ≡ true → Withdrawn s t k (keeping t (without_last (named_filling z h k) t.taken))
+      by : (g : Filling) → w.gone ≡ g → named_filling z h k g ≡ true
+          → Withdrawn s t k (keeping t (without_last (named_filling z h k) t.taken))
       by (stop id name parent i) q x = absurd (false≢true x)
       by (rule i) q x = absurd (false≢true x)
       by (service name weekdays start end) q x = absurd (false≢true x)
       by (exception name date kind) q x = absurd (false≢true x)
       by (call name i) q x =
           let whole : t.taken ≡ w.before ++ call name i ∷ w.behind = w.whole ∙ ap (λ (g : Filling). w.before ++ g ∷ w.behind) q in
-          let split : calls_in t.taken ≡ calls_in w.before ++ i ∷ calls_in w.behind = ap calls_in whole ∙ calls-append w.before (call name i ∷ w.behind) in
-          let here : Memᴰ i (calls_in t.taken) = subst (Memᴰ i) (sym split) (mathlib.Core.List.Memᴰ.append_right (calls_in w.before) (mathlib.Core.List.Memᴰ.head refl)) in
-          let behind : (j : CallInput) → Memᴰ j (calls_in w.behind) → j.day ≤ 2 = λ j m. days j (subst (Memᴰ j) (sym split) (mathlib.Core.List.Memᴰ.append_right (calls_in w.before) (mathlib.Core.List.Memᴰ.tail m))) in
+          let split : calls_in t.taken ≡ calls_in w.before ++ i ∷ calls_in w.behind =
+          ap calls_in whole ∙ calls-append w.before (call name i ∷ w.behind) in
+          let here : Memᴰ i (calls_in t.taken) = subst (Memᴰ i) (sym split)
+          (mathlib.Core.List.Memᴰ.append_right (calls_in w.before) (mathlib.Core.List.Memᴰ.head refl)) in
+          let behind : (j : CallInput) → Memᴰ j (calls_in w.behind) → j.day ≤ 2 =
+          λ j m. days j (subst (Memᴰ j) (sym split)
+          (mathlib.Core.List.Memᴰ.append_right (calls_in w.before) (mathlib.Core.List.Memᴰ.tail m))) in
           let such = (dec-such i (days i here)).0 x in
           record {
             before = w.before;
@@ -136,7 +152,8 @@ module _ (s : Settings) (o : Opened s) (h : ℕ) (k : CallKey) where
             whole = whole;
             key = such.0;
             there = subst (λ (g : ℕ). InTable s g i) (sym eh) such.1;
-            last = subst (λ (g : ℕ). NoneSuch s g k (calls_in w.behind)) (sym eh) ((dec-none (calls_in w.behind) behind).0 (ap not (sym (any-calls z h k w.behind) ∙ w.last)));
+            last = subst (λ (g : ℕ). NoneSuch s g k (calls_in w.behind)) (sym eh)
+                ((dec-none (calls_in w.behind) behind).0 (ap not (sym (any-calls z h k w.behind) ∙ w.last)));
             left = ap (keeping t) w.left;
           }
 
@@ -155,8 +172,10 @@ module _ (P : Filling → Type 0) where
   one_last : (b b' : List Filling) (x x' : Filling) (c c' : List Filling) → b ++ x ∷ c ≡ b' ++ x' ∷ c' → P x → P x'
       → ((y : Filling) → Memᴰ y c → P y → ⊥) → ((y : Filling) → Memᴰ y c' → P y → ⊥) → b ++ c ≡ b' ++ c'
   one_last [] [] x x' c c' e v v' n n' = ap behind_of e
-  one_last [] (y ∷ b') x x' c c' e v v' n n' = absurd (n x' (subst (Memᴰ x') (sym (ap behind_of e)) (mathlib.Core.List.Memᴰ.append_right b' (mathlib.Core.List.Memᴰ.head refl))) v')
-  one_last (y ∷ b) [] x x' c c' e v v' n n' = absurd (n' x (subst (Memᴰ x) (ap behind_of e) (mathlib.Core.List.Memᴰ.append_right b (mathlib.Core.List.Memᴰ.head refl))) v)
+  one_last [] (y ∷ b') x x' c c' e v v' n n' = absurd
+      (n x' (subst (Memᴰ x') (sym (ap behind_of e)) (mathlib.Core.List.Memᴰ.append_right b' (mathlib.Core.List.Memᴰ.head refl))) v')
+  one_last (y ∷ b) [] x x' c c' e v v' n n' = absurd
+      (n' x (subst (Memᴰ x) (ap behind_of e) (mathlib.Core.List.Memᴰ.append_right b (mathlib.Core.List.Memᴰ.head refl))) v)
   one_last (y ∷ b) (y' ∷ b') x x' c c' e v v' n n' =
       let f : y ≡ y' = ap (front_of y) e in
       let g = one_last b b' x x' c c' (ap behind_of e) v v' n n' in
@@ -169,7 +188,8 @@ SuchFilling s h k (rule i) = ⊥
 SuchFilling s h k (service name weekdays start end) = ⊥
 SuchFilling s h k (exception name date kind) = ⊥
 
-none-behind : (s : Settings) (h : ℕ) (k : CallKey) (fs : List Filling) → NoneSuch s h k (calls_in fs) → (y : Filling) → Memᴰ y fs → SuchFilling s h k y → ⊥
+none-behind : (s : Settings) (h : ℕ) (k : CallKey) (fs : List Filling) → NoneSuch s h k (calls_in fs) → (y : Filling) → Memᴰ y fs
+    → SuchFilling s h k y → ⊥
 none-behind s h k fs n (stop id name parent i) m v = v
 none-behind s h k fs n (call name i) m (q, t) = n i (call-in fs name i m) q t
 none-behind s h k fs n (rule i) m v = v

@@ -93,14 +93,19 @@ module _ (s : Settings) (o : Opened s) (is : List CallInput) (days : (j : CallIn
       }
 
       ends-fits : (h m : ℕ) (f : Tried) → Ends (Came h m) a d i f → Fits s is i h m f.answer f.table.horizon f.table.limits
-      ends-fits h m _ (stands t p e) = p.on (Ok Outside) t.horizon t.limits (cuts.outside (unseen s o t.horizon i day (seen-window t.horizon None e)))
-      ends-fits h m _ (enters t c p e r) = p.on (Ok Taken) t.horizon t.limits (cuts.room (seen-so t c e) (table-shown t p.showing) (omega (arith, table-long t p.showing, r)))
+      ends-fits h m _ (stands t p e) = p.on (Ok Outside) t.horizon t.limits
+          (cuts.outside (unseen s o t.horizon i day (seen-window t.horizon None e)))
+      ends-fits h m _ (enters t c p e r) = p.on (Ok Taken) t.horizon t.limits
+          (cuts.room (seen-so t c e) (table-shown t p.showing) (omega (arith, table-long t p.showing, r)))
       ends-fits h m _ (turned t c p e r l) =
-          p.on (Err NoRoom) t.horizon t.limits (cuts.full (seen-so t c e) (table-shown t p.showing) (omega (arith, table-long t p.showing, r)) l)
+          p.on (Err NoRoom) t.horizon t.limits (cuts.full (seen-so t c e) (table-shown t p.showing)
+          (omega (arith, table-long t p.showing, r)) l)
 
-      pub fits : (t : Table) → Showing z is t → Fits s is i t.horizon t.limits (call_fit z t i).answer (call_fit z t i).table.horizon (call_fit z t i).table.limits
+      pub fits : (t : Table) → Showing z is t → Fits s is i t.horizon t.limits (call_fit z t i).answer (call_fit z t i).table.horizon
+          (call_fit z t i).table.limits
       unfolding call_fit
-      fits t w = ends-fits t.horizon t.limits _ (ends (Came t.horizon t.limits) a d i (came-keeps t.horizon t.limits) t (record { showing = w; on = λ x g n k. k }))
+      fits t w = ends-fits t.horizon t.limits _ (ends (Came t.horizon t.limits) a d i (came-keeps t.horizon t.limits) t
+          (record { showing = w; on = λ x g n k. k }))
 
     -- the whole step, where it is not sent back
     pub call_fits : (b : Bool) (n : ℕ) (t : Table) → Showing z is t → is_refused (call_on z b n t i).answer ≡ false
@@ -112,11 +117,13 @@ module _ (s : Settings) (o : Opened s) (is : List CallInput) (days : (j : CallIn
         both-given c v = rw (v.arrives, v.departs)
 
         go : (x : Answer) → first_answer (call_tests b n i) ≡ x → is_refused (goes_on_of z t i x).answer ≡ false
-            → Fits s is i t.horizon t.limits (goes_on_of z t i x).answer (goes_on_of z t i x).table.horizon (goes_on_of z t i x).table.limits
+            → Fits s is i t.horizon t.limits (goes_on_of z t i x).answer (goes_on_of z t i x).table.horizon
+            (goes_on_of z t i x).table.limits
         go (Err r) e q = absurd (true≢false q)
         go (Ok Outside) e q = cuts.outside (λ c v. true≢false (sym (tests-untimed b n i e) ∙ both-given c v))
         go (Ok Taken) e q =
-            subst (λ (c : Bool). Fits s is i t.horizon t.limits (call_fit z t i).answer (cond c t (call_fit z t i).table).horizon (cond c t (call_fit z t i).table).limits) (sym q)
+            subst (λ (c : Bool). Fits s is i t.horizon t.limits (call_fit z t i).answer (cond c t (call_fit z t i).table).horizon
+            (cond c t (call_fit z t i).table).limits) (sym q)
             (fits (passed b n i e).present (tests-day b n i e) t w)
 
 -- the table of a load shows what was taken

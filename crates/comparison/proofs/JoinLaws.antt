@@ -96,9 +96,11 @@ module _ (s : Settings) (p : Load) (fs : List Filling) (w : Start s p fs) where
   is-some (Some n) f = refl
   is-some None f = absurd (f refl)
 
-  read-in : (x : ℕ) → x < p.stop_count → (get_or (parents_of p.stops) x 65535 ≡ 65535 → ⊥) → Parent (stops_in fs) x (get_or (parents_of p.stops) x 65535)
+  read-in : (x : ℕ) → x < p.stop_count → (get_or (parents_of p.stops) x 65535 ≡ 65535 → ⊥)
+      → Parent (stops_in fs) x (get_or (parents_of p.stops) x 65535)
   read-in x h f =
-      parent_in x (get_or (parents_of p.stops) x 65535) h (is-some (stop_at p.stops x).parent (λ q. f (read x h ∙ q)) ∙ ap Some (sym (read x h)))
+      parent_in x (get_or (parents_of p.stops) x 65535) h
+      (is-some (stop_at p.stops x).parent (λ q. f (read x h ∙ q)) ∙ ap Some (sym (read x h)))
 
   read-out : (x n : ℕ) → x < p.stop_count → Parent (stops_in fs) x n → get_or (parents_of p.stops) x 65535 ≡ n
   read-out x n h c = read x h ∙ ap (λ (o : Option ℕ). unwrap_or o 65535) (parent-out x n c)
@@ -123,8 +125,10 @@ module _ (s : Settings) (p : Load) (fs : List Filling) (w : Start s p fs) where
   -- it names stops that are
   rule-known : (r : Rule) → Memᴰ r (rules_in fs) → (r.from < 128) × (r.to < 128)
   rule-known r m =
-      let (k, l, q) = placed r m in
-      (omega (arith, w.sound.rules.from_known k l, ap (λ (x : Rule). x.from) q, few), omega (arith, w.sound.rules.to_known k l, ap (λ (x : Rule). x.to) q, few))
+      let (k, l, q) = placed r m in (
+        omega (arith, w.sound.rules.from_known k l, ap (λ (x : Rule). x.from) q, few),
+        omega (arith, w.sound.rules.to_known k l, ap (λ (x : Rule). x.to) q, few),
+      )
 
   -- its type is one of 0 to 3, and no other is for its pair
   known : Taken (rules_in fs)
@@ -135,7 +139,8 @@ module _ (s : Settings) (p : Load) (fs : List Filling) (w : Start s p fs) where
         let (k, hk, qk) = placed b n in
         let same : j ≡ k =
         pair-once p.stop_count p.rules p.rule_count w.sound.rules j k hj hk
-        (ap (λ (x : Rule). x.from) qj ∙ f ∙ sym (ap (λ (x : Rule). x.from) qk)) (ap (λ (x : Rule). x.to) qj ∙ t ∙ sym (ap (λ (x : Rule). x.to) qk)) in
+        (ap (λ (x : Rule). x.from) qj ∙ f ∙ sym (ap (λ (x : Rule). x.from) qk))
+        (ap (λ (x : Rule). x.to) qj ∙ t ∙ sym (ap (λ (x : Rule). x.to) qk)) in
         sym qj ∙ ap (rule_at p.rules) same ∙ qk;
   }
 
@@ -169,11 +174,15 @@ module _ (s : Settings) (p : Load) (fs : List Filling) (w : Start s p fs) where
             let b : fp ≡ tp = eqb-true fp tp (and-true-right (not (eqb fp 65535)) _ q) in
             (fp, read-in x hx a, subst (Parent (stops_in fs) y) (sym b) (read-in y hy (λ z. a (b ∙ z))))
 
-        two : ((not (eqb fp 65535) && eqb fp tp) ≡ true) ⊎ ((not (eqb (place_in p x) 65535) && eqb (place_in p x) (place_in p y)) ≡ true) → Near F e known fores rears
+        two : ((not (eqb fp 65535) && eqb fp tp) ≡ true) ⊎ ((not (eqb (place_in p x) 65535) && eqb (place_in p x) (place_in p y)) ≡ true)
+            → Near F e known fores rears
         two (inl q) = inr (inl (parents q))
-        two (inr q) = inr (inr (place-in s p fs w x y hx hy (eqb-true (place_in p x) (place_in p y) (and-true-right (not (eqb (place_in p x) 65535)) _ q)) (eqb-false (place_in p x) 65535 (not-true (eqb (place_in p x) 65535) (and-true-left _ _ q)))))
+        two (inr q) = inr (inr (place-in s p fs w x y hx hy
+            (eqb-true (place_in p x) (place_in p y) (and-true-right (not (eqb (place_in p x) 65535)) _ q))
+            (eqb-false (place_in p x) 65535 (not-true (eqb (place_in p x) 65535) (and-true-left _ _ q)))))
 
-        one : (eqb x y ≡ true) ⊎ (((not (eqb fp 65535) && eqb fp tp) || (not (eqb (place_in p x) 65535) && eqb (place_in p x) (place_in p y))) ≡ true) → Near F e known fores rears
+        one : (eqb x y ≡ true) ⊎ (((not (eqb fp 65535) && eqb fp tp) ||
+            (not (eqb (place_in p x) 65535) && eqb (place_in p x) (place_in p y))) ≡ true) → Near F e known fores rears
         one (inl q) = inl (eqb-true x y q)
         one (inr q) = two (or-true-cases (not (eqb fp 65535) && eqb fp tp) _ q)
 
@@ -183,10 +192,12 @@ module _ (s : Settings) (p : Load) (fs : List Filling) (w : Start s p fs) where
             let a : fp ≡ n = read-out x n hx c in
             let b : tp ≡ n = read-out y n hy d in
             let l : n < p.stop_count = below n c.station c.at_station in
-            or_true_right (eqb x y) _ (or-true-left _ _ (and-true _ _ (ap not (ne_eqb fp 65535 (λ z. omega (arith, few)))) (eq-eqb fp tp (a ∙ sym b))))
+            or_true_right (eqb x y) _ (or-true-left _ _
+            (and-true _ _ (ap not (ne_eqb fp 65535 (λ z. omega (arith, few)))) (eq-eqb fp tp (a ∙ sym b))))
         back (inr (inr o)) =
             let (a, b) = place_out s p fs w x y o in
-            or_true_right (eqb x y) _ (or_true_right (not (eqb fp 65535) && eqb fp tp) _ (and-true _ _ (ap not (ne_eqb (place_in p x) 65535 b)) (eq-eqb (place_in p x) (place_in p y) a)))
+            or_true_right (eqb x y) _ (or_true_right (not (eqb fp 65535) && eqb fp tp) _
+            (and-true _ _ (ap not (ne_eqb (place_in p x) 65535 b)) (eq-eqb (place_in p x) (place_in p y) a)))
 
     -- the change time of the load is that of the settings
     change : p.settings.transfer_seconds ≡ s.transfer_seconds
@@ -215,7 +226,8 @@ module _ (s : Settings) (p : Load) (fs : List Filling) (w : Start s p fs) where
     pub joins-in : joins_in p (ride_of b a) c ≡ true → Joins F a c
     joins-in q = go (one_run (ride_of b a) c) refl (change_in p a.stop c.stop) refl (sym joins-is ∙ q)
       where
-        go : (r : Bool) → one_run (ride_of b a) c ≡ r → (t : Option ℕ) → change_in p a.stop c.stop ≡ t → cond r false (joins_by t a.arrival c.departure) ≡ true → Joins F a c
+        go : (r : Bool) → one_run (ride_of b a) c ≡ r → (t : Option ℕ) → change_in p a.stop c.stop ≡ t
+            → cond r false (joins_by t a.arrival c.departure) ≡ true → Joins F a c
         go true z t u v = absurd (false≢true v)
         go false z None u v = absurd (false≢true v)
         go false z (Some n) u v = record {

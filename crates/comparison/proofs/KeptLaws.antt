@@ -69,21 +69,29 @@ module _ (h : ℕ) (pre : List Journey) (o : Journey) (post : List Journey) wher
         there = rw length-append (omega arith);
         due = rw here (leb-true (due o) h q);
         unbeaten = λ x m b. go p r x (Memᴰ.append_cases pre m) (subst (Beats x) here b);
-        oldest = λ k l s. true≢false (sym (covers_out _ o (same_over _ o (subst (Same (offered whole k)) here s))) ∙ anyb-not (λ x. cov x o) r (earlier k l));
+        oldest = λ k l s. true≢false (sym (covers_out _ o (same_over _ o (subst (Same (offered whole k)) here s)))
+            ∙ anyb-not (λ x. cov x o) r (earlier k l));
       }
     where
       later : anyb (λ x. beats cov x o) post ≡ false → (x : Journey) → (x ≡ o) ⊎ Memᴰ x post → Beats x o → ⊥
-      later p x (inl s) b = b.apart (record { leave = ap (λ (j : Journey). j.leave) s; arrival = ap (λ (j : Journey). j.arrival) s; rides = ap (λ (j : Journey). j.rides) s; walk = ap (λ (j : Journey). j.walk) s })
+      later p x (inl s) b = b.apart (record {
+        leave = ap (λ (j : Journey). j.leave) s;
+        arrival = ap (λ (j : Journey). j.arrival) s;
+        rides = ap (λ (j : Journey). j.rides) s;
+        walk = ap (λ (j : Journey). j.walk) s;
+      })
       later p x (inr m) b = true≢false (sym (beats-out x o b) ∙ anyb-not (λ x. beats cov x o) p m)
 
-      go : anyb (λ x. beats cov x o) post ≡ false → anyb (λ x. cov x o) pre ≡ false → (x : Journey) → Memᴰ x pre ⊎ Memᴰ x (o ∷ post) → Beats x o → ⊥
+      go : anyb (λ x. beats cov x o) post ≡ false → anyb (λ x. cov x o) pre ≡ false → (x : Journey) → Memᴰ x pre ⊎ Memᴰ x (o ∷ post)
+          → Beats x o → ⊥
       go p r x (inl m) b = true≢false (sym (covers_out x o b.over) ∙ anyb-not (λ x. cov x o) r m)
       go p r x (inr m) b = later p x (Memᴰ.cases_cons m) b
 
   stands-counts : Stands h whole (length pre) → counts cov due h pre o post ≡ true
   stands-counts w =
       three_back (anyb (λ x. beats cov x o) post) (leb (due o) h) (anyb (λ x. cov x o) pre)
-      (anyb-none (λ x. beats cov x o) post (λ x m. is_false (beats cov x o) (λ b. w.unbeaten x (Memᴰ.append_right pre (Memᴰ.tail m)) (subst (Beats x) (sym here) (beats-in x o b)))))
+      (anyb-none (λ x. beats cov x o) post (λ x m. is_false (beats cov x o)
+      (λ b. w.unbeaten x (Memᴰ.append_right pre (Memᴰ.tail m)) (subst (Beats x) (sym here) (beats-in x o b)))))
       (le-leb (due o) h (rw here at w.due))
       (anyb-none (λ x. cov x o) pre (λ x m. is_false (cov x o) (λ c. older x m (covers-in x o c) (test (cov o x)))))
     where
@@ -91,9 +99,14 @@ module _ (h : ℕ) (pre : List Journey) (o : Journey) (post : List Journey) wher
       older x m v (inl c) =
           let (k, l, e) = mem-get_d no_journey m in
           let f : offered whole k ≡ x = get_or-append pre (o ∷ post) no_journey k l ∙ e in
-          w.oldest k l (subst (λ (j : Journey). Same j (offered whole (length pre))) (sym f) (subst (Same x) (sym here) (both-same x o v (covers-in o x c))))
+          w.oldest k l (subst (λ (j : Journey). Same j (offered whole (length pre))) (sym f)
+          (subst (Same x) (sym here) (both-same x o v (covers-in o x c))))
       older x m v (inr c) =
-          w.unbeaten x (Memᴰ.append_left (o ∷ post) m) (subst (Beats x) (sym here) (record { over = v; apart = λ s. true≢false (sym (covers_out o x (same_over o x (same_back s))) ∙ c) }))
+          w.unbeaten x (Memᴰ.append_left (o ∷ post) m)
+          (subst (Beats x) (sym here) (record {
+            over = v;
+            apart = λ s. true≢false (sym (covers_out o x (same_over o x (same_back s))) ∙ c);
+          }))
         where
           same_back : Same x o → Same o x
           same_back s = record { leave = sym s.leave; arrival = sym s.arrival; rides = sym s.rides; walk = sym s.walk }
@@ -122,7 +135,8 @@ part_end h os n l = record {
 }
 
 -- the position n stands, and goes first
-part-here : (h : ℕ) (os : List Journey) (n : ℕ) (o : Journey) (ks : List Journey) → offered os n ≡ o → Stands h os n → Part h os (n + 1) ks → Part h os n (o ∷ ks)
+part-here : (h : ℕ) (os : List Journey) (n : ℕ) (o : Journey) (ks : List Journey) → offered os n ≡ o → Stands h os n
+    → Part h os (n + 1) ks → Part h os n (o ∷ ks)
 part-here h os n o ks e s p = record {
   places = n ∷ p.places;
   in_order = (λ k m. omega (arith, p.late k m), p.in_order);
@@ -167,15 +181,20 @@ part : (h : ℕ) (pre os : List Journey) → Part h (pre ++ os) (length pre) (af
 part h pre [] = part_end h (pre ++ []) (length pre) (rw append-nil (omega arith))
 part h pre (o ∷ os) = go (counts cov due h pre o os) refl (part h (pre ++ o ∷ []) os)
   where
-    moved : Part h ((pre ++ o ∷ []) ++ os) (length (pre ++ o ∷ [])) (after cov due h (pre ++ o ∷ []) os) → Part h (pre ++ o ∷ os) (length pre + 1) (after cov due h (pre ++ o ∷ []) os)
+    moved : Part h ((pre ++ o ∷ []) ++ os) (length (pre ++ o ∷ [])) (after cov due h (pre ++ o ∷ []) os)
+        → Part h (pre ++ o ∷ os) (length pre + 1) (after cov due h (pre ++ o ∷ []) os)
     moved p =
         subst (λ (n : ℕ). Part h (pre ++ o ∷ os) n (after cov due h (pre ++ o ∷ []) os)) (length-append pre (o ∷ []))
-        (subst (λ (l : List Journey). Part h l (length (pre ++ o ∷ [])) (after cov due h (pre ++ o ∷ []) os)) (append_assoc pre (o ∷ []) os) p)
+        (subst (λ (l : List Journey). Part h l (length (pre ++ o ∷ [])) (after cov due h (pre ++ o ∷ []) os))
+        (append_assoc pre (o ∷ []) os) p)
 
-    go : (b : Bool) → counts cov due h pre o os ≡ b → Part h ((pre ++ o ∷ []) ++ os) (length (pre ++ o ∷ [])) (after cov due h (pre ++ o ∷ []) os)
+    go : (b : Bool) → counts cov due h pre o os ≡ b
+        → Part h ((pre ++ o ∷ []) ++ os) (length (pre ++ o ∷ [])) (after cov due h (pre ++ o ∷ []) os)
         → Part h (pre ++ o ∷ os) (length pre) (cond b (o ∷ after cov due h (pre ++ o ∷ []) os) (after cov due h (pre ++ o ∷ []) os))
-    go true e p = part-here h (pre ++ o ∷ os) (length pre) o (after cov due h (pre ++ o ∷ []) os) (here h pre o os) (counts-stands h pre o os e) (moved p)
-    go false e p = part-past h (pre ++ o ∷ os) (length pre) (after cov due h (pre ++ o ∷ []) os) (λ w. true≢false (sym (stands-counts h pre o os w) ∙ e)) (moved p)
+    go true e p = part-here h (pre ++ o ∷ os) (length pre) o (after cov due h (pre ++ o ∷ []) os) (here h pre o os)
+        (counts-stands h pre o os e) (moved p)
+    go false e p = part-past h (pre ++ o ∷ os) (length pre) (after cov due h (pre ++ o ∷ []) os)
+        (λ w. true≢false (sym (stands-counts h pre o os w) ∙ e)) (moved p)
 
 -- ---- put in order
 
@@ -195,7 +214,8 @@ module _ {A : Type 0} (P : A → A → Type 0) where
         over (inl e) ih = inr (Memᴰ.head e)
         over (inr k) ih = ⊎_elim (λ e. inl e) (λ n. inr (Memᴰ.tail n)) (ih k)
 
-        go : (b : Bool) → Memᴰ z (cond b (y ∷ insert_by lt x ys) (x ∷ y ∷ ys)) → (Memᴰ z (insert_by lt x ys) → (z ≡ x) ⊎ Memᴰ z ys) → (z ≡ x) ⊎ Memᴰ z (y ∷ ys)
+        go : (b : Bool) → Memᴰ z (cond b (y ∷ insert_by lt x ys) (x ∷ y ∷ ys)) → (Memᴰ z (insert_by lt x ys) → (z ≡ x) ⊎ Memᴰ z ys)
+            → (z ≡ x) ⊎ Memᴰ z (y ∷ ys)
         go true k ih = over (Memᴰ.cases_cons k) ih
         go false k ih = Memᴰ.cases_cons k
 
@@ -219,10 +239,12 @@ module _ {A : Type 0} (P : A → A → Type 0) where
 abbrev Apart : Journey → Journey → Type 0
 Apart p q = Same p q → ⊥
 
-standing_apart : (h : ℕ) (os : List Journey) (is : List ℕ) → Rising is → ((i : ℕ) → Memᴰ i is → Stands h os i) → Pairs Apart (map (offered os) is)
+standing_apart : (h : ℕ) (os : List Journey) (is : List ℕ) → Rising is → ((i : ℕ) → Memᴰ i is → Stands h os i)
+    → Pairs Apart (map (offered os) is)
 standing_apart h os [] r s = tt
 standing_apart h os (i ∷ is) (f, r) s = (
-  λ q m e. let (k, n, here) = Memᴰ.of_map (offered os) is m in (s k (Memᴰ.tail n)).oldest i (f k n) (subst (Same (offered os i)) (sym here) e),
+  λ q m e. let (k, n, here) = Memᴰ.of_map (offered os) is m in
+      (s k (Memᴰ.tail n)).oldest i (f k n) (subst (Same (offered os i)) (sym here) e),
   standing_apart h os is r (λ k m. s k (Memᴰ.tail m)),
 )
 
@@ -241,8 +263,10 @@ in_order : (ks : List Journey) → Ordered journey_figures ks → Pairs Apart ks
 in_order [] o w = tt
 in_order (x ∷ ks) (f, o) (g, w) = (λ k m. goes_before x k (prefer-in x k (f k m)) (g k m), in_order ks o w)
 
-pub front-holds : (h : ℕ) (os ks : List Journey) → ks ≡ ordered journey_figures (front (covᶠ journey_figures) (dueᶠ journey_figures) h os) → Holds h os ks
-front-holds h os ks e = subst (Holds h os) (sym e) (record { exactly = λ j. (there j, back j); in_order = in_order listed (put-in-order journey_figures fs).0 apart })
+pub front-holds : (h : ℕ) (os ks : List Journey) → ks ≡ ordered journey_figures (front (covᶠ journey_figures) (dueᶠ journey_figures) h os)
+    → Holds h os ks
+front-holds h os ks e = subst (Holds h os) (sym e)
+    (record { exactly = λ j. (there j, back j); in_order = in_order listed (put-in-order journey_figures fs).0 apart })
   where
     fs : List Journey
     fs = front (covᶠ journey_figures) (dueᶠ journey_figures) h os
@@ -260,7 +284,8 @@ front-holds h os ks e = subst (Holds h os) (sym e) (record { exactly = λ j. (th
 
     back : (j : Journey) → (i : ℕ) × Stands h os i × (offered os i ≡ j) → Memᴰ j listed
     back j (i, s, here) =
-        mem-sort (sooner journey_figures) fs (subst (Memᴰ j) (sym p.list) (subst (λ (q : Journey). Memᴰ q (map (offered os) p.places)) here (Memᴰ.map (offered os) ((p.exactly i (omega arith)).1 s))))
+        mem-sort (sooner journey_figures) fs (subst (Memᴰ j) (sym p.list)
+        (subst (λ (q : Journey). Memᴰ q (map (offered os) p.places)) here (Memᴰ.map (offered os) ((p.exactly i (omega arith)).1 s))))
 
     apart : Pairs Apart listed
     apart =

@@ -41,7 +41,8 @@ key_one g _ _ (by_parent {p = p} e) (by_id f n) = absurd (some-ne-none p (sym e 
 key_one g _ _ (by_name e v c) (by_parent {p = p} f) = absurd (some-ne-none p (sym f ∙ e))
 key_one g _ _ (by_name {t = t} {d = d} e v c) (by_name {t = u} {d = d'} f w c') =
     let same : d ≡ d' = some-injective d d' (sym v.given ∙ w.given) in
-    λ i. named_key (Ok (key_of (utf8 (normalized (points (called-one g t u c c' i)))))) (micro (same i).latitude) (micro (same i).longitude) g.id
+    λ i. named_key (Ok (key_of (utf8 (normalized (points (called-one g t u c c' i)))))) (micro (same i).latitude)
+    (micro (same i).longitude) g.id
 key_one g _ _ (by_name {d = d} e v c) (by_id f n) = absurd (n d v)
 key_one g _ _ (by_id e n) (by_parent {p = p} f) = absurd (some-ne-none p (sym f ∙ e))
 key_one g _ _ (by_id e n) (by_name {d = d} f v c) = absurd (n d v)
@@ -58,11 +59,13 @@ pub record KeyHeld (st : Stop) (g : StopGiven) : Type 0 where
 abbrev pub given_key : StopGiven → PlaceKey
 given_key g = place_key (is_some g.parent) (text_of g.parent) g.input.degrees (is_some g.name) (text_of g.name) g.id
 
-module _ (g : StopGiven) (zero : g.input.location_type ≡ 0) (ok : name_needed g.parent g.input ≡ true → usable (points (unwrap_or g.name g.id)) ≡ true) where
+module _ (g : StopGiven) (zero : g.input.location_type ≡ 0)
+    (ok : name_needed g.parent g.input ≡ true → usable (points (unwrap_or g.name g.id)) ≡ true) where
   fit : g.parent ≡ None → (d : Degrees) → Located g d → usable (points (unwrap_or g.name g.id)) ≡ true
   unfolding name_needed
   fit e d v =
-      ok (and-true _ _ (and-true _ _ (eq-eqb g.input.location_type 0 zero) (ap (λ (o : Option (List ℕ)). not (is_some o)) e)) (ap is_usable v.given ∙ v.usable))
+      ok (and-true _ _ (and-true _ _ (eq-eqb g.input.location_type 0 zero) (ap (λ (o : Option (List ℕ)). not (is_some o)) e))
+      (ap is_usable v.given ∙ v.usable))
 
   -- of texts that can be used the fallback of `named_key` is never reached
   by-texts : (n : Option (List ℕ)) → g.name ≡ n → g.parent ≡ None → (d : Degrees) → Located g d
@@ -70,10 +73,12 @@ module _ (g : StopGiven) (zero : g.input.location_type ≡ 0) (ok : name_needed 
   unfolding name_key
   by-texts (Some t) q e d v =
       let u : usable (points t) ≡ true = subst (λ (n : Option (List ℕ)). usable (points (unwrap_or n g.id)) ≡ true) q (fit e d v) in
-      subst (λ (k : Result ℕ NameError). Key g (named_key k (micro d.latitude) (micro d.longitude) g.id)) (sym (names.keyed (points t) u)) (by_name e v (inl q))
+      subst (λ (k : Result ℕ NameError). Key g (named_key k (micro d.latitude) (micro d.longitude) g.id)) (sym (names.keyed (points t) u))
+      (by_name e v (inl q))
   by-texts None q e d v =
       let u : usable (points g.id) ≡ true = subst (λ (n : Option (List ℕ)). usable (points (unwrap_or n g.id)) ≡ true) q (fit e d v) in
-      subst (λ (k : Result ℕ NameError). Key g (named_key k (micro d.latitude) (micro d.longitude) g.id)) (sym (names.keyed (points g.id) u)) (by_name e v (inr (q, refl)))
+      subst (λ (k : Result ℕ NameError). Key g (named_key k (micro d.latitude) (micro d.longitude) g.id))
+      (sym (names.keyed (points g.id) u)) (by_name e v (inr (q, refl)))
 
   abbrev called : Result ℕ NameError
   called = shown_key (is_some g.name) (text_of g.name) g.id
@@ -83,7 +88,8 @@ module _ (g : StopGiven) (zero : g.input.location_type ≡ 0) (ok : name_needed 
   by-position None q e = by_id e (λ d v. none-ne-some d (sym q ∙ v.given))
   by-position (Some d) q e = go (usable_degrees d.latitude d.longitude) refl
     where
-      go : (u : Bool) → usable_degrees d.latitude d.longitude ≡ u → Key g (located_key (at_if u (micro d.latitude) (micro d.longitude)) called g.id)
+      go : (u : Bool) → usable_degrees d.latitude d.longitude ≡ u
+          → Key g (located_key (at_if u (micro d.latitude) (micro d.longitude)) called g.id)
       go true r = by-texts g.name refl e d (record { given = q; usable = r })
       go false r = by_id e (λ c v.
           let same : c ≡ d = some-injective c d (sym v.given ∙ q) in
@@ -93,12 +99,14 @@ module _ (g : StopGiven) (zero : g.input.location_type ≡ 0) (ok : name_needed 
   unfolding parent_key
   given-key = go g.parent refl
     where
-      go : (p : Option (List ℕ)) → g.parent ≡ p → Key g (place_key (is_some p) (text_of p) g.input.degrees (is_some g.name) (text_of g.name) g.id)
+      go : (p : Option (List ℕ)) → g.parent ≡ p → Key g
+          (place_key (is_some p) (text_of p) g.input.degrees (is_some g.name) (text_of g.name) g.id)
       go (Some t) e = by_parent e
       go None e = by-position g.input.degrees refl e
 
 -- the key of the stop that is held is that of the texts handed in
-pub held-key : (st : Stop) (parent : Option (List ℕ)) (g : StopGiven) → KeyHeld st g → id_of st ≡ g.id → st.location_type ≡ g.input.location_type
+pub held-key : (st : Stop) (parent : Option (List ℕ)) (g : StopGiven) → KeyHeld st g → id_of st ≡ g.id
+    → st.location_type ≡ g.input.location_type
     → g.input.location_type ≡ 0 → parent ≡ g.parent → stop_key st parent ≡ given_key g
 unfolding stop_key
 held-key st parent g v id kind zero same =

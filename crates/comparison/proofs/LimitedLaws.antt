@@ -57,7 +57,8 @@ use Rattle.comparison.proofs.DemandLaws.{whole, ending, ends_so}
 -- ---- what it tells
 
 told : (o : Opening) (xs : List Step) (rs : List Answer) (v : State) (n : ℕ) → Opens o → Runs o.settings (fresh o.dates) xs rs v
-    → (limited_by o xs n).answer ≡ Ok Taken → (os : List Journey) × Within (feed_of o.settings v) n os (limited_by o xs n).joins (limited_by o xs n).finished
+    → (limited_by o xs n).answer ≡ Ok Taken → (os : List Journey)
+    × Within (feed_of o.settings v) n os (limited_by o xs n).joins (limited_by o xs n).finished
 unfolding finishes_in
 told o xs rs v n w run a =
     let l = end_of o xs in
@@ -71,12 +72,15 @@ told o xs rs v n w run a =
           (subst (λ (i : ℕ). Within (feed_of o.settings (ending o w xs)) n os i (finished_within n (timetable_of l))) (sym k.counts) f)),
     )
 
-full : (o : Opening) (xs : List Step) (n : ℕ) → (limited_by o xs n).answer ≡ Ok Taken → (limited_by o xs n).finished ≡ true → search_spec (end_of o xs) ≡ record { answer = Ok Taken; load = (limited_by o xs n).load }
+full : (o : Opening) (xs : List Step) (n : ℕ) → (limited_by o xs n).answer ≡ Ok Taken → (limited_by o xs n).finished ≡ true
+    → search_spec (end_of o xs) ≡ record { answer = Ok Taken; load = (limited_by o xs n).load }
 full o xs n a f =
     let l = end_of o xs in
-    sym (finished-is-search l n (taken-within l n (ap is_taken a)).one (sym (within-taken l n a).says ∙ f)) ∙ (λ i. record { answer = a i; load = (within_spec l n).load })
+    sym (finished-is-search l n (taken-within l n (ap is_taken a)).one (sym (within-taken l n a).says ∙ f))
+    ∙ (λ i. record { answer = a i; load = (within_spec l n).load })
 
-stops : (o : Opening) (xs : List Step) (n : ℕ) → (limited_by o xs n).answer ≡ Ok Taken → (limited_by o xs n).finished ≡ false → (limited_by o xs n).load.limit ≡ Some n
+stops : (o : Opening) (xs : List Step) (n : ℕ) → (limited_by o xs n).answer ≡ Ok Taken → (limited_by o xs n).finished ≡ false
+    → (limited_by o xs n).load.limit ≡ Some n
 stops o xs n a f = let k = within-taken (end_of o xs) n a in k.holds ∙ cond-not _ _ (sym k.says ∙ f)
 
 -- a stopped load tested as many joins as its limit
@@ -118,9 +122,11 @@ module _ (l : Load) (n : ℕ) (s : Sound l) (t : (within_spec l n).answer ≡ Ok
   zero-within : at_zero_of (within_spec l n).load ≡ bestℤ journey_figures w.kept w.to (pos 0)
   zero-within =
       at_zero (within_spec l n).load (within-sound l n s) (within-taken l n t).searched
-      ∙ (λ i. bestℤ journey_figures ((ap kept_of (sym load_is) ∙ kept-is (finishes_in l n)) i) ((ap (λ (m : Load). m.horizon) (sym load_is) ∙ to_is (finishes_in l n)) i) (pos 0))
+      ∙ (λ i. bestℤ journey_figures ((ap kept_of (sym load_is) ∙ kept-is (finishes_in l n)) i)
+      ((ap (λ (m : Load). m.horizon) (sym load_is) ∙ to_is (finishes_in l n)) i) (pos 0))
 
-larger : (o : Opening) (xs : List Step) (n m : ℕ) (j : Journey) → n ≤ m → (limited_by o xs n).answer ≡ Ok Taken → (limited_by o xs m).answer ≡ Ok Taken
+larger : (o : Opening) (xs : List Step) (n m : ℕ) (j : Journey) → n ≤ m → (limited_by o xs n).answer ≡ Ok Taken
+    → (limited_by o xs m).answer ≡ Ok Taken
     → at_zero_of (limited_by o xs n).load ≡ Some j → NoLater (limited_by o xs m).load j
 unfolding outcome_within
 larger o xs n m j h a b z =
@@ -128,13 +134,15 @@ larger o xs n m j h a b z =
     let s = (end_kept o xs).sound in
     let x = w l n s a in
     let y = w l m s b in
-    let (j', k, g) = larger-never-later n m (timetable_of l) l.table_horizon l.table_limits x.kept y.kept x.to y.to x.mark y.mark h x.outcome y.outcome j (sym (zero-within l n s a) ∙ z) in
+    let (j', k, g) = larger-never-later n m (timetable_of l) l.table_horizon l.table_limits x.kept y.kept x.to y.to x.mark y.mark h
+    x.outcome y.outcome j (sym (zero-within l n s a) ∙ z) in
     record { j' = j'; there = zero-within l m s b ∙ k; no_later = g }
 
 -- ---- the margin
 
 -- of the table of a searched load, by what was taken
-earliest-end : (o : Opening) (w : Opens o) (xs : List Step) → (end_of o xs).searched ≡ true → (m : ℕ) → limited.Earliest (timetable_of (unsearched_of (end_of o xs))) m → Earliest (feed_of o.settings (ending o w xs)) m
+earliest-end : (o : Opening) (w : Opens o) (xs : List Step) → (end_of o xs).searched ≡ true → (m : ℕ)
+    → limited.Earliest (timetable_of (unsearched_of (end_of o xs))) m → Earliest (feed_of o.settings (ending o w xs)) m
 unfolding unsearched_of
 earliest-end o w xs d m v =
     let l = end_of o xs in
@@ -142,7 +150,8 @@ earliest-end o w xs d m v =
     earliest-like o.settings (state_at (unsearched_of (end_of o xs)) gs) (apart gs) gs m (apart-like gs)
     (earliest-in o.settings (unsearched_of (end_of o xs)) (apart gs) ((whole o w xs).stands.done d) (opens o w) m v)
 
-margin-found : (l : Load) (j : Journey) (n : ℕ) → l.limit ≡ Some n → at_zero_of l ≡ Some j → margin_spec l ≡ Some (j.arrival - earliest (timetable_of l))
+margin-found : (l : Load) (j : Journey) (n : ℕ) → l.limit ≡ Some n → at_zero_of l ≡ Some j
+    → margin_spec l ≡ Some (j.arrival - earliest (timetable_of l))
 unfolding margin_spec margin_from
 margin-found l j n e z = cond-by _ _ (ap is_some e) ∙ go (best_spec l (pos 0)) z
   where
@@ -181,22 +190,29 @@ module _ (l : Load) (k : Kept l) (n : ℕ) (e : l.limit ≡ Some n) (j : Journey
 
   margin-own : margin_within n (timetable_of u) u.table_horizon u.table_limits ≡ Some (j.arrival - earliest (timetable_of u))
   unfolding margin_within outcome_within finishes_in
-  margin-own = cond-not _ _ (own-unfinished l k.sound (k.own (k.sound.stopped_search (ap is_some e))) n e) ∙ ap (margin_of (timetable_of u)) zero-own
+  margin-own = cond-not _ _ (own-unfinished l k.sound (k.own (k.sound.stopped_search (ap is_some e))) n e)
+      ∙ ap (margin_of (timetable_of u)) zero-own
 
   few : (timetable_of u).max_transfers ≤ 1
   unfolding timetable_of unsearched_of
   few = k.sound.stopped_change (ap is_some e)
 
   -- where the full search is accepted
-  finished-answer : (search_spec u).answer ≡ Ok Taken → (w : NoLater (search_spec u).load j) × (j.arrival ≤ w.j'.arrival + (j.arrival - earliest (timetable_of u)))
+  finished-answer : (search_spec u).answer ≡ Ok Taken
+      → (w : NoLater (search_spec u).load j) × (j.arrival ≤ w.j'.arrival + (j.arrival - earliest (timetable_of u)))
   unfolding outcome_within
   finished-answer t =
       let f = taken-searches u (ap is_taken t) in
       let s = search-sound u (unsearched-sound l k.sound) in
-      let (i, j', a, b, c, d) = within-margin n (timetable_of u) u.table_horizon u.table_limits (j.arrival - earliest (timetable_of u)) (kept_of (search_spec u).load) (search_spec u).load.horizon (search_spec u).load.limits
+      let (i, j', a, b, c, d) = within-margin n (timetable_of u) u.table_horizon u.table_limits (j.arrival - earliest (timetable_of u))
+      (kept_of (search_spec u).load) (search_spec u).load.horizon (search_spec u).load.limits
       few margin-own f.finds.is in
       let q : i ≡ j = some-injective i j (sym a ∙ zero-own) in (
-        record { j' = j'; there = at_zero (search_spec u).load s f.searched ∙ b; no_later = subst (λ (x : Journey). j'.arrival ≤ x.arrival) q c },
+        record {
+          j' = j';
+          there = at_zero (search_spec u).load s f.searched ∙ b;
+          no_later = subst (λ (x : Journey). j'.arrival ≤ x.arrival) q c;
+        },
         subst (λ (x : Journey). x.arrival ≤ j'.arrival + (j.arrival - earliest (timetable_of u))) q d,
       )
 
@@ -209,7 +225,8 @@ margin o xs rs v j w run n e z =
     let d = k.sound.stopped_search (ap is_some e) in
     record {
       earliest = earliest (timetable_of (unsearched_of l));
-      is_earliest = subst (λ (t : State). Earliest (feed_of o.settings t) (earliest (timetable_of (unsearched_of l)))) (ends_so o w xs rs v run)
+      is_earliest = subst (λ (t : State). Earliest (feed_of o.settings t) (earliest (timetable_of (unsearched_of l))))
+          (ends_so o w xs rs v run)
           (earliest-end o w xs d (earliest (timetable_of (unsearched_of l))) (after l k n e j z).0);
       no_earlier = (after l k n e j z).1;
       margin = margin-found l j n e z ∙ ap (λ (t : Timetable). Some (j.arrival - earliest t)) (sym (same-table l k n e j z));

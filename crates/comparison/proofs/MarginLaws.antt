@@ -33,7 +33,15 @@ module _ (s : Settings) (l : Load) (fs : List Filling) (w : Start s l fs) (o : O
   unfolding timetable_of
   reach-in b a k m r e q =
       let (c, v) = ends-in s l fs w o a k (known s l fs w o a r.to) e in
-      record { b = b; a = a; k = k; leg = leg-in s l fs w o b a r; target = c; to = v; arrives = sym q ∙ ap (λ (z : ℕ). a.arrival + z * 60) (target_walk s l fs w o k c) }
+      record {
+        b = b;
+        a = a;
+        k = k;
+        leg = leg-in s l fs w o b a r;
+        target = c;
+        to = v;
+        arrives = sym q ∙ ap (λ (z : ℕ). a.arrival + z * 60) (target_walk s l fs w o k c);
+      }
 
   earliest-load : (m : ℕ) → limited.Earliest t m → Earliest F m
   unfolding timetable_of
@@ -49,11 +57,24 @@ module _ (s : Settings) (l : Load) (fs : List Filling) (w : Start s l fs) (o : O
 -- ---- in any order of the calls
 
 reaches-perm : (F : Feed) (is js : List CallInput) → Permᴰ is js → (m : ℕ) → Reaches (handing F is) m → Reaches (handing F js) m
-reaches-perm F is js q m w = record { b = w.b; a = w.a; k = w.k; leg = leg-perm F is js q w.b w.a w.leg; target = w.target; to = w.to; arrives = w.arrives }
+reaches-perm F is js q m w = record {
+  b = w.b;
+  a = w.a;
+  k = w.k;
+  leg = leg-perm F is js q w.b w.a w.leg;
+  target = w.target;
+  to = w.to;
+  arrives = w.arrives;
+}
 
 earliest-perm : (F : Feed) (is js : List CallInput) → Permᴰ is js → (m : ℕ) → Earliest (handing F is) m → Earliest (handing F js) m
-earliest-perm F is js q m w = record { one = reaches-perm F is js q m w.one; least = λ n r. w.least n (reaches-perm F js is (Permᴰ.symm q) n r) }
+earliest-perm F is js q m w = record {
+  one = reaches-perm F is js q m w.one;
+  least = λ n r. w.least n (reaches-perm F js is (Permᴰ.symm q) n r);
+}
 
-pub earliest-like : (s : Settings) (t : State) (gs fs : List Filling) (m : ℕ) → Like gs fs → Earliest (feed_of s (keeping t gs)) m → Earliest (feed_of s (keeping t fs)) m
+pub earliest-like : (s : Settings) (t : State) (gs fs : List Filling) (m : ℕ) → Like gs fs → Earliest (feed_of s (keeping t gs)) m
+    → Earliest (feed_of s (keeping t fs)) m
 earliest-like s t gs fs m w a =
-    earliest-perm (feed_of s (keeping t fs)) (calls_in gs) (calls_in fs) w.calls m (subst (λ (F : Feed). Earliest F m) (feed-beside s t gs fs w.beside) a)
+    earliest-perm (feed_of s (keeping t fs)) (calls_in gs) (calls_in fs) w.calls m
+    (subst (λ (F : Feed). Earliest F m) (feed-beside s t gs fs w.beside) a)

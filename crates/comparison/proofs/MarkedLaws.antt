@@ -31,7 +31,10 @@ use Rattle.comparison.proofs.FallLaws.{fall-falls, end_of}
 use Rattle.comparison.proofs.WitnessLaws.{kept}
 
 beats : (w v : ℕ) → Beats (journey_with (figures_of 300 1319 2 w)) (journey_with (figures_of 300 1320 1 v))
-beats w v = record { over = record { leaves = omega arith; rest = inl (omega arith) }; apart = λ s. let e : ◌≡◌ {A = ℕ} 1319 1320 = s.arrival in omega arith }
+beats w v = record {
+  over = record { leaves = omega arith; rest = inl (omega arith) };
+  apart = λ s. let e : ◌≡◌ {A = ℕ} 1319 1320 = s.arrival in omega arith;
+}
 
 more-rides : (w v : ℕ) → NoLarger 1320 2 w 1320 1 v → ⊥
 more-rides w v (inl l) = omega arith
@@ -98,7 +101,8 @@ unfolding lexb
 search-3600 = refl
 
 -- so much is the fall's
-falls-3601 : (os : List Journey) (e : Ends) → ends (keeping (covᶠ journey_figures) (dueᶠ journey_figures) os e) ≡ 64 ∷ 3600 ∷ 1 ∷ [] → end_of e ≡ at 3600 1
+falls-3601 : (os : List Journey) (e : Ends) → ends (keeping (covᶠ journey_figures) (dueᶠ journey_figures) os e) ≡ 64 ∷ 3600 ∷ 1 ∷ []
+    → end_of e ≡ at 3600 1
 falls-3601 os (up_to h m) q = λ i. at (ap (λ (l : List ℕ). get_or l 1 0) q i) (ap (λ (l : List ℕ). get_or l 2 0) q i)
 falls-3601 os never q = let z : ◌≡◌ {A = ℕ} 0 3 = ap length q in absurd (omega arith)
 
@@ -110,7 +114,8 @@ falls-3600 os never q = refl
 falls-to : (a : ℕ) (d : End) → end_of (fallen a) ≡ d → Falls [] 21600 0 (offers a) d
 falls-to a d e = subst (Falls [] 21600 0 (offers a)) e (fall-falls [] (offers a) 21600 0 (omega arith))
 
-searched-is : (a : ℕ) → ends (keeping (covᶠ journey_figures) (dueᶠ journey_figures) (offers a) (fallen a)) ≡ ends (searched journey_figures 64 3600 21600 0 (offers a))
+searched-is : (a : ℕ) → ends (keeping (covᶠ journey_figures) (dueᶠ journey_figures) (offers a) (fallen a))
+    ≡ ends (searched journey_figures 64 3600 21600 0 (offers a))
 searched-is a = ap ends (sym (search-is-fall journey_figures 21600 0 (offers a)))
 
 gone-so : (c : Call) → Seen started 21600 (marked_call 990 999) c → ⊥

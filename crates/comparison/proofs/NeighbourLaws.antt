@@ -69,16 +69,26 @@ some_next [] e = absurd (false≢true e)
 some_next (a ∷ []) e = absurd (false≢true e)
 some_next (a ∷ b ∷ cs) e = go (or-true-cases (clash a b) (some_next_of clash (b ∷ cs)) e) (some_next (b ∷ cs))
   where
-    go : (clash a b ≡ true) ⊎ (some_next_of clash (b ∷ cs) ≡ true) → (some_next_of clash (b ∷ cs) ≡ true → Next (b ∷ cs)) → Next (a ∷ b ∷ cs)
+    go : (clash a b ≡ true) ⊎ (some_next_of clash (b ∷ cs) ≡ true) → (some_next_of clash (b ∷ cs) ≡ true → Next (b ∷ cs))
+        → Next (a ∷ b ∷ cs)
     go (inl q) ih = record { before = []; a = a; b = b; behind = cs; is = refl; clashes = q }
-    go (inr q) ih = let w = ih q in record { before = a ∷ w.before; a = w.a; b = w.b; behind = w.behind; is = λ k. a ∷ w.is k; clashes = w.clashes }
+    go (inr q) ih = let w = ih q in record {
+      before = a ∷ w.before;
+      a = w.a;
+      b = w.b;
+      behind = w.behind;
+      is = λ k. a ∷ w.is k;
+      clashes = w.clashes;
+    }
 
 next-some : (before : List Call) (a b : Call) (behind : List Call) → clash a b ≡ true → some_next_of clash (before ++ a ∷ b ∷ behind) ≡ true
 next-some [] a b behind e = or-true-left (clash a b) (some_next_of clash (b ∷ behind)) e
 next-some (c ∷ []) a b behind e = or_true_right (clash c a) (some_next_of clash (a ∷ b ∷ behind)) (next-some [] a b behind e)
-next-some (c ∷ d ∷ ds) a b behind e = or_true_right (clash c d) (some_next_of clash (d ∷ ds ++ a ∷ b ∷ behind)) (next-some (d ∷ ds) a b behind e)
+next-some (c ∷ d ∷ ds) a b behind e = or_true_right (clash c d) (some_next_of clash (d ∷ ds ++ a ∷ b ∷ behind))
+    (next-some (d ∷ ds) a b behind e)
 
-pub dec-clashing : (s : Settings) (h : ℕ) (is : List CallInput) (cs : List Call) → Shown s h is cs → Decides (clashes (in_order_of cs)) (Clashing s h is)
+pub dec-clashing : (s : Settings) (h : ℕ) (is : List CallInput) (cs : List Call) → Shown s h is cs
+    → Decides (clashes (in_order_of cs)) (Clashing s h is)
 dec-clashing s h is cs w = (fore, back)
   where
     fore : clashes (in_order_of cs) ≡ true → Clashing s h is
@@ -101,7 +111,8 @@ dec-clashing s h is cs w = (fore, back)
     back : Clashing s h is → clashes (in_order_of cs) ≡ true
     back v =
         let u = v.ordered in
-        let e : clashes v.calls ≡ true = ap clashes v.neighbours ∙ next-some v.before v.a v.b v.behind ((dec-clash v.a v.b).1 (v.trip, (v.day, v.clash))) in
+        let e : clashes v.calls ≡ true = ap clashes v.neighbours
+        ∙ next-some v.before v.a v.b v.behind ((dec-clash v.a v.b).1 (v.trip, (v.day, v.clash))) in
         ap (λ (x : List Call). clashes (in_order_of x)) (one-shown s h is cs u.seen w u.shown)
         ∙ sym (clashes-any-order v.calls u.seen u.same)
         ∙ ap clashes (sort-stays v.calls (in_order v.calls u.in_order))

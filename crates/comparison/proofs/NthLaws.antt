@@ -41,7 +41,8 @@ pub bytes_same : (a b : List ℕ) → same_bytes_of a b ≡ true → a ≡ b
 bytes_same [] [] e = refl
 bytes_same [] (y ∷ b) e = absurd (false≢true e)
 bytes_same (x ∷ a) [] e = absurd (false≢true e)
-bytes_same (x ∷ a) (y ∷ b) e = ap₂ {B = List ℕ} {C = List ℕ} (λ (z : ℕ) r. z ∷ r) (eqb-true x y (and-true-left (eqb x y) _ e)) (bytes_same a b (and-true-right (eqb x y) _ e))
+bytes_same (x ∷ a) (y ∷ b) e = ap₂ {B = List ℕ} {C = List ℕ} (λ (z : ℕ) r. z ∷ r) (eqb-true x y (and-true-left (eqb x y) _ e))
+    (bytes_same a b (and-true-right (eqb x y) _ e))
 
 pub same_bytes : (a : List ℕ) → same_bytes_of a a ≡ true
 same_bytes [] = refl
@@ -67,7 +68,8 @@ rules-append (exception name date kind ∷ fs) gs = rules-append fs gs
 
 pub stops-append : (fs gs : List Filling) → stops_in (fs ++ gs) ≡ stops_in fs ++ stops_in gs
 stops-append [] gs = refl
-stops-append (stop id name parent i ∷ fs) gs = ap {B = List StopGiven} (λ r. record { id = id; name = name; parent = parent; input = i } ∷ r) (stops-append fs gs)
+stops-append (stop id name parent i ∷ fs) gs = ap {B = List StopGiven}
+    (λ r. record { id = id; name = name; parent = parent; input = i } ∷ r) (stops-append fs gs)
 stops-append (call name i ∷ fs) gs = stops-append fs gs
 stops-append (rule i ∷ fs) gs = stops-append fs gs
 stops-append (service name weekdays start end ∷ fs) gs = stops-append fs gs
@@ -78,5 +80,6 @@ services-append [] gs = refl
 services-append (stop id name parent i ∷ fs) gs = services-append fs gs
 services-append (call name i ∷ fs) gs = services-append fs gs
 services-append (rule i ∷ fs) gs = services-append fs gs
-services-append (service name weekdays start end ∷ fs) gs = ap {B = List ServiceGiven} (λ r. record { name = name; weekdays = weekdays; start = start; end = end } ∷ r) (services-append fs gs)
+services-append (service name weekdays start end ∷ fs) gs =
+    ap {B = List ServiceGiven} (λ r. record { name = name; weekdays = weekdays; start = start; end = end } ∷ r) (services-append fs gs)
 services-append (exception name date kind ∷ fs) gs = services-append fs gs

@@ -22,10 +22,12 @@ use Rattle.ways.specs.Rides.{Leg, leg, First, first_ride, Network, alightings, r
 use Rattle.ways.specs.Routes.{Way, Route, here, ride_then, route_of, onward, pass, routes}
 use Rattle.ways.proofs.RouteLaws.{up-to-one}
 use Rattle.offers.specs.Order.{earlier, Rising}
-use Rattle.offers.specs.Offers.{Timetable, ride_of, direct_of, change_of, three_of, network_of, ride_by, on_journey, journey_to, journey_by, routes_of, offers, sorted}
+use Rattle.offers.specs.Offers.{Timetable, ride_of, direct_of, change_of, three_of, network_of, ride_by, on_journey, journey_to}
+use Rattle.offers.specs.Offers.{journey_by, routes_of, offers, sorted}
 use Rattle.comparison.specs.Neighbours.{CallBefore}
 use Rattle.comparison.specs.OfferOrder.{Offer, alone, changing, through, Sooner, RideSooner, Before, Ascending}
-use Rattle.comparison.proofs.Pairs.{Pairs, pairs-append, pairs-cond, pairs-concat, pairs-tails, pairs-while, pairs-filter, pairs-map, pairs-bits}
+use Rattle.comparison.proofs.Pairs.{Pairs, pairs-append, pairs-cond, pairs-concat, pairs-tails, pairs-while, pairs-filter, pairs-map}
+use Rattle.comparison.proofs.Pairs.{pairs-bits}
 
 -- ---- two passes
 
@@ -41,11 +43,13 @@ two-passes N depth s h =
 pub call-before : (b c : Call) → earlier b c ≡ true → CallBefore b c
 call-before b c e = one (lexb-true b.trip c.trip _ e)
   where
-    two : (b.day < c.day) ⊎ ((b.day ≡ c.day) × (ltb b.sequence c.sequence ≡ true)) → (b.day < c.day) ⊎ ((b.day ≡ c.day) × (b.sequence < c.sequence))
+    two : (b.day < c.day) ⊎ ((b.day ≡ c.day) × (ltb b.sequence c.sequence ≡ true))
+        → (b.day < c.day) ⊎ ((b.day ≡ c.day) × (b.sequence < c.sequence))
     two (inl l) = inl l
     two (inr (q, l)) = inr (q, ltb-true _ _ l)
 
-    one : (b.trip < c.trip) ⊎ ((b.trip ≡ c.trip) × (Rattle.profile.specs.Figures.lexb b.day c.day (ltb b.sequence c.sequence) ≡ true)) → CallBefore b c
+    one : (b.trip < c.trip) ⊎ ((b.trip ≡ c.trip) × (Rattle.profile.specs.Figures.lexb b.day c.day (ltb b.sequence c.sequence) ≡ true))
+        → CallBefore b c
     one (inl l) = inl l
     one (inr (q, l)) = inr (q, two (lexb-true b.day c.day _ l))
 
@@ -94,7 +98,8 @@ module _ (t : Timetable) (f : First Call) (k : ℕ) where
 pub same-offers : (t : Timetable) → map (to_j t) (keys t (sorted t)) ≡ offers t
 unfolding offers
 same-offers t =
-    map-map (to_j t) key_by (routes_of t) ∙ map-agree (λ r. to_j t (key_by r)) (journey_by t) (routes_of t) (λ r m. to_same t r.first r.way.target r.way.rides)
+    map-map (to_j t) key_by (routes_of t) ∙ map-agree (λ r. to_j t (key_by r)) (journey_by t) (routes_of t)
+    (λ r m. to_same t r.first r.way.target r.way.rides)
 
 -- ---- rides in order
 
@@ -113,8 +118,10 @@ module _ (N : Network Call) (bits : (b : Call) → Pairs ◌<◌ (N.origins b)) 
   unfolding rides
   rides-pairs s p =
       pairs-tails RideBefore CallBefore (λ b later. cond (N.board b) (map (leg b) (alightings N b later)) []) s p
-      (λ b later q. pairs-cond RideBefore (N.board b) _ (pairs-map RideBefore CallBefore (leg b) (alightings N b later) (run-pairs b later q) (λ a a' l. inr (refl, l))))
-      (λ b c later later' l r q m n. inl (subst (λ (x : Call). CallBefore x q.b) (boards b later r m) (subst (CallBefore b) (boards c later' q n) l)))
+      (λ b later q. pairs-cond RideBefore (N.board b) _
+      (pairs-map RideBefore CallBefore (leg b) (alightings N b later) (run-pairs b later q) (λ a a' l. inr (refl, l))))
+      (λ b c later later' l r q m n. inl (subst (λ (x : Call). CallBefore x q.b) (boards b later r m)
+      (subst (CallBefore b) (boards c later' q n) l)))
     where
       boards : (b : Call) (later : List Call) (r : Leg Call) → Memᴰ r (cond (N.board b) (map (leg b) (alightings N b later)) []) → b ≡ r.b
       boards b later r m = let (a, i, e) = Memᴰ.of_map (leg b) (alightings N b later) (cond-mem (N.board b) _ m).1 in λ n. (e n).b
@@ -131,7 +138,8 @@ module _ (N : Network Call) (bits : (b : Call) → Pairs ◌<◌ (N.origins b)) 
   unfolding from
   board-pairs b later q =
       pairs-concat FirstBefore ◌<◌ (from b later) (N.origins b) (bits b)
-      (λ o. pairs-map FirstBefore CallBefore (first_ride o b) (alightings N b later) (run-pairs b later q) (λ a a' l. inr (refl, inr (refl, l))))
+      (λ o. pairs-map FirstBefore CallBefore (first_ride o b) (alightings N b later) (run-pairs b later q)
+      (λ a a' l. inr (refl, inr (refl, l))))
       (λ o p l f g m n. let (a, e) = from_is b later o f m in let (c, d) = from_is b later p g n in
       subst (λ (x : First Call). FirstBefore x g) e (subst (FirstBefore (first_ride o b a)) d (inr (refl, inl l))))
 
@@ -143,7 +151,8 @@ module _ (N : Network Call) (bits : (b : Call) → Pairs ◌<◌ (N.origins b)) 
       (λ b c later later' l f g m n. let (o, a, e) = boards b later f m in let (p, d, k) = boards c later' g n in
       subst (λ (x : First Call). FirstBefore x g) e (subst (FirstBefore (first_ride o b a)) k (inl l)))
     where
-      boards : (b : Call) (later : List Call) (f : First Call) → Memᴰ f (cond (N.board b) (concat_map (from b later) (N.origins b)) []) → (o : ℕ) × (a : Call) × (first_ride o b a ≡ f)
+      boards : (b : Call) (later : List Call) (f : First Call) → Memᴰ f (cond (N.board b) (concat_map (from b later) (N.origins b)) [])
+          → (o : ℕ) × (a : Call) × (first_ride o b a ≡ f)
       boards b later f m =
           let (o, i, n) = concat_map-mem (from b later) (N.origins b) (cond-mem (N.board b) _ m).1 in
           let (a, e) = from_is b later o f n in
@@ -172,7 +181,8 @@ by_first f g w x y (inr (l, k, e)) (inr (l', k', e')) = before-by x y (by_changi
 module _ (t : Timetable) (s : List Call) (p : Pairs CallBefore s) where
   pub bits : (b : Call) → Pairs ◌<◌ ((network_of t).origins b)
   unfolding network_of
-  bits b = pairs-filter ◌<◌ (λ o. leb (t.origin_walk o * 60) b.departure) (bits_from (min t.origins 4) 0 (t.members b.stop)) (pairs-bits (min t.origins 4) 0 (t.members b.stop))
+  bits b = pairs-filter ◌<◌ (λ o. leb (t.origin_walk o * 60) b.departure) (bits_from (min t.origins 4) 0 (t.members b.stop))
+      (pairs-bits (min t.origins 4) 0 (t.members b.stop))
 
   pub targets : (a : Call) → Pairs ◌<◌ ((network_of t).targets a)
   unfolding network_of
@@ -201,17 +211,21 @@ module _ (t : Timetable) (s : List Call) (p : Pairs CallBefore s) where
 
     pub alone-pairs : Pairs Before alones
     unfolding directs
-    alone-pairs = pairs-map Before ◌<◌ (by_alone f) ((network_of t).targets f.ride.a) (targets f.ride.a) (λ k k' l. inr (refl, inr (refl, inr (refl, l))))
+    alone-pairs = pairs-map Before ◌<◌ (by_alone f) ((network_of t).targets f.ride.a) (targets f.ride.a)
+        (λ k k' l. inr (refl, inr (refl, inr (refl, l))))
 
     changing-pairs : Pairs Before changings
     unfolding changes joined_rides
     changing-pairs =
         pairs-concat Before RideBefore (λ l. map (by_changing f l) ((network_of t).targets l.a)) (joined_rides (network_of t) s f.ride)
         (pairs-filter RideBefore (λ l. (network_of t).joins f.ride l.b) (rides (network_of t) s) (rides-pairs (network_of t) bits s p))
-        (λ l. pairs-map Before ◌<◌ (by_changing f l) ((network_of t).targets l.a) (targets l.a) (λ k k' h. inr (refl, inr (refl, inr (refl, inr (refl, inr (refl, h)))))))
-        (λ l l' w x y m n. let (k, e) = last_of l x m in let (k', e') = last_of l' y n in before-by x y (by_changing f l k) (by_changing f l' k') e e' (inr (refl, inr (refl, inr (refl, later l l' w)))))
+        (λ l. pairs-map Before ◌<◌ (by_changing f l) ((network_of t).targets l.a) (targets l.a)
+        (λ k k' h. inr (refl, inr (refl, inr (refl, inr (refl, inr (refl, h)))))))
+        (λ l l' w x y m n. let (k, e) = last_of l x m in let (k', e') = last_of l' y n in
+        before-by x y (by_changing f l k) (by_changing f l' k') e e' (inr (refl, inr (refl, inr (refl, later l l' w)))))
       where
-        later : (l l' : Leg Call) {Rest : Type 0} → RideBefore l l' → CallBefore l.b l'.b ⊎ ((l.b ≡ l'.b) × (CallBefore l.a l'.a ⊎ ((l.a ≡ l'.a) × Rest)))
+        later : (l l' : Leg Call) {Rest : Type 0} → RideBefore l l'
+            → CallBefore l.b l'.b ⊎ ((l.b ≡ l'.b) × (CallBefore l.a l'.a ⊎ ((l.a ≡ l'.a) × Rest)))
         later l l' (inl h) = inl h
         later l l' (inr (q, h)) = inr (q, inl h)
 
@@ -232,7 +246,8 @@ module _ (t : Timetable) (s : List Call) (p : Pairs CallBefore s) where
   few-pairs : (depth : ℕ) → Pairs Before (journeys (network_of t) by_alone by_changing depth s)
   unfolding journeys
   few-pairs depth =
-      pairs-concat Before FirstBefore (λ f. alones depth f ++ cond (eqb depth 1) (changings depth f) []) (first_rides (network_of t) s) (firsts-pairs (network_of t) bits s p) (after-pairs depth)
+      pairs-concat Before FirstBefore (λ f. alones depth f ++ cond (eqb depth 1) (changings depth f) []) (first_rides (network_of t) s)
+      (firsts-pairs (network_of t) bits s p) (after-pairs depth)
       (λ f g w x y m n. by_first f g w x y (after-of depth f x m) (after-of depth g y n))
 
   few-of : (depth : ℕ) (x : Offer) → Memᴰ x (journeys (network_of t) by_alone by_changing depth s) → (f : First Call) × Of f x
@@ -280,14 +295,16 @@ module _ (t : Timetable) (s : List Call) (p : Pairs CallBefore s) where
   last-pairs : (f : First Call) (m l : Leg Call) → Pairs Before (lasts f m l)
   unfolding lasts
   last-pairs f m l =
-      pairs-map Before ◌<◌ (by_through f m l) ((network_of t).targets l.a) (targets l.a) (λ k k' h. inr (refl, inr (refl, inr (refl, inr (refl, inr (refl, inr (refl, inr (refl, h))))))))
+      pairs-map Before ◌<◌ (by_through f m l) ((network_of t).targets l.a) (targets l.a)
+      (λ k k' h. inr (refl, inr (refl, inr (refl, inr (refl, inr (refl, inr (refl, inr (refl, h))))))))
 
   middle-pairs : (f : First Call) (m : Leg Call) → Pairs Before (middles f m)
   unfolding middles
   middle-pairs f m =
       pairs-concat Before RideBefore (lasts f m) (joined_rides (network_of t) s m) (joined-pairs m) (last-pairs f m)
       (λ l l' w x y i j. let (k, e) = last-is f m l x i in let (k', e') = last-is f m l' y j in
-      before-by x y (by_through f m l k) (by_through f m l' k') e e' (inr (refl, inr (refl, inr (refl, inr (refl, inr (refl, ride-sooner l l' w)))))))
+      before-by x y (by_through f m l k) (by_through f m l' k') e e'
+      (inr (refl, inr (refl, inr (refl, inr (refl, inr (refl, ride-sooner l l' w)))))))
 
   through-pairs : (f : First Call) → Pairs Before (throughs f)
   unfolding throughs
@@ -302,7 +319,8 @@ module _ (t : Timetable) (s : List Call) (p : Pairs CallBefore s) where
       (λ f g w x y i j. let (m, l, k, e) = through-is f x i in let (m', l', k', e') = through-is g y j in
       before-by x y (by_through f m l k) (by_through g m' l' k') e e' (sooner f g _ w))
 
-  three-is : (x : Offer) → Memᴰ x (concat_map throughs (first_rides (network_of t) s)) → (f : First Call) × (m : Leg Call) × (l : Leg Call) × (k : ℕ) × (by_through f m l k ≡ x)
+  three-is : (x : Offer) → Memᴰ x (concat_map throughs (first_rides (network_of t) s))
+      → (f : First Call) × (m : Leg Call) × (l : Leg Call) × (k : ℕ) × (by_through f m l k ≡ x)
   three-is x i =
       let (f, j, n) = concat_map-mem throughs (first_rides (network_of t) s) i in
       let (m, l, k, e) = through-is f x n in
@@ -313,12 +331,15 @@ module _ (t : Timetable) (s : List Call) (p : Pairs CallBefore s) where
   few-first x y f g m l k (inr (l', k', e)) q = before-by x y (by_changing f l' k') (by_through g m l k) e q tt
 
   -- these are the keys
-  one_on : (f : First Call) (m : Leg Call) → map (λ (v : Way Call). key_by (route_of f (ride_then m v))) (onward (network_of t) 1 s m) ≡ middles f m
+  one_on : (f : First Call) (m : Leg Call) → map (λ (v : Way Call). key_by (route_of f (ride_then m v))) (onward (network_of t) 1 s m)
+      ≡ middles f m
   unfolding onward middles lasts
   one_on f m =
       let N = network_of t in
-      map-concat_map (λ (v : Way Call). key_by (route_of f (ride_then m v))) (λ l. map (ride_then l) (map here (N.targets l.a))) (joined_rides N s m)
-      ∙ concat_map-cong (λ l. map (λ (v : Way Call). key_by (route_of f (ride_then m v))) (map (ride_then l) (map here (N.targets l.a)))) (lasts f m)
+      map-concat_map (λ (v : Way Call). key_by (route_of f (ride_then m v))) (λ l. map (ride_then l) (map here (N.targets l.a)))
+      (joined_rides N s m)
+      ∙ concat_map-cong (λ l. map (λ (v : Way Call). key_by (route_of f (ride_then m v))) (map (ride_then l) (map here (N.targets l.a))))
+      (lasts f m)
       (λ l. map-map (λ (v : Way Call). key_by (route_of f (ride_then m v))) (ride_then l) (map here (N.targets l.a))
       ∙ map-map (λ (v : Way Call). key_by (route_of f (ride_then m (ride_then l v)))) here (N.targets l.a)) (joined_rides N s m)
 
@@ -336,12 +357,14 @@ module _ (t : Timetable) (s : List Call) (p : Pairs CallBefore s) where
       let N = network_of t in
       map-concat_map key_by (λ f. concat_map (λ n. map (route_of f) (onward N n s f.ride)) (2 ∷ [])) (first_rides N s)
       ∙ concat_map-cong (λ f. map key_by (concat_map (λ n. map (route_of f) (onward N n s f.ride)) (2 ∷ []))) throughs
-      (λ f. ap (map key_by) (append-nil (map (route_of f) (onward N 2 s f.ride))) ∙ map-map key_by (route_of f) (onward N 2 s f.ride) ∙ two-on f) (first_rides N s)
+      (λ f. ap (map key_by) (append-nil (map (route_of f) (onward N 2 s f.ride))) ∙ map-map key_by (route_of f) (onward N 2 s f.ride)
+      ∙ two-on f) (first_rides N s)
 
   pub few-keys : (depth : ℕ) → depth ≤ 1 → map key_by (routes (network_of t) depth s) ≡ journeys (network_of t) by_alone by_changing depth s
   few-keys depth h = up-to-one (network_of t) depth s by_alone by_changing key_by h (λ f k. refl) (λ f l k. refl)
 
-  all-keys : (depth : ℕ) → 2 ≤ depth → map key_by (routes (network_of t) depth s) ≡ journeys (network_of t) by_alone by_changing 1 s ++ concat_map throughs (first_rides (network_of t) s)
+  all-keys : (depth : ℕ) → 2 ≤ depth → map key_by (routes (network_of t) depth s)
+      ≡ journeys (network_of t) by_alone by_changing 1 s ++ concat_map throughs (first_rides (network_of t) s)
   all-keys depth h =
       ap (map key_by) (two-passes (network_of t) depth s h)
       ∙ map-append key_by (routes (network_of t) 1 s) (pass (network_of t) (2 ∷ []) s) ∙ (λ i. few-keys 1 (omega arith) i ++ three-keys i)
@@ -353,7 +376,8 @@ module _ (t : Timetable) (s : List Call) (p : Pairs CallBefore s) where
       go (inl h) = subst (Pairs Before) (sym (few-keys t.max_transfers (leb-true t.max_transfers 1 h))) (few-pairs t.max_transfers)
       go (inr h) =
           subst (Pairs Before) (sym (all-keys t.max_transfers (omega (arith, leb-false t.max_transfers 1 h))))
-          (pairs-append Before (journeys (network_of t) by_alone by_changing 1 s) (concat_map throughs (first_rides (network_of t) s)) (few-pairs 1) three-pairs
+          (pairs-append Before (journeys (network_of t) by_alone by_changing 1 s) (concat_map throughs (first_rides (network_of t) s))
+          (few-pairs 1) three-pairs
           (λ x y i j. let (f, o) = few-of 1 x i in let (g, m, l, k, e) = three-is y j in few-first x y f g m l k o e))
 
 pub ascends : (es : List Offer) → Pairs Before es → Ascending es

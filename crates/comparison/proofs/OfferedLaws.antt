@@ -35,22 +35,27 @@ use Rattle.comparison.proofs.OfferLaws.{key_by, keys, to_j, pairs-offers, same-o
 
 abbrev pub KeyOf : Timetable → Offer → Type 0
 KeyOf t (alone b o a k) = Rides t.calls b a × Starts t b o × Ends t a k
-KeyOf t (changing b o a c d k) = (1 ≤ t.max_transfers) × Rides t.calls b a × Rides t.calls c d × Starts t b o × Ends t d k × (t.joins (ride_of b a) c ≡ true)
+KeyOf t (changing b o a c d k) = (1 ≤ t.max_transfers) × Rides t.calls b a × Rides t.calls c d × Starts t b o × Ends t d k
+    × (t.joins (ride_of b a) c ≡ true)
 KeyOf t (through b o a c d e g k) =
-    (2 ≤ t.max_transfers) × Rides t.calls b a × Rides t.calls c d × Rides t.calls e g × Starts t b o × Ends t g k × (t.joins (ride_of b a) c ≡ true) × (t.joins (ride_of c d) e ≡ true)
+    (2 ≤ t.max_transfers) × Rides t.calls b a × Rides t.calls c d × Rides t.calls e g × Starts t b o × Ends t g k
+    × (t.joins (ride_of b a) c ≡ true) × (t.joins (ride_of c d) e ≡ true)
 
 module _ (t : Timetable) (clear : Clear t) where
   pub p : Pairs CallBefore (sorted t)
   p = rises (sorted t) (clear-rising t clear)
 
   by-route : (r : Route Call) → AdmittedRoute t r → KeyOf t (key_by r)
-  by-route r (zero, h, w) = let (k, en, q) = w.on in subst (λ (v : Way Call). KeyOf t (key_by (route_of r.first v))) (sym q) (w.ride, w.starts, en)
+  by-route r (zero, h, w) = let (k, en, q) = w.on in
+      subst (λ (v : Way Call). KeyOf t (key_by (route_of r.first v))) (sym q) (w.ride, w.starts, en)
   by-route r (suc zero, h, w) =
       let (l, v, last, joined, (k, en, q), e) = w.on in
-      subst (λ (v : Way Call). KeyOf t (key_by (route_of r.first v))) (sym (e ∙ ap (ride_then l) q)) (w.may, w.ride, last, w.starts, en, joined)
+      subst (λ (v : Way Call). KeyOf t (key_by (route_of r.first v))) (sym (e ∙ ap (ride_then l) q))
+      (w.may, w.ride, last, w.starts, en, joined)
   by-route r (suc (suc zero), h, w) =
       let (m, v, middle, joined, (l, u, last, joins, (k, en, q), e), d) = w.on in
-      subst (λ (v : Way Call). KeyOf t (key_by (route_of r.first v))) (sym (d ∙ ap (ride_then m) (e ∙ ap (ride_then l) q))) (w.may, w.ride, middle, last, w.starts, en, joined, joins)
+      subst (λ (v : Way Call). KeyOf t (key_by (route_of r.first v))) (sym (d ∙ ap (ride_then m) (e ∙ ap (ride_then l) q)))
+      (w.may, w.ride, middle, last, w.starts, en, joined, joins)
   by-route r (suc (suc (suc n)), h, w) = absurd (omega arith)
 
   pub key_in : (x : Offer) → Memᴰ x (keys t (sorted t)) → KeyOf t x
@@ -58,13 +63,22 @@ module _ (t : Timetable) (clear : Clear t) where
 
   pub key-mem : (x : Offer) → KeyOf t x → Memᴰ x (keys t (sorted t))
   key-mem (alone b o a k) (r, st, en) =
-      Memᴰ.map key_by ((routes-admitted t clear (route_of (first_ride o b a) (here k))).1 (0, omega arith, record { may = omega arith; ride = r; starts = st; on = (k, en, refl) }))
+      Memᴰ.map key_by ((routes-admitted t clear (route_of (first_ride o b a) (here k))).1
+      (0, omega arith, record { may = omega arith; ride = r; starts = st; on = (k, en, refl) }))
   key-mem (changing b o a c d k) (e, r, r', st, en, j) =
       Memᴰ.map key_by ((routes-admitted t clear (route_of (first_ride o b a) (ride_then (leg c d) (here k)))).1
       (1, omega arith, record { may = e; ride = r; starts = st; on = (leg c d, here k, r', j, (k, en, refl), refl) }))
   key-mem (through b o a c d x y k) (e, r, r', r'', st, en, j, j') =
-      Memᴰ.map key_by ((routes-admitted t clear (route_of (first_ride o b a) (ride_then (leg c d) (ride_then (leg x y) (here k))))).1
-      (2, omega arith, record { may = e; ride = r; starts = st; on = (leg c d, ride_then (leg x y) (here k), r', j, (leg x y, here k, r'', j', (k, en, refl), refl), refl) }))
+      Memᴰ.map key_by ((routes-admitted t clear (route_of (first_ride o b a) (ride_then (leg c d) (ride_then (leg x y) (here k))))).1 (
+        2,
+        omega arith,
+        record {
+          may = e;
+          ride = r;
+          starts = st;
+          on = (leg c d, ride_then (leg x y) (here k), r', j, (leg x y, here k, r'', j', (k, en, refl), refl), refl);
+        },
+      ))
 
 -- ---- what was taken gives these offers
 
@@ -79,7 +93,8 @@ module _ (s : Settings) (l : Load) (fs : List Filling) (w : Start s l fs) (o : O
   unfolding timetable_of direct-in change-in three-in
   gives (alone b i a k) (r, st, en) = (direct-in s l fs w o b a i k r st en, refl, refl, refl, refl)
   gives (changing b i a c d k) (e, r, r', st, en, j) = (change-in s l fs w o b a c d i k e r r' j st en, refl, refl, refl, refl, refl, refl)
-  gives (through b i a c d x y k) (e, r, r', r'', st, en, j, j') = (three-in s l fs w o b a c d x y i k e r r' r'' j j' st en, refl, refl, refl, refl, refl, refl, refl, refl)
+  gives (through b i a c d x y k) (e, r, r', r'', st, en, j, j') =
+      (three-in s l fs w o b a c d x y i k e r r' r'' j j' st en, refl, refl, refl, refl, refl, refl, refl, refl)
 
   pub each-gives : (es : List Offer) → ((x : Offer) → Memᴰ x es → KeyOf t x) → Each F es (map (to_j t) es)
   each-gives [] f = tt
@@ -95,7 +110,8 @@ module _ (s : Settings) (l : Load) (fs : List Filling) (w : Start s l fs) (o : O
       subst (KeyOf t) (λ n. changing (eb n) (ei n) (ea n) (ec n) (ed n) (ek n)) (u.may, u.first, u.last, u.starts, u.ends, u.joined)
   given (through b i a c d x y k) j (v, eb, ea, ec, ed, ex, ey, ei, ek) =
       let u = three-out s l fs w o j v in
-      subst (KeyOf t) (λ n. through (eb n) (ei n) (ea n) (ec n) (ed n) (ex n) (ey n) (ek n)) (u.may, u.first, u.middle, u.last, u.starts, u.ends, u.joins_middle, u.joins_last)
+      subst (KeyOf t) (λ n. through (eb n) (ei n) (ea n) (ec n) (ed n) (ex n) (ey n) (ek n))
+      (u.may, u.first, u.middle, u.last, u.starts, u.ends, u.joins_middle, u.joins_last)
 
   by-load : Offered F (offers t)
   by-load = record {
@@ -155,13 +171,25 @@ pairs_of (e ∷ es) w = (w.0, pairs_of es w.1)
 
 module _ (F : Feed) where
   -- the journey between two calls is one
-  one-between : (b a b' a' : Call) (j k : Journey) → b ≡ b' → a ≡ a' → j.origin ≡ k.origin → j.target ≡ k.target → Between F b a j → Between F b' a' k
+  one-between : (b a b' a' : Call) (j k : Journey) → b ≡ b' → a ≡ a' → j.origin ≡ k.origin → j.target ≡ k.target → Between F b a j
+      → Between F b' a' k
       → j.rides ≡ k.rides → j.first ≡ k.first → j.middle ≡ k.middle → j.last ≡ k.last → j ≡ k
   one-between b a b' a' j k eb ea eo ek v w er ef em el =
       let q : j.walk ≡ k.walk = v.walk ∙ ap (λ (x : ℕ). get_or F.settings.origin_walks x 0) eo ∙ sym w.walk in
-      let d : j.leave ≡ k.leave = leaves j.leave j.walk k.leave k.walk b.departure b'.departure v.leave w.leave (ap (λ (x : Call). x.departure) eb) q in
+      let d : j.leave ≡ k.leave = leaves j.leave j.walk k.leave k.walk b.departure b'.departure v.leave w.leave
+      (ap (λ (x : Call). x.departure) eb) q in
       let g : j.arrival ≡ k.arrival = v.arrival ∙ (λ n. (ea n).arrival + get_or F.settings.target_walks (ek n) 0 * 60) ∙ sym w.arrival in
-      λ n. record { leave = d n; arrival = g n; rides = er n; walk = q n; origin = eo n; target = ek n; first = ef n; middle = em n; last = el n }
+      λ n. record {
+        leave = d n;
+        arrival = g n;
+        rides = er n;
+        walk = q n;
+        origin = eo n;
+        target = ek n;
+        first = ef n;
+        middle = em n;
+        last = el n;
+      }
     where
       leaves : (x y x' y' d d' : ℕ) → x + y * 60 ≡ d → x' + y' * 60 ≡ d' → d ≡ d' → y ≡ y' → x ≡ x'
       leaves x y x' y' d d' e f g q = omega arith
@@ -203,6 +231,8 @@ module _ (F : Feed) where
 
   pub one-offered : (os ps : List Journey) → Offered F os → Offered F ps → os ≡ ps
   one-offered os ps v w =
-      let e : v.offers ≡ w.offers = one-pairs Before before-asym v.offers w.offers (pairs_of v.offers v.ascending) (pairs_of w.offers w.ascending)
-      (λ x m. let (j, g) = each-mem v.offers os v.each x m in w.all x j g) (λ x m. let (j, g) = each-mem w.offers ps w.each x m in v.all x j g) in
+      let e : v.offers ≡ w.offers = one-pairs Before before-asym v.offers w.offers (pairs_of v.offers v.ascending)
+      (pairs_of w.offers w.ascending)
+      (λ x m. let (j, g) = each-mem v.offers os v.each x m in w.all x j g)
+      (λ x m. let (j, g) = each-mem w.offers ps w.each x m in v.all x j g) in
       each-one v.offers os ps v.each (subst (λ (es : List Offer). Each F es ps) (sym e) w.each)

@@ -20,7 +20,8 @@ use Rattle.comparison.specs.Events.{Within}
 use Rattle.comparison.specs.Horizon.{Fits, outside, room, full, cut}
 use Rattle.comparison.specs.Causes.{causes_of}
 use Rattle.comparison.specs.Runs as runs
-use Rattle.comparison.specs.Runs.{Again, in_full, within, After, sent_back, a_stop, a_rule, a_call, resting, a_service, an_exception, a_withdrawal, a_search, a_limited, Runs, end, step}
+use Rattle.comparison.specs.Runs.{Again, in_full, within, After, sent_back, a_stop, a_rule, a_call, resting, a_service, an_exception}
+use Rattle.comparison.specs.Runs.{a_withdrawal, a_search, a_limited, Runs, end, step}
 use Rattle.comparison.proofs.WindowLaws.{one-shown}
 use Rattle.comparison.proofs.GoneLaws.{one-withdrawn}
 use Rattle.comparison.proofs.Deciding.{one-first}
@@ -35,7 +36,8 @@ pub record Alike (a b : Answer) (g k m n : ℕ) : Type 0 where
 same_length : (s : Settings) (h : ℕ) (is : List CallInput) (cs ds : List Call) → Shown s h is cs → Shown s h is ds → length cs ≡ length ds
 same_length s h is cs ds v w = ap length (one-shown s h is cs ds v w)
 
-pub one-fits : (s : Settings) (is : List CallInput) (i : CallInput) (h l : ℕ) (a b : Answer) (g k m n : ℕ) → Fits s is i h l a g m → Fits s is i h l b k n → Alike a b g k m n
+pub one-fits : (s : Settings) (is : List CallInput) (i : CallInput) (h l : ℕ) (a b : Answer) (g k m n : ℕ) → Fits s is i h l a g m
+    → Fits s is i h l b k n → Alike a b g k m n
 one-fits s is i h l _ _ _ _ _ _ (outside f) (outside f') = record { answer = refl; horizon = refl; mark = refl }
 one-fits s is i h l _ _ _ _ _ _ (outside f) (room {c = c} v w q) = absurd (f c v)
 one-fits s is i h l _ _ _ _ _ _ (outside f) (full {c = c} v w q r) = absurd (f c v)
@@ -73,7 +75,8 @@ one-after s t _ _ _ _ a_stop a_stop = refl
 one-after s t _ _ _ _ a_rule a_rule = refl
 one-after s t _ _ _ _ (a_call {name = name} {i = i} {h = h} {m = m} {u = u} f g) (a_call {h = k} {m = n} {u = v} f' g') =
     let w = one-fits s (calls_in t.taken) i t.horizon t.limits _ _ h k m n f f' in
-    let q : up_to (more t (call name i)) h m ≡ up_to (more t (call name i)) k n = λ j. up_to (more t (call name i)) (w.horizon j) (w.mark j) in
+    let q : up_to (more t (call name i)) h m ≡ up_to (more t (call name i)) k n =
+    λ j. up_to (more t (call name i)) (w.horizon j) (w.mark j) in
     ap shut (one_again s (up_to (more t (call name i)) k n) u v (subst (λ (x : State). Again s x u) q g) g')
 one-after s t _ _ _ _ (resting r) (resting r') = refl
 one-after s t _ _ _ _ (resting r) (runs.outside n f g) = absurd (n r)
@@ -91,7 +94,8 @@ one-after s t _ _ _ _ (a_limited {n = n} {tested = k} {os = os} {finishes = f} w
     ap (λ (b : Bool). limited_to n b t) (one-within (feed_of s t) n os ps k i f g w x).finishes
 
 -- a list of steps has one list of answers, and leaves one state
-pub one-runs : (s : Settings) (t : State) (xs : List Step) (rs qs : List Answer) (u v : State) → Runs s t xs rs u → Runs s t xs qs v → (rs ≡ qs) × (u ≡ v)
+pub one-runs : (s : Settings) (t : State) (xs : List Step) (rs qs : List Answer) (u v : State) → Runs s t xs rs u → Runs s t xs qs v
+    → (rs ≡ qs) × (u ≡ v)
 one-runs s t _ _ _ _ _ end end = (refl, refl)
 one-runs s t _ _ _ u v (step {u = w} {x = x} {xs = xs} {a = a} {rs = rs} f g r) (step {u = w'} {a = b} {rs = qs} f' g' r') =
     let e : b ≡ a = one-first (causes_of s t x) b a f' f in

@@ -71,18 +71,21 @@ same-sym p q s = record { leave = sym s.leave; arrival = sym s.arrival; rides = 
 pub beats-in : (p q : Journey) → beats cov p q ≡ true → Beats p q
 beats-in p q e = record {
   over = covers-in p q (and-true-left (cov p q) (not (cov q p)) e);
-  apart = λ s. true≢false (sym (covers_out q p (same_over q p (same-sym p q s))) ∙ not-true (cov q p) (and-true-right (cov p q) (not (cov q p)) e));
+  apart = λ s. true≢false (sym (covers_out q p (same_over q p (same-sym p q s)))
+      ∙ not-true (cov q p) (and-true-right (cov p q) (not (cov q p)) e));
 }
 
 pub beats-out : (p q : Journey) → Beats p q → beats cov p q ≡ true
-beats-out p q w = and-true (cov p q) (not (cov q p)) (covers_out p q w.over) (ap not (is_false (cov q p) (λ e. w.apart (both-same p q w.over (covers-in q p e)))))
+beats-out p q w = and-true (cov p q) (not (cov q p)) (covers_out p q w.over)
+    (ap not (is_false (cov q p) (λ e. w.apart (both-same p q w.over (covers-in q p e)))))
 
 -- ---- as good
 
 pub prefer-in : (p q : Journey) → prefer (journey_figures p) (journey_figures q) ≡ true → AsGood p q
 prefer-in p q e = one (lexb-true p.arrival q.arrival _ e)
   where
-    three : (p.walk < q.walk) ⊎ ((p.walk ≡ q.walk) × (leb q.leave p.leave ≡ true)) → (p.walk < q.walk) ⊎ ((p.walk ≡ q.walk) × (q.leave ≤ p.leave))
+    three : (p.walk < q.walk) ⊎ ((p.walk ≡ q.walk) × (leb q.leave p.leave ≡ true))
+        → (p.walk < q.walk) ⊎ ((p.walk ≡ q.walk) × (q.leave ≤ p.leave))
     three (inl l) = inl l
     three (inr (r, l)) = inr (r, leb-true q.leave p.leave l)
 
@@ -91,6 +94,7 @@ prefer-in p q e = one (lexb-true p.arrival q.arrival _ e)
     two (inl l) = inl l
     two (inr (r, l)) = inr (r, three (lexb-true p.walk q.walk _ l))
 
-    one : (p.arrival < q.arrival) ⊎ ((p.arrival ≡ q.arrival) × (lexb p.rides q.rides (lexb p.walk q.walk (leb q.leave p.leave)) ≡ true)) → AsGood p q
+    one : (p.arrival < q.arrival) ⊎ ((p.arrival ≡ q.arrival) × (lexb p.rides q.rides (lexb p.walk q.walk (leb q.leave p.leave)) ≡ true))
+        → AsGood p q
     one (inl l) = inl l
     one (inr (r, l)) = inr (r, two (lexb-true p.rides q.rides _ l))

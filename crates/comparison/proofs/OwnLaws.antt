@@ -67,13 +67,19 @@ led os ks (up_to h' m') h m q =
     let eh : h' ≡ h = cc in
     let em : m' ≡ m = cc in
     let ek : ordered journey_figures (front (covᶠ journey_figures) (dueᶠ journey_figures) h' os) ≡ ks = cc in
-    record { at = λ j. up_to (eh j) (em j); list = sym ek ∙ ap (λ (g : ℕ). ordered journey_figures (front (covᶠ journey_figures) (dueᶠ journey_figures) g os)) eh }
+    record {
+      at = λ j. up_to (eh j) (em j);
+      list = sym ek
+          ∙ ap (λ (g : ℕ). ordered journey_figures (front (covᶠ journey_figures) (dueᶠ journey_figures) g os)) eh;
+    }
 led os ks never h m q = absurd (cc)
 
 led-found : (l : Load) (os : List Journey) → Clear (timetable_of (unsearched_of l))
-    → ends_by_of os (fall (covᶠ journey_figures) (dueᶠ journey_figures) 64 3600 l.table_horizon l.table_limits [] os) ≡ found (kept_of l) l.horizon l.limits → OwnFound l os
+    → ends_by_of os (fall (covᶠ journey_figures) (dueᶠ journey_figures) 64 3600 l.table_horizon l.table_limits [] os)
+    ≡ found (kept_of l) l.horizon l.limits → OwnFound l os
 led-found l os clear e =
-    let v = led os (kept_of l) (fall (covᶠ journey_figures) (dueᶠ journey_figures) 64 3600 l.table_horizon l.table_limits [] os) l.horizon l.limits e in
+    let v = led os (kept_of l) (fall (covᶠ journey_figures) (dueᶠ journey_figures) 64 3600 l.table_horizon l.table_limits [] os) l.horizon
+    l.limits e in
     record { clear = clear; unbeaten = v.list; fell = v.at }
 
 pub own-found : (l : Load) → Kept l → l.searched ≡ true → l.limit ≡ None → OwnFound l (own_offers l)
@@ -83,7 +89,8 @@ own-found l k d b =
     let t : is_taken (search_spec (unsearched_of l)).answer ≡ true = ap (λ (r : Stepped). is_taken r.answer) own in
     let f = subst (Finds (unsearched_of l)) (ap (λ (r : Stepped). r.load) own) (taken-searches (unsearched_of l) t).finds in
     let clear = (search-found (timetable_of (unsearched_of l)) _ _ _ _ _ f.is).0 in
-    led-found l (own_offers l) clear (sym (cond-not _ _ clear) ∙ sym (search-by-offers (timetable_of (unsearched_of l)) l.table_horizon l.table_limits) ∙ f.is)
+    led-found l (own_offers l) clear (sym (cond-not _ _ clear)
+    ∙ sym (search-by-offers (timetable_of (unsearched_of l)) l.table_horizon l.table_limits) ∙ f.is)
 
 -- of a load that was stopped at the limit n
 module _ (l : Load) (k : Kept l) (n : ℕ) (e : l.limit ≡ Some n) where
@@ -91,7 +98,9 @@ module _ (l : Load) (k : Kept l) (n : ℕ) (e : l.limit ≡ Some n) where
   w = taken-within (unsearched_of l) n (ap (λ (r : Answered). is_taken r.answer) (own-stopped l k n e).is)
 
   load_is : with_found (unsearched_of l) w.kept w.to w.mark (Some n) ≡ l
-  load_is = sym (ap (λ (r : Answered). r.load) w.is ∙ cond-not _ _ (own-unfinished l k.sound (k.own (k.sound.stopped_search (ap is_some e))) n e)) ∙ ap (λ (r : Answered). r.load) (own-stopped l k n e).is
+  load_is = sym (ap (λ (r : Answered). r.load) w.is
+      ∙ cond-not _ _ (own-unfinished l k.sound (k.own (k.sound.stopped_search (ap is_some e))) n e))
+      ∙ ap (λ (r : Answered). r.load) (own-stopped l k n e).is
 
   pub outcome-is : outcome_within (unsearched_of l) n ≡ found (kept_of l) l.horizon l.limits
   outcome-is =
@@ -103,26 +112,32 @@ module _ (l : Load) (k : Kept l) (n : ℕ) (e : l.limit ≡ Some n) where
   unfolding unsearched_of outcome_within
   stopped-found =
       let clear : Clear (timetable_of (unsearched_of l)) = within-clear (unsearched_of l) n w.kept w.to w.mark w.outcome in
-      led-found l (own_within n l) clear (sym (cond-not _ _ clear) ∙ sym (within-by-offers n (timetable_of (unsearched_of l)) l.table_horizon l.table_limits) ∙ outcome-is)
+      led-found l (own_within n l) clear (sym (cond-not _ _ clear)
+      ∙ sym (within-by-offers n (timetable_of (unsearched_of l)) l.table_horizon l.table_limits) ∙ outcome-is)
 
 own-reads : (l : Load) → timetable_of (unsearched_of l) ≡ timetable_of l
 unfolding unsearched_of timetable_of
 own-reads l = refl
 
 -- what the last accepted search started from admits what the load's own table does
-pub own-admits : (o : Opening) (xs : List Step) → (end_of o xs).searched ≡ true → (j : Journey) → by.Admitted (timetable_of (start_of o xs)) j ↔ by.Admitted (timetable_of (unsearched_of (end_of o xs))) j
+pub own-admits : (o : Opening) (xs : List Step) → (end_of o xs).searched ≡ true → (j : Journey)
+    → by.Admitted (timetable_of (start_of o xs)) j ↔ by.Admitted (timetable_of (unsearched_of (end_of o xs))) j
 own-admits o xs d j =
     let p = timetable_of (start_of o xs) in
-    let is : timetable_of (unsearched_of (end_of o xs)) ≡ with_calls (timetable_of (start_of o xs)) (in_order_of (timetable_of (start_of o xs)).calls) = own-reads (end_of o xs) ∙ end-from o xs d in
+    let is : timetable_of (unsearched_of (end_of o xs))
+    ≡ with_calls (timetable_of (start_of o xs)) (in_order_of (timetable_of (start_of o xs)).calls) =
+    own-reads (end_of o xs) ∙ end-from o xs d in
     subst (λ (t : Timetable). by.Admitted (timetable_of (start_of o xs)) j ↔ by.Admitted t j) (sym is)
-    (admitted-in-any-order (timetable_of (start_of o xs)) (in_order_of (timetable_of (start_of o xs)).calls) (Permᴰ.symm (sort-perm earlier (timetable_of (start_of o xs)).calls)) j)
+    (admitted-in-any-order (timetable_of (start_of o xs)) (in_order_of (timetable_of (start_of o xs)).calls)
+    (Permᴰ.symm (sort-perm earlier (timetable_of (start_of o xs)).calls)) j)
 
 -- ---- no offer leaves after it arrives
 
 pub own-ahead : (l : Load) → Kept l → Clear (timetable_of (unsearched_of l)) → (j : Journey) → Memᴰ j (own_offers l) → j.leave ≤ j.arrival
 own-ahead l k clear j m =
     let u = unsearched_of l in
-    offers-ahead (timetable_of (unsearched_of l)) clear (sound-timed (unsearched_of l) (unsearched-sound l k.sound)) (sound-in-time (unsearched_of l)) j m
+    offers-ahead (timetable_of (unsearched_of l)) clear (sound-timed (unsearched_of l) (unsearched-sound l k.sound))
+    (sound-in-time (unsearched_of l)) j m
 
 reads-few : (l : Load) → l.settings.max_transfers ≤ 1 → (timetable_of (unsearched_of l)).max_transfers ≤ 1
 unfolding unsearched_of timetable_of
@@ -131,4 +146,5 @@ reads-few l h = h
 pub within-ahead : (l : Load) → Kept l → (n : ℕ) → l.limit ≡ Some n → (j : Journey) → Memᴰ j (own_within n l) → j.leave ≤ j.arrival
 within-ahead l k n e j m =
     own-ahead l k (stopped-found l k n e).clear j
-    (subst (Memᴰ j) (sym (offers-up-to-one (timetable_of (unsearched_of l)) (reads-few l (k.sound.stopped_change (ap is_some e))))) (within-offer n (timetable_of (unsearched_of l)) m))
+    (subst (Memᴰ j) (sym (offers-up-to-one (timetable_of (unsearched_of l)) (reads-few l (k.sound.stopped_change (ap is_some e)))))
+    (within-offer n (timetable_of (unsearched_of l)) m))

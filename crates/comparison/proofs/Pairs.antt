@@ -33,7 +33,8 @@ module _ {A : Type 0} (R : A → A → Type 0) where
   pairs-cond false xs p = tt
 
 module _ {A B : Type 0} (R : A → A → Type 0) (S : B → B → Type 0) where
-  pub pairs-concat : (g : B → List A) (ys : List B) → Pairs S ys → ((y : B) → Pairs R (g y)) → ((y z : B) → S y z → (a b : A) → Memᴰ a (g y) → Memᴰ b (g z) → R a b) → Pairs R (concat_map g ys)
+  pub pairs-concat : (g : B → List A) (ys : List B) → Pairs S ys → ((y : B) → Pairs R (g y))
+      → ((y z : B) → S y z → (a b : A) → Memᴰ a (g y) → Memᴰ b (g z) → R a b) → Pairs R (concat_map g ys)
   pairs-concat g [] p q f = tt
   pairs-concat g (y ∷ ys) p q f =
       pairs-append R (g y) (concat_map g ys) (q y) (pairs-concat g ys p.1 q f)
@@ -63,7 +64,8 @@ pairs-filter S p (y ∷ ys) w = go (p y) (pairs-filter S p ys w.1)
     go true v = (λ z m. w.0 z (filterb-mem p ys m).0, v)
     go false v = v
 
-pub pairs-map : {A B : Type 0} (R : A → A → Type 0) (S : B → B → Type 0) (f : B → A) (ys : List B) → Pairs S ys → ((y z : B) → S y z → R (f y) (f z)) → Pairs R (map f ys)
+pub pairs-map : {A B : Type 0} (R : A → A → Type 0) (S : B → B → Type 0) (f : B → A) (ys : List B) → Pairs S ys
+    → ((y z : B) → S y z → R (f y) (f z)) → Pairs R (map f ys)
 pairs-map R S f [] w h = tt
 pairs-map R S f (y ∷ ys) w h = (λ x m. let (z, i, e) = Memᴰ.of_map f ys m in subst (R (f y)) e (h y z (w.0 z i)), pairs-map R S f ys w.1 h)
 
@@ -71,17 +73,21 @@ pub pairs-bits : (n b m : ℕ) → Pairs ◌<◌ (bits_from n b m)
 pairs-bits zero b m = tt
 pairs-bits (suc n) b m = go (eqb (m % 2) 1) (pairs-bits n (suc b) (m / 2))
   where
-    go : (c : Bool) → Pairs ◌<◌ (bits_from n (suc b) (m / 2)) → Pairs ◌<◌ (cond c (b ∷ bits_from n (suc b) (m / 2)) (bits_from n (suc b) (m / 2)))
+    go : (c : Bool) → Pairs ◌<◌ (bits_from n (suc b) (m / 2))
+        → Pairs ◌<◌ (cond c (b ∷ bits_from n (suc b) (m / 2)) (bits_from n (suc b) (m / 2)))
     go true v = (λ k i. let (x, h, e, d) = bits-mem n (suc b) (m / 2) i in omega arith, v)
     go false v = v
 
 -- two such lists of the same elements are one, where no two stand so both ways
 module _ {A : Type 0} (R : A → A → Type 0) (asym : (x y : A) → R x y → R y x → ⊥) where
-  pub one-pairs : (xs ys : List A) → Pairs R xs → Pairs R ys → ((x : A) → Memᴰ x xs → Memᴰ x ys) → ((x : A) → Memᴰ x ys → Memᴰ x xs) → xs ≡ ys
+  pub one-pairs : (xs ys : List A) → Pairs R xs → Pairs R ys → ((x : A) → Memᴰ x xs → Memᴰ x ys) → ((x : A) → Memᴰ x ys → Memᴰ x xs)
+      → xs ≡ ys
   one-pairs [] [] p q f g = refl
   one-pairs [] (y ∷ ys) p q f g = absurd (Memᴰ.not-nil (g y (Memᴰ.head refl)))
   one-pairs (x ∷ xs) [] p q f g = absurd (Memᴰ.not-nil (f x (Memᴰ.head refl)))
-  one-pairs (x ∷ xs) (y ∷ ys) p q f g = λ k. same k ∷ one-pairs xs ys p.1 q.1 (λ z m. rest z m (Memᴰ.cases_cons (f z (Memᴰ.tail m)))) (λ z m. back z m (Memᴰ.cases_cons (g z (Memᴰ.tail m)))) k
+  one-pairs (x ∷ xs) (y ∷ ys) p q f g = λ k. same k
+      ∷ one-pairs xs ys p.1 q.1 (λ z m. rest z m (Memᴰ.cases_cons (f z (Memᴰ.tail m))))
+      (λ z m. back z m (Memᴰ.cases_cons (g z (Memᴰ.tail m)))) k
     where
       same : x ≡ y
       same = go (Memᴰ.cases_cons (f x (Memᴰ.head refl))) (Memᴰ.cases_cons (g y (Memᴰ.head refl)))

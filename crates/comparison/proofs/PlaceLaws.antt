@@ -86,7 +86,8 @@ module _ (s : Settings) (p : Load) (fs : List Filling) (w : Start s p fs) where
     where
       twice : (a b : ℕ) → a < b → b < n → id_of (stop_at p.stops a) ≡ id_of (stop_at p.stops b) → ⊥
       twice a b l h q =
-          true≢false (sym (same_bytes (id_of (stop_at p.stops a))) ∙ ap (same_bytes_of (id_of (stop_at p.stops a))) q ∙ w.sound.stops.alone a b l h)
+          true≢false (sym (same_bytes (id_of (stop_at p.stops a))) ∙ ap (same_bytes_of (id_of (stop_at p.stops a))) q
+          ∙ w.sound.stops.alone a b l h)
 
       go : (j < k) ⊎ ((j ≡ k) ⊎ (k < j)) → j ≡ k
       go (inl l) = absurd (twice j k l hk e)
@@ -140,7 +141,12 @@ module _ (s : Settings) (p : Load) (fs : List Filling) (w : Start s p fs) where
     unfolding has_key
     keyed-in t =
         let z : v.given.input.location_type ≡ 0 = sym type-held ∙ eqb-true (stop_at hs k).location_type 0 t in
-        record { given = v.given; at = v.at; type_zero = z; key = subst (Key v.given) (sym (key-held z)) (given-key v.given z v.key.needed) }
+        record {
+          given = v.given;
+          at = v.at;
+          type_zero = z;
+          key = subst (Key v.given) (sym (key-held z)) (given-key v.given z v.key.needed);
+        }
 
   module _ (k : ℕ) (a : PlaceKey) (c : Keyed gs k a) where
     in-stops : k < n
@@ -159,11 +165,18 @@ module _ (s : Settings) (p : Load) (fs : List Filling) (w : Start s p fs) where
     key-is : key_at hs k ≡ a
     key-is =
         key-held k in-stops zero-type
-        ∙ key_one u.given (given_key u.given) a (given-key u.given zero-type u.key.needed) (subst (λ (g : StopGiven). Key g a) (sym (given-at k c.given in-stops c.at)) c.key)
+        ∙ key_one u.given (given_key u.given) a (given-key u.given zero-type u.key.needed)
+        (subst (λ (g : StopGiven). Key g a) (sym (given-at k c.given in-stops c.at)) c.key)
 
   matches-in : (j k : ℕ) → j < n → k < n → has_key hs j ≡ true → has_key hs k ≡ true → same_place hs j k ≡ true → Matches gs j k
   unfolding same_place
-  matches-in j k hj hk tj tk e = record { key = key_at hs j; key' = key_at hs k; keyed = keyed-in j hj tj; keyed' = keyed-in k hk tk; same = e }
+  matches-in j k hj hk tj tk e = record {
+    key = key_at hs j;
+    key' = key_at hs k;
+    keyed = keyed-in j hj tj;
+    keyed' = keyed-in k hk tk;
+    same = e;
+  }
 
   matches-out : (j k : ℕ) → Matches gs j k → same_place hs j k ≡ true
   unfolding same_place
@@ -188,7 +201,10 @@ module _ (s : Settings) (p : Load) (fs : List Filling) (w : Start s p fs) where
   before-out : (j k : ℕ) → IdBefore gs j k → id_less hs j k ≡ true
   unfolding id_less
   before-out j k b =
-      ap₂ less_bytes (id-held j (given_below j b.fore b.at_fore) ∙ ap (λ (g : StopGiven). g.id) (given-at j b.fore (given_below j b.fore b.at_fore) b.at_fore)) (id-held k (given_below k b.rear b.at_rear) ∙ ap (λ (g : StopGiven). g.id) (given-at k b.rear (given_below k b.rear b.at_rear) b.at_rear))
+      ap₂ less_bytes (id-held j (given_below j b.fore b.at_fore)
+      ∙ ap (λ (g : StopGiven). g.id) (given-at j b.fore (given_below j b.fore b.at_fore) b.at_fore))
+      (id-held k (given_below k b.rear b.at_rear)
+      ∙ ap (λ (g : StopGiven). g.id) (given-at k b.rear (given_below k b.rear b.at_rear) b.at_rear))
       ∙ before-less b.fore.id b.rear.id b.before
 
   -- ---- places
@@ -228,7 +244,8 @@ module _ (s : Settings) (p : Load) (fs : List Filling) (w : Start s p fs) where
 
   -- and what is found of the stops given is right of those held
   module _ (f : ℕ → ℕ) (each : (k : ℕ) (a : PlaceKey) → Keyed gs k a → Placed gs f k) where
-    find : (k q : ℕ) → k < n → q < n → has_key hs k ≡ true → has_key hs q ≡ true → f q ≡ q → same_place hs k q ≡ true → id_less hs q k ≡ true → Found gs f k q
+    find : (k q : ℕ) → k < n → q < n → has_key hs k ≡ true → has_key hs q ≡ true → f q ≡ q → same_place hs k q ≡ true
+        → id_less hs q k ≡ true → Found gs f k q
     find k q hk hq tk tq e m l = record { earlier = before-in q k hq hk l; own = e; matches = matches-in k q hk hq tk tq m }
 
     placed-right : (k : ℕ) → k < n → has_key hs k ≡ true → Placed gs f k → PlaceRight hs f k (f k)
@@ -244,7 +261,8 @@ module _ (s : Settings) (p : Load) (fs : List Filling) (w : Start s p fs) where
           least = λ q hq tq e m. go q (omega (arith, count)) tq e m (id_less hs q k) refl b l;
         }
       where
-        go : (q : ℕ) → q < n → has_key hs q ≡ true → f q ≡ q → same_place hs k q ≡ true → (x : Bool) → id_less hs q k ≡ x → id_less hs (f k) k ≡ true → f k < n → id_less hs q (f k) ≡ false
+        go : (q : ℕ) → q < n → has_key hs q ≡ true → f q ≡ q → same_place hs k q ≡ true → (x : Bool) → id_less hs q k ≡ x
+            → id_less hs (f k) k ≡ true → f k < n → id_less hs q (f k) ≡ false
         go q hq tq e m true u b l = no (id_less hs q (f k)) refl
           where
             no : (y : Bool) → id_less hs q (f k) ≡ y → y ≡ false

@@ -10,4 +10,17 @@ use Rattle.comparison.proofs.WitnessLaws.{met}
 use Rattle.comparison.proofs.MarkedLaws.{starred}
 
 pub proved : Proved
-proved = record { first = demand-1; second = demand-2; running = only-running; dated = dated-same; late = late-services; unread = name-unread; third = demand-3; withdrawals = withdrawals; limits = limits; displays = displays; met = met; starred = starred }
+proved = record {
+  first = demand-1;
+  second = demand-2;
+  running = only-running;
+  dated = dated-same;
+  late = late-services;
+  unread = name-unread;
+  third = demand-3;
+  withdrawals = withdrawals;
+  limits = limits;
+  displays = displays;
+  met = met;
+  starred = starred;
+}

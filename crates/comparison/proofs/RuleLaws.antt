@@ -20,7 +20,8 @@ use Rattle.transfer.specs.Changes.{rule_seconds, rule_change, change_of}
 use Rattle.transfer.specs.Promises as promised
 use Rattle.transfer.proofs.Choosing.{chosen-right, best-most, best-taken}
 use Rattle.transfer.proofs.Claims.{rank-pair, rank_right}
-use Rattle.comparison.specs.Admitted.{Feed, Side, Applies, Rank, both, fore, rear, neither, Chosen, Seconds, Larger, Gives, type_zero, type_one, type_two, ByRule, Change, Parent}
+use Rattle.comparison.specs.Admitted.{Feed, Side, Applies, Rank, both, fore, rear, neither, Chosen, Seconds, Larger, Gives, type_zero}
+use Rattle.comparison.specs.Admitted.{type_one, type_two, ByRule, Change, Parent}
 
 -- ---- ranks
 
@@ -75,14 +76,17 @@ only_one (suc (suc zero)) few a b c = absurd (b refl)
 only_one (suc (suc (suc zero))) few a b c = absurd (c refl)
 only_one (suc (suc (suc (suc t)))) few a b c = absurd (omega arith)
 
-by-type : (r : Rule) (change t : ℕ) → r.transfer_type ≡ t → rule_change r change ≡ cond (eqb t 3) None (Some (cond (eqb t 2) (most (unwrap_or r.seconds 0) change) change))
+by-type : (r : Rule) (change t : ℕ) → r.transfer_type ≡ t
+    → rule_change r change ≡ cond (eqb t 3) None (Some (cond (eqb t 2) (most (unwrap_or r.seconds 0) change) change))
 by-type r change t q = ap (λ (k : ℕ). cond (eqb k 3) None (Some (cond (eqb k 2) (most (unwrap_or r.seconds 0) change) change))) q
 
 gives-in : (r : Rule) (change n : ℕ) → r.transfer_type ≤ 3 → rule_change r change ≡ Some n → Gives change r n
 gives-in r change n few t = three (eqb r.transfer_type 3) refl t
   where
-    two : (r.transfer_type ≡ 3 → ⊥) → (b : Bool) → eqb r.transfer_type 2 ≡ b → cond b (most (unwrap_or r.seconds 0) change) change ≡ n → Gives change r n
-    two k true p x = type_two (eqb-true _ _ p) (unwrap_or r.seconds 0) (seconds-is r.seconds) (subst (Larger (unwrap_or r.seconds 0) change) x (most-is (unwrap_or r.seconds 0) change))
+    two : (r.transfer_type ≡ 3 → ⊥) → (b : Bool) → eqb r.transfer_type 2 ≡ b → cond b (most (unwrap_or r.seconds 0) change) change ≡ n
+        → Gives change r n
+    two k true p x = type_two (eqb-true _ _ p) (unwrap_or r.seconds 0) (seconds-is r.seconds)
+        (subst (Larger (unwrap_or r.seconds 0) change) x (most-is (unwrap_or r.seconds 0) change))
     two k false p x = one (eqb r.transfer_type 0) refl
       where
         one : (b : Bool) → eqb r.transfer_type 0 ≡ b → Gives change r n
@@ -134,7 +138,8 @@ module _ (F : Feed) (e : Ends) (known : Taken F.rules)
         taken = m;
         applies = a;
         highest = λ p x y k b other u v.
-            below (is-rank e p x u) (is-rank e q y v) (best-most e F.rules q w p k (applies-out p k b)) (λ t. other (one-rule p q k m b a t));
+            below (is-rank e p x u) (is-rank e q y v) (best-most e F.rules q w p k (applies-out p k b))
+            (λ t. other (one-rule p q k m b a t));
       }
     where
       below : {x y a b : ℕ} → x ≡ a → y ≡ b → a ≤ b → (a ≡ b → ⊥) → x < y
@@ -150,10 +155,18 @@ module _ (F : Feed) (e : Ends) (known : Taken F.rules)
 
       two : Chosen F e.from e.to q → (rank e r < rank e q) ⊎ ((rank e r ≡ rank e q) ⊎ (rank e q < rank e r)) → Some q ≡ Some r
       two t (inl l) =
-          absurd (omega (arith, w.highest q (rank e q) (rank e r) t.taken t.applies (λ z. omega (arith, same z)) (rank_is e q) (rank_is e r)))
+          absurd (omega (
+            arith,
+            w.highest q (rank e q) (rank e r) t.taken t.applies (λ z. omega (arith, same z)) (rank_is e q)
+                (rank_is e r),
+          ))
       two t (inr (inl z)) = ap Some (sym (one-rule r q w.taken t.taken w.applies t.applies z))
       two t (inr (inr l)) =
-          absurd (omega (arith, t.highest r (rank e r) (rank e q) w.taken w.applies (λ z. omega (arith, same (sym z))) (rank_is e r) (rank_is e q)))
+          absurd (omega (
+            arith,
+            t.highest r (rank e r) (rank e q) w.taken w.applies (λ z. omega (arith, same (sym z))) (rank_is e r)
+                (rank_is e q),
+          ))
 
   -- ---- the change
 

@@ -36,7 +36,8 @@ exceptions_of n (stop id name parent i ∷ xs) = exceptions_of n xs
 exceptions_of n (call name i ∷ xs) = exceptions_of n xs
 exceptions_of n (rule i ∷ xs) = exceptions_of n xs
 exceptions_of n (service name weekdays start end ∷ xs) = exceptions_of n xs
-exceptions_of n (exception name date kind ∷ xs) = cond (same_bytes_of n name) (record { date = date; kind = kind } ∷ exceptions_of n xs) (exceptions_of n xs)
+exceptions_of n (exception name date kind ∷ xs) =
+    cond (same_bytes_of n name) (record { date = date; kind = kind } ∷ exceptions_of n xs) (exceptions_of n xs)
 
 pub exceptions-append : (n : List ℕ) (fs gs : List Filling) → exceptions_of n (fs ++ gs) ≡ exceptions_of n fs ++ exceptions_of n gs
 exceptions-append n [] gs = refl
@@ -47,7 +48,8 @@ exceptions-append n (service name weekdays start end ∷ fs) gs = exceptions-app
 exceptions-append n (exception name date kind ∷ fs) gs = go (same_bytes_of n name) (exceptions-append n fs gs)
   where
     go : (b : Bool) → exceptions_of n (fs ++ gs) ≡ exceptions_of n fs ++ exceptions_of n gs
-        → cond b (record { date = date; kind = kind } ∷ exceptions_of n (fs ++ gs)) (exceptions_of n (fs ++ gs)) ≡ cond b (record { date = date; kind = kind } ∷ exceptions_of n fs) (exceptions_of n fs) ++ exceptions_of n gs
+        → cond b (record { date = date; kind = kind } ∷ exceptions_of n (fs ++ gs)) (exceptions_of n (fs ++ gs))
+        ≡ cond b (record { date = date; kind = kind } ∷ exceptions_of n fs) (exceptions_of n fs) ++ exceptions_of n gs
     go true e = ap {B = List Exception} (λ r. record { date = date; kind = kind } ∷ r) e
     go false e = e
 
@@ -67,25 +69,30 @@ new-name name weekdays start end h = read-whole 32 name h (omega arith)
 
 pub held-name : (dates : List ℕ) (fs : List Filling) (g : ServiceGiven) → length g.name ≤ 32 → name_of (held_service dates fs g) ≡ g.name
 unfolding held_service
-held-name dates fs g h = name-kept dates (service_of g.name g.weekdays g.start g.end) (exceptions_of g.name fs) ∙ new-name g.name g.weekdays g.start g.end h
+held-name dates fs g h = name-kept dates (service_of g.name g.weekdays g.start g.end) (exceptions_of g.name fs)
+    ∙ new-name g.name g.weekdays g.start g.end h
 
 -- the service has the name
 abbrev pub given : List ℕ → ServiceGiven → Bool
 given n g = same_bytes_of g.name n
 
-pub held-named : (dates : List ℕ) (fs : List Filling) (n : List ℕ) (g : ServiceGiven) → length g.name ≤ 32 → named n (held_service dates fs g) ≡ given n g
+pub held-named : (dates : List ℕ) (fs : List Filling) (n : List ℕ) (g : ServiceGiven) → length g.name ≤ 32
+    → named n (held_service dates fs g) ≡ given n g
 held-named dates fs n g h = ap (λ (x : List ℕ). same_bytes_of x n) (held-name dates fs g h)
 
 -- ---- after one more
 
 -- nothing of the service
-pub held_same : (dates : List ℕ) (fs : List Filling) (x : Filling) (g : ServiceGiven) → exceptions_of g.name (x ∷ []) ≡ [] → held_service dates (fs ++ x ∷ []) g ≡ held_service dates fs g
+pub held_same : (dates : List ℕ) (fs : List Filling) (x : Filling) (g : ServiceGiven) → exceptions_of g.name (x ∷ []) ≡ []
+    → held_service dates (fs ++ x ∷ []) g ≡ held_service dates fs g
 unfolding held_service
 held_same dates fs x g e =
     ap (after_all dates (service_of g.name g.weekdays g.start g.end))
-    (exceptions-append g.name fs (x ∷ []) ∙ ap (λ (r : List Exception). exceptions_of g.name fs ++ r) e ∙ append-nil (exceptions_of g.name fs))
+    (exceptions-append g.name fs (x ∷ []) ∙ ap (λ (r : List Exception). exceptions_of g.name fs ++ r) e
+    ∙ append-nil (exceptions_of g.name fs))
 
-after-snoc : (dates : List ℕ) (s : Service) (xs : List Exception) (x : Exception) → after_all dates s (xs ++ x ∷ []) ≡ excepted_of (after_all dates s xs) (days_on dates x.date) x.kind
+after-snoc : (dates : List ℕ) (s : Service) (xs : List Exception) (x : Exception)
+    → after_all dates s (xs ++ x ∷ []) ≡ excepted_of (after_all dates s xs) (days_on dates x.date) x.kind
 unfolding after_all
 after-snoc dates s xs x = foldl-append _ s xs (x ∷ [])
 
@@ -95,11 +102,13 @@ pub held-excepted : (dates : List ℕ) (fs : List Filling) (name : List ℕ) (da
 unfolding held_service
 held-excepted dates fs name date kind g e =
     ap (after_all dates (service_of g.name g.weekdays g.start g.end))
-    (exceptions-append g.name fs (exception name date kind ∷ []) ∙ ap (λ (b : Bool). exceptions_of g.name fs ++ cond b (record { date = date; kind = kind } ∷ []) []) e)
+    (exceptions-append g.name fs (exception name date kind ∷ [])
+    ∙ ap (λ (b : Bool). exceptions_of g.name fs ++ cond b (record { date = date; kind = kind } ∷ []) []) e)
     ∙ after-snoc dates (service_of g.name g.weekdays g.start g.end) (exceptions_of g.name fs) (record { date = date; kind = kind })
 
 -- no exception yet
-pub held_new : (dates : List ℕ) (fs : List Filling) (g : ServiceGiven) → exceptions_of g.name fs ≡ [] → held_service dates fs g ≡ service_of g.name g.weekdays g.start g.end
+pub held_new : (dates : List ℕ) (fs : List Filling) (g : ServiceGiven) → exceptions_of g.name fs ≡ []
+    → held_service dates fs g ≡ service_of g.name g.weekdays g.start g.end
 unfolding held_service after_all
 held_new dates fs g e = ap (after_all dates (service_of g.name g.weekdays g.start g.end)) e
 
@@ -150,7 +159,8 @@ module _ (n : List ℕ) (date kind : ℕ) where
   there (service name weekdays start end ∷ fs) m = there fs (here _ fs (λ e. cc) m)
   there (exception name d k ∷ fs) m = go (same_bytes_of n name) refl (Memᴰ.cases_cons m) (there fs)
     where
-      go : (b : Bool) → same_bytes_of n name ≡ b → (one ≡ exception name d k) ⊎ Memᴰ one fs → (Memᴰ one fs → anyb (is_so date kind) (exceptions_of n fs) ≡ true)
+      go : (b : Bool) → same_bytes_of n name ≡ b → (one ≡ exception name d k) ⊎ Memᴰ one fs
+          → (Memᴰ one fs → anyb (is_so date kind) (exceptions_of n fs) ≡ true)
           → anyb (is_so date kind) (cond b (record { date = d; kind = k } ∷ exceptions_of n fs) (exceptions_of n fs)) ≡ true
       go true q (inl e) ih = or-true-left _ _ (and-true _ _ (eq-eqb d date (sym (ap date_in e))) (eq-eqb k kind (sym (ap kind_in e))))
       go true q (inr m) ih = or_true_right (is_so date kind (record { date = d; kind = k })) _ (ih m)
@@ -165,12 +175,14 @@ module _ (n : List ℕ) (date kind : ℕ) where
   from (service name weekdays start end ∷ fs) e = Memᴰ.tail (from fs e)
   from (exception name d k ∷ fs) e = go (same_bytes_of n name) refl e (from fs)
     where
-      go : (b : Bool) → same_bytes_of n name ≡ b → anyb (is_so date kind) (cond b (record { date = d; kind = k } ∷ exceptions_of n fs) (exceptions_of n fs)) ≡ true
+      go : (b : Bool) → same_bytes_of n name ≡ b → anyb (is_so date kind)
+          (cond b (record { date = d; kind = k } ∷ exceptions_of n fs) (exceptions_of n fs)) ≡ true
           → (anyb (is_so date kind) (exceptions_of n fs) ≡ true → Memᴰ one fs) → Memᴰ one (exception name d k ∷ fs)
       go false q e ih = Memᴰ.tail (ih e)
       go true q e ih = by (or-true-cases (is_so date kind (record { date = d; kind = k })) (anyb (is_so date kind) (exceptions_of n fs)) e)
         where
-          by : (is_so date kind (record { date = d; kind = k }) ≡ true) ⊎ (anyb (is_so date kind) (exceptions_of n fs) ≡ true) → Memᴰ one (exception name d k ∷ fs)
+          by : (is_so date kind (record { date = d; kind = k }) ≡ true) ⊎ (anyb (is_so date kind) (exceptions_of n fs) ≡ true)
+              → Memᴰ one (exception name d k ∷ fs)
           by (inl t) =
               let a : d ≡ date = eqb-true d date (and-true-left (eqb d date) (eqb k kind) t) in
               let b : k ≡ kind = eqb-true k kind (and-true-right (eqb d date) (eqb k kind) t) in
@@ -197,13 +209,20 @@ marked-low k m e = go (leb k 6) refl
     go true q = leb-true k 6 q
     go false q = absurd (true≢false (sym e ∙ digit-past 7 k (m % 128) (omega arith) (leb-false k 6 q)))
 
-pub in-week : (g : ServiceGiven) (date : ℕ) → ((digit (weekday_of date) (g.weekdays % 128) ≡ true) × (g.start ≤ date) × (date ≤ g.end)) ↔ InWeek g date
+pub in-week : (g : ServiceGiven) (date : ℕ) → ((digit (weekday_of date) (g.weekdays % 128) ≡ true) × (g.start ≤ date) × (date ≤ g.end)) ↔
+    InWeek g date
 in-week g date = (to, back)
   where
     to : (digit (weekday_of date) (g.weekdays % 128) ≡ true) × (g.start ≤ date) × (date ≤ g.end) → InWeek g date
     to (e, a, b) =
         let low = marked-low (weekday_of date) g.weekdays e in
-        record { weekday = low; marked = sym (low-digits (weekday_of date) g.weekdays low) ∙ digit_set (weekday_of date) (g.weekdays % 128) e; from = a; to = b }
+        record {
+          weekday = low;
+          marked = sym (low-digits (weekday_of date) g.weekdays low)
+              ∙ digit_set (weekday_of date) (g.weekdays % 128) e;
+          from = a;
+          to = b;
+        }
 
     back : InWeek g date → (digit (weekday_of date) (g.weekdays % 128) ≡ true) × (g.start ≤ date) × (date ≤ g.end)
     back w = (set-digit (weekday_of date) (g.weekdays % 128) (low-digits (weekday_of date) g.weekdays w.weekday ∙ w.marked), w.from, w.to)
@@ -228,7 +247,8 @@ module _ (fs : List Filling) (g : ServiceGiven) (date : ℕ) where
     wanted = go w.wanted;
   }
     where
-      go : (anyb (adds date) xs ≡ true) ⊎ ((digit (weekday_of date) (g.weekdays % 128) ≡ true) × (g.start ≤ date) × (date ≤ g.end)) → Memᴰ (exception g.name date 1) fs ⊎ InWeek g date
+      go : (anyb (adds date) xs ≡ true) ⊎ ((digit (weekday_of date) (g.weekdays % 128) ≡ true) × (g.start ≤ date) × (date ≤ g.end))
+          → Memᴰ (exception g.name date 1) fs ⊎ InWeek g date
       go (inl e) = inl (from g.name date 1 fs (sym added_is ∙ e))
       go (inr e) = inr ((in-week g date).0 e)
 
@@ -238,7 +258,8 @@ module _ (fs : List Filling) (g : ServiceGiven) (date : ℕ) where
     wanted = go w.wanted;
   }
     where
-      go : Memᴰ (exception g.name date 1) fs ⊎ InWeek g date → (anyb (adds date) xs ≡ true) ⊎ ((digit (weekday_of date) (g.weekdays % 128) ≡ true) × (g.start ≤ date) × (date ≤ g.end))
+      go : Memᴰ (exception g.name date 1) fs ⊎ InWeek g date
+          → (anyb (adds date) xs ≡ true) ⊎ ((digit (weekday_of date) (g.weekdays % 128) ≡ true) × (g.start ≤ date) × (date ≤ g.end))
       go (inl m) = inl (added_is ∙ there g.name date 1 fs m)
       go (inr e) = inr ((in-week g date).1 e)
 
@@ -248,11 +269,14 @@ new-fresh name weekdays start end = record { none_added = refl; none_removed = r
 
 -- the service that is held runs on the load's day k exactly if it does by what was taken
 held-runs-with : (dates : List ℕ) (fs : List Filling) (g : ServiceGiven) (k : ℕ) → k < length dates
-    → runs_of (held_service dates fs g) k (get_or dates k 0) ≡ runs_with (g.weekdays % 128) g.start g.end (exceptions_of g.name fs) (get_or dates k 0)
+    → runs_of (held_service dates fs g) k (get_or dates k 0)
+    ≡ runs_with (g.weekdays % 128) g.start g.end (exceptions_of g.name fs) (get_or dates k 0)
 unfolding held_service service_of
-held-runs-with dates fs g k h = folded dates (service_of g.name g.weekdays g.start g.end) (exceptions_of g.name fs) k (new-fresh g.name g.weekdays g.start g.end) h
+held-runs-with dates fs g k h = folded dates (service_of g.name g.weekdays g.start g.end) (exceptions_of g.name fs) k
+    (new-fresh g.name g.weekdays g.start g.end) h
 
-pub held-runs : (dates : List ℕ) (fs : List Filling) (g : ServiceGiven) (k : ℕ) → k < length dates → (runs_of (held_service dates fs g) k (get_or dates k 0) ≡ true) ↔ RunsOn fs g (get_or dates k 0)
+pub held-runs : (dates : List ℕ) (fs : List Filling) (g : ServiceGiven) (k : ℕ) → k < length dates
+    → (runs_of (held_service dates fs g) k (get_or dates k 0) ≡ true) ↔ RunsOn fs g (get_or dates k 0)
 held-runs dates fs g k h =
     let r = runs-when (g.weekdays % 128) g.start g.end (exceptions_of g.name fs) (get_or dates k 0) in
     let e = held-runs-with dates fs g k h in

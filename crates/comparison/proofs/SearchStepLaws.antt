@@ -50,9 +50,11 @@ module _ (s : Settings) (o : Opened s) (l : Load) (fs : List Filling) (w : Start
   back x r = record { after = sent_back; new = λ d. w; done = λ d. absurd (true≢false (sym d ∙ w.fresh)) }
 
   -- taken
-  taken : (x : Step) (limit : Option ℕ) (e : is_taken (researched limit l).answer ≡ true) → After s t x (Ok Taken) (done (researched limit l).load.limit t) → Found x (researched limit l)
+  taken : (x : Step) (limit : Option ℕ) (e : is_taken (researched limit l).answer ≡ true)
+      → After s t x (Ok Taken) (done (researched limit l).load.limit t) → Found x (researched limit l)
   taken x limit e v = record {
-    after = subst (λ (r : Stepped). After s t x r.answer (state_at (researched limit l).load fs)) (sym (taken-researched limit l e).is) (subst (After s t x (Ok Taken)) (sym (found-state limit l e fs)) v);
+    after = subst (λ (r : Stepped). After s t x r.answer (state_at (researched limit l).load fs)) (sym (taken-researched limit l e).is)
+        (subst (After s t x (Ok Taken)) (sym (found-state limit l e fs)) v);
     new = λ d. absurd (true≢false (sym (found-searched limit l e) ∙ d));
     done = λ d. searched-start s l fs fs w (beside_same fs) w.held.days refl limit e;
   }
@@ -79,7 +81,8 @@ module _ (s : Settings) (o : Opened s) (l : Load) (fs : List Filling) (w : Start
       clear : Clear (timetable_of l)
       clear = let f = taken-within l n e in within-clear l n f.kept f.to f.mark f.outcome
 
-      pub limited-here : Within (feed_of s (state_at l fs)) n (offers_within n (timetable_of l)) (joins_within n (timetable_of l)) (finished_within n (timetable_of l))
+      pub limited-here : Within (feed_of s (state_at l fs)) n (offers_within n (timetable_of l)) (joins_within n (timetable_of l))
+          (finished_within n (timetable_of l))
       limited-here = within-here s l fs w o n clear few
 
       is : researched (Some n) l ≡ step_of (within_spec l n)
@@ -88,22 +91,26 @@ module _ (s : Settings) (o : Opened s) (l : Load) (fs : List Filling) (w : Start
       limited-after : After s t (limited n) (Ok Taken) (done (researched (Some n) l).load.limit t)
       unfolding finishes_in
       limited-after =
-          subst (After s t (limited n) (Ok Taken)) (limited-to n t (finished_within n (timetable_of l)) (researched (Some n) l).load.limit (ap (λ (r : Stepped). r.load.limit) is ∙ limit-within n l e))
+          subst (After s t (limited n) (Ok Taken)) (limited-to n t (finished_within n (timetable_of l)) (researched (Some n) l).load.limit
+          (ap (λ (r : Stepped). r.load.limit) is ∙ limit-within n l e))
           (a_limited limited-here)
 
       limited-found : Found (limited n) (step_of (within_spec l n))
-      limited-found = subst (Found (limited n)) is (taken (limited n) (Some n) (ap (λ (r : Stepped). is_taken r.answer) is ∙ e) limited-after)
+      limited-found = subst (Found (limited n)) is
+          (taken (limited n) (Some n) (ap (λ (r : Stepped). is_taken r.answer) is ∙ e) limited-after)
 
     pub limited-so : Searching s l fs (limited n) (within_spec l n).answer (within_spec l n).load
     limited-so = go (is_taken (within_spec l n).answer) refl
       where
-        go : (b : Bool) → is_taken (within_spec l n).answer ≡ b → Searching s l fs (limited n) (within_spec l n).answer (within_spec l n).load
+        go : (b : Bool) → is_taken (within_spec l n).answer ≡ b
+            → Searching s l fs (limited n) (within_spec l n).answer (within_spec l n).load
         go true e = limited-found e
         go false e =
             within-cases l n (λ r. is_taken r.answer ≡ false → Searching s l fs (limited n) r.answer r.load)
             (λ x q. back (limited n) AlreadySearched) (λ x y q. back (limited n) SettingsRange) (λ x y z q. by z) e
           where
-            by : (z : Outcome) → is_taken (ran_within l n z).answer ≡ false → Searching s l fs (limited n) (ran_within l n z).answer (ran_within l n z).load
+            by : (z : Outcome) → is_taken (ran_within l n z).answer ≡ false
+                → Searching s l fs (limited n) (ran_within l n z).answer (ran_within l n z).load
             by clashing q = back (limited n) Neighbours
             by falling q = back (limited n) NoRoom
             by (found ks h m) q = absurd (true≢false q)

@@ -38,20 +38,25 @@ use Rattle.comparison.proofs.AsideLaws.{Beside, beside_back, beside-on, apart, a
 pub shown-apart : (z : Settings) (h : ℕ) (fs : List Filling) → windowed z h (calls_in (apart fs)) ≡ in_order_of (windowed z h (calls_in fs))
 shown-apart z h fs = ap (windowed z h) (apart-calls fs) ∙ shown-sorted z h (calls_in fs)
 
-pub apart-again : (z : Settings) (h : ℕ) (fs : List Filling) → in_order_of (windowed z h (calls_in (apart fs))) ≡ in_order_of (windowed z h (calls_in fs))
+pub apart-again : (z : Settings) (h : ℕ) (fs : List Filling)
+    → in_order_of (windowed z h (calls_in (apart fs))) ≡ in_order_of (windowed z h (calls_in fs))
 apart-again z h fs = ap in_order_of (shown-apart z h fs) ∙ in-order-again (windowed z h (calls_in fs))
 
 -- a call of it is one of the list
-pub apart-days : (fs : List Filling) → ((j : CallInput) → Memᴰ j (calls_in fs) → j.day ≤ 2) → (j : CallInput) → Memᴰ j (calls_in (apart fs)) → j.day ≤ 2
+pub apart-days : (fs : List Filling) → ((j : CallInput) → Memᴰ j (calls_in fs) → j.day ≤ 2) → (j : CallInput)
+    → Memᴰ j (calls_in (apart fs)) → j.day ≤ 2
 apart-days fs days j m = days j (sort-mem raw_earlier (calls_in fs) (subst (Memᴰ j) (apart-calls fs) m))
 
 -- p holds gs, which gives what fs does but for the order of the calls
-module _ (s : Settings) (p : Load) (gs fs : List Filling) (w : Start s p gs) (b : Beside gs fs) (days : (j : CallInput) → Memᴰ j (calls_in fs) → j.day ≤ 2)
-    (same : in_order_of (windowed p.settings p.table_horizon (calls_in gs)) ≡ in_order_of (windowed p.settings p.table_horizon (calls_in fs))) where
+module _ (s : Settings) (p : Load) (gs fs : List Filling) (w : Start s p gs) (b : Beside gs fs)
+    (days : (j : CallInput) → Memᴰ j (calls_in fs) → j.day ≤ 2)
+    (same : in_order_of (windowed p.settings p.table_horizon (calls_in gs))
+    ≡ in_order_of (windowed p.settings p.table_horizon (calls_in fs))) where
   both : Beside (apart fs) gs
   both = beside-on (apart-like fs).beside (beside_back b)
 
-  start-so : (ks : List Journey) (h m : ℕ) (limit : Option ℕ) → Sound (with_found p ks h m limit) → Start s (unsearched_of (with_found p ks h m limit)) (apart fs)
+  start-so : (ks : List Journey) (h m : ℕ) (limit : Option ℕ) → Sound (with_found p ks h m limit)
+      → Start s (unsearched_of (with_found p ks h m limit)) (apart fs)
   unfolding unsearched_of
   start-so ks h m limit v = record {
     sound = unsearched-sound (with_found p ks h m limit) v;
@@ -67,14 +72,17 @@ module _ (s : Settings) (p : Load) (gs fs : List Filling) (w : Start s p gs) (b 
     fresh = refl;
   }
 
-  pub searched-start : (limit : Option ℕ) → is_taken (researched limit p).answer ≡ true → Start s (unsearched_of (researched limit p).load) (apart fs)
+  pub searched-start : (limit : Option ℕ) → is_taken (researched limit p).answer ≡ true
+      → Start s (unsearched_of (researched limit p).load) (apart fs)
   searched-start limit t =
       let f = taken-researched limit p t in
       let is : (researched limit p).load ≡ with_found p f.kept f.to f.mark f.limit = ap (λ (r : Stepped). r.load) f.is in
-      subst (λ (m : Load). Start s (unsearched_of m) (apart fs)) (sym is) (start-so f.kept f.to f.mark f.limit (subst Sound is (researched-sound limit p w.sound)))
+      subst (λ (m : Load). Start s (unsearched_of m) (apart fs)) (sym is)
+      (start-so f.kept f.to f.mark f.limit (subst Sound is (researched-sound limit p w.sound)))
 
 -- a stopped load has at most one change, so what was handed in says so
-pub few-changes : (s : Settings) (l : Load) (fs : List Filling) → Start s (unsearched_of l) (apart fs) → Sound l → stopped l ≡ true → s.max_transfers ≤ 1
+pub few-changes : (s : Settings) (l : Load) (fs : List Filling) → Start s (unsearched_of l) (apart fs) → Sound l → stopped l ≡ true
+    → s.max_transfers ≤ 1
 unfolding unsearched_of canonical_of
 few-changes s l fs w v e = subst (λ (k : ℕ). k ≤ 1) (ap (λ (z : Settings). z.max_transfers) w.settings) (v.stopped_change e)
 
@@ -86,9 +94,11 @@ pub record Leaves (s : Settings) (l : Load) (fs : List Filling) (x : Step) (a : 
   pub start : Start s (unsearched_of n) (apart hs)
 
 -- sent back, it leaves the load
-pub stays-so : (s : Settings) (l : Load) (fs : List Filling) (x : Step) (r : Refusal) → l.searched ≡ true → Start s (unsearched_of l) (apart fs) → Leaves s l fs x (Err r) l fs
+pub stays-so : (s : Settings) (l : Load) (fs : List Filling) (x : Step) (r : Refusal) → l.searched ≡ true
+    → Start s (unsearched_of l) (apart fs) → Leaves s l fs x (Err r) l fs
 stays-so s l fs x r d w = record { after = sent_back; searched = d; start = w }
 
 -- with nothing more taken
-pub same-leaves : (s : Settings) (l : Load) (fs : List Filling) (x : Step) (a : Answer) (n : Load) → Leaves s l fs x a n fs → Leaves s l fs x a n (fs ++ [])
+pub same-leaves : (s : Settings) (l : Load) (fs : List Filling) (x : Step) (a : Answer) (n : Load) → Leaves s l fs x a n fs
+    → Leaves s l fs x a n (fs ++ [])
 same-leaves s l fs x a n v = subst (Leaves s l fs x a n) (sym (append-nil fs)) v

@@ -28,14 +28,16 @@ use Rattle.comparison.proofs.CauseLaws.{dec-date}
 module _ (s : Settings) (l : Load) (fs : List Filling) (w : Start s l fs) where
   service-count : l.week.service_count ≡ length (services_in fs)
   service-count =
-      let h : length (take l.week.service_count l.week.services) ≡ l.week.service_count = simp length-take (omega (arith, w.sound.week.few, w.sound.week.long)) in
+      let h : length (take l.week.service_count l.week.services) ≡ l.week.service_count =
+      simp length-take (omega (arith, w.sound.week.few, w.sound.week.long)) in
       sym h ∙ ap length w.held.week.services ∙ length-map (services_in fs) _
 
   dec-late : Decides (l.searched || l.week.closed) (Late (state_at l fs))
   dec-late = dec-or l.searched l.week.closed (dec-is l.searched) (dec-is l.week.closed)
 
   pub service-match : (name : List ℕ) (start end : ℕ)
-      → Matches (service_tests l.searched l.week.closed l.week.services l.week.service_count name start end) (service_causes (state_at l fs) name start end)
+      → Matches (service_tests l.searched l.week.closed l.week.services l.week.service_count name start end)
+      (service_causes (state_at l fs) name start end)
   unfolding service_tests id_wrong span_wrong
   service-match name start end = (
     refl,
@@ -49,7 +51,11 @@ module _ (s : Settings) (l : Load) (fs : List Filling) (w : Start s l fs) where
         λ c. (
           refl,
           dec-or (not (is_date start)) (not (is_date end)) (dec-date start) (dec-date end),
-          λ d. (refl, subst (λ (k : ℕ). Decides (leb 64 l.week.service_count) (64 ≤ k)) service-count (dec-leb 64 l.week.service_count), λ e. tt),
+          λ d. (
+            refl,
+            subst (λ (k : ℕ). Decides (leb 64 l.week.service_count) (64 ≤ k)) service-count (dec-leb 64 l.week.service_count),
+            λ e. tt,
+          ),
         ),
       ),
     ),
@@ -75,7 +81,8 @@ module _ (s : Settings) (l : Load) (fs : List Filling) (w : Start s l fs) where
       (λ e x. true≢false (sym (d.1 x) ∙ of-not b e), λ f. ap not (not-true b (λ e. f (d.0 e))))
 
   pub exception-match : (name : List ℕ) (date kind : ℕ)
-      → Matches (exception_tests l.searched l.week.closed l.week.services l.week.service_count name date kind) (exception_causes (state_at l fs) name date kind)
+      → Matches (exception_tests l.searched l.week.closed l.week.services l.week.service_count name date kind)
+      (exception_causes (state_at l fs) name date kind)
   unfolding exception_tests exception_wrong
   exception-match name date kind = (
     refl,

@@ -45,7 +45,8 @@ least l = (shares-right (counts (group_of 0 l ∷ [])) (omega arith)).least 0
 -- a searched load with 16 journeys or fewer, alone, has a display
 one-shown : (l : Load) → l.searched ≡ true → length (kept_of l) ≤ 16 → shows (part_of (display_of (group_of 0 l ∷ [])) 0) ≡ true
 one-shown l e f =
-    (refused-alone (group_of 0 l ∷ []) (group_of 0 l) (record { stands = one-stands l e; given = Memᴰ.head refl })).1 (λ (a, b). omega (arith, least l))
+    (refused-alone (group_of 0 l ∷ []) (group_of 0 l) (record { stands = one-stands l e; given = Memᴰ.head refl })).1
+    (λ (a, b). omega (arith, least l))
 
 one_kept : (l : Load) (f : Figures) → map journey_figures (kept_of l) ≡ f ∷ [] → length (kept_of l) ≤ 16
 one_kept l f e = omega (arith, sym (length-map (kept_of l) journey_figures) ∙ ap length e)
@@ -53,5 +54,6 @@ one_kept l f e = omega (arith, sym (length-map (kept_of l) journey_figures) ∙ 
 pub displayed : Displayed (group_of 0 (end_of some_opening (one_trip 600 1200)) ∷ []) 0 some_opening (one_trip 600 1200)
 displayed = record {
   given = Memᴰ.head refl;
-  shows = one-shown (end_of some_opening (one_trip 600 1200)) computed.searched (one_kept (end_of some_opening (one_trip 600 1200)) _ kept.one-trip);
+  shows = one-shown (end_of some_opening (one_trip 600 1200)) computed.searched
+      (one_kept (end_of some_opening (one_trip 600 1200)) _ kept.one-trip);
 }

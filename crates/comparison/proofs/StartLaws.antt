@@ -16,7 +16,6 @@ use Rattle.steps.proofs.HeldLaws.{opened_new}
 use Rattle.comparison.specs.Taken.{State}
 use Rattle.comparison.specs.Admitted.{Feed}
 use Rattle.comparison.specs.Feeds.{feed_of}
-use Rattle.comparison.proofs.WeekLaws.{dates_of}
 use Rattle.comparison.proofs.TakenLaws.{Held, opened-holds}
 
 -- an unsearched load that holds what was taken: what a search of it is handed
@@ -39,12 +38,28 @@ no_limit l v f = go l.limit refl
 
 -- what a load was given, as the steps' answers tell it
 abbrev pub state_at : Load → List Filling → State
-state_at l fs = record { taken = fs; horizon = l.table_horizon; limits = l.table_limits; searched = l.searched; stopped = l.limit; dates = dates_of l.week; closed = l.week.closed }
+state_at l fs = record {
+  taken = fs;
+  horizon = l.table_horizon;
+  limits = l.table_limits;
+  searched = l.searched;
+  stopped = l.limit;
+  dates = l.week.dates;
+  closed = l.week.closed;
+}
 
 -- what is given to a search by what was taken, with the horizon of the load's table
 abbrev pub feed_from : Settings → Load → List Filling → Feed
 feed_from s l fs =
-    feed_of s (record { taken = fs; horizon = l.table_horizon; limits = l.table_limits; searched = l.searched; stopped = None; dates = None; closed = true })
+    feed_of s (record {
+      taken = fs;
+      horizon = l.table_horizon;
+      limits = l.table_limits;
+      searched = l.searched;
+      stopped = None;
+      dates = None;
+      closed = true;
+    })
 
 -- what the load gives to a search is what was taken
 pub same-feed : (s : Settings) (p : Load) (fs : List Filling) → Start s p fs → feed_from s p fs ≡ feed_of s (state_at p fs)

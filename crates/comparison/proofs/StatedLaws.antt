@@ -32,7 +32,8 @@ use Rattle.comparison.proofs.StartLaws.{Start, state_at, same-feed, feed_from}
 use Rattle.comparison.proofs.AdmittedLaws.{known, leg-in, leg-out, starts-in, starts-out, origin_walk, transfers}
 use Rattle.comparison.proofs.OfferLaws.{by_alone, by_changing, to_j, keys, few-keys}
 use Rattle.comparison.proofs.OfferedLaws.{p, KeyOf, key_in, key-mem, gives, given, each-gives}
-use Rattle.comparison.proofs.EventLaws.{Keyed, stated, turns, in_turn, stated-offers, stated-joins, stops_so, keyed_of, offers-keyed, count-keyed, finished-keyed, joins-keyed}
+use Rattle.comparison.proofs.EventLaws.{Keyed, stated, turns, in_turn, stated-offers, stated-joins, stops_so, keyed_of, offers-keyed}
+use Rattle.comparison.proofs.EventLaws.{count-keyed, finished-keyed, joins-keyed}
 use Rattle.comparison.proofs.WithinLaws.{offer-in, in-offers}
 
 offered-name : (xs : List Keyed) (x : Offer) → Memᴰ x (offers_of xs) → Memᴰ (offer x) (map stated xs)
@@ -46,15 +47,19 @@ joined [] j m = absurd (Memᴰ.not-nil m)
 joined (by.offered x ∷ xs) j m = Memᴰ.tail (joined xs j m)
 joined (tested i ∷ xs) j m = go (Memᴰ.cases_cons m) (joined xs j)
   where
-    go : (j ≡ i) ⊎ Memᴰ j (joins_of xs) → (Memᴰ j (joins_of xs) → Memᴰ (stated (tested j)) (map stated xs)) → Memᴰ (stated (tested j)) (stated (tested i) ∷ map stated xs)
+    go : (j ≡ i) ⊎ Memᴰ j (joins_of xs) → (Memᴰ j (joins_of xs) → Memᴰ (stated (tested j)) (map stated xs))
+        → Memᴰ (stated (tested j)) (stated (tested i) ∷ map stated xs)
     go (inl e) ih = Memᴰ.head (λ k. stated (tested (e k)))
     go (inr n) ih = Memᴰ.tail (ih n)
 
-join-in : (xs : List Keyed) (e : Event) → Memᴰ e (map stated xs) → ((x : Offer) × (offer x ≡ e)) ⊎ ((j : by-load.Join Call) × Memᴰ j (joins_of xs) × (stated (tested j) ≡ e))
+join-in : (xs : List Keyed) (e : Event) → Memᴰ e (map stated xs)
+    → ((x : Offer) × (offer x ≡ e)) ⊎ ((j : by-load.Join Call) × Memᴰ j (joins_of xs) × (stated (tested j) ≡ e))
 join-in [] e m = absurd (Memᴰ.not-nil m)
 join-in (by.offered x ∷ xs) e m = go (Memᴰ.cases_cons m) (join-in xs e)
   where
-    go : (e ≡ offer x) ⊎ Memᴰ e (map stated xs) → (Memᴰ e (map stated xs) → ((x : Offer) × (offer x ≡ e)) ⊎ ((j : by-load.Join Call) × Memᴰ j (joins_of xs) × (stated (tested j) ≡ e)))
+    go : (e ≡ offer x) ⊎ Memᴰ e (map stated xs) →
+        (Memᴰ e (map stated xs) → ((x : Offer) × (offer x ≡ e))
+        ⊎ ((j : by-load.Join Call) × Memᴰ j (joins_of xs) × (stated (tested j) ≡ e)))
         → ((x : Offer) × (offer x ≡ e)) ⊎ ((j : by-load.Join Call) × Memᴰ j (joins_of xs) × (stated (tested j) ≡ e))
     go (inl q) ih = inl (x, sym q)
     go (inr n) ih = ih n
@@ -65,12 +70,15 @@ join-in (tested i ∷ xs) e m = go (Memᴰ.cases_cons m) (join-in xs e)
     more (inl w) = inl w
     more (inr (j, n, q)) = inr (j, Memᴰ.tail n, q)
 
-    go : (e ≡ stated (tested i)) ⊎ Memᴰ e (map stated xs) → (Memᴰ e (map stated xs) → ((x : Offer) × (offer x ≡ e)) ⊎ ((j : by-load.Join Call) × Memᴰ j (joins_of xs) × (stated (tested j) ≡ e)))
+    go : (e ≡ stated (tested i)) ⊎ Memᴰ e (map stated xs)
+        → (Memᴰ e (map stated xs) → ((x : Offer) × (offer x ≡ e))
+        ⊎ ((j : by-load.Join Call) × Memᴰ j (joins_of xs) × (stated (tested j) ≡ e)))
         → ((x : Offer) × (offer x ≡ e)) ⊎ ((j : by-load.Join Call) × Memᴰ j (i ∷ joins_of xs) × (stated (tested j) ≡ e))
     go (inl q) ih = inr (i, Memᴰ.head refl, sym q)
     go (inr n) ih = more (ih n)
 
-module _ (s : Settings) (l : Load) (fs : List Filling) (w : Start s l fs) (o : Opened s) (clear : Clear (timetable_of l)) (few : (timetable_of l).max_transfers ≤ 1) where
+module _ (s : Settings) (l : Load) (fs : List Filling) (w : Start s l fs) (o : Opened s) (clear : Clear (timetable_of l))
+    (few : (timetable_of l).max_transfers ≤ 1) where
   abbrev F : Feed
   F = feed_from s l fs
 
@@ -83,7 +91,8 @@ module _ (s : Settings) (l : Load) (fs : List Filling) (w : Start s l fs) (o : O
   -- the offers among the events are the keys
   offers-are : offers_of ks ≡ keys t (sorted t)
   offers-are =
-      offers-of-events (network_of t) by_alone by_changing t.max_transfers (sorted t) ∙ sym (few-keys t (sorted t) (p t clear) t.max_transfers few)
+      offers-of-events (network_of t) by_alone by_changing t.max_transfers (sorted t)
+      ∙ sym (few-keys t (sorted t) (p t clear) t.max_transfers few)
 
   no_join : t.max_transfers ≡ 0 → joins_of ks ≡ []
   no_join e = joins-of-events (network_of t) by_alone by_changing t.max_transfers (sorted t) ∙ none
@@ -127,7 +136,8 @@ module _ (s : Settings) (l : Load) (fs : List Filling) (w : Start s l fs) (o : O
           joined ks (join_of (first_ride i b a) (leg c d)) (subst (Memᴰ (join_of (first_ride i b a) (leg c d))) (sym (joins-keyed t))
           ((event-joins t clear e (join_of (first_ride i b a) (leg c d))).1 (record {
             first = leg-out s l fs w o b a v.first;
-            starts = starts-out s l fs w o b i v.origin v.from (subst (λ (z : ℕ). z * 60 ≤ b.departure) (sym (origin_walk s l fs w o i v.origin)) v.walked);
+            starts = starts-out s l fs w o b i v.origin v.from
+                (subst (λ (z : ℕ). z * 60 ≤ b.departure) (sym (origin_walk s l fs w o i v.origin)) v.walked);
             last = leg-out s l fs w o c d v.last;
           })))
 
@@ -136,7 +146,8 @@ module _ (s : Settings) (l : Load) (fs : List Filling) (w : Start s l fs) (o : O
     where
       go : ((x : Offer) × (offer x ≡ e)) ⊎ ((j : by-load.Join Call) × Memᴰ j (joins_of ks) × (stated (tested j) ≡ e)) → Comes F e
       go (inl (x, q)) =
-          let k = key_in t clear x (subst (Memᴰ x) offers-are (name-offered ks x (subst (λ (z : Event). Memᴰ z (map stated ks)) (sym q) m))) in
+          let k = key_in t clear x (subst (Memᴰ x) offers-are
+          (name-offered ks x (subst (λ (z : Event). Memᴰ z (map stated ks)) (sym q) m))) in
           subst (Comes F) q (to_j t x, gives s l fs w o clear x k)
       go (inr (j, n, q)) = subst (Comes F) q (join-to j n)
 
@@ -147,7 +158,8 @@ module _ (s : Settings) (l : Load) (fs : List Filling) (w : Start s l fs) (o : O
   -- what is offered before the stop is offered
   front-keys : (n : ℕ) (x : Offer) → Memᴰ x (offers_of (up_to n ks)) → KeyOf t x
   front-keys n x m =
-      let q : offers_of ks ≡ offers_of (up_to n ks) ++ offers_of (past n ks) = ap offers_of (counted.stops n ks) ∙ counted.offers-append (up_to n ks) (past n ks) in
+      let q : offers_of ks ≡ offers_of (up_to n ks) ++ offers_of (past n ks) =
+      ap offers_of (counted.stops n ks) ∙ counted.offers-append (up_to n ks) (past n ks) in
       key_in t clear x (subst (Memᴰ x) (sym q ∙ offers-are) (Memᴰ.append_left (offers_of (past n ks)) m))
 
   within-load : (n : ℕ) → Within F n (offers_within n t) (joins_within n t) (finished_within n t)
@@ -161,5 +173,7 @@ module _ (s : Settings) (l : Load) (fs : List Filling) (w : Start s l fs) (o : O
     count = stated-joins (up_to n ks) ∙ count-keyed t n;
   }
 
-  pub within-is : (n : ℕ) → Within (feed_of s (state_at l fs)) n (offers_within n (timetable_of l)) (joins_within n (timetable_of l)) (finished_within n (timetable_of l))
-  within-is n = subst (λ (G : Feed). Within G n (offers_within n t) (joins_within n t) (finished_within n t)) (same-feed s l fs w) (within-load n)
+  pub within-is : (n : ℕ) → Within (feed_of s (state_at l fs)) n (offers_within n (timetable_of l)) (joins_within n (timetable_of l))
+      (finished_within n (timetable_of l))
+  within-is n = subst (λ (G : Feed). Within G n (offers_within n t) (joins_within n t) (finished_within n t)) (same-feed s l fs w)
+      (within-load n)

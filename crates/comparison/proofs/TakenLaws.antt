@@ -43,13 +43,15 @@ use Rattle.stops.proofs.Laws.{id-short}
 use Rattle.load.specs.declared.Load.{Load}
 use Rattle.load.specs.declared.Stepped.{Stepped}
 use Rattle.load.specs.Load.{empty_of, table_of, with_table, with_stops, with_rules, with_week}
-use Rattle.load.specs.Steps.{Opening, week_of, opened, station_in, stop_answer, stop_spec, call_fitted, plain_call, rule_answer, rule_spec, service_spec, exception_spec}
+use Rattle.load.specs.Steps.{Opening, week_of, opened, station_in, stop_answer, stop_spec, call_fitted, plain_call, rule_answer}
+use Rattle.load.specs.Steps.{rule_spec, service_spec, exception_spec}
 use Rattle.load.specs.Filling.{Filling, stop, call, rule, service, exception, filled}
 use Rattle.load.specs.Sound.{Three, Opens, Sound}
 use Rattle.load.proofs.StepLaws.{Called, without, goes_on, stays_out, sent_back, called}
 use Rattle.services.specs.Exceptions.{days_on, excepted_of}
 use Rattle.week.specs.declared.Week.{Week}
-use Rattle.week.specs.Weeks.{undated_week, dated_week, closed_week, service_of, with_services, service_answer, service_on, exception_answer, place_in, service_in, exception_on}
+use Rattle.week.specs.Weeks.{dates_in, undated_week, dated_week, closed_week, service_of, with_services, service_answer, service_on}
+use Rattle.week.specs.Weeks.{exception_answer, place_in, service_in, exception_on}
 use Rattle.week.proofs.StepLaws.{service-passed, exception-passed}
 use Rattle.comparison.specs.Taken.{StopGiven, stops_in, calls_in, rules_in}
 use Rattle.comparison.specs.Admitted.{Nth}
@@ -65,7 +67,8 @@ pub tests-untimed : (b : Bool) (n : ℕ) (i : CallInput) → first_answer (call_
 unfolding call_tests first_answer
 tests-untimed b n i e = go b (not (known n i)) (un_timed i) (reversed i) e
   where
-    go : (b1 b2 b3 b4 : Bool) → cond b1 (Err AlreadySearched) (cond b2 (Err FieldRange) (cond b3 (Ok Outside) (cond b4 (Err TimesReversed) (Ok Taken)))) ≡ Ok Outside → b3 ≡ true
+    go : (b1 b2 b3 b4 : Bool) → cond b1 (Err AlreadySearched)
+        (cond b2 (Err FieldRange) (cond b3 (Ok Outside) (cond b4 (Err TimesReversed) (Ok Taken)))) ≡ Ok Outside → b3 ≡ true
     go true b2 b3 b4 q = absurd (cc)
     go false true b3 b4 q = absurd (cc)
     go false false true b4 q = refl
@@ -81,7 +84,8 @@ day-true false b c d e q = absurd (false≢true q)
 
 pub tests-day : (b : Bool) (n : ℕ) (i : CallInput) → first_answer (call_tests b n i) ≡ Ok Taken → i.day ≤ 2
 unfolding call_tests known
-tests-day b n i e = leb-true i.day 2 (day-true (ltb i.stop n) (ltb i.trip 65535) (leb i.day 2) (leb i.pickup 3) (leb i.drop_off 3) (not-false (known n i) (call-tests-fail b n i e).1.0))
+tests-day b n i e = leb-true i.day 2 (day-true (ltb i.stop n) (ltb i.trip 65535) (leb i.day 2) (leb i.pickup 3) (leb i.drop_off 3)
+    (not-false (known n i) (call-tests-fail b n i e).1.0))
 
 taken-day : (s : Settings) (b : Bool) (n : ℕ) (t : Table) (i : CallInput) → (call_on s b n t i).answer ≡ Ok Taken → i.day ≤ 2
 unfolding call_on
@@ -126,7 +130,14 @@ week-opened (Some dates) th = opened-week (week_of (Some dates)) refl (λ e. th)
 
 pub opened-holds : (o : Opening) → Opens o → Held (opened o) []
 unfolding empty_of
-opened-holds o w = record { calls = refl; days = λ i m. absurd (Memᴰ.not-nil m); rules = refl; stops = refl; each = λ k h. absurd (omega arith); week = week-opened o.dates w.1 }
+opened-holds o w = record {
+  calls = refl;
+  days = λ i m. absurd (Memᴰ.not-nil m);
+  rules = refl;
+  stops = refl;
+  each = λ k h. absurd (omega arith);
+  week = week-opened o.dates w.1;
+}
 
 -- the load with a week that holds it too
 pub held-week : (l : Load) (fs : List Filling) (v : Week) → Held l fs → WeekHeld v fs → Held (with_week l v) fs
@@ -137,7 +148,8 @@ pub week-closed : (w : Week) (fs : List Filling) → WeekHeld w fs → WeekHeld 
 week-closed w fs v = record { services = v.services; short = v.short; apart = v.apart; orphan = v.orphan; three = v.three }
 
 -- more stops keep one
-parent-more : (held : Option ℕ) (ss ts : List StopGiven) (k : ℕ) (parent : Option (List ℕ)) → ParentHeld held ss k parent → ParentHeld held (ss ++ ts) k parent
+parent-more : (held : Option ℕ) (ss ts : List StopGiven) (k : ℕ) (parent : Option (List ℕ)) → ParentHeld held ss k parent
+    → ParentHeld held (ss ++ ts) k parent
 parent-more held ss ts k parent (inl q) = inl q
 parent-more held ss ts k parent (inr (n, p, h, m, b, e, t)) = inr (n, p, h, nth-more ss ts n p m, b, e, t)
 
@@ -155,20 +167,24 @@ held_more st ss ts k w = record {
 -- ---- a stop
 
 -- the station that was found for a new stop
-module _ (stops : List Stop) (n : ℕ) (ss : List StopGiven) (long : n ≤ length stops) (each : (k : ℕ) → k < n → HeldAs (stop_at stops k) ss k) where
+module _ (stops : List Stop) (n : ℕ) (ss : List StopGiven) (long : n ≤ length stops)
+    (each : (k : ℕ) → k < n → HeldAs (stop_at stops k) ss k) where
   count : length (take n stops) ≡ n
   count = simp length-take (omega arith)
 
-  station-at : (parent : List ℕ) (m : ℕ) → find_stop (is_it true parent) (take n stops) 0 ≡ Some m → (m < n) × (is_it true parent (stop_at stops m) ≡ true)
+  station-at : (parent : List ℕ) (m : ℕ) → find_stop (is_it true parent) (take n stops) 0 ≡ Some m
+      → (m < n) × (is_it true parent (stop_at stops m) ≡ true)
   unfolding stop_at
   station-at parent m e =
       let f = found (is_it true parent) (take n stops) 0 m e in
       let h : m < n = omega (arith, f.1, count) in
       let z : m - 0 ≡ m = omega arith in
-      let g : get_or (take n stops) (m - 0) blank_stop ≡ get_or stops m blank_stop = ap (λ (j : ℕ). get_or (take n stops) j blank_stop) z ∙ get_or-take n stops m blank_stop h in
+      let g : get_or (take n stops) (m - 0) blank_stop ≡ get_or stops m blank_stop =
+      ap (λ (j : ℕ). get_or (take n stops) j blank_stop) z ∙ get_or-take n stops m blank_stop h in
       (h, sym (ap (is_it true parent) g) ∙ f.2)
 
-  station-held : (parent : Option (List ℕ)) (f : Option ℕ) → station_of stops n parent ≡ f → (is_some parent && not (is_some f)) ≡ false → ParentHeld f ss n parent
+  station-held : (parent : Option (List ℕ)) (f : Option ℕ) → station_of stops n parent ≡ f → (is_some parent && not (is_some f)) ≡ false
+      → ParentHeld f ss n parent
   unfolding station_of
   station-held None None e t = inl (refl, refl)
   station-held None (Some m) e t = absurd (none-ne-some m e)
@@ -228,14 +244,20 @@ module _ (l : Load) (fs : List Filling) (sound : Sound l) (w : Held l fs) where
       id = id-kept l.searched l.stops n id name parent i e;
       kind = refl;
       members = refl;
-      key = record { name = name-kept l.searched l.stops n id name parent i e; position = refl; needed = needed-usable l.searched l.stops n id name parent i e };
+      key = record {
+        name = name-kept l.searched l.stops n id name parent i e;
+        position = refl;
+        needed = needed-usable l.searched l.stops n id name parent i e;
+      };
       parent = parent-more (station_in l parent) (stops_in fs) (new ∷ []) n parent
-          (station-held l.stops n (stops_in fs) (omega (arith, room)) w.each parent (station_in l parent) refl (parent-found l.searched l.stops n (station_in l parent) id name parent i e));
+          (station-held l.stops n (stops_in fs) (omega (arith, room)) w.each parent (station_in l parent) refl
+          (parent-found l.searched l.stops n (station_in l parent) id name parent i e));
     }
 
     every : (k : ℕ) → k < n + 1 → HeldAs (stop_at (set l.stops n st) k) (stops_in fs ++ new ∷ []) k
     every k h = below-cases (λ j. HeldAs (stop_at (set l.stops n st) j) (stops_in fs ++ new ∷ []) j) n k h
-        (λ less. subst (λ (x : Stop). HeldAs x (stops_in fs ++ new ∷ []) k) (sym (at_old k less)) (held_more (stop_at l.stops k) (stops_in fs) (new ∷ []) k (w.each k less)))
+        (λ less. subst (λ (x : Stop). HeldAs x (stops_in fs ++ new ∷ []) k) (sym (at_old k less))
+        (held_more (stop_at l.stops k) (stops_in fs) (new ∷ []) k (w.each k less)))
         (subst (λ (x : Stop). HeldAs x (stops_in fs ++ new ∷ []) n) (sym at_new) here)
 
     calls-new : calls_in gs ≡ calls_in fs
@@ -310,7 +332,8 @@ module _ (l : Load) (fs : List Filling) (sound : Sound l) (w : Held l fs) where
 
     call-held : fit.answer ≡ Ok Taken → Held (with_table l fit.table) cs
     call-held e = record {
-      calls = step ∙ ap (λ (b : Bool). windowed l.settings fit.table.horizon (calls_in fs ++ cond b (i ∷ []) [])) (ap is_taken e) ∙ ap (windowed l.settings fit.table.horizon) (sym call-calls);
+      calls = step ∙ ap (λ (b : Bool). windowed l.settings fit.table.horizon (calls_in fs ++ cond b (i ∷ []) [])) (ap is_taken e)
+          ∙ ap (windowed l.settings fit.table.horizon) (sym call-calls);
       days = λ j m. day j (Memᴰ.append_cases (calls_in fs) (subst (Memᴰ j) call-calls m));
       rules = w.rules ∙ sym call-rules;
       stops = w.stops ∙ ap length (sym call-stops);
@@ -320,7 +343,8 @@ module _ (l : Load) (fs : List Filling) (sound : Sound l) (w : Held l fs) where
       where
         day : (j : CallInput) → Memᴰ j (calls_in fs) ⊎ Memᴰ j (i ∷ []) → j.day ≤ 2
         day j (inl m) = w.days j m
-        day j (inr m) = subst (λ (x : CallInput). x.day ≤ 2) (sym (Memᴰ.eq_of_singleton m)) (taken-day l.settings l.searched l.stop_count (table_of l) i e)
+        day j (inr m) = subst (λ (x : CallInput). x.day ≤ 2) (sym (Memᴰ.eq_of_singleton m))
+            (taken-day l.settings l.searched l.stop_count (table_of l) i e)
 
     out-held : fit.answer ≡ Ok Outside → Held (with_table l fit.table) fs
     out-held e = record {
@@ -367,27 +391,32 @@ unfolding stop_spec plain_call rule_spec service_spec service_on exception_spec 
 fill-held l (stop id name parent i) fs sound w = go (is_taken (stop_answer l id name parent i)) refl
   where
     go : (b : Bool) → is_taken (stop_answer l id name parent i) ≡ b
-        → Held (cond b (with_stops l (set l.stops l.stop_count (stop_of id name (station_in l parent) i)) (l.stop_count + 1)) l) (fs ++ cond b (stop id name parent i ∷ []) [])
+        → Held (cond b (with_stops l (set l.stops l.stop_count (stop_of id name (station_in l parent) i)) (l.stop_count + 1)) l)
+        (fs ++ cond b (stop id name parent i ∷ []) [])
     go true e = stop-held l fs sound w id name parent i (taken_is _ e)
     go false e = held_same l fs sound w
 fill-held l (rule i) fs sound w = go (is_taken (rule_answer l i)) refl
   where
-    go : (b : Bool) → is_taken (rule_answer l i) ≡ b → Held (cond b (with_rules l (set l.rules l.rule_count i) (l.rule_count + 1)) l) (fs ++ cond b (rule i ∷ []) [])
+    go : (b : Bool) → is_taken (rule_answer l i) ≡ b
+        → Held (cond b (with_rules l (set l.rules l.rule_count i) (l.rule_count + 1)) l) (fs ++ cond b (rule i ∷ []) [])
     go true e = rule-held l fs sound w i (taken_is _ e)
     go false e = held_same l fs sound w
 fill-held l (call name i) fs sound w = by _ (called l name i)
   where
-    go : (a : Answer) → (call_fitted l i).answer ≡ a → Held (cond (is_refused a) l (with_table l (call_fitted l i).table)) (fs ++ cond (is_taken a) (call name i ∷ []) [])
+    go : (a : Answer) → (call_fitted l i).answer ≡ a
+        → Held (cond (is_refused a) l (with_table l (call_fitted l i).table)) (fs ++ cond (is_taken a) (call name i ∷ []) [])
     go (Ok Taken) e = call-held l fs sound w name i e
     go (Ok Outside) e = subst (Held (with_table l (call_fitted l i).table)) (sym (append-nil fs)) (out-held l fs sound w name i e)
     go (Err r) e = held_same l fs sound w
 
     -- with its services closed
     shut : (m : Load) (gs : List Filling) → m.week ≡ l.week → Held m gs → Held (with_week m (closed_week l.week)) gs
-    shut m gs e v = held-week m gs (closed_week l.week) v (subst (λ (u : Week). WeekHeld (closed_week u) gs) e (week-closed m.week gs v.week))
+    shut m gs e v = held-week m gs (closed_week l.week) v
+        (subst (λ (u : Week). WeekHeld (closed_week u) gs) e (week-closed m.week gs v.week))
 
     closes : (a : Answer) → (call_fitted l i).answer ≡ a
-        → Held (cond (is_refused a) l (with_week (cond (is_refused a) l (with_table l (call_fitted l i).table)) (closed_week l.week))) (fs ++ cond (is_taken a) (call name i ∷ []) [])
+        → Held (cond (is_refused a) l (with_week (cond (is_refused a) l (with_table l (call_fitted l i).table)) (closed_week l.week)))
+        (fs ++ cond (is_taken a) (call name i ∷ []) [])
     closes (Ok Taken) e = shut _ _ refl (go (Ok Taken) e)
     closes (Ok Outside) e = shut _ _ refl (go (Ok Outside) e)
     closes (Err r) e = go (Err r) e
@@ -400,7 +429,8 @@ fill-held l (call name i) fs sound w = by _ (called l name i)
 fill-held l (service name weekdays start end) fs sound w = go (is_taken (service_answer l.week l.searched name start end)) refl
   where
     go : (b : Bool) → is_taken (service_answer l.week l.searched name start end) ≡ b
-        → Held (with_week l (cond b (with_services l.week (set l.week.services l.week.service_count (service_of name weekdays start end)) (l.week.service_count + 1)) l.week)) (fs ++ cond b (service name weekdays start end ∷ []) [])
+        → Held (with_week l (cond b (with_services l.week (set l.week.services l.week.service_count (service_of name weekdays start end))
+        (l.week.service_count + 1)) l.week)) (fs ++ cond b (service name weekdays start end ∷ []) [])
     go true e =
         let p = service-passed l.week l.searched name weekdays start end _ refl e in
         beside-held l fs sound w (service name weekdays start end) refl refl refl _
@@ -409,7 +439,9 @@ fill-held l (service name weekdays start end) fs sound w = go (is_taken (service
 fill-held l (exception name date kind) fs sound w = go (is_taken (exception_answer l.week l.searched name date kind)) refl
   where
     go : (b : Bool) → is_taken (exception_answer l.week l.searched name date kind) ≡ b
-        → Held (with_week l (cond b (with_services l.week (set l.week.services (place_in l.week name) (excepted_of (service_in l.week name) (days_on l.week.dates date) kind)) l.week.service_count) l.week)) (fs ++ cond b (exception name date kind ∷ []) [])
+        → Held (with_week l (cond b (with_services l.week
+        (set l.week.services (place_in l.week name) (excepted_of (service_in l.week name) (days_on (dates_in l.week) date) kind))
+        l.week.service_count) l.week)) (fs ++ cond b (exception name date kind ∷ []) [])
     go true e =
         let p = exception-passed l.week l.searched name date kind _ refl e in
         beside-held l fs sound w (exception name date kind) refl refl refl _ (week-exception l.week fs name date kind w.week p.known)

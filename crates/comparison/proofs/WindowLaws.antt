@@ -10,7 +10,8 @@ use lib.IntN.{ℤ, pos, negsuc}
 use lib.ListN.{get_or}
 use borrow.Author.Tests.{leb-true, leb-false, le-leb, lt-leb, ltb-false, le-ltb, eqb-true, eq-eqb, ne_eqb}
 use Rattle.laws.proofs.Options.{some-injective}
-use Rattle.laws.proofs.Bools.{and-true, and-true-left, and-true-right, or-true-cases, or-true-left, or_true_right, cond-by, cond-not, of-not}
+use Rattle.laws.proofs.Bools.{and-true, and-true-left, and-true-right, or-true-cases, or-true-left, or_true_right, cond-by, cond-not}
+use Rattle.laws.proofs.Bools.{of-not}
 use Rattle.settings.specs.declared.Settings.{Settings}
 use Rattle.settings.specs.Settings.{near}
 use Rattle.calls.specs.declared.CallInput.{CallInput}
@@ -62,7 +63,11 @@ held-is h (pos n) v (inr (l, e)) = e ∙ sym (cond-not n h (lt-leb n h l))
 
 is-may : (h : ℕ) (z : ℤ) (kind : ℕ) → May h z kind (allowed (within h (time_of z)) kind)
 is-may h z kind = (
-  λ e. (within_in h z (and-true-left _ (not (eqb kind 1)) e), λ q. true≢false (sym (eq-eqb kind 1 q) ∙ of-not (eqb kind 1) (and-true-right (within h (time_of z)) _ e))),
+  λ e. (
+    within_in h z (and-true-left _ (not (eqb kind 1)) e),
+    λ q.
+        true≢false (sym (eq-eqb kind 1 q) ∙ of-not (eqb kind 1) (and-true-right (within h (time_of z)) _ e)),
+  ),
   λ (i, n). and-true _ _ (in_within h z i) (ap not (ne_eqb kind 1 n)),
 )
 
@@ -146,7 +151,8 @@ module _ (s : Settings) (h : ℕ) (i : CallInput) where
     unfolding seen
     shown-seen c w = go (is_none zd) refl (after h za) refl (sym window-is ∙ w)
       where
-        go : (x : Bool) → is_none zd ≡ x → (y : Bool) → after h za ≡ y → cond (x || y) None (Some (seen_call h za zd i)) ≡ Some c → Seen s h i c
+        go : (x : Bool) → is_none zd ≡ x → (y : Bool) → after h za ≡ y → cond (x || y) None (Some (seen_call h za zd i)) ≡ Some c
+            → Seen s h i c
         go true p y q v = absurd (cc)
         go false p true q v = absurd (cc)
         go false p false q v = let e : seen_call h za zd i ≡ c = cc in subst (Seen s h i) e (call-seen p q)
@@ -155,12 +161,22 @@ module _ (s : Settings) (h : ℕ) (i : CallInput) where
     seen-made : (c : Call) (w : Seen s h i c) → w.a ≡ a → w.d ≡ d → c ≡ seen_call h za zd i
     unfolding seen_call
     seen-made c w qa qd =
-        let arr : c.arrival ≡ held h za = held-is h (time s i.day w.a) c.arrival w.arrival ∙ ap (λ (n : ℕ). held h (time_of (time s i.day n))) qa in
-        let dep : c.departure ≡ held h zd = held-is h (time s i.day w.d) c.departure w.departure ∙ ap (λ (n : ℕ). held h (time_of (time s i.day n))) qd in
-        let brd : c.board ≡ allowed (within h zd) i.pickup = iff-is c.board (allowed (within h zd) i.pickup) (subst (λ (n : ℕ). May h (time s i.day n) i.pickup c.board) qd w.board) (is-may h (time s i.day d) i.pickup) in
-        let alt : c.alight ≡ allowed (within h za) i.drop_off = iff-is c.alight (allowed (within h za) i.drop_off) (subst (λ (n : ℕ). May h (time s i.day n) i.drop_off c.alight) qa w.alight) (is-may h (time s i.day a) i.drop_off) in
-        let bra : c.board_request ≡ asked (allowed (within h zd) i.pickup) i.pickup = iff-is c.board_request (asked c.board i.pickup) w.board_asked (is-asked c.board i.pickup) ∙ ap (λ (b : Bool). asked b i.pickup) brd in
-        let ala : c.alight_request ≡ asked (allowed (within h za) i.drop_off) i.drop_off = iff-is c.alight_request (asked c.alight i.drop_off) w.alight_asked (is-asked c.alight i.drop_off) ∙ ap (λ (b : Bool). asked b i.drop_off) alt in
+        let arr : c.arrival ≡ held h za = held-is h (time s i.day w.a) c.arrival w.arrival
+        ∙ ap (λ (n : ℕ). held h (time_of (time s i.day n))) qa in
+        let dep : c.departure ≡ held h zd = held-is h (time s i.day w.d) c.departure w.departure
+        ∙ ap (λ (n : ℕ). held h (time_of (time s i.day n))) qd in
+        let brd : c.board ≡ allowed (within h zd) i.pickup =
+        iff-is c.board (allowed (within h zd) i.pickup) (subst (λ (n : ℕ). May h (time s i.day n) i.pickup c.board) qd w.board)
+        (is-may h (time s i.day d) i.pickup) in
+        let alt : c.alight ≡ allowed (within h za) i.drop_off =
+        iff-is c.alight (allowed (within h za) i.drop_off) (subst (λ (n : ℕ). May h (time s i.day n) i.drop_off c.alight) qa w.alight)
+        (is-may h (time s i.day a) i.drop_off) in
+        let bra : c.board_request ≡ asked (allowed (within h zd) i.pickup) i.pickup =
+        iff-is c.board_request (asked c.board i.pickup) w.board_asked (is-asked c.board i.pickup)
+        ∙ ap (λ (b : Bool). asked b i.pickup) brd in
+        let ala : c.alight_request ≡ asked (allowed (within h za) i.drop_off) i.drop_off =
+        iff-is c.alight_request (asked c.alight i.drop_off) w.alight_asked (is-asked c.alight i.drop_off)
+        ∙ ap (λ (b : Bool). asked b i.drop_off) alt in
         λ k. record {
           trip = w.trip k;
           day = w.day k;
@@ -180,7 +196,8 @@ module _ (s : Settings) (h : ℕ) (i : CallInput) where
 
   -- what is seen so, the window shows, where the clock is near
   pub seen-shown : Near → (c : Call) → Seen s h i c → window s h i ≡ Some c
-  seen-shown e c w = made-shown w.a w.d w.arrives w.departs e c w.not_gone w.not_late (seen-made w.a w.d w.arrives w.departs e c w refl refl)
+  seen-shown e c w = made-shown w.a w.d w.arrives w.departs e c w.not_gone w.not_late
+      (seen-made w.a w.d w.arrives w.departs e c w refl refl)
 
   -- the window shows nothing where a time is absent or the clock far
   out-in : (c : Call) → None ≡ Some c → ⊥
@@ -218,12 +235,20 @@ one_seen s h i c c' w w' =
     let qd : w'.d ≡ w.d = some-injective w'.d w.d (sym w'.departs ∙ w.departs) in
     let za : ℤ = time s i.day w.a in
     let zd : ℤ = time s i.day w.d in
-    let arr : c.arrival ≡ c'.arrival = held-is h za c.arrival w.arrival ∙ sym (held-is h za c'.arrival (subst (λ (n : ℕ). Held h (time s i.day n) c'.arrival) qa w'.arrival)) in
-    let dep : c.departure ≡ c'.departure = held-is h zd c.departure w.departure ∙ sym (held-is h zd c'.departure (subst (λ (n : ℕ). Held h (time s i.day n) c'.departure) qd w'.departure)) in
-    let brd : c.board ≡ c'.board = iff-is c.board c'.board w.board (subst (λ (n : ℕ). May h (time s i.day n) i.pickup c'.board) qd w'.board) in
-    let alt : c.alight ≡ c'.alight = iff-is c.alight c'.alight w.alight (subst (λ (n : ℕ). May h (time s i.day n) i.drop_off c'.alight) qa w'.alight) in
-    let bra : c.board_request ≡ c'.board_request = iff-is c.board_request c'.board_request w.board_asked (subst (λ (b : Bool). OnRequest b i.pickup c'.board_request) (sym brd) w'.board_asked) in
-    let ala : c.alight_request ≡ c'.alight_request = iff-is c.alight_request c'.alight_request w.alight_asked (subst (λ (b : Bool). OnRequest b i.drop_off c'.alight_request) (sym alt) w'.alight_asked) in
+    let arr : c.arrival ≡ c'.arrival = held-is h za c.arrival w.arrival
+    ∙ sym (held-is h za c'.arrival (subst (λ (n : ℕ). Held h (time s i.day n) c'.arrival) qa w'.arrival)) in
+    let dep : c.departure ≡ c'.departure = held-is h zd c.departure w.departure
+    ∙ sym (held-is h zd c'.departure (subst (λ (n : ℕ). Held h (time s i.day n) c'.departure) qd w'.departure)) in
+    let brd : c.board ≡ c'.board = iff-is c.board c'.board w.board
+    (subst (λ (n : ℕ). May h (time s i.day n) i.pickup c'.board) qd w'.board) in
+    let alt : c.alight ≡ c'.alight = iff-is c.alight c'.alight w.alight
+    (subst (λ (n : ℕ). May h (time s i.day n) i.drop_off c'.alight) qa w'.alight) in
+    let bra : c.board_request ≡ c'.board_request =
+    iff-is c.board_request c'.board_request w.board_asked
+    (subst (λ (b : Bool). OnRequest b i.pickup c'.board_request) (sym brd) w'.board_asked) in
+    let ala : c.alight_request ≡ c'.alight_request =
+    iff-is c.alight_request c'.alight_request w.alight_asked
+    (subst (λ (b : Bool). OnRequest b i.drop_off c'.alight_request) (sym alt) w'.alight_asked) in
     λ k. record {
       trip = (w.trip ∙ sym w'.trip) k;
       day = (w.day ∙ sym w'.day) k;

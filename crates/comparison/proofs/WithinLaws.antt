@@ -17,7 +17,8 @@ use Rattle.load.specs.Filling.{Filling}
 use Rattle.comparison.specs.Taken.{State, keeping, calls_in}
 use Rattle.comparison.specs.Admitted.{Feed}
 use Rattle.comparison.specs.OfferOrder.{Offer, alone, changing, through, Each, Ascending, Offered}
-use Rattle.comparison.specs.Events.{Event, join, offer, Join, Comes, Precedes, InTurn, Listed, joins_in, offers_in, Stops, finished, stopped, Within}
+use Rattle.comparison.specs.Events.{Event, join, offer, Join, Comes, Precedes, InTurn, Listed, joins_in, offers_in, Stops, finished}
+use Rattle.comparison.specs.Events.{stopped, Within}
 use Rattle.comparison.specs.Feeds.{feed_of}
 use Rattle.comparison.proofs.Pairs.{Pairs, one-pairs}
 use Rattle.comparison.proofs.BagLaws.{handing, leg-perm, gives-perm, each-perm}
@@ -72,11 +73,13 @@ whole n (offer x ∷ es) h = ap {B = List Event} (λ r. offer x ∷ r) (whole n 
 whole zero (join b o a c d ∷ es) h = absurd (omega arith)
 whole (suc n) (join b o a c d ∷ es) h = ap {B = List Event} (λ r. join b o a c d ∷ r) (whole n es (omega arith))
 
-part : (n : ℕ) (front rest : List Event) (b : Call) (o : ℕ) (a c d : Call) → joins_in front ≡ n → front ≡ cut n (front ++ join b o a c d ∷ rest)
+part : (n : ℕ) (front rest : List Event) (b : Call) (o : ℕ) (a c d : Call) → joins_in front ≡ n
+    → front ≡ cut n (front ++ join b o a c d ∷ rest)
 part n [] rest b o a c d h = subst (λ (k : ℕ). [] ≡ cut k (join b o a c d ∷ rest)) h refl
 part n (offer x ∷ es) rest b o a c d h = ap {B = List Event} (λ r. offer x ∷ r) (part n es rest b o a c d h)
 part zero (join b' o' a' c' d' ∷ es) rest b o a c d h = absurd (omega arith)
-part (suc n) (join b' o' a' c' d' ∷ es) rest b o a c d h = ap {B = List Event} (λ r. join b' o' a' c' d' ∷ r) (part n es rest b o a c d (omega arith))
+part (suc n) (join b' o' a' c' d' ∷ es) rest b o a c d h =
+    ap {B = List Event} (λ r. join b' o' a' c' d' ∷ r) (part n es rest b o a c d (omega arith))
 
 cut-joins : (n : ℕ) (es : List Event) → joins_in (cut n es) ≡ min n (joins_in es)
 cut-joins n [] = omega arith
@@ -94,12 +97,15 @@ stops-cut n es front _ (stopped b o a c d rest e h) =
 
 precedes-asym : (e f : Event) → Precedes e f → Precedes f e → ⊥
 precedes-asym (offer x) (offer y) v w = before-asym x y v w
-precedes-asym (join b o a c d) (join b' o' a' c' d') v w = by_call b b' (by_number o o' (by_call a a' (by_call c c' (by_call d d' (λ x y. x))))) v w
+precedes-asym (join b o a c d) (join b' o' a' c' d') v w =
+    by_call b b' (by_number o o' (by_call a a' (by_call c c' (by_call d d' (λ x y. x))))) v w
 precedes-asym (join b o a c d) (offer (alone b' o' a' k')) v w = by_call b b' (by_number o o' (by_call a a' (λ x y. x))) v w
-precedes-asym (join b o a c d) (offer (changing b' o' a' c' d' k')) v w = by_call b b' (by_number o o' (by_call a a' (by_call c c' (by_call d d' (λ x y. y))))) v w
+precedes-asym (join b o a c d) (offer (changing b' o' a' c' d' k')) v w =
+    by_call b b' (by_number o o' (by_call a a' (by_call c c' (by_call d d' (λ x y. y))))) v w
 precedes-asym (join b o a c d) (offer (through b' o' a' c' d' e' g' k')) v w = w
 precedes-asym (offer (alone b o a k)) (join b' o' a' c' d') v w = by_call b b' (by_number o o' (by_call a a' (λ x y. y))) v w
-precedes-asym (offer (changing b o a c d k)) (join b' o' a' c' d') v w = by_call b b' (by_number o o' (by_call a a' (by_call c c' (by_call d d' (λ x y. x))))) v w
+precedes-asym (offer (changing b o a c d k)) (join b' o' a' c' d') v w =
+    by_call b b' (by_number o o' (by_call a a' (by_call c c' (by_call d d' (λ x y. x))))) v w
 precedes-asym (offer (through b o a c d e g k)) (join b' o' a' c' d') v w = v
 
 turn-pairs : (es : List Event) → InTurn es → Pairs Precedes es
@@ -116,7 +122,8 @@ pub record OneWithin (os ps : List Journey) (k m : ℕ) (f g : Bool) : Type 0 wh
   pub count : k ≡ m
   pub finishes : f ≡ g
 
-pub one-within : (F : Feed) (n : ℕ) (os ps : List Journey) (k m : ℕ) (f g : Bool) → Within F n os k f → Within F n ps m g → OneWithin os ps k m f g
+pub one-within : (F : Feed) (n : ℕ) (os ps : List Journey) (k m : ℕ) (f g : Bool) → Within F n os k f → Within F n ps m g
+    → OneWithin os ps k m f g
 one-within F n os ps k m f g v w =
     let e = one-listed F v.events w.events v.listed w.listed in
     let (x, q) = stops-cut n v.events v.front f v.stops in
@@ -130,12 +137,16 @@ one-within F n os ps k m f g v w =
 
 -- ---- how many, of all; and what a finished one offers
 
-pub counted_of : (F : Feed) (n : ℕ) (os : List Journey) (k : ℕ) (f : Bool) (es : List Event) → Within F n os k f → Listed F es → (k ≡ min n (joins_in es)) × ((f ≡ true) ↔ (joins_in es ≤ n))
+pub counted_of : (F : Feed) (n : ℕ) (os : List Journey) (k : ℕ) (f : Bool) (es : List Event) → Within F n os k f → Listed F es
+    → (k ≡ min n (joins_in es)) × ((f ≡ true) ↔ (joins_in es ≤ n))
 counted_of F n os k f es v w =
     let e = one-listed F v.events es v.listed w in
     let (x, q) = stops-cut n v.events v.front f v.stops in
-    let r : f ≡ leb (joins_in es) n = q ∙ ap (λ (es : List Event). leb (joins_in es) n) e in
-    (sym v.count ∙ ap joins_in (x ∙ ap (cut n) e) ∙ cut-joins n es, (λ t. leb-true (joins_in es) n (sym r ∙ t), λ h. r ∙ le-leb (joins_in es) n h))
+    let r : f ≡ leb (joins_in es) n = q ∙ ap (λ (es : List Event). leb (joins_in es) n) e in (
+      sym v.count ∙ ap joins_in (x ∙ ap (cut n) e)
+          ∙ cut-joins n es,
+      (λ t. leb-true (joins_in es) n (sym r ∙ t), λ h. r ∙ le-leb (joins_in es) n h),
+    )
 
 -- ---- which are offered
 
@@ -155,19 +166,27 @@ cut_has n (offer y ∷ fore) rest x h = Memᴰ.tail (cut_has n fore rest x h)
 cut_has zero (join b o a c d ∷ fore) rest x h = absurd (omega arith)
 cut_has (suc n) (join b o a c d ∷ fore) rest x h = cut_has n fore rest x (omega arith)
 
-cut-fore : (n : ℕ) (fore rest : List Event) (x : Offer) → n < joins_in fore → Memᴰ x (offers_in (cut n (fore ++ rest))) → Memᴰ (offer x) fore
+cut-fore : (n : ℕ) (fore rest : List Event) (x : Offer) → n < joins_in fore → Memᴰ x (offers_in (cut n (fore ++ rest)))
+    → Memᴰ (offer x) fore
 cut-fore n [] rest x h m = absurd (omega arith)
 cut-fore n (offer y ∷ fore) rest x h m = go (Memᴰ.cases_cons m) (cut-fore n fore rest x h)
   where
-    go : (x ≡ y) ⊎ Memᴰ x (offers_in (cut n (fore ++ rest))) → (Memᴰ x (offers_in (cut n (fore ++ rest))) → Memᴰ (offer x) fore) → Memᴰ (offer x) (offer y ∷ fore)
+    go : (x ≡ y) ⊎ Memᴰ x (offers_in (cut n (fore ++ rest))) → (Memᴰ x (offers_in (cut n (fore ++ rest))) → Memᴰ (offer x) fore)
+        → Memᴰ (offer x) (offer y ∷ fore)
     go (inl e) ih = Memᴰ.head (ap offer e)
     go (inr k) ih = Memᴰ.tail (ih k)
 cut-fore zero (join b o a c d ∷ fore) rest x h m = absurd (Memᴰ.not-nil m)
 cut-fore (suc n) (join b o a c d ∷ fore) rest x h m = Memᴰ.tail (cut-fore n fore rest x (omega arith) m)
 
-pub offered_if : (F : Feed) (n : ℕ) (os : List Journey) (k : ℕ) (f : Bool) (w : Within F n os k f) (x : Offer) (fore rest : List Event) → w.events ≡ fore ++ offer x ∷ rest
+pub offered_if : (F : Feed) (n : ℕ) (os : List Journey) (k : ℕ) (f : Bool) (w : Within F n os k f) (x : Offer) (fore rest : List Event)
+    → w.events ≡ fore ++ offer x ∷ rest
     → Memᴰ x (offers_in w.front) ↔ (joins_in fore ≤ n)
-offered_if F n os k f w x fore rest e = (λ m. few (leb (joins_in fore) n) refl (subst (λ (es : List Event). Memᴰ x (offers_in es)) front m), λ h. subst (λ (es : List Event). Memᴰ x (offers_in es)) (sym front) (cut_has n fore rest x h))
+offered_if F n os k f w x fore rest e = (
+  λ m. few (leb (joins_in fore) n) refl
+      (subst (λ (es : List Event). Memᴰ x (offers_in es)) front m),
+  λ h.
+      subst (λ (es : List Event). Memᴰ x (offers_in es)) (sym front) (cut_has n fore rest x h),
+)
   where
     front : w.front ≡ cut n (fore ++ offer x ∷ rest)
     front = (stops-cut n w.events w.front f w.stops).0 ∙ ap (cut n) e
@@ -175,12 +194,20 @@ offered_if F n os k f w x fore rest e = (λ m. few (leb (joins_in fore) n) refl 
     few : (b : Bool) → leb (joins_in fore) n ≡ b → Memᴰ x (offers_in (cut n (fore ++ offer x ∷ rest))) → joins_in fore ≤ n
     few true q m = leb-true (joins_in fore) n q
     few false q m =
-        let p = fore-precedes fore rest (offer x) (offer x) (subst InTurn e w.listed.in_turn) (cut-fore n fore (offer x ∷ rest) x (leb-false (joins_in fore) n q) m) in
+        let p = fore-precedes fore rest (offer x) (offer x) (subst InTurn e w.listed.in_turn)
+        (cut-fore n fore (offer x ∷ rest) x (leb-false (joins_in fore) n q) m) in
         absurd (precedes-asym (offer x) (offer x) p p)
 
 -- a stopped one tested as many as its limit
 pub stopped-count : (F : Feed) (n : ℕ) (os : List Journey) (k : ℕ) → Within F n os k false → Within F n os n false
-stopped-count F n os k w = record { events = w.events; listed = w.listed; front = w.front; stops = w.stops; offered = w.offered; count = go false refl w.stops }
+stopped-count F n os k w = record {
+  events = w.events;
+  listed = w.listed;
+  front = w.front;
+  stops = w.stops;
+  offered = w.offered;
+  count = go false refl w.stops;
+}
   where
     go : (f : Bool) → f ≡ false → Stops n w.events w.front f → joins_in w.front ≡ n
     go _ q (finished e h) = absurd (cc)
@@ -222,7 +249,8 @@ module _ (F : Feed) (is js : List CallInput) (q : Permᴰ is js) where
   comes-perm (join b o a c d) w = join-perm b o a c d w
   comes-perm (offer x) (j, g) = (j, gives-perm F is js q x j g)
 
-within-perm : (F : Feed) (is js : List CallInput) (q : Permᴰ is js) (n : ℕ) (os : List Journey) (k : ℕ) (f : Bool) → Within (handing F is) n os k f → Within (handing F js) n os k f
+within-perm : (F : Feed) (is js : List CallInput) (q : Permᴰ is js) (n : ℕ) (os : List Journey) (k : ℕ) (f : Bool)
+    → Within (handing F is) n os k f → Within (handing F js) n os k f
 within-perm F is js q n os k f w = record {
   events = w.events;
   listed = record {
@@ -235,6 +263,8 @@ within-perm F is js q n os k f w = record {
   count = w.count;
 }
 
-pub within-like : (s : Settings) (t : State) (gs fs : List Filling) (n : ℕ) (os : List Journey) (k : ℕ) (f : Bool) → Like gs fs → Within (feed_of s (keeping t gs)) n os k f → Within (feed_of s (keeping t fs)) n os k f
+pub within-like : (s : Settings) (t : State) (gs fs : List Filling) (n : ℕ) (os : List Journey) (k : ℕ) (f : Bool) → Like gs fs
+    → Within (feed_of s (keeping t gs)) n os k f → Within (feed_of s (keeping t fs)) n os k f
 within-like s t gs fs n os k f w a =
-    within-perm (feed_of s (keeping t fs)) (calls_in gs) (calls_in fs) w.calls n os k f (subst (λ (F : Feed). Within F n os k f) (feed-beside s t gs fs w.beside) a)
+    within-perm (feed_of s (keeping t fs)) (calls_in gs) (calls_in fs) w.calls n os k f
+    (subst (λ (F : Feed). Within F n os k f) (feed-beside s t gs fs w.beside) a)

@@ -75,8 +75,8 @@ Seconds None v = v ≡ 0
 abbrev pub Larger : ℕ → ℕ → ℕ → Type 0
 Larger a b n = ((a ≤ b) × (n ≡ b)) ⊎ ((b ≤ a) × (n ≡ a))
 
--- what a rule gives, by its type; `change` is the setting `transfer_seconds` (request 05). "Types 0 and 1 now give" that "whatever the seconds
--- say" (request 02), type 2 gives max(seconds, that); "type 3 forbids", so it has no case
+-- what a rule gives, by its type; `change` is the setting `transfer_seconds` (request 05). "Types 0 and 1 now give" that "whatever the
+-- seconds say" (request 02), type 2 gives max(seconds, that); "type 3 forbids", so it has no case
 pub data Gives (change : ℕ) (r : Rule) (n : ℕ) : Type 0 where
   type_zero : r.transfer_type ≡ 0 → n ≡ change → Gives change r n
   type_one : r.transfer_type ≡ 1 → n ≡ change → Gives change r n

@@ -1,8 +1,8 @@
 -- "Why a call is sent back", as propositions over what was taken before and what is handed in, in 01's order: "Settings 1, 2. Stop 15, 3,
--- 5, 6, 7, 8, 4. Call 15, 9, absent time, 10, outside, 11. Rule 15, 9, 12, 13, 11. Search 15, 14, 11." With request 03: settings with dates 1,
--- 2, 20; service 15, 3, 5, 20, 22; exception 15, 20, 21; of a call 21 and a day when the service doesn't run, after 9. With request 11: "15 no
--- longer meets a call"; withdrawal 9, 24; on a searched load then, of both, 14 and 11 of the search again. With request 12: limited search 15, 1,
--- 14, 11.
+-- 5, 6, 7, 8, 4. Call 15, 9, absent time, 10, outside, 11. Rule 15, 9, 12, 13, 11. Search 15, 14, 11." With request 03: settings with
+-- dates 1, 2, 20; service 15, 3, 5, 20, 22; exception 15, 20, 21; of a call 21 and a day when the service doesn't run, after 9. With
+-- request 11: "15 no longer meets a call"; withdrawal 9, 24; on a searched load then, of both, 14 and 11 of the search again. With
+-- request 12: limited search 15, 1, 14, 11.
 -- RULES 16.
 use Rattle.std.specs.Option.{unwrap_or}
 use Rattle.refusal.specs.declared.Accepted.TheVariants.{Taken, Outside}
@@ -66,8 +66,8 @@ abbrev pub date_causes : Option (List ℕ) → List Cause
 date_causes None = []
 date_causes (Some dates) = cause ((d : ℕ) × Memᴰ d dates × NoDate d) (Err DateWrong) ∷ []
 
--- "count above 4, `max_transfers` above 1", which request 10 alters: "`max_transfers` 2 is accepted and refusal 1 starts at 3"; of the change
--- time "a value above 15300 belongs to refusal 1" (request 05)
+-- "count above 4, `max_transfers` above 1", which request 10 alters: "`max_transfers` 2 is accepted and refusal 1 starts at 3"; of the
+-- change time "a value above 15300 belongs to refusal 1" (request 05)
 abbrev pub opening_causes : Opening → List Cause
 opening_causes o =
     let s = o.settings in

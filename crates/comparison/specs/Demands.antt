@@ -80,8 +80,8 @@ answer s xs z = answer_of (best_spec (end_of s xs) z)
 abbrev pub calls : Opening → List Step → List Call
 calls s xs = table_calls (table_of (end_of s xs))
 
--- before a search: the calls taken and not withdrawn, as they are seen, in the order taken; no journey; "a horizon cut, limit mark" only by the
--- 513th call
+-- before a search: the calls taken and not withdrawn, as they are seen, in the order taken; no journey; "a horizon cut, limit mark" only
+-- by the 513th call
 pub record Fills (s : Opening) (xs : List Step) (v : State) : Type 0 where
   pub shown : Shown s.settings v.horizon (calls_in v.taken) (calls s xs)
   pub kept : kept_of (end_of s xs) ≡ []
@@ -120,7 +120,8 @@ pub record ListsWithin (s : Opening) (xs : List Step) (v : State) (n : ℕ) : Ty
 -- of any list of steps, which leaves v taken. "A stopped load counts as searched, but the full list .. [is] claimed for finished ones only"
 abbrev pub Demand2 : Type 0
 Demand2 = (s : Opening) (xs : List Step) (rs : List Answer) (v : State) → Opens s → Runs s.settings (fresh s.dates) xs rs v
-    → (v.searched ≡ false → Fills s xs v) × (v.searched ≡ true → v.stopped ≡ None → Lists s xs v) × ((n : ℕ) → v.stopped ≡ Some n → ListsWithin s xs v n)
+    → (v.searched ≡ false → Fills s xs v) × (v.searched ≡ true → v.stopped ≡ None → Lists s xs v)
+    × ((n : ℕ) → v.stopped ≡ Some n → ListsWithin s xs v n)
 
 -- "What the list must hold is read over the calls of running services": on a load with dates each call that was taken names a service that
 -- was taken and runs on the date of the call's day, by all exceptions that were taken
@@ -160,8 +161,8 @@ MatchedBy g s xs s' xs' = (j : Journey) → Admitted s xs j → j.arrival ≤ g 
 abbrev pub Earlier : ℕ → ℕ → ℕ → Type 0
 Earlier g h h' = (g ≤ h) × (g ≤ h') × ((g ≡ h) ⊎ (g ≡ h'))
 
--- of any two lists, searched or not, that leave no stopped search: a list with no search taken admits none. The horizons are the loads', which
--- demand 2 says from the list. "The comparison of two searches [is] claimed for finished ones only" (request 12)
+-- of any two lists, searched or not, that leave no stopped search: a list with no search taken admits none. The horizons are the loads',
+-- which demand 2 says from the list. "The comparison of two searches [is] claimed for finished ones only" (request 12)
 abbrev pub Demand3 : Type 0
 Demand3 = (s s' : Opening) (xs xs' : List Step) (g : ℕ) → s.settings.now ≡ s'.settings.now → Opens s → Opens s' → Finished s xs → Finished s' xs'
     → Earlier g (end_of s xs).horizon (end_of s' xs').horizon

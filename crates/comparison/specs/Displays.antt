@@ -1,5 +1,5 @@
--- Request 08: "between groups that have a display the certificate's comparison of searches uses that window as the horizon". Of what was handed in, for
--- any two groups that have a display, of one display or of two. What the groups load beside these two is free.
+-- Request 08: "between groups that have a display the certificate's comparison of searches uses that window as the horizon". Of what was
+-- handed in, for any two groups that have a display, of one display or of two. What the groups load beside these two is free.
 -- RULES 12, 15.1.
 use Rattle.std.specs.Prelude.{◌≡◌, ◌↔◌, true, ℕ, ◌≤◌, ℤ, Option}
 use mathlib.Core.List.{List, [], ◌∷◌, Memᴰ}
@@ -33,9 +33,11 @@ answer_in gs n s xs z = answer_of (best_of_group (group_of n (end_of s xs)) (par
 
 -- demand 3, with the windows as horizons; of groups whose searches were not stopped
 abbrev pub DisplaysAgree : Type 0
-DisplaysAgree = (gs gs' : List Group) (n n' : ℕ) (s s' : Opening) (xs xs' : List Step) (g : ℕ) → s.settings.now ≡ s'.settings.now → Opens s → Opens s'
+DisplaysAgree = (gs gs' : List Group) (n n' : ℕ) (s s' : Opening) (xs xs' : List Step) (g : ℕ) → s.settings.now ≡ s'.settings.now
+    → Opens s → Opens s'
     → Finished s xs → Finished s' xs' → Displayed gs n s xs → Displayed gs' n' s' xs' → Earlier g (window_in gs n) (window_in gs' n')
-    → ((z : ℤ) → Second z → Alike g (answer_in gs n s xs z) (answer_in gs' n' s' xs' z)) ↔ (MatchedBy g s xs s' xs' × MatchedBy g s' xs' s xs)
+    → ((z : ℤ) → Second z → Alike g (answer_in gs n s xs z) (answer_in gs' n' s' xs' z)) ↔
+    (MatchedBy g s xs s' xs' × MatchedBy g s' xs' s xs)
 
 pub record Displays : Type 0 where
   pub agree : DisplaysAgree
@@ -43,7 +45,8 @@ pub record Displays : Type 0 where
   pub start : (gs : List Group) (n n' : ℕ) (s s' : Opening) (xs xs' : List Step) → Opens s → Opens s'
       → Displayed gs n s xs → Displayed gs n' s' xs' → s.settings.now ≡ s'.settings.now
   -- a window is no later than the horizon
-  pub window : (gs : List Group) (n : ℕ) (s : Opening) (xs : List Step) → Opens s → Displayed gs n s xs → window_in gs n ≤ (end_of s xs).horizon
+  pub window : (gs : List Group) (n : ℕ) (s : Opening) (xs : List Step) → Opens s → Displayed gs n s xs
+      → window_in gs n ≤ (end_of s xs).horizon
   -- best by group is best of the load, read as none past the window, at every second
   pub best : (gs : List Group) (n : ℕ) (s : Opening) (xs : List Step) → Opens s → Displayed gs n s xs → (z : ℤ)
       → answer_in gs n s xs z ≡ read_none_of (window_in gs n) (answer s xs z)

@@ -1,7 +1,7 @@
--- Request 12: "Give the search a limit; the result carries the number of joins tested, which equals those the offer order lists up to its stop. A
--- join pairs an origin's first ride with any ride as the last, targets aside, whether or not they join. It stops just before the first join past
--- the limit. It says finished when no untested join is left, and stopped otherwise, even with limit 0." Joins and journeys in one order, over what
--- was handed in.
+-- Request 12: "Give the search a limit; the result carries the number of joins tested, which equals those the offer order lists up to its
+-- stop. A join pairs an origin's first ride with any ride as the last, targets aside, whether or not they join. It stops just before the
+-- first join past the limit. It says finished when no untested join is left, and stopped otherwise, even with limit 0." Joins and
+-- journeys in one order, over what was handed in.
 -- RULES 11.1, 11.2, 11.4.
 use Rattle.std.specs.Prelude.{◌≡◌, ◌↔◌, Bool, true, false, ℕ, suc, ◌+◌, ◌*◌, ◌≤◌, ◌<◌, get_or}
 use mathlib.Core.List.{List, [], ◌∷◌, ◌++◌, Memᴰ}
@@ -15,8 +15,8 @@ pub data Event : Type 0 where
   join : Call → ℕ → Call → Call → Call → Event
   offer : Offer → Event
 
--- two rides of the table, the first from an origin whose walk is met; the last may end anywhere, and may be the first again. Without changes
--- there is no join
+-- two rides of the table, the first from an origin whose walk is met; the last may end anywhere, and may be the first again. Without
+-- changes there is no join
 pub record Join (F : Feed) (b : Call) (o : ℕ) (a c d : Call) : Type 0 where
   pub may : 1 ≤ F.settings.max_transfers
   pub first : Leg F b a

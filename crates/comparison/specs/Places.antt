@@ -1,5 +1,5 @@
--- Which stops are of one place, as a relation over the stops handed in and taken: their ids, names, parents' ids and positions, and no stored record.
--- Cited are 01's own formulas: the hash, the bytes of a name that it is taken of, microdegrees, and the test of two keys.
+-- Which stops are of one place, as a relation over the stops handed in and taken: their ids, names, parents' ids and positions, and no
+-- stored record. Cited are 01's own formulas: the hash, the bytes of a name that it is taken of, microdegrees, and the test of two keys.
 -- RULES 7.
 use Rattle.std.specs.Prelude.{◌≡◌, ◌⊎◌, true, List, [], ◌∷◌, ℕ, ◌<◌, pos, None, Some}
 use Rattle.key.specs.Hash.{key_of}

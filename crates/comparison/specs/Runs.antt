@@ -23,7 +23,8 @@ use Rattle.comparison.specs.Events.{Within}
 use Rattle.comparison.specs.Horizon.{Fits}
 use Rattle.comparison.specs.Causes.{First, causes_of}
 
--- t stands taken, and is searched again where it was searched: "within the same limit" if it was stopped, which may then finish, else in full
+-- t stands taken, and is searched again where it was searched: "within the same limit" if it was stopped, which may then finish, else in
+-- full
 pub data Again (s : Settings) (t : State) : State → Type 0 where
   in_full : t.stopped ≡ None → Again s t t
   within : {n tested : ℕ} {os : List Journey} {finishes : Bool} → t.stopped ≡ Some n → Within (feed_of s t) n os tested finishes
@@ -41,10 +42,13 @@ pub data After (s : Settings) (t : State) : Step → Answer → State → Type 0
       → Again s (up_to (more t (call name i)) h m) u → After s t (filling (call name i)) (Ok Taken) (shut u)
   -- of one whose service doesn't run the times are unread
   resting : {name : List ℕ} {i : CallInput} → Resting t name i.day → After s t (filling (call name i)) (Ok Outside) (shut t)
-  outside : {name : List ℕ} {i : CallInput} {h m : ℕ} {u : State} → (Resting t name i.day → ⊥) → Fits s (calls_in t.taken) i t.horizon t.limits (Ok Outside) h m
+  outside : {name : List ℕ} {i : CallInput} {h m : ℕ} {u : State} → (Resting t name i.day → ⊥)
+      → Fits s (calls_in t.taken) i t.horizon t.limits (Ok Outside) h m
       → Again s (up_to t h m) u → After s t (filling (call name i)) (Ok Outside) (shut u)
-  a_service : {name : List ℕ} {weekdays start end : ℕ} → After s t (filling (service name weekdays start end)) (Ok Taken) (more t (service name weekdays start end))
-  an_exception : {name : List ℕ} {date kind : ℕ} → After s t (filling (exception name date kind)) (Ok Taken) (more t (exception name date kind))
+  a_service : {name : List ℕ} {weekdays start end : ℕ}
+      → After s t (filling (service name weekdays start end)) (Ok Taken) (more t (service name weekdays start end))
+  an_exception : {name : List ℕ} {date kind : ℕ}
+      → After s t (filling (exception name date kind)) (Ok Taken) (more t (exception name date kind))
   a_withdrawal : {k : CallKey} {u v : State} → Withdrawn s t k u → Again s u v → After s t (withdraw k) (Ok Taken) v
   a_search : After s t search (Ok Taken) (done None t)
   a_limited : {n tested : ℕ} {os : List Journey} {finishes : Bool} → Within (feed_of s t) n os tested finishes

@@ -34,7 +34,8 @@ Unknown t name = (dates : List ℕ) × (t.dates ≡ Some dates) × (Named t.take
 -- with dates, a service with the name runs on the date of the day
 abbrev pub Running : State → List ℕ → ℕ → Type 0
 Running t name day =
-    (dates : List ℕ) × (t.dates ≡ Some dates) × ((g : ServiceGiven) × Memᴰ g (services_in t.taken) × (g.name ≡ name) × RunsOn t.taken g (get_or dates day 0))
+    (dates : List ℕ) × (t.dates ≡ Some dates) × ((g : ServiceGiven) × Memᴰ g (services_in t.taken) × (g.name ≡ name)
+    × RunsOn t.taken g (get_or dates day 0))
 
 -- with dates, none does: "on a day when that doesn't run"
 abbrev pub Resting : State → List ℕ → ℕ → Type 0

@@ -54,8 +54,8 @@ services_in (service name weekdays start end ∷ xs) = record { name = name; wee
 services_in (exception name date kind ∷ xs) = services_in xs
 
 -- what was taken and not withdrawn, in order, of calls those answered taken; the horizon of the window and the mark, as the cuts leave them
--- (the table's, also once a search was taken: the list's own are not held here); whether a search was taken, and its limit where the last one
--- was stopped at one; the dates of the three days, where the load was opened with dates; whether services are closed
+-- (the table's, also once a search was taken: the list's own are not held here); whether a search was taken, and its limit where the last
+-- one was stopped at one; the dates of the three days, where the load was opened with dates; whether services are closed
 pub record State : Type 0 where
   pub taken : List Filling
   pub horizon : ℕ
@@ -76,19 +76,51 @@ fresh dates = record { taken = []; horizon = 21600; limits = 0; searched = false
 
 -- with one more taken
 abbrev pub more : State → Filling → State
-more t x = record { taken = t.taken ++ x ∷ []; horizon = t.horizon; limits = t.limits; searched = t.searched; stopped = t.stopped; dates = t.dates; closed = t.closed }
+more t x = record {
+  taken = t.taken ++ x ∷ [];
+  horizon = t.horizon;
+  limits = t.limits;
+  searched = t.searched;
+  stopped = t.stopped;
+  dates = t.dates;
+  closed = t.closed;
+}
 
 -- with these taken instead
 abbrev pub keeping : State → List Filling → State
-keeping t fs = record { taken = fs; horizon = t.horizon; limits = t.limits; searched = t.searched; stopped = t.stopped; dates = t.dates; closed = t.closed }
+keeping t fs = record {
+  taken = fs;
+  horizon = t.horizon;
+  limits = t.limits;
+  searched = t.searched;
+  stopped = t.stopped;
+  dates = t.dates;
+  closed = t.closed;
+}
 
 -- with another horizon and mark
 abbrev pub up_to : State → ℕ → ℕ → State
-up_to t h m = record { taken = t.taken; horizon = h; limits = m; searched = t.searched; stopped = t.stopped; dates = t.dates; closed = t.closed }
+up_to t h m = record {
+  taken = t.taken;
+  horizon = h;
+  limits = m;
+  searched = t.searched;
+  stopped = t.stopped;
+  dates = t.dates;
+  closed = t.closed;
+}
 
 -- searched, and stopped at the limit or, with none, finished: "a limited search that finished" holds no limit
 abbrev pub done : Option ℕ → State → State
-done limit t = record { taken = t.taken; horizon = t.horizon; limits = t.limits; searched = true; stopped = limit; dates = t.dates; closed = t.closed }
+done limit t = record {
+  taken = t.taken;
+  horizon = t.horizon;
+  limits = t.limits;
+  searched = true;
+  stopped = limit;
+  dates = t.dates;
+  closed = t.closed;
+}
 
 -- what a search within the limit n leaves, finished or not
 abbrev pub limited_to : ℕ → Bool → State → State
@@ -97,4 +129,12 @@ limited_to n false t = done (Some n) t
 
 -- "Services and exceptions come before the search and the first answered call"
 abbrev pub shut : State → State
-shut t = record { taken = t.taken; horizon = t.horizon; limits = t.limits; searched = t.searched; stopped = t.stopped; dates = t.dates; closed = true }
+shut t = record {
+  taken = t.taken;
+  horizon = t.horizon;
+  limits = t.limits;
+  searched = t.searched;
+  stopped = t.stopped;
+  dates = t.dates;
+  closed = true;
+}

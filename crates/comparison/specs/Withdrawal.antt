@@ -24,8 +24,8 @@ InTable s h i = (c : Call) × Seen s h i c
 abbrev pub NoneSuch : Settings → ℕ → CallKey → List CallInput → Type 0
 NoneSuch s h k is = (i : CallInput) → Memᴰ i is → HasKey k i → InTable s h i → ⊥
 
--- of the calls taken that have the key and are in the table the last goes, which leaves u: the others in their order, horizon and mark as they
--- were. "It never widens an unsearched load's horizon", and of a searched load it is "the horizon it then had"
+-- of the calls taken that have the key and are in the table the last goes, which leaves u: the others in their order, horizon and mark as
+-- they were. "It never widens an unsearched load's horizon", and of a searched load it is "the horizon it then had"
 pub record Withdrawn (s : Settings) (t : State) (k : CallKey) (u : State) : Type 0 where
   pub before : List Filling
   pub name : List ℕ

@@ -74,8 +74,8 @@ added_trip = one_trip 600 1200 ++ filling (call [] (call_of 2 1 0 700)) ∷ fill
 abbrev pub withdrawn_trip : List Step
 withdrawn_trip = added_trip ++ withdraw (record { trip = 2; day = 0; sequence = 1 }) ∷ []
 
--- trip 1 from the origin to a stop, which it reaches at 1000; a rule of type 2 to another stop, 240 seconds; trip 2 from there to the target,
--- which departs so and arrives at 1500
+-- trip 1 from the origin to a stop, which it reaches at 1000; a rule of type 2 to another stop, 240 seconds; trip 2 from there to the
+-- target, which departs so and arrives at 1500
 abbrev pub two_trips : ℕ → List Step
 two_trips departs =
     filling (stop (65 ∷ []) None None (some_stop 1))
@@ -90,9 +90,9 @@ two_trips departs =
     ∷ search
     ∷ []
 
--- request 10: trip 1 from the origin to a stop, which it reaches at 1000; trip 2 from there, at 1240, to another, which it reaches at 1500; trip
--- 3 from there to the target, which departs so and arrives at 2000. At both stops a rule of type 2 asks for 240 seconds; two of type 3 forbid
--- changes that no journey here needs
+-- request 10: trip 1 from the origin to a stop, which it reaches at 1000; trip 2 from there, at 1240, to another, which it reaches at
+-- 1500; trip 3 from there to the target, which departs so and arrives at 2000. At both stops a rule of type 2 asks for 240 seconds; two
+-- of type 3 forbid changes that no journey here needs
 abbrev pub three_trips : ℕ → List Step
 three_trips departs =
     filling (stop (65 ∷ []) None None (some_stop 1))
@@ -112,7 +112,8 @@ three_trips departs =
     ∷ search
     ∷ []
 
--- request 12: trips 1 and 2 of `added_trip`, in a search within a limit: two first rides and two rides, so four joins; a rule forbids the change
+-- request 12: trips 1 and 2 of `added_trip`, in a search within a limit: two first rides and two rides, so four joins; a rule forbids the
+-- change
 abbrev pub limited_trips : ℕ → List Step
 limited_trips n =
     filling (stop (65 ∷ []) None None (some_stop 1))
@@ -129,8 +130,8 @@ limited_trips n =
 abbrev pub limited_less : ℕ → List Step
 limited_less n = limited_trips n ++ withdraw (record { trip = 2; day = 0; sequence = 1 }) ∷ []
 
--- the same trip on a dated load, whose three days are Monday 2 to Wednesday 4 January 2023: a service of Mondays that year, which an exception
--- may remove on the second; the calls name it
+-- the same trip on a dated load, whose three days are Monday 2 to Wednesday 4 January 2023: a service of Mondays that year, which an
+-- exception may remove on the second; the calls name it
 abbrev pub mondays : List ℕ
 mondays = 77 ∷ []
 
@@ -200,8 +201,8 @@ pub record Met : Type 0 where
   pub kept_added : kept_figures added_trip ≡ figures_of 400 1220 1 5 ∷ []
   pub admitted_withdrawn : OneAdmitted some_opening withdrawn_trip (figures_of 300 1320 1 5)
   pub kept_withdrawn : kept_figures withdrawn_trip ≡ figures_of 300 1320 1 5 ∷ []
-  -- request 12: before any join is tested trip 1 is offered; trip 2, which beats it, after its two; all four are tested within 4. Searched again
-  -- without trip 2, within 0 it is stopped again, and within 1 finished
+  -- request 12: before any join is tested trip 1 is offered; trip 2, which beats it, after its two; all four are tested within 4.
+  -- Searched again without trip 2, within 0 it is stopped again, and within 1 finished
   pub kept_none : kept_by (undated (settings_with 1)) (limited_trips 0) ≡ figures_of 300 1320 1 5 ∷ []
   pub kept_two : kept_by (undated (settings_with 1)) (limited_trips 2) ≡ figures_of 400 1220 1 5 ∷ []
   pub stopped_three : StoppedAt (undated (settings_with 1)) (limited_trips 3) 3

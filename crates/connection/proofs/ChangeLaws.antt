@@ -30,7 +30,8 @@ module _ (i : ℕ) (t : Transfers) (from to : FoundLeg) where
   unfolding change_tests transfer_of ends_of_of
   change-by asked b a c ends rule number seconds r ea eb el ec ee er en es e =
       let rule-is : rule ≡ rule_at t.rules.now t.parents.now a.stop c.stop = er ∙ ap (λ (x : Ends). chosen x t.rules.now) ee in
-      let number_is : number ≡ number_in t.rules.now (rule_at t.rules.now t.parents.now a.stop c.stop) = en ∙ ap (number_in t.rules.now) rule-is in
+      let number_is : number ≡ number_in t.rules.now (rule_at t.rules.now t.parents.now a.stop c.stop) =
+      en ∙ ap (number_in t.rules.now) rule-is in
       let seconds-is : seconds ≡ transfer_of t.rules.now t.parents.now t.places.now a.stop c.stop t.change =
       es ∙ (λ k. change_of (rule-is k) (near_in t (ee k)) t.change) in
       e ∙ (λ k. first_of (pair_tests i (rule-is k) (number_is k) (seconds-is k) b a c))

@@ -44,7 +44,8 @@ or-assoc None b c = refl
 or-assoc (Some x) b c = refl
 
 -- by what is told of each of two lists, and of each of three
-pub first-two : (xs ys : List (Bool × Cause)) {a b r : Option Cause} → a ≡ first_of xs → b ≡ first_of ys → r ≡ option_or a b → r ≡ first_of (xs ++ ys)
+pub first-two : (xs ys : List (Bool × Cause)) {a b r : Option Cause} → a ≡ first_of xs → b ≡ first_of ys → r ≡ option_or a b
+    → r ≡ first_of (xs ++ ys)
 first-two xs ys x y e = e ∙ (λ i. option_or (x i) (y i)) ∙ sym (first-append xs ys)
 
 pub first-three : (xs ys zs : List (Bool × Cause)) {a b c r t : Option Cause} → a ≡ first_of xs → b ≡ first_of ys → r ≡ option_or a b

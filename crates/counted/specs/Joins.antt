@@ -57,7 +57,8 @@ module _ {C A : Type 0} (N : Network C) (direct : First C → ℕ → A) (change
   abbrev pub CountOfChanges : Type 0
   CountOfChanges = (f : First C) → joins_in (change_events N direct change s f) ≡ length (rides N s)
 
-module _ {C D A B : Type 0} (N : Network C) (M : Network D) (h : C → D) (depth : ℕ) (s : List C) (φ : A → B) (direct : First C → ℕ → A) (change : First C → Leg C → ℕ → A)
+module _ {C D A B : Type 0} (N : Network C) (M : Network D) (h : C → D) (depth : ℕ) (s : List C) (φ : A → B) (direct : First C → ℕ → A)
+    (change : First C → Leg C → ℕ → A)
     (direct' : First D → ℕ → B) (change' : First D → Leg D → ℕ → B) where
   -- if each journey stands for that of the images, the events stand for those of the images
   abbrev pub EventsOfImages : Type 0

@@ -21,7 +21,8 @@ use Rattle.display.specs.Queries.{best_of_group, next_of_group}
 -- ---- queries
 
 module _ (g : Group) (p : Part) where
-  pub next-shown : (s : ℤ) (j : Journey) {r : Option Journey} {x y : ℤ} → y ≡ x → x ≡ after_of s j.leave → r ≡ best_of_group g p y → r ≡ next_of_group g p s j
+  pub next-shown : (s : ℤ) (j : Journey) {r : Option Journey} {x y : ℤ} → y ≡ x → x ≡ after_of s j.leave → r ≡ best_of_group g p y
+      → r ≡ next_of_group g p s j
   unfolding next_of_group
   next-shown s j e q h = h ∙ ap (best_of_group g p) (e ∙ q)
 

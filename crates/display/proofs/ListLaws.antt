@@ -30,7 +30,8 @@ after x y e = prefer-arrival (journey_figures x) (journey_figures y) e
 
 -- ---- ranked by arrival
 
-insert-first : (x : Journey) (ks : List Journey) → ((y : Journey) → Memᴰ y ks → prefer (journey_figures x) (journey_figures y) ≡ true) → insert_by earlier x ks ≡ x ∷ ks
+insert-first : (x : Journey) (ks : List Journey) → ((y : Journey) → Memᴰ y ks → prefer (journey_figures x) (journey_figures y) ≡ true)
+    → insert_by earlier x ks ≡ x ∷ ks
 insert-first x [] f = refl
 insert-first x (y ∷ ks) f = cond-not _ _ (le-ltb y.arrival x.arrival (after x y (f y (Memᴰ.head refl))))
 
@@ -41,7 +42,8 @@ ranked-in-list (x ∷ ks) (f, o) = ap (insert_by earlier x) (ranked-in-list ks o
 -- ---- those due stand first
 
 -- none is due behind one that isn't
-late-none : (w : ℕ) (x : Journey) (ks : List Journey) → w < x.arrival → ((y : Journey) → Memᴰ y ks → x.arrival ≤ y.arrival) → shown_by w ks ≡ []
+late-none : (w : ℕ) (x : Journey) (ks : List Journey) → w < x.arrival → ((y : Journey) → Memᴰ y ks → x.arrival ≤ y.arrival)
+    → shown_by w ks ≡ []
 late-none w x [] l f = refl
 late-none w x (y ∷ ks) l f =
     cond-not _ _ (lt-leb y.arrival w (omega (arith, f y (Memᴰ.head refl)))) ∙ late-none w x ks l (λ z m. f z (Memᴰ.tail m))
@@ -96,7 +98,8 @@ window-under ks share h f = go (drop share ks) (λ k m. f k (mem-drop share ks m
     go (j ∷ l) f = omega (arith, f j (Memᴰ.head refl))
 
 -- at most the share is due by a window of 3600 or more
-pub shown-fit : (ks : List Journey) (share h : ℕ) → In ks → (share < length ks → 3600 ≤ window_of ks share h) → length (shown_by (window_of ks share h) ks) ≤ share
+pub shown-fit : (ks : List Journey) (share h : ℕ) → In ks → (share < length ks → 3600 ≤ window_of ks share h)
+    → length (shown_by (window_of ks share h) ks) ≤ share
 shown-fit ks share h o large = go (ltb share (length ks)) refl
   where
     w : ℕ
@@ -117,7 +120,14 @@ shown-fit ks share h o large = go (ltb share (length ks)) refl
     go false e = omega (arith, ltb-false share (length ks) e, length-filterb (is_due w) ks)
     go true e =
         let l = ltb-true share (length ks) e in
-        omega (arith, ap length split, length-append (shown_by w (take share ks)) (shown_by w (drop share ks)), ap {A = List Journey} length (behind l), length-filterb (is_due w) (take share ks), length-take share ks)
+        omega (
+          arith,
+          ap length split,
+          length-append (shown_by w (take share ks)) (shown_by w (drop share ks)),
+          ap {A = List Journey} length (behind l),
+          length-filterb (is_due w) (take share ks),
+          length-take share ks,
+        )
 
 -- ---- the first of those due that passes a test
 
@@ -125,7 +135,8 @@ first-due : (p : Journey → Bool) (w : ℕ) (ks : List Journey) → In ks → f
 first-due p w [] o = refl
 first-due p w (x ∷ ks) (f, o) = spread (is_due w x) ∙ go (is_due w x) refl (p x) (first-due p w ks o)
   where
-    spread : (b : Bool) → firstb p (cond b (x ∷ shown_by w ks) (shown_by w ks)) ≡ cond b (cond (p x) (Some x) (firstb p (shown_by w ks))) (firstb p (shown_by w ks))
+    spread : (b : Bool) → firstb p (cond b (x ∷ shown_by w ks) (shown_by w ks))
+        ≡ cond b (cond (p x) (Some x) (firstb p (shown_by w ks))) (firstb p (shown_by w ks))
     spread true = refl
     spread false = refl
 
@@ -161,9 +172,11 @@ first_read ks w h o a l (pos t) = go (ltb w t) refl (ltb h t) refl
     p k = leb t k.leave
 
     gone : w < t → firstb p (shown_by w ks) ≡ None
-    gone q = none_passes p (shown_by w ks) (λ k m. let (n, d) = filterb-mem (is_due w) ks m in lt-leb t k.leave (omega (arith, a k n, leb-true k.arrival w d)))
+    gone q = none_passes p (shown_by w ks) (λ k m. let (n, d) = filterb-mem (is_due w) ks m in
+        lt-leb t k.leave (omega (arith, a k n, leb-true k.arrival w d)))
 
-    go : (b : Bool) → ltb w t ≡ b → (c : Bool) → ltb h t ≡ c → cond b None (firstb p (shown_by w ks)) ≡ read_none_of w (cond c None (firstb p ks))
+    go : (b : Bool) → ltb w t ≡ b → (c : Bool) → ltb h t ≡ c
+        → cond b None (firstb p (shown_by w ks)) ≡ read_none_of w (cond c None (firstb p ks))
     go true e true f = refl
     go true e false f = sym (gone (ltb-true w t e)) ∙ first-due p w ks o
     go false e true f = absurd (omega (arith, ltb-false w t e, ltb-true h t f))

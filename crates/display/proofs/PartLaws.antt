@@ -18,7 +18,8 @@ use Rattle.display.specs.Parts.{window_before, window_of, falls_below, is_due, s
 
 -- ---- the window
 
-pub window-cut : (ks : List Journey) (share h : ℕ) (d : Journey) → share < length ks → (get_or ks share d).arrival - 1 ≡ window_of ks share h
+pub window-cut : (ks : List Journey) (share h : ℕ) (d : Journey) → share < length ks
+    → (get_or ks share d).arrival - 1 ≡ window_of ks share h
 unfolding window_before window_of
 window-cut ks share h d l = rw (drop-cons ks share d l)
 

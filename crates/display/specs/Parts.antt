@@ -1,7 +1,8 @@
 -- "A group's journeys are ranked by arrival, equals in list order; its window is its horizon or, where one doesn't fit, a second before the
 -- arrival of the first that doesn't, and only those due by then are shown .. If a window would fall below 3600, that group's display is
 -- refused with 11." A searched load's list stands in that order (`RankedInList` in specs/Promises), so the ranks are places of the list.
-use Rattle.std.specs.Prelude.{Bool, true, false, cond, ◌&&◌, List, [], ◌∷◌, ℕ, ◌-◌, leb, ltb, length, drop, None, Option, Some, Err, Ok, Result}
+use Rattle.std.specs.Prelude.{Bool, true, false, cond, ◌&&◌, List, [], ◌∷◌, ℕ, ◌-◌, leb, ltb, length, drop, None, Option, Some, Err, Ok}
+use Rattle.std.specs.Prelude.{Result}
 use Rattle.laws.specs.Lists.{filterb}
 use Rattle.refusal.specs.declared.Refusal.{Refusal}
 use Rattle.refusal.specs.declared.Refusal.TheVariants.{NoRoom}

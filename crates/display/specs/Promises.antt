@@ -1,5 +1,6 @@
 -- What is claimed of a display, beside its definition: what is shown, of whom, and what best of a group answers.
-use Rattle.std.specs.Prelude.{◌≡◌, ◌↔◌, Bool, true, false, cond, ℕ, ◌+◌, ◌-◌, ◌≤◌, ◌<◌, leb, ltb, ℤ, length, take, get_or, None, Option, Some, Err, Ok}
+use Rattle.std.specs.Prelude.{◌≡◌, ◌↔◌, Bool, true, false, cond, ℕ, ◌+◌, ◌-◌, ◌≤◌, ◌<◌, leb, ltb, ℤ, length, take, get_or, None, Option}
+use Rattle.std.specs.Prelude.{Some, Err, Ok}
 use mathlib.Core.List.{List, Memᴰ}
 use Rattle.laws.specs.Sort.{sort}
 use Rattle.refusal.specs.declared.Refusal.TheVariants.{DisplayGroups, NoRoom}
@@ -42,7 +43,8 @@ FallsBelow gs g = (share_of gs g.number < length (list_of g)) × ((get_or (list_
 
 -- the whole display is refused with 23 exactly where its groups turn it away; then no group has a part
 abbrev pub RefusedWhole : Type 0
-RefusedWhole = (gs : List Group) → ((turned_away gs ≡ true) ↔ (display_of gs ≡ Err DisplayGroups)) × (turned_away gs ≡ true → (i : ℕ) → group_part gs i ≡ None)
+RefusedWhole = (gs : List Group) → ((turned_away gs ≡ true) ↔ (display_of gs ≡ Err DisplayGroups))
+    × (turned_away gs ≡ true → (i : ℕ) → group_part gs i ≡ None)
 
 -- a group's display is refused with 11 exactly where the window would fall below 3600; otherwise it shows those due by its window
 abbrev pub RefusedAlone : Type 0
@@ -58,11 +60,13 @@ pub record Shows (gs : List Group) (g : Group) : Type 0 where
   pub fit : shown_count (group_part gs g.number) ≤ share_of gs g.number
 
 abbrev pub ShownRight : Type 0
-ShownRight = (gs : List Group) (g : Group) → Given gs g → Ordered journey_figures (list_of g) → shows (group_part gs g.number) ≡ true → Shows gs g
+ShownRight = (gs : List Group) (g : Group) → Given gs g → Ordered journey_figures (list_of g) → shows (group_part gs g.number) ≡ true
+    → Shows gs g
 
 -- "a group with 16 or fewer shows all of them whatever the others load", up to its own horizon
 abbrev pub SixteenShown : Type 0
-SixteenShown = (gs : List Group) (g : Group) → Given gs g → length (list_of g) ≤ 16 → ((k : Journey) → Memᴰ k (list_of g) → k.arrival ≤ g.horizon)
+SixteenShown = (gs : List Group) (g : Group) → Given gs g → length (list_of g) ≤ 16
+    → ((k : Journey) → Memᴰ k (list_of g) → k.arrival ≤ g.horizon)
     → group_part gs g.number ≡ Some (Ok (record { window = g.horizon; count = length (list_of g) }))
 
 -- at most 64 are shown in all
@@ -77,6 +81,7 @@ read_none_of w (Some j) = cond (leb j.arrival w) (Some j) None
 
 -- best by group is best of the load, read as none past the window, at every second
 abbrev pub BestByGroup : Type 0
-BestByGroup = (gs : List Group) (n : ℕ) (l : Load) → Given gs (group_of n l) → Ordered journey_figures (kept_of l) → Ahead journey_figures (kept_of l)
+BestByGroup = (gs : List Group) (n : ℕ) (l : Load) → Given gs (group_of n l) → Ordered journey_figures (kept_of l)
+    → Ahead journey_figures (kept_of l)
     → shows (group_part gs n) ≡ true → window_to (group_part gs n) ≤ l.horizon → (s : ℤ)
     → answer_of (best_of_group (group_of n l) (group_part gs n) s) ≡ read_none_of (window_to (group_part gs n)) (answer_of (best_spec l s))

@@ -29,7 +29,7 @@ pub fn deal(given: &[Group]) -> Display
     let b = group_at(given, 1);
     let c = group_at(given, 2);
     let d = group_at(given, 3);
-    let s = shares(count_in(a), count_in(b), count_in(c), count_in(d));
+    let s = shares([count_in(a), count_in(b), count_in(c), count_in(d)]);
     Ok([
         part_in(a, s[0]),
         part_in(b, s[1]),

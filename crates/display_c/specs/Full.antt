@@ -8,7 +8,17 @@ use Rattle.display.specs.Parts.{window_to}
 use Rattle.display.specs.Display.{display_of, part_of}
 
 abbrev pub due_at : ℕ → Journey
-due_at arrival = record { leave = 0; arrival = arrival; rides = 0; walk = 0; origin = 0; target = 0; first = no_ride; middle = no_ride; last = no_ride }
+due_at arrival = record {
+  leave = 0;
+  arrival = arrival;
+  rides = 0;
+  walk = 0;
+  origin = 0;
+  target = 0;
+  first = no_ride;
+  middle = no_ride;
+  last = no_ride;
+}
 
 -- 64 journeys, due so
 unfoldable pub list_due : List ℕ → List Journey

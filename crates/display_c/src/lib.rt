@@ -22,11 +22,7 @@ fn due_at(arrival: u16) -> Journey
 fn list_due(arrivals: &[u16; 64]) -> [Journey; 64]
     ensures { result ≡ list_due arrivals.now }
 {
-    let mut journeys = [due_at(0); 64];
-    for (i, journey) in journeys.iter_mut().enumerate() {
-        *journey = due_at(arrivals[i]);
-    }
-    journeys
+    arrivals.map(due_at)
 }
 
 // A searched load that keeps 64 journeys.

@@ -28,6 +28,7 @@ impl Default for Board {
 }
 
 impl Board {
+    // Output, load and fields one by one, as in `query_records`.
     pub fn set_aside(
         &mut self,
         out: &mut Out,

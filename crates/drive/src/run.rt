@@ -1,56 +1,18 @@
 // A step file from its first byte to the lines of its last load: each record is handed to the load, or asks it, and a line says what came
 // of it.
-ghost use Rattle.std.specs.Prelude.{◌<◌, IfSome, length};
-ghost use Rattle.std.specs.Iterator.{at_most};
-
 use crate::display_records::Board;
 use crate::kind::Kind;
 use crate::printed::told;
 use crate::record_fields::{Fields, Malformed};
 use crate::{call_records, query_records, settings_records, week_records, write_record};
 use file::Reader;
+use file::framed::Records;
 use file::record::record;
 use load::{Load, Stepped};
 use prefix::first;
 use refusal::{Answer, Refusal};
 use stdio::load_lines::{horizon, journeys, table};
 use stdio::out::Out;
-
-// The records of a file behind its first byte, each without its length.
-#[derive(Debug, Drop, PartialEq, Eq)]
-struct Records<'a> {
-    rest: &'a [u8],
-}
-
-impl<'a> Iterator for Records<'a> {
-    type Item = Result<&'a [u8], Malformed>;
-
-    ghost remaining = { λ s. at_most (length s.rest.now) };
-
-    fn next(&mut self) -> Option<Result<&'a [u8], Malformed>> {
-        if self.rest.is_empty() {
-            return None;
-        }
-        match split(self.rest) {
-            Some((first, rest)) => {
-                self.rest = rest;
-                Some(Ok(first))
-            }
-            None => {
-                self.rest = &[];
-                Some(Err(Malformed))
-            }
-        }
-    }
-}
-
-// The first record and what follows it, if it is there whole. `file: whole` gives the record alone.
-fn split(bytes: &[u8]) -> Option<(&[u8], &[u8])>
-    ensures { IfSome result (λ parts. length parts.1.now < length bytes.now) }
-{
-    let (size, rest) = bytes.split_first_chunk::<2>()?;
-    rest.split_at_checked(usize::from(u16::from_be_bytes(*size)))
-}
 
 // The open load, if there is one, and what is set aside and shown.
 #[derive(Debug, Default, Drop, PartialEq)]
@@ -157,11 +119,15 @@ fn load_lines(out: &mut Out, load: Load) {
     );
 }
 
-// The records after the first byte, up to one that is malformed; then the load.
+// The records after the first byte, up to one that is malformed or cut off; then the load.
 fn run(out: &mut Out, bytes: &[u8]) -> Result<(), Malformed> {
     let mut state = State::default();
-    for record in (Records { rest: bytes }) {
-        state.record(out, record?)?;
+    let mut records = Records { rest: bytes };
+    for b in records.by_ref() {
+        state.record(out, b)?;
+    }
+    if !records.rest.is_empty() {
+        return Err(Malformed);
     }
     if let Some(load) = state.load {
         load_lines(out, load);

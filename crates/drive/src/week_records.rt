@@ -1,6 +1,7 @@
 // Services and exceptions, which a load with dates takes (request 03).
 use crate::record_fields::{Fields, Malformed};
 use load::{Load, Stepped};
+use services::{ExceptionInput, ServiceInput};
 
 // Seven marks from Monday's on as a mask, in which Monday's is digit 0.
 fn mask(marks: [u8; 7]) -> Result<u8, Malformed> {
@@ -13,18 +14,22 @@ fn mask(marks: [u8; 7]) -> Result<u8, Malformed> {
 // A service: its name, seven marks, start and end.
 pub fn service(load: Load, mut fields: Fields<'_>) -> Result<Stepped, Malformed> {
     let name = fields.text()?;
-    let weekdays = mask(fields.bytes()?)?;
-    let start = fields.u32()?;
-    let end = fields.u32()?;
+    let input = ServiceInput {
+        weekdays: mask(fields.bytes()?)?,
+        start: fields.u32()?,
+        end: fields.u32()?,
+    };
     fields.end()?;
-    Ok(load.service(name, weekdays, start, end))
+    Ok(load.service(name, input))
 }
 
 // An exception: the service's name, a date, the type.
 pub fn exception(load: Load, mut fields: Fields<'_>) -> Result<Stepped, Malformed> {
     let name = fields.text()?;
-    let date = fields.u32()?;
-    let kind = fields.u8()?;
+    let input = ExceptionInput {
+        date: fields.u32()?,
+        kind: fields.u8()?,
+    };
     fields.end()?;
-    Ok(load.exception(name, date, kind))
+    Ok(load.exception(name, input))
 }

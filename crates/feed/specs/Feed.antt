@@ -1,7 +1,7 @@
--- The lent arrays as calls, memberships, walks and changes. The feed has six numbers for each of 512 calls in order (trip, day, stop, arrival,
--- departure, flags), then from 3072 the membership byte of each of 128 stops, from 3200 the walks of 4 origins and from 3204 those of 4 targets.
--- The changes have, at from * 128 + to, the seconds of a change between two stops, 65536 where there is none. Below, the tests and sums on what is
--- read.
+-- The lent arrays as calls, memberships, walks and changes. The feed has six numbers for each of 512 calls in order (trip, day, stop,
+-- arrival, departure, flags), then from 3072 the membership byte of each of 128 stops, from 3200 the walks of 4 origins and from 3204
+-- those of 4 targets. The changes have, at from * 128 + to, the seconds of a change between two stops, 65536 where there is none. Below,
+-- the tests and sums on what is read.
 use Rattle.std.specs.Prelude.{Bool, cond, not, ◌&&◌, List, ℕ, ◌+◌, ◌-◌, ◌*◌, ◌/◌, ◌%◌, eqb, leb, ltb, get_or}
 use Rattle.profile.specs.declared.figures.Figures.{Figures}
 use Rattle.feed.specs.declared.FeedCall.{FeedCall}

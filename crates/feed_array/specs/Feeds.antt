@@ -1,5 +1,5 @@
--- The feed: six numbers for each of 512 calls (trip, day, stop, arrival, departure, flags), then from 3072 the membership byte of each of 128 stops,
--- masked to the counts of origins and targets, from 3200 the walks of 4 origins and from 3204 those of 4 targets.
+-- The feed: six numbers for each of 512 calls (trip, day, stop, arrival, departure, flags), then from 3072 the membership byte of each of
+-- 128 stops, masked to the counts of origins and targets, from 3200 the walks of 4 origins and from 3204 those of 4 targets.
 use Rattle.std.specs.Prelude.{◌≡◌, Bool, true, false, cond, List, [], ◌∷◌, ℕ, ◌+◌, ◌*◌, ◌/◌, ◌%◌, ◌^◌, min, ◌<◌, ◌≤◌, eqb, ltb, get_or}
 use Rattle.settings.specs.declared.Settings.{Settings}
 use Rattle.stops.specs.declared.Stop.{Stop}
@@ -31,7 +31,8 @@ masked_of origins targets members = members % 2 ^ min origins 4 + members / 16 %
 pub record Feeds (f : List ℕ) (calls : List Call) (stops : List Stop) (s : Settings) : Type 0 where
   pub trip : (i : ℕ) → i < 512 → get_or f (i * 6) 0 ≡ (get_or calls i blank_call).trip
   pub day : (i : ℕ) → i < 512 → get_or f (i * 6 + 1) 0 ≡ (get_or calls i blank_call).day
-  pub stop : (i : ℕ) → i < 512 → get_or f (i * 6 + 2) 0 ≡ cond (ltb (get_or calls i blank_call).stop 128) (get_or calls i blank_call).stop 65535
+  pub stop : (i : ℕ) → i < 512 → get_or f (i * 6 + 2) 0
+      ≡ cond (ltb (get_or calls i blank_call).stop 128) (get_or calls i blank_call).stop 65535
   pub arrival : (i : ℕ) → i < 512 → get_or f (i * 6 + 3) 0 ≡ (get_or calls i blank_call).arrival
   pub departure : (i : ℕ) → i < 512 → get_or f (i * 6 + 4) 0 ≡ (get_or calls i blank_call).departure
   pub board : (i : ℕ) → i < 512 → eqb (get_or f (i * 6 + 5) 0 % 2) 1 ≡ (get_or calls i blank_call).board

@@ -20,7 +20,8 @@ text-is b = ap (λ (n : ℕ). take n (drop 2 b)) (size (byte_at b 1))
 -- ---- an optional text
 
 -- after its byte and its length
-pub option-text-is : (b : List ℕ) (at : ℕ) {here : Bool} {text : List ℕ} → here ≡ has_at b at → text ≡ take (option_text_end b at - (at + 2)) (drop (at + 2) b)
+pub option-text-is : (b : List ℕ) (at : ℕ) {here : Bool} {text : List ℕ} → here ≡ has_at b at
+    → text ≡ take (option_text_end b at - (at + 2)) (drop (at + 2) b)
     → cond here (Some text) None ≡ option_text_at b at
 unfolding option_text_end option_text_at
 option-text-is b at {text = text} here-is text-is = ap (λ (t : Bool). cond t (Some text) None) here-is ∙ go (has_at b at) text-is

@@ -1,2 +1,3 @@
 pub mod NumberLaws
 pub mod LayoutLaws
+pub mod KindLaws

@@ -33,7 +33,8 @@ pub whole_append : (xs ys : List ℕ) → starts_whole xs ≡ true → starts_wh
 unfolding starts_whole
 whole_append xs ys e =
     let room = whole_room xs e in
-    le-leb (2 + u16_at (xs ++ ys) 0) (length (xs ++ ys)) (rw (size-append xs ys (omega (arith, room)), length-append xs ys) (omega (arith, room)))
+    le-leb (2 + u16_at (xs ++ ys) 0) (length (xs ++ ys))
+    (rw (size-append xs ys (omega (arith, room)), length-append xs ys) (omega (arith, room)))
 
 pub body-append : (xs ys : List ℕ) → starts_whole xs ≡ true → body_of (xs ++ ys) ≡ body_of xs
 body-append xs ys e =
@@ -55,7 +56,8 @@ turned whole refused r xs next =
     (record { answer = Ok Taken; used = 0; reader = r })
 
 fed-turned : (n : ℕ) (r : Reader) (xs : List ℕ)
-    → fed_by (suc n) r xs ≡ turned (starts_whole xs) (is_refused (record_spec r (body_of xs)).answer) r xs (fed_by n (record_spec r (body_of xs)).reader (drop (size_of xs) xs))
+    → fed_by (suc n) r xs ≡ turned (starts_whole xs) (is_refused (record_spec r (body_of xs)).answer) r xs
+    (fed_by n (record_spec r (body_of xs)).reader (drop (size_of xs) xs))
 unfolding fed_by turned
 fed-turned n r xs = refl
 
@@ -63,7 +65,8 @@ fed-turned n r xs = refl
 fed-by-room : (n : ℕ) (r : Reader) (xs : List ℕ) → (fed_by n r xs).used ≤ length xs
 unfolding fed_by turned
 fed-by-room zero r xs = omega arith
-fed-by-room (suc n) r xs = go (starts_whole xs) refl (is_refused (record_spec r (body_of xs)).answer) (fed-by-room n (record_spec r (body_of xs)).reader (drop (size_of xs) xs))
+fed-by-room (suc n) r xs = go (starts_whole xs) refl (is_refused (record_spec r (body_of xs)).answer)
+    (fed-by-room n (record_spec r (body_of xs)).reader (drop (size_of xs) xs))
   where
     rest : Fed
     rest = fed_by n (record_spec r (body_of xs)).reader (drop (size_of xs) xs)
@@ -86,18 +89,22 @@ fed-enough zero (suc m) r (x ∷ xs) h k = absurd (omega arith)
 fed-enough (suc n) zero r [] h k = rw none-whole refl
 fed-enough (suc n) zero r (x ∷ xs) h k = absurd (omega arith)
 fed-enough (suc n) (suc m) r xs h k =
-    go (starts_whole xs) refl (is_refused (record_spec r (body_of xs)).answer) (λ (a : length (drop (size_of xs) xs) ≤ n) (b : length (drop (size_of xs) xs) ≤ m). fed-enough n m (record_spec r (body_of xs)).reader (drop (size_of xs) xs) a b)
+    go (starts_whole xs) refl (is_refused (record_spec r (body_of xs)).answer)
+    (λ (a : length (drop (size_of xs) xs) ≤ n) (b : length (drop (size_of xs) xs) ≤ m).
+    fed-enough n m (record_spec r (body_of xs)).reader (drop (size_of xs) xs) a b)
   where
     rest : ℕ → Fed
     rest k = fed_by k (record_spec r (body_of xs)).reader (drop (size_of xs) xs)
 
     go : (b : Bool) → starts_whole xs ≡ b → (c : Bool)
-        → (length (drop (size_of xs) xs) ≤ n → length (drop (size_of xs) xs) ≤ m → rest n ≡ rest m) → turned b c r xs (rest n) ≡ turned b c r xs (rest m)
+        → (length (drop (size_of xs) xs) ≤ n → length (drop (size_of xs) xs) ≤ m → rest n ≡ rest m)
+        → turned b c r xs (rest n) ≡ turned b c r xs (rest m)
     go false e c ih = refl
     go true e true ih = refl
     go true e false ih =
         let room = whole_room xs e in
-        ap (later (size_of xs)) (ih (rw (length-drop (size_of xs) xs) (omega (arith, room))) (rw (length-drop (size_of xs) xs) (omega (arith, room))))
+        ap (later (size_of xs)) (ih (rw (length-drop (size_of xs) xs) (omega (arith, room)))
+        (rw (length-drop (size_of xs) xs) (omega (arith, room))))
 
 -- ---- the three ways of a turn
 
@@ -119,7 +126,8 @@ fed-goes-on r [] e f = absurd (false≢true (sym none-whole ∙ e))
 fed-goes-on r (x ∷ xs) e f =
     let room = whole_room (x ∷ xs) e in
     fed-turned (length xs) r (x ∷ xs)
-    ∙ rw (e, f) (ap (later (size_of (x ∷ xs))) (fed-enough (length xs) (length (drop (size_of (x ∷ xs)) (x ∷ xs))) _ _ (rw (length-drop (size_of (x ∷ xs)) (x ∷ xs)) (omega (arith, room))) (omega arith)))
+    ∙ rw (e, f) (ap (later (size_of (x ∷ xs))) (fed-enough (length xs) (length (drop (size_of (x ∷ xs)) (x ∷ xs))) _ _
+    (rw (length-drop (size_of (x ∷ xs)) (x ∷ xs)) (omega (arith, room))) (omega arith)))
 
 -- ---- in parts
 
@@ -146,33 +154,41 @@ Parted r xs ys f = fed_spec r (xs ++ ys) ≡ continued f xs ys
 parted-stop : (r : Reader) (xs ys : List ℕ) → starts_whole xs ≡ false → Parted r xs ys (fed_spec r xs)
 parted-stop r xs ys e = subst (Parted r xs ys) (sym (fed-stops r xs e)) (sym (later-zero (fed_spec r (xs ++ ys))))
 
-parted-refused : (r : Reader) (xs ys : List ℕ) → starts_whole xs ≡ true → is_refused (record_spec r (body_of xs)).answer ≡ true → Parted r xs ys (fed_spec r xs)
+parted-refused : (r : Reader) (xs ys : List ℕ) → starts_whole xs ≡ true → is_refused (record_spec r (body_of xs)).answer ≡ true
+    → Parted r xs ys (fed_spec r xs)
 parted-refused r xs ys e f =
     let body = body-append xs ys e in
     subst (Parted r xs ys) (sym (fed-refuses r xs e f))
-    (fed-refuses r (xs ++ ys) (whole_append xs ys e) (ap (λ (b : List ℕ). is_refused (record_spec r b).answer) body ∙ f) ∙ rw (body, f) refl)
+    (fed-refuses r (xs ++ ys) (whole_append xs ys e) (ap (λ (b : List ℕ). is_refused (record_spec r b).answer) body ∙ f)
+    ∙ rw (body, f) refl)
 
 -- a turn more or less before what is continued
 later-continued : (s : ℕ) (g : Fed) (xs ys : List ℕ) → later s (continued g (drop s xs) ys) ≡ continued (later s g) xs ys
 later-continued s g xs ys = go (is_refused g.answer)
   where
-    go : (b : Bool) → later s (cond b g (later g.used (fed_spec g.reader (drop g.used (drop s xs) ++ ys)))) ≡ cond b (later s g) (later (s + g.used) (fed_spec g.reader (drop (s + g.used) xs ++ ys)))
+    go : (b : Bool) → later s (cond b g (later g.used (fed_spec g.reader (drop g.used (drop s xs) ++ ys))))
+        ≡ cond b (later s g) (later (s + g.used) (fed_spec g.reader (drop (s + g.used) xs ++ ys)))
     go true = refl
     go false = later-later s g.used _ ∙ ap (λ (zs : List ℕ). later (s + g.used) (fed_spec g.reader (zs ++ ys))) (drop-drop g.used s xs)
 
 parted-on : (r : Reader) (xs ys : List ℕ) → starts_whole xs ≡ true → is_refused (record_spec r (body_of xs)).answer ≡ false
-    → Parted (record_spec r (body_of xs)).reader (drop (size_of xs) xs) ys (fed_spec (record_spec r (body_of xs)).reader (drop (size_of xs) xs)) → Parted r xs ys (fed_spec r xs)
+    → Parted (record_spec r (body_of xs)).reader (drop (size_of xs) xs) ys
+    (fed_spec (record_spec r (body_of xs)).reader (drop (size_of xs) xs)) → Parted r xs ys (fed_spec r xs)
 parted-on r xs ys e f ih =
-    subst (Parted r xs ys) (sym (fed-goes-on r xs e f)) (turn-append r xs ys e f ∙ ap (later (size_of xs)) ih ∙ later-continued (size_of xs) (fed_spec (record_spec r (body_of xs)).reader (drop (size_of xs) xs)) xs ys)
+    subst (Parted r xs ys) (sym (fed-goes-on r xs e f))
+    (turn-append r xs ys e f ∙ ap (later (size_of xs)) ih
+    ∙ later-continued (size_of xs) (fed_spec (record_spec r (body_of xs)).reader (drop (size_of xs) xs)) xs ys)
 
 parted : (n : ℕ) (r : Reader) (xs ys : List ℕ) → length xs ≤ n → Parted r xs ys (fed_spec r xs)
 parted zero r [] ys h = parted-stop r [] ys none-whole
 parted zero r (x ∷ xs) ys h = absurd (omega arith)
 parted (suc n) r xs ys h =
-    go (starts_whole xs) refl (is_refused (record_spec r (body_of xs)).answer) refl (λ (k : length (drop (size_of xs) xs) ≤ n). parted n (record_spec r (body_of xs)).reader (drop (size_of xs) xs) ys k)
+    go (starts_whole xs) refl (is_refused (record_spec r (body_of xs)).answer) refl
+    (λ (k : length (drop (size_of xs) xs) ≤ n). parted n (record_spec r (body_of xs)).reader (drop (size_of xs) xs) ys k)
   where
     go : (b : Bool) → starts_whole xs ≡ b → (c : Bool) → is_refused (record_spec r (body_of xs)).answer ≡ c
-        → (length (drop (size_of xs) xs) ≤ n → Parted (record_spec r (body_of xs)).reader (drop (size_of xs) xs) ys (fed_spec (record_spec r (body_of xs)).reader (drop (size_of xs) xs)))
+        → (length (drop (size_of xs) xs) ≤ n → Parted (record_spec r (body_of xs)).reader (drop (size_of xs) xs) ys
+        (fed_spec (record_spec r (body_of xs)).reader (drop (size_of xs) xs)))
         → Parted r xs ys (fed_spec r xs)
     go false e c f ih = parted-stop r xs ys e
     go true e true f ih = parted-refused r xs ys e f

@@ -36,12 +36,14 @@ bodies-enough n zero [] h k = bodies-stop n [] none-whole ∙ sym (bodies-stop z
 bodies-enough n (suc m) [] h k = bodies-stop n [] none-whole ∙ sym (bodies-stop (suc m) [] none-whole)
 bodies-enough zero m (x ∷ xs) h k = absurd (omega arith)
 bodies-enough (suc n) zero (x ∷ xs) h k = absurd (omega arith)
-bodies-enough (suc n) (suc m) (x ∷ xs) h k = go (starts_whole (x ∷ xs)) refl (bodies-enough n m (drop (size_of (x ∷ xs)) (x ∷ xs)) (omega (arith, short, h)) (omega (arith, short, k)))
+bodies-enough (suc n) (suc m) (x ∷ xs) h k = go (starts_whole (x ∷ xs)) refl
+    (bodies-enough n m (drop (size_of (x ∷ xs)) (x ∷ xs)) (omega (arith, short, h)) (omega (arith, short, k)))
   where
     short : length (drop (size_of (x ∷ xs)) (x ∷ xs)) ≤ length xs
     short = rw (length-drop (size_of (x ∷ xs)) (x ∷ xs)) (omega arith)
 
-    go : (w : Bool) → starts_whole (x ∷ xs) ≡ w → bodies_by n (drop (size_of (x ∷ xs)) (x ∷ xs)) ≡ bodies_by m (drop (size_of (x ∷ xs)) (x ∷ xs))
+    go : (w : Bool) → starts_whole (x ∷ xs) ≡ w → bodies_by n (drop (size_of (x ∷ xs)) (x ∷ xs))
+        ≡ bodies_by m (drop (size_of (x ∷ xs)) (x ∷ xs))
         → bodies_by (suc n) (x ∷ xs) ≡ bodies_by (suc m) (x ∷ xs)
     go false e ih = bodies-stop (suc n) (x ∷ xs) e ∙ sym (bodies-stop (suc m) (x ∷ xs) e)
     go true e ih = bodies-on n (x ∷ xs) e ∙ ap (λ (bs : List (List ℕ)). body_of (x ∷ xs) ∷ bs) ih ∙ sym (bodies-on m (x ∷ xs) e)
@@ -60,7 +62,8 @@ first-left (x ∷ xs) {b} e =
     ∙ (λ k. sym w.is k ∷ bodies_by (length xs) (drop (sym w.size k) (x ∷ xs)))
     ∙ ap (λ (bs : List (List ℕ)). b ∷ bs) (bodies-enough (length xs) _ (drop (2 + length b) (x ∷ xs)) short (omega arith))
 
-pub one-left : (xs : List ℕ) {b : List ℕ} → Some b ≡ whole_of xs → all_bodies xs ≡ b ∷ all_bodies (take (length xs - (2 + length b)) (drop (2 + length b) xs))
+pub one-left : (xs : List ℕ) {b : List ℕ} → Some b ≡ whole_of xs
+    → all_bodies xs ≡ b ∷ all_bodies (take (length xs - (2 + length b)) (drop (2 + length b) xs))
 one-left xs {b} e = first-left xs e ∙ ap (λ (ys : List ℕ). b ∷ all_bodies ys) (sym (part_to_end xs (2 + length b)))
 
 pub room-left : (xs : List ℕ) {b : List ℕ} → Some b ≡ whole_of xs → 2 + length b ≤ length xs
@@ -70,7 +73,8 @@ room-left xs e = let w = whole-tells xs e in omega (arith, w.size, whole_room xs
 
 body-size : (xs : List ℕ) → starts_whole xs ≡ true → size_of xs ≡ 2 + length (body_of xs)
 body-size xs e =
-    let l : length (body_of xs) ≡ u16_at xs 0 = length-take-le (u16_at xs 0) (drop 2 xs) (omega (arith, whole_room xs e, length-drop 2 xs)) in
+    let l : length (body_of xs) ≡ u16_at xs 0 = length-take-le (u16_at xs 0) (drop 2 xs)
+    (omega (arith, whole_room xs e, length-drop 2 xs)) in
     omega (arith, l)
 
 by-bodies : (n : ℕ) (r : Reader) (xs : List ℕ) → fed_by n r xs ≡ fed_each r (bodies_by n xs)
@@ -79,12 +83,14 @@ by-bodies zero r xs = refl
 by-bodies (suc n) r xs = go (starts_whole xs) refl (by-bodies n (record_spec r (body_of xs)).reader (drop (size_of xs) xs))
   where
     first : Fed → Fed
-    first f = cond (is_refused (record_spec r (body_of xs)).answer) (record { answer = (record_spec r (body_of xs)).answer; used = 0; reader = r }) f
+    first f = cond (is_refused (record_spec r (body_of xs)).answer)
+        (record { answer = (record_spec r (body_of xs)).answer; used = 0; reader = r }) f
 
     none : Fed
     none = fed_each r []
 
-    go : (w : Bool) → starts_whole xs ≡ w → fed_by n (record_spec r (body_of xs)).reader (drop (size_of xs) xs) ≡ fed_each (record_spec r (body_of xs)).reader (bodies_by n (drop (size_of xs) xs))
+    go : (w : Bool) → starts_whole xs ≡ w → fed_by n (record_spec r (body_of xs)).reader (drop (size_of xs) xs)
+        ≡ fed_each (record_spec r (body_of xs)).reader (bodies_by n (drop (size_of xs) xs))
         → cond w (first (later (size_of xs) (fed_by n (record_spec r (body_of xs)).reader (drop (size_of xs) xs)))) none
         ≡ fed_each r (cond w (body_of xs ∷ bodies_by n (drop (size_of xs) xs)) [])
     go false e ih = refl

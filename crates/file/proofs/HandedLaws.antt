@@ -29,16 +29,18 @@ use Rattle.file.proofs.RecordLaws.{taken-settled}
 
 -- ---- what a taken record does
 
-steps : (r : Reader) (b : List ℕ) → r.opened ≡ true → is_refused (record_spec r b).answer ≡ false → (record_spec r b).reader ≡ open_reader (stepped r.load (step_in b)).load
+steps : (r : Reader) (b : List ℕ) → r.opened ≡ true → is_refused (record_spec r b).answer ≡ false
+    → (record_spec r b).reader ≡ open_reader (stepped r.load (step_in b)).load
 unfolding stepped_by
 steps r b o k = (taken-settled r b k).1 ∙ rw o refl
 
 -- settings that are not sent back open a load
-not-sent-back : (s : Settings) → is_refused (open_answer (undated s)) ≡ false → open_answer (undated s) ≡ Ok Taken
+pub not-sent-back : (s : Settings) → is_refused (open_answer (undated s)) ≡ false → open_answer (undated s) ≡ Ok Taken
 unfolding open_answer first_answer settings_tests
 not-sent-back s e = go (over_counts s.origins s.targets s.max_transfers s.transfer_seconds) (not (all_near s.now s.epochs)) e
   where
-    go : (x y : Bool) → is_refused (cond x (Err SettingsRange) (cond y (Err ClockRange) (Ok Taken))) ≡ false → cond x (Err SettingsRange) (cond y (Err ClockRange) (Ok Taken)) ≡ Ok Taken
+    go : (x y : Bool) → is_refused (cond x (Err SettingsRange) (cond y (Err ClockRange) (Ok Taken))) ≡ false
+        → cond x (Err SettingsRange) (cond y (Err ClockRange) (Ok Taken)) ≡ Ok Taken
     go true y e = absurd (true≢false e)
     go false true e = absurd (true≢false e)
     go false false e = refl
@@ -48,7 +50,9 @@ opens : (r : Reader) (b : List ℕ) → r.opened ≡ false → is_refused (recor
 unfolding stepped_by open_spec_of
 opens r b o k =
     let t = taken-settled r b k in
-    let f : is_refused (open_answer (undated (settings_by r.second b))) ≡ false = subst (λ (c : Bool). is_refused (cond c (stepped r.load (step_in b)) (open_spec_of (undated (settings_by r.second b)))).answer ≡ false) o t.0 in
+    let f : is_refused (open_answer (undated (settings_by r.second b))) ≡ false =
+    subst (λ (c : Bool). is_refused (cond c (stepped r.load (step_in b)) (open_spec_of (undated (settings_by r.second b)))).answer
+    ≡ false) o t.0 in
     ((not-sent-back (settings_by r.second b) f, tt), t.1 ∙ rw (o, f) refl)
 
 -- ---- the bodies
@@ -60,29 +64,38 @@ Hands n r xs f = is_refused f.answer ≡ false → f.reader.load ≡ handed r.lo
 hands-stop : (n : ℕ) (r : Reader) (xs : List ℕ) → starts_whole xs ≡ false → Hands n r xs (fed_spec r xs)
 hands-stop n r xs e = subst (Hands n r xs) (sym (fed-stops r xs e)) (λ k. rw (bodies-stop n xs e) refl)
 
-hands-refused : (n : ℕ) (r : Reader) (xs : List ℕ) → starts_whole xs ≡ true → is_refused (record_spec r (body_of xs)).answer ≡ true → Hands n r xs (fed_spec r xs)
+hands-refused : (n : ℕ) (r : Reader) (xs : List ℕ) → starts_whole xs ≡ true → is_refused (record_spec r (body_of xs)).answer ≡ true
+    → Hands n r xs (fed_spec r xs)
 hands-refused n r xs e f = subst (Hands n r xs) (sym (fed-refuses r xs e f)) (λ k. absurd (true≢false (sym f ∙ k)))
 
-hands_on : (n : ℕ) (r : Reader) (xs : List ℕ) → r.opened ≡ true → starts_whole xs ≡ true → is_refused (record_spec r (body_of xs)).answer ≡ false
-    → Hands n (record_spec r (body_of xs)).reader (drop (size_of xs) xs) (fed_spec (record_spec r (body_of xs)).reader (drop (size_of xs) xs)) → Hands (suc n) r xs (fed_spec r xs)
+hands_on : (n : ℕ) (r : Reader) (xs : List ℕ) → r.opened ≡ true → starts_whole xs ≡ true
+    → is_refused (record_spec r (body_of xs)).answer ≡ false
+    → Hands n (record_spec r (body_of xs)).reader (drop (size_of xs) xs)
+    (fed_spec (record_spec r (body_of xs)).reader (drop (size_of xs) xs)) → Hands (suc n) r xs (fed_spec r xs)
 hands_on n r xs o e f ih =
     subst (Hands (suc n) r xs) (sym (fed-goes-on r xs e f))
-    (λ k. ih k ∙ ap (λ (q : Reader). handed q.load (map step_in (bodies_by n (drop (size_of xs) xs)))) (steps r (body_of xs) o f) ∙ sym (rw (bodies-on n xs e) refl))
+    (λ k. ih k ∙ ap (λ (q : Reader). handed q.load (map step_in (bodies_by n (drop (size_of xs) xs)))) (steps r (body_of xs) o f)
+    ∙ sym (rw (bodies-on n xs e) refl))
 
 hands : (n : ℕ) (r : Reader) (xs : List ℕ) → length xs ≤ n → r.opened ≡ true → Hands n r xs (fed_spec r xs)
 hands zero r [] h o = hands-stop zero r [] none-whole
 hands zero r (x ∷ xs) h o = absurd (omega arith)
 hands (suc n) r xs h o =
-    go (starts_whole xs) refl (is_refused (record_spec r (body_of xs)).answer) refl (λ (k : length (drop (size_of xs) xs) ≤ n) (q : (record_spec r (body_of xs)).reader.opened ≡ true). hands n (record_spec r (body_of xs)).reader (drop (size_of xs) xs) k q)
+    go (starts_whole xs) refl (is_refused (record_spec r (body_of xs)).answer) refl
+    (λ (k : length (drop (size_of xs) xs) ≤ n) (q : (record_spec r (body_of xs)).reader.opened ≡ true).
+    hands n (record_spec r (body_of xs)).reader (drop (size_of xs) xs) k q)
   where
     go : (b : Bool) → starts_whole xs ≡ b → (c : Bool) → is_refused (record_spec r (body_of xs)).answer ≡ c
-        → (length (drop (size_of xs) xs) ≤ n → (record_spec r (body_of xs)).reader.opened ≡ true → Hands n (record_spec r (body_of xs)).reader (drop (size_of xs) xs) (fed_spec (record_spec r (body_of xs)).reader (drop (size_of xs) xs)))
+        → (length (drop (size_of xs) xs) ≤ n → (record_spec r (body_of xs)).reader.opened ≡ true
+        → Hands n (record_spec r (body_of xs)).reader (drop (size_of xs) xs)
+        (fed_spec (record_spec r (body_of xs)).reader (drop (size_of xs) xs)))
         → Hands (suc n) r xs (fed_spec r xs)
     go false e c f ih = hands-stop (suc n) r xs e
     go true e true f ih = hands-refused (suc n) r xs e f
     go true e false f ih =
         let room = whole_room xs e in
-        hands_on n r xs o e f (ih (rw (length-drop (size_of xs) xs) (omega (arith, room))) (ap (λ (q : Reader). q.opened) (steps r (body_of xs) o f)))
+        hands_on n r xs o e f (ih (rw (length-drop (size_of xs) xs) (omega (arith, room)))
+        (ap (λ (q : Reader). q.opened) (steps r (body_of xs) o f)))
 
 -- ---- the whole file
 
@@ -100,18 +113,23 @@ end-opened o left e = go (not (eqb left 0)) o e
 ended : (xs : List ℕ) (f : Fed) → (ended_by xs f).answer ≡ Ok Taken → (is_refused f.answer ≡ false) × (f.reader.opened ≡ true)
 ended xs f e = go (is_refused f.answer) refl e
   where
-    go : (c : Bool) → is_refused f.answer ≡ c → cond c f.answer (end_answer f.reader.opened (length (drop f.used xs))) ≡ Ok Taken → (is_refused f.answer ≡ false) × (f.reader.opened ≡ true)
+    go : (c : Bool) → is_refused f.answer ≡ c → cond c f.answer (end_answer f.reader.opened (length (drop f.used xs))) ≡ Ok Taken
+        → (is_refused f.answer ≡ false) × (f.reader.opened ≡ true)
     go true q k = absurd (true≢false (sym q ∙ ap is_refused k))
     go false q k = (q, end-opened f.reader.opened (length (drop f.used xs)) k)
 
 -- past the version
-read-on : (xs : List ℕ) → (read_spec_of xs).answer ≡ Ok Taken → read_spec_of xs ≡ ended_by (drop 1 xs) (fed_spec (fresh_reader (is_second xs)) (drop 1 xs))
+read-on : (xs : List ℕ) → (read_spec_of xs).answer ≡ Ok Taken
+    → read_spec_of xs ≡ ended_by (drop 1 xs) (fed_spec (fresh_reader (is_second xs)) (drop 1 xs))
 unfolding read_spec_of
 read-on xs e = go (is_refused (version_answer xs)) refl e
   where
     go : (c : Bool) → is_refused (version_answer xs) ≡ c
-        → (cond c (record { answer = version_answer xs; reader = (fresh_reader (is_second xs)) }) (ended_by (drop 1 xs) (fed_spec (fresh_reader (is_second xs)) (drop 1 xs)))).answer ≡ Ok Taken
-        → cond c (record { answer = version_answer xs; reader = (fresh_reader (is_second xs)) }) (ended_by (drop 1 xs) (fed_spec (fresh_reader (is_second xs)) (drop 1 xs))) ≡ ended_by (drop 1 xs) (fed_spec (fresh_reader (is_second xs)) (drop 1 xs))
+        → (cond c (record { answer = version_answer xs; reader = (fresh_reader (is_second xs)) })
+        (ended_by (drop 1 xs) (fed_spec (fresh_reader (is_second xs)) (drop 1 xs)))).answer ≡ Ok Taken
+        → cond c (record { answer = version_answer xs; reader = (fresh_reader (is_second xs)) })
+        (ended_by (drop 1 xs) (fed_spec (fresh_reader (is_second xs)) (drop 1 xs)))
+        ≡ ended_by (drop 1 xs) (fed_spec (fresh_reader (is_second xs)) (drop 1 xs))
     go true q k = absurd (true≢false (sym q ∙ ap is_refused k))
     go false q k = refl
 
@@ -123,7 +141,8 @@ pub record Fills (second : Bool) (zs : List ℕ) (f : Fed) : Type 0 where
   pub opens : Opens (undated (settings_by second head))
   pub ends : f.reader.load ≡ end_of (undated (settings_by second head)) (map step_in rest)
 
-fills-on : (second : Bool) (z : ℕ) (zs : List ℕ) → starts_whole (z ∷ zs) ≡ true → is_refused (record_spec (fresh_reader second) (body_of (z ∷ zs))).answer ≡ false
+fills-on : (second : Bool) (z : ℕ) (zs : List ℕ) → starts_whole (z ∷ zs) ≡ true
+    → is_refused (record_spec (fresh_reader second) (body_of (z ∷ zs))).answer ≡ false
     → is_refused (fed_spec (fresh_reader second) (z ∷ zs)).answer ≡ false → Fills second (z ∷ zs) (fed_spec (fresh_reader second) (z ∷ zs))
 unfolding fresh_reader
 fills-on second z zs e f k =
@@ -137,7 +156,9 @@ fills-on second z zs e f k =
       opens = o.0;
       ends =
           ap (λ (g : Fed). g.reader.load) s
-          ∙ hands (length zs) (record_spec (fresh_reader second) (body_of (z ∷ zs))).reader (drop (size_of (z ∷ zs)) (z ∷ zs)) (rw (length-drop (size_of (z ∷ zs)) (z ∷ zs)) (omega (arith, room))) (ap (λ (q : Reader). q.opened) o.1) (sym (ap (λ (g : Fed). is_refused g.answer) s) ∙ k)
+          ∙ hands (length zs) (record_spec (fresh_reader second) (body_of (z ∷ zs))).reader (drop (size_of (z ∷ zs)) (z ∷ zs))
+          (rw (length-drop (size_of (z ∷ zs)) (z ∷ zs)) (omega (arith, room))) (ap (λ (q : Reader). q.opened) o.1)
+          (sym (ap (λ (g : Fed). is_refused g.answer) s) ∙ k)
           ∙ ap (λ (q : Reader). handed q.load (map step_in (bodies_by (length zs) (drop (size_of (z ∷ zs)) (z ∷ zs))))) o.1;
     }
 
@@ -145,13 +166,17 @@ fills-none : (second : Bool) (zs : List ℕ) → starts_whole zs ≡ false → (
 unfolding fresh_reader
 fills-none second zs e k = false≢true (sym (ap (λ (g : Fed). g.reader.opened) (fed-stops (fresh_reader second) zs e)) ∙ k)
 
-fills : (second : Bool) (zs : List ℕ) → is_refused (fed_spec (fresh_reader second) zs).answer ≡ false → (fed_spec (fresh_reader second) zs).reader.opened ≡ true → Fills second zs (fed_spec (fresh_reader second) zs)
+fills : (second : Bool) (zs : List ℕ) → is_refused (fed_spec (fresh_reader second) zs).answer ≡ false
+    → (fed_spec (fresh_reader second) zs).reader.opened ≡ true → Fills second zs (fed_spec (fresh_reader second) zs)
 fills second [] k o = absurd (fills-none second [] none-whole o)
 fills second (z ∷ zs) k o = go (starts_whole (z ∷ zs)) refl (is_refused (record_spec (fresh_reader second) (body_of (z ∷ zs))).answer) refl
   where
-    go : (b : Bool) → starts_whole (z ∷ zs) ≡ b → (c : Bool) → is_refused (record_spec (fresh_reader second) (body_of (z ∷ zs))).answer ≡ c → Fills second (z ∷ zs) (fed_spec (fresh_reader second) (z ∷ zs))
+    go : (b : Bool) → starts_whole (z ∷ zs) ≡ b → (c : Bool)
+        → is_refused (record_spec (fresh_reader second) (body_of (z ∷ zs))).answer ≡ c
+        → Fills second (z ∷ zs) (fed_spec (fresh_reader second) (z ∷ zs))
     go false e c f = absurd (fills-none second (z ∷ zs) e o)
-    go true e true f = absurd (true≢false (sym f ∙ sym (ap (λ (g : Fed). is_refused g.answer) (fed-refuses (fresh_reader second) (z ∷ zs) e f)) ∙ k))
+    go true e true f = absurd (true≢false (sym f
+        ∙ sym (ap (λ (g : Fed). is_refused g.answer) (fed-refuses (fresh_reader second) (z ∷ zs) e f)) ∙ k))
     go true e false f = fills-on second z zs e f k
 
 pub read-hands : ReadHands

@@ -2,6 +2,7 @@ pub mod KindLaws
 pub mod StopLaws
 pub mod FedLaws
 pub mod RecordLaws
+pub mod TestedLaws
 pub mod AnsweredLaws
 pub mod HandedLaws
 pub mod ListedLaws

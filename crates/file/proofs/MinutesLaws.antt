@@ -39,10 +39,12 @@ minutes-read xs v taken b bs bodies m e =
     let h = read-hands xs taken in
     let (first, others) = same_head h.head b h.rest bs (sym h.bodies ∙ bodies) in
     let first-version : settings_by (is_second xs) h.head ≡ settings_in h.head = cond-not _ _ (ap (λ (n : ℕ). eqb n 2) v) in
-    let given : settings_by (is_second xs) h.head ≡ with_seconds (settings_in b) (60 * m) = first-version ∙ ap settings_in first ∙ in-seconds b m e in
+    let given : settings_by (is_second xs) h.head ≡ with_seconds (settings_in b) (60 * m) =
+    first-version ∙ ap settings_in first ∙ in-seconds b m e in
     record {
       load = h.ends ∙ (λ i. end_of (undated (given i)) (map step_in (others i)));
       held =
           ap (λ (l : Load). l.settings.transfer_seconds) h.ends
-          ∙ ap (λ (s : Settings). s.transfer_seconds) ((handed-sound (undated (settings_by (is_second xs) h.head)) (map step_in h.rest) h.opens).0 ∙ ap canonical_of given);
+          ∙ ap (λ (s : Settings). s.transfer_seconds)
+          ((handed-sound (undated (settings_by (is_second xs) h.head)) (map step_in h.rest) h.opens).0 ∙ ap canonical_of given);
     }

@@ -21,7 +21,8 @@ use Rattle.steps.specs.Steps.{stepped}
 use Rattle.steps.proofs.AnsweredLaws.{step-answered, opening-answered}
 use Rattle.file.specs.declared.Reader.{Reader}
 use Rattle.file.specs.declared.Took.{Took}
-use Rattle.file.specs.Record.{open_reader, kind_right, filled, record_tests, step_in, stepped_by, settled, record_spec, causes_by, numbers_by, RecordAnswered}
+use Rattle.file.specs.Record.{open_reader, kind_right, filled, record_tests, step_in, stepped_by, settled, record_spec, causes_by}
+use Rattle.file.specs.Record.{numbers_by, RecordAnswered}
 
 refused-not-taken : (a : Answer) → is_refused a ≡ true → a ≡ Ok Taken → ⊥
 refused-not-taken (Ok Taken) e q = false≢true e
@@ -29,11 +30,13 @@ refused-not-taken (Ok Outside) e q = false≢true e
 refused-not-taken (Err r) e q = false≢true (sym (ap is_refused q) ∙ e)
 
 -- every test sends the record back, so one that is not sent back fails each
-all-fail : (opened second : Bool) (b : List ℕ) → is_refused (first_answer (record_tests opened second b)) ≡ false → AllFail (record_tests opened second b)
+pub all-fail : (opened second : Bool) (b : List ℕ) → is_refused (first_answer (record_tests opened second b)) ≡ false
+    → AllFail (record_tests opened second b)
 unfolding record_tests first_answer
 all-fail opened second b e = go (eqb (length b) 0) (not (kind_right opened (byte_at b 0))) (not (filled second b)) e
   where
-    go : (x y z : Bool) → is_refused (cond x (Err RecordLength) (cond y (Err RecordKind) (cond z (Err RecordLength) (Ok Taken)))) ≡ false → (x ≡ false) × ((y ≡ false) × ((z ≡ false) × Unit {0}))
+    go : (x y z : Bool) → is_refused (cond x (Err RecordLength) (cond y (Err RecordKind) (cond z (Err RecordLength) (Ok Taken)))) ≡ false
+        → (x ≡ false) × ((y ≡ false) × ((z ≡ false) × Unit {0}))
     go true y z e = absurd (true≢false e)
     go false true z e = absurd (true≢false e)
     go false false true e = absurd (true≢false e)
@@ -49,17 +52,20 @@ stepping : (r : Reader) (b : List ℕ) → Stepping r b (stepped_by r b).answer
 unfolding stepped_by
 stepping r b = go r.opened
   where
-    go : (o : Bool) → Stepping (record { opened = o; second = r.second; load = r.load }) b (cond o (stepped r.load (step_in b)) (open_spec_of (undated (settings_by r.second b)))).answer
+    go : (o : Bool) → Stepping (record { opened = o; second = r.second; load = r.load }) b
+        (cond o (stepped r.load (step_in b)) (open_spec_of (undated (settings_by r.second b)))).answer
     go true = let w = step-answered r.load (step_in b) in record { first = w.first; taken = w.taken; listed = w.listed }
     go false = let w = opening-answered (undated (settings_by r.second b)) in record { first = w.first; taken = w.taken; listed = w.listed }
 
 -- a record that is sent back has 18 or 19
-pub tests-listed : (opened second : Bool) (b : List ℕ) (ns : List ℕ) → is_refused (first_answer (record_tests opened second b)) ≡ true → one_of (answer_number (first_answer (record_tests opened second b))) (0 ∷ 18 ∷ 19 ∷ ns) ≡ true
+pub tests-listed : (opened second : Bool) (b : List ℕ) (ns : List ℕ) → is_refused (first_answer (record_tests opened second b)) ≡ true
+    → one_of (answer_number (first_answer (record_tests opened second b))) (0 ∷ 18 ∷ 19 ∷ ns) ≡ true
 unfolding record_tests first_answer
 tests-listed opened second b ns e = go (eqb (length b) 0) (not (kind_right opened (byte_at b 0))) (not (filled second b)) e
   where
     go : (x y z : Bool) → is_refused (cond x (Err RecordLength) (cond y (Err RecordKind) (cond z (Err RecordLength) (Ok Taken)))) ≡ true
-        → one_of (answer_number (cond x (Err RecordLength) (cond y (Err RecordKind) (cond z (Err RecordLength) (Ok Taken))))) (0 ∷ 18 ∷ 19 ∷ ns) ≡ true
+        → one_of (answer_number (cond x (Err RecordLength) (cond y (Err RecordKind) (cond z (Err RecordLength) (Ok Taken)))))
+        (0 ∷ 18 ∷ 19 ∷ ns) ≡ true
     go true y z e = refl
     go false true z e = refl
     go false false true e = refl
@@ -77,11 +83,14 @@ both-fail [] us n m = m
 both-fail (t ∷ ts) us (e, n) m = (e, both-fail ts us n m)
 
 -- past the tests, what is answered is the step's
-tested : (r : Reader) (b : List ℕ) (c : Bool) → is_refused (first_answer (record_tests r.opened r.second b)) ≡ c → record_spec r b ≡ cond c (record { answer = first_answer (record_tests r.opened r.second b); reader = r }) (settled r (stepped_by r b))
+tested : (r : Reader) (b : List ℕ) (c : Bool) → is_refused (first_answer (record_tests r.opened r.second b)) ≡ c
+    → record_spec r b ≡ cond c (record { answer = first_answer (record_tests r.opened r.second b); reader = r })
+    (settled r (stepped_by r b))
 unfolding record_spec
 tested r b c e = rw e refl
 
-settled_is : (r : Reader) (s : Stepped) → settled r s ≡ record { answer = s.answer; reader = cond (is_refused s.answer) r (open_reader s.load) }
+settled_is : (r : Reader) (s : Stepped) → settled r s
+    ≡ record { answer = s.answer; reader = cond (is_refused s.answer) r (open_reader s.load) }
 unfolding settled
 settled_is r s = refl
 
@@ -112,7 +121,8 @@ answers r b = go (is_refused (first_answer (record_tests r.opened r.second b))) 
 
     go : (c : Bool) → is_refused (first_answer (record_tests r.opened r.second b)) ≡ c → Answers r b (record_spec r b)
     go true e = subst (Answers r b) (sym (tested r b true e)) (record {
-      first = first-append _ (record_tests r.opened r.second b) (causes_by r b) (answer-is-first (record_tests r.opened r.second b)) (refused-not-taken _ e);
+      first = first-append _ (record_tests r.opened r.second b) (causes_by r b) (answer-is-first (record_tests r.opened r.second b))
+          (refused-not-taken _ e);
       taken = λ k. absurd (refused-not-taken _ e k);
       listed = tests-listed r.opened r.second b (numbers_by r b) e;
       unchanged = λ k. refl;
@@ -133,12 +143,15 @@ taken-settled r b k = go (is_refused (first_answer (record_tests r.opened r.seco
         → (is_refused (stepped_by r b).answer ≡ false) × ((record_spec r b).reader ≡ open_reader (stepped_by r b).load)
     go true e = absurd (true≢false (sym e ∙ sym (ap (λ (t : Took). is_refused t.answer) (tested r b true e)) ∙ k))
     go false e =
-        let f : is_refused (stepped_by r b).answer ≡ false = sym (ap is_refused (settled-answer r (stepped_by r b))) ∙ sym (ap (λ (t : Took). is_refused t.answer) (tested r b false e)) ∙ k in
+        let f : is_refused (stepped_by r b).answer ≡ false =
+        sym (ap is_refused (settled-answer r (stepped_by r b))) ∙ sym (ap (λ (t : Took). is_refused t.answer) (tested r b false e))
+        ∙ k in
         (f, ap (λ (t : Took). t.reader) (tested r b false e) ∙ settled-taken r (stepped_by r b) f)
 
 -- ---- one test after another
 
-module _ (r : Reader) (b : List ℕ) {a : Answer} {t : Bool} (a-is : a ≡ first_answer (record_tests r.opened r.second b)) (t-is : t ≡ is_refused a) where
+module _ (r : Reader) (b : List ℕ) {a : Answer} {t : Bool} (a-is : a ≡ first_answer (record_tests r.opened r.second b))
+    (t-is : t ≡ is_refused a) where
   refused-by : {c : Bool} → t ≡ c → is_refused (first_answer (record_tests r.opened r.second b)) ≡ c
   refused-by e = ap is_refused (sym a-is) ∙ sym t-is ∙ e
 

@@ -11,9 +11,11 @@ use Rattle.fields.specs.Layout.{has_at, option_text_end, option_text_at}
 use Rattle.fields.proofs.LayoutLaws.{option-text-is}
 
 pub text-given : (b : List ℕ) (at : ℕ) {end : ℕ} {here : Bool} (text : Bor (List ℕ)) {r : Option (Bor (List ℕ))}
-    → end ≡ option_text_end b at → here ≡ has_at b at → text.now ≡ take (end - (at + 2)) (drop (at + 2) b) → r ≡ then_some here text → option_copied r ≡ option_text_at b at
+    → end ≡ option_text_end b at → here ≡ has_at b at → text.now ≡ take (end - (at + 2)) (drop (at + 2) b) → r ≡ then_some here text
+    → option_copied r ≡ option_text_at b at
 text-given b at {here = here} text end_is here-is text-is r-is =
-    ap option_copied r-is ∙ copied here ∙ option-text-is b at here-is (text-is ∙ ap (λ (n : ℕ). take (n - (at + 2)) (drop (at + 2) b)) end_is)
+    ap option_copied r-is ∙ copied here ∙ option-text-is b at here-is
+    (text-is ∙ ap (λ (n : ℕ). take (n - (at + 2)) (drop (at + 2) b)) end_is)
   where
     copied : (h : Bool) → option_copied (then_some h text) ≡ cond h (Some text.now) None
     copied true = refl

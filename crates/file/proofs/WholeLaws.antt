@@ -16,7 +16,8 @@ use Rattle.fields.specs.Numbers.{u16_at}
 use Rattle.file.specs.File.{starts_whole, size_of, body_of, whole_of}
 use Rattle.file.proofs.FedLaws.{whole_room}
 
-pub whole-got : (xs : List ℕ) {n : ℕ} (r : Option (Bor (List ℕ))) → n ≡ u16_at xs 0 → IsGetRangeResult xs 2 (2 + n) r → option_copied r ≡ whole_of xs
+pub whole-got : (xs : List ℕ) {n : ℕ} (r : Option (Bor (List ℕ))) → n ≡ u16_at xs 0 → IsGetRangeResult xs 2 (2 + n) r
+    → option_copied r ≡ whole_of xs
 unfolding starts_whole
 whole-got xs {n = n} (Some x) n-is h =
     let room : 2 + n ≤ length xs = h.0.1 in

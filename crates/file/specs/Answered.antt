@@ -12,7 +12,8 @@ use Rattle.file.specs.File.{starts_whole, size_of, body_of, end_tests, read_spec
 -- the reader after the whole records up to a place of the bytes, each of which was taken or lay outside
 pub data Reached (second : Bool) (bytes : List ℕ) : Reader → ℕ → Type 0 where
   start : Reached second bytes (fresh_reader second) 0
-  past : {r : Reader} {at : ℕ} → Reached second bytes r at → starts_whole (drop at bytes) ≡ true → is_refused (record_spec r (body_of (drop at bytes))).answer ≡ false
+  past : {r : Reader} {at : ℕ} → Reached second bytes r at → starts_whole (drop at bytes) ≡ true
+      → is_refused (record_spec r (body_of (drop at bytes))).answer ≡ false
       → Reached second bytes (record_spec r (body_of (drop at bytes))).reader (at + size_of (drop at bytes))
 
 -- the version of a file: 1, or 2
@@ -22,11 +23,15 @@ pub data Version (xs : List ℕ) : Bool → Type 0 where
 
 -- of a file xs: 17; a record sent back for its first cause, with the reader before it; or the end, with 18, 19 or none
 pub data FileAnswered (xs : List ℕ) : Took → Type 0 where
-  version : (byte_at xs 0 ≡ 1 → ⊥) → (byte_at xs 0 ≡ 2 → ⊥) → FileAnswered xs (record { answer = Err FileVersion; reader = fresh_reader false })
-  refused : {second : Bool} {r : Reader} {at : ℕ} {a : Answer} → Version xs second → Reached second (drop 1 xs) r at → starts_whole (drop at (drop 1 xs)) ≡ true
-      → First a (record_tests r.opened r.second (body_of (drop at (drop 1 xs))) ++ causes_by r (body_of (drop at (drop 1 xs)))) → is_refused a ≡ true
+  version : (byte_at xs 0 ≡ 1 → ⊥) → (byte_at xs 0 ≡ 2 → ⊥)
+      → FileAnswered xs (record { answer = Err FileVersion; reader = fresh_reader false })
+  refused : {second : Bool} {r : Reader} {at : ℕ} {a : Answer} → Version xs second → Reached second (drop 1 xs) r at
+      → starts_whole (drop at (drop 1 xs)) ≡ true
+      → First a (record_tests r.opened r.second (body_of (drop at (drop 1 xs))) ++ causes_by r (body_of (drop at (drop 1 xs))))
+      → is_refused a ≡ true
       → FileAnswered xs (record { answer = a; reader = r })
-  ended : {second : Bool} {r : Reader} {at : ℕ} {a : Answer} → Version xs second → Reached second (drop 1 xs) r at → starts_whole (drop at (drop 1 xs)) ≡ false
+  ended : {second : Bool} {r : Reader} {at : ℕ} {a : Answer} → Version xs second → Reached second (drop 1 xs) r at
+      → starts_whole (drop at (drop 1 xs)) ≡ false
       → First a (end_tests r.opened (length (drop at (drop 1 xs)))) → FileAnswered xs (record { answer = a; reader = r })
 
 abbrev pub ReadAnswered : Type 0

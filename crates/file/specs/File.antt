@@ -1,6 +1,7 @@
 -- A load file: byte 0 is version 1 or 2; then come records, each after its length of two bytes, tested and taken one by one.
 use Rattle.refusal.specs.declared.Accepted.TheVariants.{Taken}
-use Rattle.std.specs.Prelude.{ℕ, zero, suc, ◌+◌, ◌≡◌, Bool, not, cond, ◌||◌, List, [], ◌∷◌, ◌++◌, eqb, leb, length, take, drop, None, Option, Some, Err, Ok}
+use Rattle.std.specs.Prelude.{ℕ, zero, suc, ◌+◌, ◌≡◌, Bool, not, cond, ◌||◌, List, [], ◌∷◌, ◌++◌, eqb, leb, length, take, drop, None}
+use Rattle.std.specs.Prelude.{Option, Some, Err, Ok}
 use Rattle.refusal.specs.declared.Refusal.TheVariants.{FileVersion, RecordLength, RecordKind}
 use Rattle.refusal.specs.First.{first_answer, is_refused, Answer}
 use Rattle.fields.specs.Numbers.{byte_at, u16_at}
@@ -34,13 +35,6 @@ body_of xs = take (u16_at xs 0) (drop 2 xs)
 -- the record at their start, if it is there whole
 abbrev pub whole_of : List ℕ → Option (List ℕ)
 whole_of xs = cond (starts_whole xs) (Some (body_of xs)) None
-
--- that record, taken
-unfoldable pub next_spec : Reader → List ℕ → Fed
-next_spec r xs =
-    cond (starts_whole xs)
-    (record { answer = (record_spec r (body_of xs)).answer; used = size_of xs; reader = (record_spec r (body_of xs)).reader })
-    (record { answer = Ok Taken; used = 0; reader = r })
 
 -- so many bytes were used before
 abbrev pub later : ℕ → Fed → Fed

@@ -1,4 +1,5 @@
 pub mod Record
+pub mod Kinds
 pub mod File
 pub mod Handed
 pub mod Framed

@@ -31,5 +31,6 @@ pub record InSeconds (xs : List ℕ) (b : List ℕ) (bs : List (List ℕ)) (m : 
 
 -- of every file of version 1 that is read to its end, by the byte of minutes m in its first record
 abbrev pub MinutesRead : Type 0
-MinutesRead = (xs : List ℕ) → byte_at xs 0 ≡ 1 → (read_spec_of xs).answer ≡ Ok Taken → (b : List ℕ) (bs : List (List ℕ)) → bodies_of xs ≡ b ∷ bs
+MinutesRead = (xs : List ℕ) → byte_at xs 0 ≡ 1 → (read_spec_of xs).answer ≡ Ok Taken → (b : List ℕ) (bs : List (List ℕ))
+    → bodies_of xs ≡ b ∷ bs
     → (m : ℕ) → byte_at b (minutes_at b) ≡ m → InSeconds xs b bs m

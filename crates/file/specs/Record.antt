@@ -4,7 +4,8 @@ use Rattle.std.specs.Prelude.{ℕ, Bool, true, false, not, cond, ◌&&◌, ◌�
 use Rattle.refusal.specs.declared.Refusal.TheVariants.{RecordLength, RecordKind}
 use Rattle.refusal.specs.First.{First, AllFail, first_answer, is_refused, answer_number, Answer}
 use Rattle.fields.specs.Numbers.{byte_at}
-use Rattle.fields.specs.Layout.{text_at, option_text_at, name_at, parent_at, stop_filled_of, call_filled_of, rule_filled_of, search_filled_of}
+use Rattle.fields.specs.Layout.{text_at, option_text_at, name_at, parent_at, stop_filled_of, call_filled_of, rule_filled_of}
+use Rattle.fields.specs.Layout.{search_filled_of}
 use Rattle.fields.specs.Records.{stop_in, call_in, rule_in}
 use Rattle.fields.specs.Second.{settings_by, settings_filled_by}
 use Rattle.laws.specs.Lists.{one_of}
@@ -34,7 +35,8 @@ kind_right true kind = leb 2 kind && leb kind 5
 unfoldable pub filled : Bool → List ℕ → Bool
 filled second b =
     cond (eqb (byte_at b 0) 1) (settings_filled_by second b)
-    (cond (eqb (byte_at b 0) 2) (stop_filled_of b) (cond (eqb (byte_at b 0) 3) (call_filled_of b) (cond (eqb (byte_at b 0) 4) (rule_filled_of b) (search_filled_of b))))
+    (cond (eqb (byte_at b 0) 2) (stop_filled_of b)
+    (cond (eqb (byte_at b 0) 3) (call_filled_of b) (cond (eqb (byte_at b 0) 4) (rule_filled_of b) (search_filled_of b))))
 
 -- why a record is turned away, in request 01's order; the step's own refusals come after these
 unfoldable pub record_tests : Bool → Bool → List ℕ → List (Bool × Answer)
@@ -71,7 +73,8 @@ causes_by r b = cond r.opened (causes r.load (step_in b)) (open_tests (undated (
 abbrev pub numbers_by : Reader → List ℕ → List ℕ
 numbers_by r b = cond r.opened (numbers r.load.searched (step_in b)) (1 ∷ 2 ∷ [])
 
--- the answer is that of the first cause that holds: the record's, then the opening's or the step's own; a taken record has none, and a refused one changes nothing
+-- the answer is that of the first cause that holds: the record's, then the opening's or the step's own; a taken record has none, and a
+-- refused one changes nothing
 pub record Answered (r : Reader) (b : List ℕ) : Type 0 where
   pub first : First (record_spec r b).answer (record_tests r.opened r.second b ++ causes_by r b)
   pub taken : (record_spec r b).answer ≡ Ok Taken → AllFail (record_tests r.opened r.second b ++ causes_by r b)

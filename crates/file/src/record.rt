@@ -1,67 +1,70 @@
 // One record, tested and taken.
 ghost use Rattle.std.specs.Prelude.{◌≡◌, []};
-ghost use Rattle.refusal.specs.First.{first_answer};
 ghost use Rattle.fields.specs.Layout.{text_at, option_text_at, name_at, parent_at};
 ghost use Rattle.fields.specs.Records.{stop_in};
+ghost use Rattle.fields.specs.Kind.{number_of};
 ghost use Rattle.load.specs.Steps.{stop_spec};
 ghost use Rattle.again.specs.Again.{add_spec_of};
-ghost use Rattle.file.specs.Record.{kind_right, filled, record_tests, stepped_by, record_spec};
+ghost use Rattle.file.specs.Record.{kind_right, record_spec};
+ghost use Rattle.file.specs.Kinds.{filled_as, tested, stepped_as};
 
 use crate::stop_texts::new_stop;
 use crate::{Reader, Took};
 use again::add;
 use calls::CallInput;
+use fields::kind::Kind;
 use fields::layout::{
     call_filled, kind_of, rule_filled, search_filled, settings_filled_by, stop_filled,
 };
 use fields::records::{call_in, rule_in, settings_by};
 use load::{Load, Stepped};
-use refusal::{Accepted, Answer, Refusal, is_refused};
+use refusal::{Refusal, is_refused};
 use search::search;
 
+// Settings come first and only first.
 #[tactic(auto, unfolding(crate::specs::Record::kind_right))]
-fn kind_right(opened: bool, kind: u8) -> bool
-    ensures { result ≡ kind_right opened kind }
+fn kind_right(opened: bool, kind: Kind) -> bool
+    ensures { result ≡ kind_right opened (number_of kind) }
 {
     if opened {
-        2 <= kind && kind <= 5
+        kind != Kind::Settings
     } else {
-        kind == 1
+        kind == Kind::Settings
     }
 }
 
-// The kind stays a byte: what these promise holds for every byte, so an enum would need an arm for those that are no kind.
-#[tactic(auto, unfolding(crate::specs::Record::filled))]
-fn is_filled(second: bool, b: &[u8]) -> bool
-    ensures { result ≡ filled second b.now }
+fn is_filled(kind: Kind, second: bool, b: &[u8]) -> bool
+    ensures { result ≡ filled_as kind second b.now }
 {
-    match kind_of(b) {
-        1 => settings_filled_by(second, b),
-        2 => stop_filled(b),
-        3 => call_filled(b),
-        4 => rule_filled(b),
-        _ => search_filled(b),
+    match kind {
+        Kind::Settings => settings_filled_by(second, b),
+        Kind::Stop => stop_filled(b),
+        Kind::Call => call_filled(b),
+        Kind::Rule => rule_filled(b),
+        Kind::Search => search_filled(b),
     }
 }
 
-// Why a record is turned away before it is handed to the load: 18, 19, 18.
-#[tactic(auto, unfolding(crate::specs::Record::record_tests, refusal::specs::First::first_answer))]
-fn record_answer(opened: bool, second: bool, b: &[u8]) -> Answer
-    ensures { result ≡ first_answer (record_tests opened second b.now) }
+// Its kind, or why a record is turned away before it is handed to the load: 18, 19, 18.
+fn tested(opened: bool, second: bool, b: &[u8]) -> Result<Kind, Refusal>
+    ensures { result ≡ tested opened second b.now }
 {
     if b.len() == 0 {
-        Err(Refusal::RecordLength)
-    } else if !kind_right(opened, kind_of(b)) {
-        Err(Refusal::RecordKind)
-    } else if !is_filled(second, b) {
-        Err(Refusal::RecordLength)
-    } else {
-        Ok(Accepted::Taken)
+        return Err(Refusal::RecordLength);
     }
+    let kind = Kind::try_from(kind_of(b))?;
+    if !kind_right(opened, kind) {
+        return Err(Refusal::RecordKind);
+    }
+    if !is_filled(kind, second, b) {
+        return Err(Refusal::RecordLength);
+    }
+    Ok(kind)
 }
 
 fn stop_record(load: Load, b: &[u8]) -> Stepped
-    ensures { result ≡ stop_spec load (text_at b.now 1) (option_text_at b.now (name_at b.now)) (option_text_at b.now (parent_at b.now)) (stop_in b.now) }
+    ensures { result ≡ stop_spec load (text_at b.now 1) (option_text_at b.now (name_at b.now))
+        (option_text_at b.now (parent_at b.now)) (stop_in b.now) }
 {
     load.stop(new_stop(b))
 }
@@ -74,19 +77,16 @@ fn call_record(load: Load, input: CallInput) -> Stepped
 }
 
 // A record is handed to the load, or opens it. The match stays: each kind hands in something else.
-#[tactic(auto, unfolding(crate::specs::Record::stepped_by, crate::specs::Record::step_in, steps::specs::Steps::stepped))]
-fn stepped_by(reader: Reader, b: &[u8]) -> Stepped
-    ensures { result ≡ stepped_by reader b.now }
+fn stepped_as(kind: Kind, reader: Reader, b: &[u8]) -> Stepped
+    ensures { result ≡ stepped_as kind reader b.now }
 {
     let load = reader.load;
-    if !reader.opened {
-        return Load::open(settings_by(reader.second, b));
-    }
-    match kind_of(b) {
-        2 => stop_record(load, b),
-        3 => call_record(load, call_in(b)),
-        4 => load.rule(rule_in(b)),
-        _ => search(load),
+    match kind {
+        Kind::Settings => Load::open(settings_by(reader.second, b)),
+        Kind::Stop => stop_record(load, b),
+        Kind::Call => call_record(load, call_in(b)),
+        Kind::Rule => load.rule(rule_in(b)),
+        Kind::Search => search(load),
     }
 }
 
@@ -94,11 +94,16 @@ fn stepped_by(reader: Reader, b: &[u8]) -> Stepped
 pub fn record(reader: Reader, b: &[u8]) -> Took
     ensures { result ≡ record_spec reader b.now }
 {
-    let answer = record_answer(reader.opened, reader.second, b);
-    if is_refused(answer) {
-        return Took { answer, reader };
-    }
-    let s = stepped_by(reader, b);
+    let kind = match tested(reader.opened, reader.second, b) {
+        Ok(kind) => kind,
+        Err(refusal) => {
+            return Took {
+                answer: Err(refusal),
+                reader,
+            };
+        }
+    };
+    let s = stepped_as(kind, reader, b);
     if is_refused(s.answer) {
         return Took {
             answer: s.answer,

@@ -10,8 +10,9 @@ use load::Load;
 use prefix::first;
 use profile::Journey;
 
-// What a display reads of a load, which is given for the group of a number. Its list stands by value: the load that it is read from is
-// gone when the display is dealt. `searched` is one of the fields that are read, and says of no other whether it holds.
+// What a display reads of a load, which is given for the group of a number. Its list stands by value, an array with a count as in a load:
+// the load that it is read from is gone when the display is dealt. `searched` is one of the fields that are read, and says of no other
+// whether it holds.
 #[derive(Clone, Copy, Debug, Default, PartialEq, Eq)]
 pub struct Group {
     pub number: u8,

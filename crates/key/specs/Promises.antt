@@ -13,7 +13,8 @@ use Rattle.key.specs.Name.{is_space, is_bad, reason_of, lower_of, full, words, n
 abbrev pub HashFits : Type 0
 HashFits = (hash : ℕ) (bytes : List ℕ) → hash < 2 ^ 64 → hashed hash bytes < 2 ^ 64
 
--- a name that can be used has the hash of its normalized code points' bytes, and any other is refused with 8; what follows is over code points
+-- a name that can be used has the hash of its normalized code points' bytes, and any other is refused with 8; what follows is over code
+-- points
 abbrev pub Answered : Type 0
 Answered = (s : List ℕ) → answer (points_key s) ≡ cond (usable s) (inl (key_of (utf8 (normalized s)))) (inr 8)
 

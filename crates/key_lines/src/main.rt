@@ -7,7 +7,7 @@ use parts::{print, read_input};
 // As long as the longest list with its rides.
 const MOST: usize = 16384;
 
-// As in `show`, with another buffer: the two can't share a function that takes `ride_lines`, as a bound on it can't name the length.
+// As in `show`. One function for both would take the printer, and ask in a clause longer than this body how many bytes it fills.
 fn main(rt: HostRuntime) {
     if let Some(t) = read_input(rt.stdin(), rt.stderr()) {
         let mut out = [0; MOST];

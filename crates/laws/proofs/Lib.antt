@@ -3,6 +3,7 @@ pub mod Lists
 pub mod Folds
 pub mod Pack
 pub mod Sort
+pub mod Stable
 pub mod Ints
 pub mod Signs
 pub mod Within

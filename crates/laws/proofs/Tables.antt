@@ -5,7 +5,7 @@ use mathlib.Core.Bool.{Bool, true, false, cond}
 use mathlib.Core.List.{List, [], ◌∷◌, map}
 use Prim.Native.Nat.{ℕ, zero, suc, ◌+◌, ◌≤◌, ◌<◌}
 use native.Mathlib.Omega.{arith}
-use lib.ListN.{length, get_or, set, length-set}
+use lib.ListN.{length, get_or, take, set, length-set}
 use lib.Seq.{get_or-set_same, get_or-set_other, ext_get_or}
 use borrow.Author.Count.{below_none, below_more}
 use Rattle.laws.specs.Lists.{span}
@@ -56,6 +56,16 @@ module _ {A : Type 0} (f : ℕ → A) where
     filled-all now i g h =
         ext_get_or d now (table n f) (g.long ∙ sym (length-table n))
         (λ k b. g.done k (omega (arith, g.long)) ∙ sym (get_d-table d n k (omega (arith, g.long))))
+
+-- the first n of a table
+pub take-table : {A : Type 0} (f : ℕ → A) (n m : ℕ) → n ≤ m → take n (table m f) ≡ table n f
+unfolding table
+take-table {A} f n m h = go 0 n m h
+  where
+    go : (a n m : ℕ) → n ≤ m → take n (map f (span a m)) ≡ map f (span a n)
+    go a zero m h = refl
+    go a (suc n) zero h = absurd (omega arith)
+    go a (suc n) (suc m) h = ap {B = List A} (λ r. f a ∷ r) (go (suc a) n m (omega arith))
 
 -- sorting by f and then taking f is taking f and then sorting
 module _ {A B : Type 0} (lt : B → B → Bool) (f : A → B) where

@@ -10,7 +10,8 @@ pub over-agrees : OverAgrees
 over-agrees js lent count h s r r' e p q = p ∙ sym (q ∙ ap (λ (ks : List Journey). best_of_of ks h s) e)
 
 pub load-agrees : LoadAgrees
-load-agrees l lent s r r' searched o e p q = p ∙ best-of-all l searched o s ∙ sym (q ∙ ap (λ (ks : List Journey). best_of_of ks l.horizon s) e)
+load-agrees l lent s r r' searched o e p q = p ∙ best-of-all l searched o s
+    ∙ sym (q ∙ ap (λ (ks : List Journey). best_of_of ks l.horizon s) e)
 
 pub lent-agrees : LentAgrees
 lent-agrees = (over-agrees, load-agrees)

@@ -11,7 +11,8 @@ use Rattle.lent_c.specs.Plain.{journeys_of, answer_of, best_numbers, first_numbe
 
 module _ (query : List Journey → ℕ → ℤ → Option Journey) where
   numbers : (ls bs rs ws : List ℕ) (n h : ℕ) {s s' : ℤ} {js ks : List Journey} {f : Option Journey} {out : List ℕ} → s ≡ s'
-      → js ≡ journeys_of ls bs rs ws → ks ≡ take n js → f ≡ query ks h s → out ≡ answer_of f → out ≡ answer_of (query (take n (journeys_of ls bs rs ws)) h s')
+      → js ≡ journeys_of ls bs rs ws → ks ≡ take n js → f ≡ query ks h s → out ≡ answer_of f
+      → out ≡ answer_of (query (take n (journeys_of ls bs rs ws)) h s')
   numbers ls bs rs ws n h es ej ek ef eo = eo ∙ ap answer_of (ef ∙ (λ t. query ((ek ∙ ap (take n) ej) t) h (es t)))
 
 pub answered : (ls bs rs ws : List ℕ) (n h : ℕ) {s s' : ℤ} {js ks : List Journey} {f : Option Journey} {out : List ℕ} → s ≡ s'

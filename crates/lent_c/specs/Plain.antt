@@ -7,11 +7,22 @@ use Rattle.best.specs.Best.{best_of_of, first_leaving}
 
 -- a journey of four figures; it bears its number as its origin, at which best does not look
 abbrev pub journey_with : ℕ → ℕ → ℕ → ℕ → ℕ → Journey
-journey_with n l a r w = record { leave = l; arrival = a; rides = r; walk = w; origin = n; target = 0; first = no_ride; middle = no_ride; last = no_ride }
+journey_with n l a r w = record {
+  leave = l;
+  arrival = a;
+  rides = r;
+  walk = w;
+  origin = n;
+  target = 0;
+  first = no_ride;
+  middle = no_ride;
+  last = no_ride;
+}
 
 -- the 64 journeys of columns of leaves, arrivals, rides and walks
 unfoldable pub journeys_of : List ℕ → List ℕ → List ℕ → List ℕ → List Journey
-journeys_of leaves arrivals rides walks = table 64 (λ i. journey_with i (get_or leaves i 0) (get_or arrivals i 0) (get_or rides i 0) (get_or walks i 0))
+journeys_of leaves arrivals rides walks = table 64
+    (λ i. journey_with i (get_or leaves i 0) (get_or arrivals i 0) (get_or rides i 0) (get_or walks i 0))
 
 -- number, leave, arrival, rides and walk; for none 65535 and zeros
 unfoldable pub answer_of : Option Journey → List ℕ

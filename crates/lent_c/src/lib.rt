@@ -9,6 +9,7 @@ use best::{best_over, first_leaving};
 use lent::best_lent;
 use prefix::first;
 use profile::{Journey, no_ride};
+use std::array;
 
 fn journey_with(number: u8, leave: u16, arrival: u16, rides: u8, walk: u8) -> Journey
     ensures { result ≡ journey_with number leave arrival rides walk }
@@ -35,11 +36,7 @@ fn journeys_of(
 ) -> [Journey; 64]
     ensures { result ≡ journeys_of leaves.now arrivals.now rides.now walks.now }
 {
-    let mut journeys = [journey_with(0, 0, 0, 0, 0); 64];
-    for (i, journey) in journeys.iter_mut().enumerate() {
-        *journey = journey_with(i as u8, leaves[i], arrivals[i], rides[i], walks[i]);
-    }
-    journeys
+    array::from_fn(|i| journey_with(i as u8, leaves[i], arrivals[i], rides[i], walks[i]))
 }
 
 fn answer_of(found: Option<Journey>) -> [u16; 5]

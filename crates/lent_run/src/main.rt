@@ -4,7 +4,6 @@
 
 mod questions;
 
-use anyhow::{Context, Result};
 use profile::Journey;
 use std::fmt;
 
@@ -25,7 +24,8 @@ impl fmt::Display for Shown {
     }
 }
 
-fn ask(rt: &impl Print, name: &str, list: &[Journey; 64], question: &str) -> Result<()> {
+// `None` where a question is misspelt or a write fails: either goes unsaid, as what is printed is compared with the file `stdout`.
+fn ask(rt: &impl Print, name: &str, list: &[Journey; 64], question: &str) -> Option<()> {
     let q = questions::read_question(question)?;
     let over = best::best_over(prefix::first(list, q.count), q.horizon, q.second);
     let lent = lent::best_lent(list, q.count, q.horizon, q.second);
@@ -36,28 +36,27 @@ fn ask(rt: &impl Print, name: &str, list: &[Journey; 64], question: &str) -> Res
         q.horizon,
         Shown(over),
         Shown(lent)
-    )?;
-    Ok(())
+    )
+    .ok()
 }
 
-fn line(rt: &impl Print, text: &str) -> Result<()> {
-    let (name, asked) = text.split_once('|').context("a line has no list")?;
-    let (list, questions) = asked.split_once('|').context("a list is not asked")?;
+fn line(rt: &impl Print, text: &str) -> Option<()> {
+    let (name, asked) = text.split_once('|')?;
+    let (list, questions) = asked.split_once('|')?;
     let list = questions::list(list)?;
     for question in questions.split(',') {
         ask(rt, name, &list, question)?;
     }
-    Ok(())
+    Some(())
 }
 
-fn run(rt: &impl Print) -> Result<()> {
+fn run(rt: &impl Print) -> Option<()> {
     for text in questions::LINES.lines() {
         line(rt, text)?;
     }
-    Ok(())
+    Some(())
 }
 
-// A failed write goes unsaid, as what is printed is compared with the file `stdout`.
 // Each program that prints lines has this `main`: one that took `run` would be as long to call.
 fn main(rt: HostRuntime) {
     let _ = run(&rt);

@@ -1,7 +1,5 @@
 // The lists that are asked, and the questions of each. A line has a name, a list and its questions.
-use anyhow::{Context, Error, Result};
 use profile::{Journey, Ride};
-use std::error;
 use std::str::{FromStr, Split};
 
 // A journey is written by its number, leave, arrival, rides and walk; a question by how many journeys are asked, the horizon and the
@@ -30,16 +28,15 @@ equal|1 300 1320 1 5,0 300 1320 1 5|64 21600 0,65 21600 300,18446744073709551615
 back|1 300 1320 1 5,0 300 1320 1 5,63 300 1319 2 9|64 21600 0,63 21600 0,65 21600 0";
 
 // The next number of a row.
-fn number<N: FromStr>(row: &mut Split<'_, char>) -> Result<N>
+fn number<N: FromStr>(row: &mut Split<'_, char>) -> Option<N>
 where
-    N::Err: error::Error,
+    N::Err: Drop,
 {
-    let word = row.next().context("a row is short")?;
-    word.parse::<N>().map_err(Error::from)
+    row.next()?.parse::<N>().ok()
 }
 
 // Its first trip has its number.
-fn journey(text: &str) -> Result<Journey> {
+fn journey(text: &str) -> Option<Journey> {
     let mut row = text.split(' ');
     let ride = Ride {
         trip: number(&mut row)?,
@@ -51,7 +48,7 @@ fn journey(text: &str) -> Result<Journey> {
         board_request: false,
         alight_request: false,
     };
-    Ok(Journey {
+    Some(Journey {
         leave: number(&mut row)?,
         arrival: number(&mut row)?,
         rides: number(&mut row)?,
@@ -65,15 +62,15 @@ fn journey(text: &str) -> Result<Journey> {
 }
 
 // The first journey stands in each slot, each other one in the slot of its number.
-pub fn list(text: &str) -> Result<[Journey; 64]> {
+pub fn list(text: &str) -> Option<[Journey; 64]> {
     let (first, others) = text.split_once(',').unwrap_or((text, ""));
     let mut list = [journey(first)?; 64];
     for row in others.split_terminator(',') {
         let journey = journey(row)?;
         let slot = usize::from(journey.first.trip);
-        *list.get_mut(slot).context("a number is no slot's")? = journey;
+        *list.get_mut(slot)? = journey;
     }
-    Ok(list)
+    Some(list)
 }
 
 // How many journeys are asked, up to which horizon, and at which second.
@@ -84,9 +81,9 @@ pub struct Question {
     pub second: i64,
 }
 
-pub fn read_question(text: &str) -> Result<Question> {
+pub fn read_question(text: &str) -> Option<Question> {
     let mut row = text.split(' ');
-    Ok(Question {
+    Some(Question {
         count: number(&mut row)?,
         horizon: number(&mut row)?,
         second: number(&mut row)?,

@@ -1,5 +1,5 @@
--- A search within limits 0 to 5, by computation: two rides from the origin to the target, of trip 1 from 10 to 90 and of trip 2 from 20 to 80;
--- and the margin where another trip reaches the target without an origin, and a call at it is alighted by no ride.
+-- A search within limits 0 to 5, by computation: two rides from the origin to the target, of trip 1 from 10 to 90 and of trip 2 from 20
+-- to 80; and the margin where another trip reaches the target without an origin, and a call at it is alighted by no ride.
 use Rattle.std.specs.Prelude.{◌≡◌, true, false, cond, List, [], ◌∷◌, ℕ, eqb, None, Some}
 use Rattle.calls.specs.declared.Call.{Call}
 use Rattle.profile.specs.declared.figures.Figures.{Figures}
@@ -55,4 +55,5 @@ pub record WithinLimits : Type 0 where
   pub margin_four : margin_within 0 (table_of 1 four) 21600 0 ≡ Some 20
   pub margin_finished : margin_within 4 (table_of 1 two) 21600 0 ≡ None
   -- with nothing found yet there is none: trip 1 ends at stop 2, and the search stops at its first join
-  pub margin_nothing : margin_within 0 (table_of 1 (call_at 1 1 0 10 ∷ call_at 1 2 2 90 ∷ call_at 2 1 0 20 ∷ call_at 2 2 1 80 ∷ [])) 21600 0 ≡ None
+  pub margin_nothing : margin_within 0 (table_of 1 (call_at 1 1 0 10 ∷ call_at 1 2 2 90 ∷ call_at 2 1 0 20 ∷ call_at 2 2 1 80 ∷ [])) 21600
+      0 ≡ None

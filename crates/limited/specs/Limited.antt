@@ -1,5 +1,5 @@
--- A search within a limit on joins, from the timetable, its horizon and its mark. A timetable with max_transfers above 1 has no such search:
--- "With `max_transfers` 2 a limited search meets 1".
+-- A search within a limit on joins, from the timetable, its horizon and its mark. A timetable with max_transfers above 1 has no such
+-- search: "With `max_transfers` 2 a limited search meets 1".
 use Rattle.std.specs.Prelude.{◌≡◌, ◌↔◌, Bool, true, cond, ℕ, ◌*◌, ◌≤◌, min, eqb, pos, length, Some}
 use mathlib.Core.List.{List, [], Memᴰ, Permᴰ}
 use Rattle.laws.specs.Lists.{filterb}
@@ -78,7 +78,8 @@ FinishedIsFull = (n : ℕ) (t : Timetable) (h l : ℕ) → OneChange t → finis
 -- list, horizon and mark, or 11, come from the offers before the stop alone
 abbrev pub WithinByOffers : Type 0
 WithinByOffers = (n : ℕ) (t : Timetable) (h l : ℕ)
-    → search_within n t h l ≡ cond (clashes (sorted t)) clashing (ends_by_of (offers_within n t) (fall (covᶠ journey_figures) (dueᶠ journey_figures) 64 3600 h l [] (offers_within n t)))
+    → search_within n t h l ≡ cond (clashes (sorted t)) clashing
+    (ends_by_of (offers_within n t) (fall (covᶠ journey_figures) (dueᶠ journey_figures) 64 3600 h l [] (offers_within n t)))
 
 -- at most 8 unbeaten journeys share an arrival: of one ride or two, from at most four origins
 abbrev pub EightTogether : Type 0

@@ -1,6 +1,6 @@
--- The margin of a stopped search's answer for second 0: "its arrival less the earliest arrival, walk included, of any ride in the table at a
--- target, and the finished answer, where the full search is accepted, is at most that much earlier. With nothing found yet there is no
--- margin."
+-- The margin of a stopped search's answer for second 0: "its arrival less the earliest arrival, walk included, of any ride in the table
+-- at a target, and the finished answer, where the full search is accepted, is at most that much earlier. With nothing found yet there is
+-- no margin."
 use Rattle.std.specs.Prelude.{◌≡◌, cond, List, [], ◌∷◌, map, ℕ, ◌+◌, ◌-◌, ◌≤◌, min, pos, None, Option, Some}
 use Rattle.laws.specs.Lists.{concat_map}
 use Rattle.ways.specs.Rides.{rides}
@@ -63,7 +63,8 @@ EarliestIs = (t : Timetable) → Clear t → (b a : Call) (k : ℕ) → Rides t.
 
 -- where a search has an answer, some ride alights at a target, and the answer arrives no earlier
 abbrev pub AnswerAfter : Type 0
-AnswerAfter = (n : ℕ) (t : Timetable) (h l : ℕ) (j : Journey) → answer_at0 (search_within n t h l) ≡ Some j → Earliest t (earliest t) × (earliest t ≤ j.arrival)
+AnswerAfter = (n : ℕ) (t : Timetable) (h l : ℕ) (j : Journey) → answer_at0 (search_within n t h l) ≡ Some j
+    → Earliest t (earliest t) × (earliest t ≤ j.arrival)
 
 -- a search with the margin m: it has an answer j; where the full search is accepted, its answer is there, no later, and at most m earlier
 abbrev pub WithinMargin : Type 0

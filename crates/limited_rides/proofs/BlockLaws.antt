@@ -11,7 +11,7 @@ use borrow.Author.Tests.{le-leb, lt-leb}
 use Rattle.laws.specs.Lists.{span}
 use Rattle.laws.proofs.Agree.{span_below}
 use Rattle.laws.proofs.Folds.{concat_map-mem}
-use Rattle.profile.specs.declared.Row.{Row}
+use Rattle.profile.specs.Found.{Row}
 use Rattle.state.specs.View.{view}
 use Rattle.candidate.specs.Offer.{passed_over}
 use Rattle.candidate.proofs.PassedLaws.{offers-covered}

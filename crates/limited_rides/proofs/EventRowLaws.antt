@@ -12,7 +12,7 @@ use Rattle.laws.proofs.Flat.{tails-agree, concat_map-filterb, flat-cond, flat-ta
 use Rattle.laws.proofs.Places.{concat_map-cong, concat_map-map, tails-span}
 use Rattle.ways.specs.Rides.{Leg, leg, first_ride, Network, alightings, rides, first_rides, directs}
 use Rattle.ways.proofs.RideLaws as listed
-use Rattle.profile.specs.declared.Row.{Row}
+use Rattle.profile.specs.Found.{Row}
 use Rattle.feed.specs.Feed.{same_run, joined}
 use Rattle.counted.specs.Events.{tested, offered}
 use Rattle.counted.specs.Joins.{join_of, events}

@@ -11,7 +11,7 @@ use lib.Dec.{leb}
 use borrow.Author.Tests.{le-leb, lt-leb, leb-true, leb-false}
 use Rattle.laws.specs.Lists.{foldl}
 use Rattle.laws.proofs.Bools.{test}
-use Rattle.profile.specs.declared.Row.{Row}
+use Rattle.profile.specs.Found.{Row}
 use Rattle.profile.specs.Kept.{St, going, refused}
 use Rattle.state.specs.View.{view, open_of}
 use Rattle.candidate.specs.Offer.{offer_to}

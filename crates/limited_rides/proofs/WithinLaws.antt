@@ -12,7 +12,7 @@ use Rattle.laws.specs.Lists.{foldl, concat_map, span}
 use Rattle.ways.specs.Rides.{First, first_rides}
 use Rattle.counted.specs.Events.{offered}
 use Rattle.laws.proofs.Bools.{test, not-true}
-use Rattle.profile.specs.declared.Row.{Row}
+use Rattle.profile.specs.Found.{Row}
 use Rattle.profile.specs.Kept.{St, going, refused}
 use Rattle.state.specs.View.{view}
 use Rattle.candidate.specs.Offer.{offer_to}

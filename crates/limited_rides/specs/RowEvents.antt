@@ -3,7 +3,7 @@
 use Rattle.std.specs.Prelude.{◌≡◌, cond, List, [], ◌∷◌, ◌++◌, map, ℕ, ◌+◌, ◌-◌, min, eqb}
 use Rattle.laws.specs.Lists.{concat_map, span}
 use Rattle.ways.specs.Rides.{leg, First, first_ride, first_rides}
-use Rattle.profile.specs.declared.Row.{Row}
+use Rattle.profile.specs.Found.{Row}
 use Rattle.feed.specs.declared.FeedCall.{FeedCall}
 use Rattle.feed.specs.declared.FirstRide.{FirstRide}
 use Rattle.counted.specs.Events.{tested, offered, offers_of}

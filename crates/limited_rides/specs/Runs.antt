@@ -2,7 +2,7 @@
 -- is.
 use Rattle.std.specs.Prelude.{◌≡◌, Bool, true, false, cond, List, ℕ, zero, suc, ◌-◌, leb, Option, Some, None}
 use Rattle.laws.specs.Lists.{foldl}
-use Rattle.profile.specs.declared.Row.{Row}
+use Rattle.profile.specs.Found.{Row}
 use Rattle.profile.specs.Kept.{St, going, refused}
 use Rattle.state.specs.View.{view}
 use Rattle.candidate.specs.Offer.{offer_to}

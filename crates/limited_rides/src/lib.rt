@@ -12,7 +12,7 @@ mod paths;
 mod tally;
 pub mod within;
 
-// How many joins a search tested, and whether none was left.
+// How many joins a search tested, and whether none was left. Each is read by itself, and says of the other nothing.
 #[derive(Clone, Copy, Debug, PartialEq, Eq)]
 pub struct Tested {
     pub joins: u64,

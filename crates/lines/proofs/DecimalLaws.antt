@@ -23,7 +23,8 @@ unfolding decimal_by
 by-small zero n = omega arith
 by-small (suc k) n = go (ltb n 10) (by-small k (n / 10))
   where
-    go : (b : Bool) → length (decimal_by k (n / 10)) ≤ k → length (cond b ((48 + n) ∷ []) (decimal_by k (n / 10) ++ ((48 + n % 10) ∷ []))) ≤ suc k
+    go : (b : Bool) → length (decimal_by k (n / 10)) ≤ k
+        → length (cond b ((48 + n) ∷ []) (decimal_by k (n / 10) ++ ((48 + n % 10) ∷ []))) ≤ suc k
     go true h = omega arith
     go false h = simp length-append (omega arith)
 
@@ -37,7 +38,9 @@ unfolding decimal_by
 by-more zero n h = rw (lt-ltb n 10 (omega arith)) refl
 by-more (suc k) n h = go (ltb n 10) (by-more k (n / 10) (omega arith))
   where
-    go : (b : Bool) → decimal_by (suc k) (n / 10) ≡ decimal_by (suc (suc k)) (n / 10) → cond b ((48 + n) ∷ []) (decimal_by (suc k) (n / 10) ++ ((48 + n % 10) ∷ [])) ≡ cond b ((48 + n) ∷ []) (decimal_by (suc (suc k)) (n / 10) ++ ((48 + n % 10) ∷ []))
+    go : (b : Bool) → decimal_by (suc k) (n / 10) ≡ decimal_by (suc (suc k)) (n / 10)
+        → cond b ((48 + n) ∷ []) (decimal_by (suc k) (n / 10) ++ ((48 + n % 10) ∷ []))
+        ≡ cond b ((48 + n) ∷ []) (decimal_by (suc (suc k)) (n / 10) ++ ((48 + n % 10) ∷ []))
     go true e = refl
     go false e = rw e refl
 
@@ -73,7 +76,8 @@ unfolding decimal_by
 by_right zero n h = rw (lt-ltb n 10 (omega arith)) (one_right n (omega arith))
 by_right (suc k) n h = go (ltb n 10) refl (by_right k (n / 10) (omega arith))
   where
-    go : (b : Bool) → ltb n 10 ≡ b → Spells (n / 10) (decimal_by (suc k) (n / 10)) → Spells n (cond b ((48 + n) ∷ []) (decimal_by (suc k) (n / 10) ++ ((48 + n % 10) ∷ [])))
+    go : (b : Bool) → ltb n 10 ≡ b → Spells (n / 10) (decimal_by (suc k) (n / 10))
+        → Spells n (cond b ((48 + n) ∷ []) (decimal_by (suc k) (n / 10) ++ ((48 + n % 10) ∷ [])))
     go true e s = one_right n (ltb-true n 10 e)
     go false e s = then-right n (decimal_by (suc k) (n / 10)) (ltb-false n 10 e) s
 
@@ -101,11 +105,13 @@ module _ (n : ℕ) (fits : n < 65536) where
       ∙ ap (λ (ds : List ℕ). ds ++ ((48 + n % 10) ∷ [])) (decimal-one (n / 10) (omega arith))
       ∙ ap (λ (d : ℕ). d ∷ (48 + n % 10) ∷ []) e
 
-  pub more-put : {a b c d : Buffer} → 100 ≤ n → Put 5 (decimal (n / 100)) a b → Put 1 ((48 + n / 10 % 10) ∷ []) b c → Put 1 ((48 + n % 10) ∷ []) c d
+  pub more-put : {a b c d : Buffer} → 100 ≤ n → Put 5 (decimal (n / 100)) a b → Put 1 ((48 + n / 10 % 10) ∷ []) b c
+      → Put 1 ((48 + n % 10) ∷ []) c d
       → Put 5 (decimal n) a d
   more-put h p q r = put-within 5 (decimal-small n) (put_as (sym (two-more h)) (put_then p (put_then q r)))
 
-  pub two-put : {b c d : Buffer} → 10 ≤ n → n < 100 → Put 1 ((48 + n / 10 % 10) ∷ []) b c → Put 1 ((48 + n % 10) ∷ []) c d → Put 5 (decimal n) b d
+  pub two-put : {b c d : Buffer} → 10 ≤ n → n < 100 → Put 1 ((48 + n / 10 % 10) ∷ []) b c → Put 1 ((48 + n % 10) ∷ []) c d
+      → Put 5 (decimal n) b d
   two-put h k q r = put-within 5 (decimal-small n) (put_as (sym (two-only h k)) (put_then q r))
 
 -- a space before it

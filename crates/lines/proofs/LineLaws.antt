@@ -18,10 +18,12 @@ module _ (o : Answer) (l : Load) {a b : Buffer} (start : a.len ≡ 0) where
   counts : {m : ℕ} {xs : List ℕ} → Put m xs a b → m ≤ length a.out.now → Counts b.len b.out.now
   counts p h = let n = put-within-room p start h in (n, sym (length-take-le b.len b.out.now n))
 
-  pub plain_lines : length a.out.now ≡ 4096 → Put (lines_most false) (lines_for false o l) a b → (take b.len b.out.now ≡ lines_of o l) × Counts b.len b.out.now
+  pub plain_lines : length a.out.now ≡ 4096 → Put (lines_most false) (lines_for false o l) a b
+      → (take b.len b.out.now ≡ lines_of o l) × Counts b.len b.out.now
   unfolding lines_for lines_most
   plain_lines n p = (put-text p start (omega arith), counts p (omega arith))
 
-  pub rides-lines : length a.out.now ≡ 16384 → Put (lines_most true) (lines_for true o l) a b → (take b.len b.out.now ≡ ride_lines_of o l) × Counts b.len b.out.now
+  pub rides-lines : length a.out.now ≡ 16384 → Put (lines_most true) (lines_for true o l) a b
+      → (take b.len b.out.now ≡ ride_lines_of o l) × Counts b.len b.out.now
   unfolding lines_for lines_most
   rides-lines n p = (put-text p start (omega arith), counts p (omega arith))

@@ -22,7 +22,8 @@ use Rattle.best.specs.Best.{kept_of}
 use Rattle.buffer.specs.declared.Buffer.{Buffer}
 use Rattle.buffer.specs.Put.{Put}
 use Rattle.lines.specs.Lines.{journey_text, horizon_line_of, refused_line_of, load_lines, lines_of}
-use Rattle.lines.specs.Rides.{ride_text, rides_of, searched_line, load_rides, ride_lines_of, line_for, load_for, lines_for, line_most, lines_most}
+use Rattle.lines.specs.Rides.{ride_text, rides_of, searched_line, load_rides, ride_lines_of, line_for, load_for, lines_for, line_most}
+use Rattle.lines.specs.Rides.{lines_most}
 use Rattle.buffer.proofs.PutLaws.{put-none, put_then, put_as, put-within}
 
 -- ---- figures, each behind a space
@@ -47,7 +48,8 @@ ride-text r = simp append-nil
 
 -- ---- a journey's rides, and the lines of a load
 
-pub rides-text : (j : Journey) → ride_text j.first ++ (cond (leb 3 j.rides) (ride_text j.middle) [] ++ cond (leb 2 j.rides) (ride_text j.last) [])
+pub rides-text : (j : Journey) → ride_text j.first
+    ++ (cond (leb 3 j.rides) (ride_text j.middle) [] ++ cond (leb 2 j.rides) (ride_text j.last) [])
     ≡ concat_map ride_text (rides_of j)
 unfolding rides_of
 rides-text j = text (leb 3 j.rides) (leb 2 j.rides)
@@ -76,14 +78,16 @@ length-take-le-of l n = omega (arith, length-take l.journey_count l.journeys)
 
 -- the lines of a load's journeys, of which there are 64 at most
 pub all-lines : (rides : Bool) (l : Load) {js : List Journey} {a b : Buffer} → js ≡ kept_of l → length l.journeys ≡ 64
-    → Put (line_most rides * length js) (concat_map (line_for rides) js) a b → Put (line_most rides * 64) (concat_map (line_for rides) (kept_of l)) a b
+    → Put (line_most rides * length js) (concat_map (line_for rides) js) a b
+    → Put (line_most rides * 64) (concat_map (line_for rides) (kept_of l)) a b
 all-lines rides l e n p =
     let h = length-take-le-of l n in
     put-within _ (most-all rides (length (kept_of l)) h (rw e at p.small)) (rw e at p)
 
 module _ (l : Load) {rides : Bool} {a b c : Buffer} where
   pub with-rides : {d : Buffer} → rides ≡ true → Put (line_most rides * 64) (concat_map (line_for rides) (kept_of l)) a b
-      → Put 27 (horizon_line_of l.horizon l.limits) b c → Put 15 (searched_line l.searched) c d → Put (lines_most rides) (load_for rides l) a d
+      → Put 27 (horizon_line_of l.horizon l.limits) b c → Put 15 (searched_line l.searched) c d
+      → Put (lines_most rides) (load_for rides l) a d
   unfolding line_for line_most lines_most load_for load_rides
   with-rides e p q r = rw e (put_then (rw e at p) (put_then q r))
 
@@ -92,7 +96,8 @@ module _ (l : Load) {rides : Bool} {a b c : Buffer} where
   unfolding line_for line_most lines_most load_for load_lines
   without e p q = rw e (put_then (rw e at p) q)
 
-pub accepted-put : (rides : Bool) (l : Load) {o : Answer} {x : Accepted} {a b : Buffer} → o ≡ Ok x → Put (lines_most rides) (load_for rides l) a b
+pub accepted-put : (rides : Bool) (l : Load) {o : Answer} {x : Accepted} {a b : Buffer} → o ≡ Ok x
+    → Put (lines_most rides) (load_for rides l) a b
     → Put (lines_most rides) (lines_for rides o l) a b
 unfolding lines_for ride_lines_of lines_of load_for
 accepted-put rides l {x = x} {a} {b} e p = rw e (go x rides p)
@@ -103,7 +108,8 @@ accepted-put rides l {x = x} {a} {b} e p = rw e (go x rides p)
     go Outside true p = p
     go Outside false p = p
 
-pub refused-put : (rides : Bool) (l : Load) {o : Answer} {x : Refusal} {n : ℕ} {a b : Buffer} → o ≡ Err x → number_of x ≡ n → Put 14 (refused_line_of n) a b
+pub refused-put : (rides : Bool) (l : Load) {o : Answer} {x : Refusal} {n : ℕ} {a b : Buffer} → o ≡ Err x → number_of x ≡ n
+    → Put 14 (refused_line_of n) a b
     → Put (lines_most rides) (lines_for rides o l) a b
 unfolding lines_for ride_lines_of lines_of lines_most
 refused-put rides l {x = x} {n} {a} {b} e f p = rw e (go rides)

@@ -42,15 +42,18 @@ ride-is a b e =
       to = head a.to b.to _ e₃ i;
       departure = head a.departure b.departure _ e₄ i;
       arrival = head a.arrival b.arrival _ e₅ i;
-      board_request = bool_is a.board_request b.board_request (and-true-left (beq a.board_request b.board_request) (beq a.alight_request b.alight_request) e₆) i;
-      alight_request = bool_is a.alight_request b.alight_request (and-true-right (beq a.board_request b.board_request) (beq a.alight_request b.alight_request) e₆) i;
+      board_request = bool_is a.board_request b.board_request
+          (and-true-left (beq a.board_request b.board_request) (beq a.alight_request b.alight_request) e₆) i;
+      alight_request = bool_is a.alight_request b.alight_request
+          (and-true-right (beq a.board_request b.board_request) (beq a.alight_request b.alight_request) e₆) i;
     }
 
 ride-same : (a : Ride) → same_ride a a ≡ true
 unfolding same_ride
 ride-same a =
     same a.trip _ (same a.day _ (same a.from _ (same a.to _ (same a.departure _ (same a.arrival _
-    (and-true (beq a.board_request a.board_request) (beq a.alight_request a.alight_request) (bool_same a.board_request) (bool_same a.alight_request)))))))
+    (and-true (beq a.board_request a.board_request) (beq a.alight_request a.alight_request) (bool_same a.board_request)
+    (bool_same a.alight_request)))))))
 
 -- the figures by themselves
 pub record FiguresSame (a b : Journey) : Type 0 where

@@ -15,7 +15,7 @@ use Rattle.calls.proofs.ReachedLaws.{call-answered}
 use Rattle.rules.specs.Rules.{rule_tests}
 use Rattle.week.specs.declared.Running.{Running}
 use Rattle.week.specs.declared.Running.TheVariants.{Runs}
-use Rattle.week.specs.Weeks.{service_tests, service_on, exception_tests, exception_on, running}
+use Rattle.week.specs.Weeks.{is_dated, service_tests, service_on, exception_tests, exception_on, running}
 use Rattle.week.proofs.StepLaws.{runs-undated}
 use Rattle.week.proofs.SoundLaws.{service-unchanged, exception-unchanged}
 use Rattle.load.specs.declared.Load.{Load}
@@ -32,7 +32,7 @@ refused-not-taken (Ok Outside) e = refl
 refused-not-taken (Err r) e = refl
 
 -- two tests more that fail
-insert-two : {a b c d e : Answer} {p q x y : Bool} {ts : List (Bool × Answer)} → x ≡ false → y ≡ false → First a ((p, b) ∷ (q, c) ∷ ts)
+pub insert-two : {a b c d e : Answer} {p q x y : Bool} {ts : List (Bool × Answer)} → x ≡ false → y ≡ false → First a ((p, b) ∷ (q, c) ∷ ts)
     → First a ((p, b) ∷ (q, c) ∷ (x, d) ∷ (y, e) ∷ ts)
 insert-two u v (hit h) = hit h
 insert-two u v (miss h (hit k)) = miss h (hit k)
@@ -53,7 +53,7 @@ module _ (l : Load) (name : List ℕ) (i : CallInput) where
       (subst (λ (b : Answer). First b (field_tests l.searched l.stop_count i ++ running_tests (running l.week name i.day))) e
       (answer-is-first _)) n
 
-  undated-runs : l.week.dated ≡ false → running l.week name i.day ≡ Runs
+  undated-runs : is_dated l.week ≡ false → running l.week name i.day ≡ Runs
   undated-runs d = sym (runs-undated l.week name i.day d)
 
   call-first : First (call_spec l name i).answer (causes l (call name i))

@@ -11,6 +11,8 @@ use Rattle.stops.specs.declared.StopInput.{StopInput}
 use Rattle.stops.specs.Taken.{stop_of}
 use Rattle.stops.proofs.SoundLaws.{no-stops-sound, stop-keeps-sound}
 use Rattle.calls.specs.declared.CallInput.{CallInput}
+use Rattle.calls.specs.declared.Table.{Table}
+use Rattle.calls.specs.Sound.{TableSound, StopsKnown}
 use Rattle.calls.proofs.SoundLaws.{empty-sound, call-keeps-sound}
 use Rattle.calls.proofs.KnownLaws.{call-keeps-known, more-stops-known}
 use Rattle.rules.specs.declared.Rule.{Rule}
@@ -75,28 +77,34 @@ stop-sound l id name parent i s = go (is_taken (stop_answer l id name parent i))
     })
     go false e = rw e s
 
+-- the load with a sound table, whose calls name stops that it knows
+pub with-table-sound : (l : Load) (t : Table) → Sound l → TableSound t → StopsKnown l.stop_count t → Sound (with_table l t)
+with-table-sound l t s table known = record {
+  stops = s.stops;
+  table = table;
+  calls_known = known;
+  rules = s.rules;
+  few = s.few;
+  long = s.long;
+  blank = s.blank;
+  in_order = s.in_order;
+  none_kept = s.none_kept;
+  same_horizon = λ x. refl;
+  same_limits = λ x. refl;
+  stopped_search = s.stopped_search;
+  stopped_change = s.stopped_change;
+  week = s.week;
+}
+
 plain-sound : (l : Load) (i : CallInput) → Sound l → Sound (plain_call l i).load
 unfolding plain_call
 plain-sound l i s = go (is_refused (call_fitted l i).answer) refl
   where
     go : (b : Bool) → is_refused (call_fitted l i).answer ≡ b → Sound (cond b l (with_table l (call_fitted l i).table))
     go true e = s
-    go false e = record {
-      stops = s.stops;
-      table = call-keeps-sound l.settings l.searched l.stop_count (table_of l) i s.table;
-      calls_known = call-keeps-known l.settings l.searched l.stop_count (table_of l) i s.table s.calls_known;
-      rules = s.rules;
-      few = s.few;
-      long = s.long;
-      blank = s.blank;
-      in_order = s.in_order;
-      none_kept = s.none_kept;
-      same_horizon = λ x. refl;
-      same_limits = λ x. refl;
-      stopped_search = s.stopped_search;
-      stopped_change = s.stopped_change;
-      week = s.week;
-    }
+    go false e = with-table-sound l (call_fitted l i).table s
+        (call-keeps-sound l.settings l.searched l.stop_count (table_of l) i s.table)
+        (call-keeps-known l.settings l.searched l.stop_count (table_of l) i s.table s.calls_known)
 
 -- the load with a sound week
 pub with-week-sound : (l : Load) (w : Week) → Sound l → WeekSound w → Sound (with_week l w)

@@ -36,7 +36,7 @@ use Rattle.services.specs.Wrong.{dates_wrong}
 use Rattle.week.specs.declared.Week.{Week}
 use Rattle.week.specs.declared.Running.{Running}
 use Rattle.week.specs.declared.Running.TheVariants.{Unknown, Rests, Runs}
-use Rattle.week.specs.Weeks.{closed_week, running}
+use Rattle.week.specs.Weeks.{is_dated, closed_week, running}
 use Rattle.load.specs.declared.Load.{Load}
 use Rattle.load.specs.declared.Stepped.{Stepped}
 use Rattle.load.specs.Load.{empty_with, empty_of, table_of, with_table, with_stops, with_rules, with_week}
@@ -233,35 +233,35 @@ module _ (l : Load) (r : Running) (i : CallInput) (a : Answer) (h : a ≡ gate_a
       (λ k. stepped b (same k)) ∙ ap (closing l) q ∙ passes t
 
 module _ (l : Load) (name : List ℕ) (i : CallInput) where
-  pub call-dated : l.week.dated ≡ true → (r : Running) → r ≡ running l.week name i.day → dated_call l r i ≡ call_spec l name i
+  pub call-dated : is_dated l.week ≡ true → (r : Running) → r ≡ running l.week name i.day → dated_call l r i ≡ call_spec l name i
   unfolding call_spec
   call-dated d r q = ap (λ (x : Running). dated_call l x i) q ∙ sym (cond-by _ _ d)
 
-  pub call-undated : l.week.dated ≡ false → plain_call l i ≡ call_spec l name i
+  pub call-undated : is_dated l.week ≡ false → plain_call l i ≡ call_spec l name i
   unfolding call_spec
   call-undated d = sym (cond-not _ _ d)
 
 -- what became of a call, by its week and its gate
 pub data Called (l : Load) (name : List ℕ) (i : CallInput) : Stepped → Type 0 where
-  without : l.week.dated ≡ false → Called l name i (plain_call l i)
-  goes_on : l.week.dated ≡ true → gate_answer l.searched l.stop_count (running l.week name i.day) i ≡ Ok Taken
+  without : is_dated l.week ≡ false → Called l name i (plain_call l i)
+  goes_on : is_dated l.week ≡ true → gate_answer l.searched l.stop_count (running l.week name i.day) i ≡ Ok Taken
       → Called l name i (closing l (plain_call l i))
-  stays_out : l.week.dated ≡ true → gate_answer l.searched l.stop_count (running l.week name i.day) i ≡ Ok Outside
+  stays_out : is_dated l.week ≡ true → gate_answer l.searched l.stop_count (running l.week name i.day) i ≡ Ok Outside
       → Called l name i (record { answer = Ok Outside; load = closed_load l })
-  sent_back : l.week.dated ≡ true → (r : Refusal) → gate_answer l.searched l.stop_count (running l.week name i.day) i ≡ Err r
+  sent_back : is_dated l.week ≡ true → (r : Refusal) → gate_answer l.searched l.stop_count (running l.week name i.day) i ≡ Err r
       → Called l name i (record { answer = Err r; load = l })
 
 pub called : (l : Load) (name : List ℕ) (i : CallInput) → Called l name i (call_spec l name i)
 unfolding call_spec dated_call
-called l name i = go l.week.dated refl
+called l name i = go (is_dated l.week) refl
   where
-    by : l.week.dated ≡ true → (a : Answer) → gate_answer l.searched l.stop_count (running l.week name i.day) i ≡ a
+    by : is_dated l.week ≡ true → (a : Answer) → gate_answer l.searched l.stop_count (running l.week name i.day) i ≡ a
         → Called l name i (gated l i a)
     by d (Ok Taken) e = goes_on d e
     by d (Ok Outside) e = stays_out d e
     by d (Err r) e = sent_back d r e
 
-    go : (b : Bool) → l.week.dated ≡ b
+    go : (b : Bool) → is_dated l.week ≡ b
         → Called l name i (cond b (gated l i (gate_answer l.searched l.stop_count (running l.week name i.day) i)) (plain_call l i))
     go true d = by d _ refl
     go false d = without d

@@ -15,7 +15,7 @@ use Rattle.calls.proofs.ReachedLaws.{call-answered}
 use Rattle.week.specs.declared.Week.{Week}
 use Rattle.week.specs.declared.Running.{Running}
 use Rattle.week.specs.declared.Running.TheVariants.{Runs}
-use Rattle.week.specs.Weeks.{closed_week, running}
+use Rattle.week.specs.Weeks.{is_dated, closed_week, running}
 use Rattle.load.specs.declared.Load.{Load}
 use Rattle.load.specs.declared.Stepped.{Stepped}
 use Rattle.load.specs.Load.{table_of, with_table, with_week}
@@ -59,7 +59,7 @@ module _ (l : Load) (i : CallInput) where
       go false s false k =
           ap (gated l i) (e ∙ sym (gate-wrong l.searched l.stop_count i Runs s k)) ∙ closing-refused FieldRange (plain-9 s k)
 
-module _ (l : Load) (name : List ℕ) (i : CallInput) (d : l.week.dated ≡ true) where
+module _ (l : Load) (name : List ℕ) (i : CallInput) (d : is_dated l.week ≡ true) where
   pub call-runs : running l.week name i.day ≡ Runs → call_spec l name i ≡ closing l (plain_call l i)
   call-runs e = go _ (called l name i)
     where

@@ -1,5 +1,5 @@
--- The parts of a load, and a load with some of them changed. Two definitions name every field, `empty_with` and `remade`: a field that is added
--- touches these.
+-- The parts of a load, and a load with some of them changed. Two definitions name every field, `empty_with` and `remade`: a field that is
+-- added touches these.
 use Rattle.std.specs.Prelude.{ℕ, Bool, false, List, [], ◌∷◌, pos, replicate, None, Option, is_some}
 use Rattle.settings.specs.declared.Settings.{Settings}
 use Rattle.calls.specs.declared.Call.{Call}
@@ -64,8 +64,8 @@ table_of l = record { calls = l.calls; count = l.call_count; horizon = l.table_h
 abbrev pub stopped : Load → Bool
 stopped l = is_some l.limit
 
--- what a query sees: the journeys, of which so many are kept, the horizon, the mark, whether the load is searched, and the limit at which that
--- search was stopped, if it was
+-- what a query sees: the journeys, of which so many are kept, the horizon, the mark, whether the load is searched, and the limit at which
+-- that search was stopped, if it was
 pub record Seen : Type 0 where
   pub journeys : List Journey
   pub count : ℕ
@@ -75,9 +75,17 @@ pub record Seen : Type 0 where
   pub limit : Option ℕ
 
 abbrev pub seen_of : Load → Seen
-seen_of l = record { journeys = l.journeys; count = l.journey_count; horizon = l.horizon; limits = l.limits; searched = l.searched; limit = l.limit }
+seen_of l = record {
+  journeys = l.journeys;
+  count = l.journey_count;
+  horizon = l.horizon;
+  limits = l.limits;
+  searched = l.searched;
+  limit = l.limit;
+}
 
--- the load with these stops, of which n are taken, this table, these rules, of which m are taken, this to be seen and this week; the settings are l's
+-- the load with these stops, of which n are taken, this table, these rules, of which m are taken, this to be seen and this week; the
+-- settings are l's
 abbrev pub remade : Load → List Stop → ℕ → Table → List Rule → ℕ → Seen → Week → Load
 remade l ss n t rs m k w = record {
   settings = l.settings;
@@ -105,7 +113,14 @@ with_seen l t k = remade l l.stops l.stop_count t l.rules l.rule_count k l.week
 -- the load with this table; until the search its horizon and limits are the table's
 abbrev pub with_table : Load → Table → Load
 with_table l t =
-    with_seen l t (record { journeys = l.journeys; count = l.journey_count; horizon = t.horizon; limits = t.limits; searched = l.searched; limit = l.limit })
+    with_seen l t (record {
+      journeys = l.journeys;
+      count = l.journey_count;
+      horizon = t.horizon;
+      limits = t.limits;
+      searched = l.searched;
+      limit = l.limit;
+    })
 
 -- the load with these stops, of which n are taken
 abbrev pub with_stops : Load → List Stop → ℕ → Load

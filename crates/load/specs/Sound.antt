@@ -1,5 +1,5 @@
--- A load that the steps make: sound stops, calls, rules and week, every call at one of its stops, journeys in order, none before the search, one
--- horizon until then, and a search stopped only where one may be.
+-- A load that the steps make: sound stops, calls, rules and week, every call at one of its stops, journeys in order, none before the
+-- search, one horizon until then, and a search stopped only where one may be.
 use Rattle.refusal.specs.declared.Accepted.TheVariants.{Taken}
 use Rattle.std.specs.Prelude.{ℕ, ◌-◌, ◌≤◌, ◌≡◌, true, false, List, length, take, drop, replicate, None, Option, Some, Ok}
 use Rattle.stops.specs.Sound.{StopsSound}

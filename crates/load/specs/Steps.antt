@@ -1,4 +1,5 @@
--- Opening, stop, call, rule, service and exception: the answer, and the load that is returned. A step that is sent back returns the load given.
+-- Opening, stop, call, rule, service and exception: the answer, and the load that is returned. A step that is sent back returns the load
+-- given.
 use Rattle.refusal.specs.declared.Accepted.TheVariants.{Taken, Outside}
 use Rattle.std.specs.Prelude.{ℕ, ◌+◌, Bool, true, false, cond, List, [], ◌∷◌, ◌++◌, set, None, Option, Some, Err, Ok}
 use Rattle.refusal.specs.declared.Refusal.TheVariants.{DateWrong, ServiceUnknown}
@@ -18,7 +19,7 @@ use Rattle.services.specs.Wrong.{dates_wrong}
 use Rattle.week.specs.declared.Week.{Week}
 use Rattle.week.specs.declared.Running.{Running}
 use Rattle.week.specs.declared.Running.TheVariants.{Unknown, Rests, Runs}
-use Rattle.week.specs.Weeks.{undated_week, dated_week, closed_week, service_on, exception_on, running}
+use Rattle.week.specs.Weeks.{is_dated, undated_week, dated_week, closed_week, service_on, exception_on, running}
 use Rattle.load.specs.declared.Load.{Load}
 use Rattle.load.specs.declared.Stepped.{Stepped}
 use Rattle.load.specs.Load.{empty_of, empty_load, blank_settings, table_of, with_table, with_stops, with_rules, with_week}
@@ -130,7 +131,7 @@ dated_call l r i = gated l i (gate_answer l.searched l.stop_count r i)
 
 -- the call of a service, whose name is empty where none is named; without dates the name is unread
 unfoldable pub call_spec : Load → List ℕ → CallInput → Stepped
-call_spec l name i = cond l.week.dated (dated_call l (running l.week name i.day) i) (plain_call l i)
+call_spec l name i = cond (is_dated l.week) (dated_call l (running l.week name i.day) i) (plain_call l i)
 
 -- ---- rule: 15, 9, 12, 13, 11
 

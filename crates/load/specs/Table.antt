@@ -11,6 +11,7 @@ use Rattle.load.specs.Load.{table_of}
 use Rattle.load.specs.Steps.{Opening, opened, call_spec}
 use Rattle.load.specs.Sound.{Sound}
 use Rattle.load.specs.Filling.{Filling, stop, call, rule, service, exception, filled, filled_by}
+use Rattle.week.specs.Weeks.{is_dated}
 
 -- the call of a step, if it is answered taken
 abbrev pub taken_call : Load → Filling → List CallInput
@@ -28,7 +29,8 @@ taken_calls l (x ∷ xs) = taken_call l x ++ taken_calls (filled l x).load xs
 -- the table is exactly those calls, each seen through the window at the table's horizon, those outside it left out
 abbrev pub TableLemma : Type 0
 TableLemma = (o : Opening) (xs : List Filling)
-    → table_calls (table_of (filled_by (opened o) xs)) ≡ windowed (canonical_of o.settings) (filled_by (opened o) xs).table_horizon (taken_calls (opened o) xs)
+    → table_calls (table_of (filled_by (opened o) xs))
+    ≡ windowed (canonical_of o.settings) (filled_by (opened o) xs).table_horizon (taken_calls (opened o) xs)
 
 -- its horizon is one of 21600, 16200, 12150, 9113, 6835, 5127, 3846
 abbrev pub OneOfSeven : Type 0
@@ -39,9 +41,11 @@ abbrev pub NeverRises : Type 0
 NeverRises = (l : Load) (x : Filling) → (filled l x).load.table_horizon ≤ l.table_horizon
 
 abbrev pub FallsOnlyFull : Type 0
-FallsOnlyFull = (l : Load) (x : Filling) → (filled l x).load.table_horizon < l.table_horizon → (name : List ℕ) × (i : CallInput) × (x ≡ call name i) × Meets l.settings (table_of l) i
+FallsOnlyFull = (l : Load) (x : Filling) → (filled l x).load.table_horizon < l.table_horizon
+    → (name : List ℕ) × (i : CallInput) × (x ≡ call name i) × Meets l.settings (table_of l) i
 
--- a call that is outside as it comes leaves a sound load without dates unchanged, until the search. (On a dated load it closes the services. One that is inside and meets a full table cuts it, and may
--- then be outside: the cut stays.)
+-- a call that is outside as it comes leaves a sound load without dates unchanged, until the search. (On a dated load it closes the
+-- services. One that is inside and meets a full table cuts it, and may then be outside: the cut stays.)
 abbrev pub OutsideUnchanged : Type 0
-OutsideUnchanged = (l : Load) (i : CallInput) → Sound l → l.searched ≡ false → l.week.dated ≡ false → (name : List ℕ) → window l.settings l.table_horizon i ≡ None → (call_spec l name i).load ≡ l
+OutsideUnchanged = (l : Load) (i : CallInput) → Sound l → l.searched ≡ false → is_dated l.week ≡ false → (name : List ℕ)
+    → window l.settings l.table_horizon i ≡ None → (call_spec l name i).load ≡ l

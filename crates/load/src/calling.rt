@@ -23,7 +23,7 @@ impl Load {
     fn take_call_of(&mut self, service: &[u8], input: CallInput) -> Answer
         ensures { stepped result self.new ≡ call_spec self.old service.now input }
     {
-        if self.week.dated {
+        if self.week.dates.is_some() {
             return self.take_dated(service, input);
         }
         self.take_call(input)
@@ -83,10 +83,11 @@ impl Load {
     pub fn take_call(&mut self, input: CallInput) -> Answer
         ensures { stepped result self.new ≡ call_spec self.old [] input }
     {
-        if self.week.dated {
+        if self.week.dates.is_some() {
             return self.take_dated(b"", input);
         }
         let at = self.call_count;
+        // Made here and in `take_by_cuts`: a function with its contract would be as long as the two.
         let gate = CallGate {
             settings: self.settings,
             searched: self.searched,
@@ -128,19 +129,15 @@ impl Load {
             searched: self.searched,
             stops: self.stop_count,
         };
-        match gate.call_on(table, input) {
-            Err(refusal) => Err(refusal),
-            Ok(fitted) => {
-                let t = fitted.table;
-                let calls = t.calls;
-                self.calls = calls;
-                self.call_count = t.count;
-                self.table_horizon = t.horizon;
-                self.table_limits = t.limits;
-                self.horizon = t.horizon;
-                self.limits = t.limits;
-                Ok(fitted.accepted)
-            }
-        }
+        let fitted = gate.call_on(table, input)?;
+        let t = fitted.table;
+        let calls = t.calls;
+        self.calls = calls;
+        self.call_count = t.count;
+        self.table_horizon = t.horizon;
+        self.table_limits = t.limits;
+        self.horizon = t.horizon;
+        self.limits = t.limits;
+        Ok(fitted.accepted)
     }
 }

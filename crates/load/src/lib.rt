@@ -4,7 +4,7 @@
 mod calling;
 
 ghost use Rattle.std.specs.Prelude.{◌≡◌, option_copied};
-ghost use Rattle.load.specs.Load.{blank_settings, empty_load, empty_of, with_week};
+ghost use Rattle.load.specs.Load.{blank_settings, empty_load, empty_of};
 ghost use Rattle.load.specs.Steps.{
   undated,
   dated,
@@ -23,12 +23,12 @@ use prefix::first;
 use profile::{Journey, no_journey};
 use refusal::{Accepted, Answer, Refusal, is_refused, is_taken};
 use rules::{Rule, blank_rule, rule_answer};
-use services::dates_wrong;
+use services::{ExceptionInput, ServiceInput, dates_wrong};
 use settings::{Settings, canonical, settings_answer};
 use stop_answer::{parent_of, stop_answer};
 use stops::taken::{blank_stop, stop_of};
 use stops::{NewStop, Stop};
-use week::{Week, WeekStepped, dated, undated};
+use week::{Week, dated, undated};
 
 // Counts stand beside arrays, since the core has no heap and the kit's `ArrayVec` is not `Copy`, as a load is: a slot past its count holds
 // the blank record. `table_horizon` and `table_limits` are the call table's; `horizon` and `limits` are what a query sees, and differ from
@@ -183,34 +183,37 @@ impl Load {
         answer
     }
 
-    // A service is taken or sent back. Its three numbers come one by one: a record would be made by the caller and taken apart by `week`.
-    #[tactic(auto, unfolding(crate::specs::Steps::service_spec))]
-    pub fn service(self, name: &[u8], weekdays: u8, start: u32, end: u32) -> Stepped
-        ensures { result ≡ service_spec self name.now weekdays start end }
-    {
-        let step = self.week.service(self.searched, name, weekdays, start, end);
-        self.after(step)
-    }
-
-    // An exception to a service is taken or sent back, of parameters as `service` has them. Its kind is a number: any byte may be handed in,
-    // and 20 tells of those that are no kind.
-    #[tactic(auto, unfolding(crate::specs::Steps::exception_spec))]
-    pub fn exception(self, name: &[u8], date: u32, kind: u8) -> Stepped
-        ensures { result ≡ exception_spec self name.now date kind }
-    {
-        let step = self.week.exception(self.searched, name, date, kind);
-        self.after(step)
-    }
-
-    // The load after a step of its week.
-    fn after(self, step: WeekStepped) -> Stepped
-        ensures { result ≡ stepped step.answer (with_week self step.week) }
+    // A service is taken or sent back.
+    pub fn service(self, name: &[u8], input: ServiceInput) -> Stepped
+        ensures { result ≡ service_spec self name.now input.weekdays input.start input.end }
     {
         let mut next = self;
-        next.week = step.week;
-        Stepped {
-            answer: step.answer,
-            load: next,
-        }
+        let answer = next.take_service(name, input);
+        Stepped { answer, load: next }
+    }
+
+    // The same in place.
+    #[tactic(auto, unfolding(crate::specs::Steps::service_spec))]
+    pub fn take_service(&mut self, name: &[u8], input: ServiceInput) -> Answer
+        ensures { stepped result self.new ≡ service_spec self.old name.now input.weekdays input.start input.end }
+    {
+        self.week.take_service(self.searched, name, input)
+    }
+
+    // An exception to a service is taken or sent back.
+    pub fn exception(self, name: &[u8], input: ExceptionInput) -> Stepped
+        ensures { result ≡ exception_spec self name.now input.date input.kind }
+    {
+        let mut next = self;
+        let answer = next.take_exception(name, input);
+        Stepped { answer, load: next }
+    }
+
+    // The same in place.
+    #[tactic(auto, unfolding(crate::specs::Steps::exception_spec))]
+    pub fn take_exception(&mut self, name: &[u8], input: ExceptionInput) -> Answer
+        ensures { stepped result self.new ≡ exception_spec self.old name.now input.date input.kind }
+    {
+        self.week.take_exception(self.searched, name, input)
     }
 }

@@ -5,10 +5,7 @@ use Rattle.withdrawal.specs.Removal.{key_of}
 use Rattle.load.specs.declared.Load.{Load}
 use Rattle.load.specs.declared.Stepped.{Stepped}
 use Rattle.load.specs.Load.{seen_of, with_seen}
-use Rattle.search.specs.Search.{search_spec}
 use Rattle.again.specs.Again.{add_spec_of, withdraw_spec}
-use Rattle.load_c.specs.declared.altered.Action.{Action}
-use Rattle.load_c.specs.declared.altered.Action.TheVariants.{Search, Add, Withdraw}
 
 -- the load with another mark of its table
 abbrev pub with_mark : Load → ℕ → Load
@@ -36,14 +33,9 @@ call_at trip sequence stop second = record {
 -- ---- what is done in each turn
 
 -- a call is added, or the one with its key withdrawn
-abbrev pub alteration_of : Bool → CallInput → Action
-alteration_of adds i = cond adds (Add i) (Withdraw (key_of i))
+abbrev pub alteration_of : Bool → CallInput → Load → Stepped
+alteration_of adds i l = cond adds (add_spec_of l [] i) (withdraw_spec l (key_of i))
 
-abbrev pub done : Action → Load → Stepped
-done Search l = search_spec l
-done (Add i) l = add_spec_of l [] i
-done (Withdraw k) l = withdraw_spec l k
-
--- the horizon that it leaves
-unfoldable pub horizon_after : Action → Load → ℕ
-horizon_after a l = (done a l).load.horizon
+-- the horizon that a step leaves
+unfoldable pub horizon_after : (Load → Stepped) → Load → ℕ
+horizon_after step l = (step l).load.horizon

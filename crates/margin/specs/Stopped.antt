@@ -1,5 +1,5 @@
--- "A stopped answer for second 0 also gives a margin: its arrival less the earliest arrival, walk included, of any ride in the table at a target
--- .. With nothing found yet there is no margin."
+-- "A stopped answer for second 0 also gives a margin: its arrival less the earliest arrival, walk included, of any ride in the table at a
+-- target .. With nothing found yet there is no margin."
 use Rattle.profile.specs.declared.Journey.{Journey}
 use Rattle.std.specs.Prelude.{cond, ◌-◌, pos, None, Option, Some, ℕ}
 use Rattle.offers.specs.Offers.{Timetable}

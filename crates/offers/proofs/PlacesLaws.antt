@@ -8,7 +8,7 @@ use Rattle.laws.specs.Bits.{bits_from, bits_of}
 use Rattle.laws.proofs.Bits.{bits-masked}
 use Rattle.laws.proofs.Places.{take_places}
 use Rattle.calls.specs.declared.Call.{Call}
-use Rattle.profile.specs.declared.Row.{Row}
+use Rattle.profile.specs.Found.{Row}
 use Rattle.profile.specs.Journeys.{journey_figures, row_figures}
 use Rattle.offers.specs.Offers.{Timetable, sorted}
 use Rattle.offers.specs.Places.{mask_of, journey_at, InPlaces}

@@ -56,7 +56,8 @@ pub record Change (t : Timetable) (j : Journey) : Type 0 where
   pub joined : t.joins (ride_of b a) c ≡ true
   pub is : j ≡ change_of t (ride_of b a) (ride_of c d) o k
 
--- j is the journey of three rides: "A middle ride needs a boardable and a later alightable call of one trip and day, and joins on both sides."
+-- j is the journey of three rides: "A middle ride needs a boardable and a later alightable call of one trip and day, and joins on both
+-- sides."
 pub record Three (t : Timetable) (j : Journey) : Type 0 where
   pub b : Call
   pub a : Call

@@ -27,7 +27,18 @@ marked cs =
 -- a call of a trip at a stop and time
 abbrev pub call_at : ℕ → ℕ → ℕ → ℕ → Call
 call_at trip seq stop time =
-    record { trip = trip; day = 0; sequence = seq; stop = stop; arrival = time; departure = time; board = true; alight = true; board_request = false; alight_request = false }
+    record {
+      trip = trip;
+      day = 0;
+      sequence = seq;
+      stop = stop;
+      arrival = time;
+      departure = time;
+      board = true;
+      alight = true;
+      board_request = false;
+      alight_request = false;
+    }
 
 -- the figures of what is offered, and of what a search from the horizon 21600 keeps
 abbrev pub offered : List Call → List Figures
@@ -44,7 +55,17 @@ kept cs = kept_by (search_of (marked cs) 21600 0)
 -- a journey with these figures, and the number that a search from the horizon 21600 is answered with, 0 where it is taken
 abbrev pub journey_with : Figures → Journey
 journey_with f =
-    record { leave = f.leave; arrival = f.arrival; rides = f.rides; walk = f.walk; origin = 0; target = 0; first = no_ride; middle = no_ride; last = no_ride }
+    record {
+      leave = f.leave;
+      arrival = f.arrival;
+      rides = f.rides;
+      walk = f.walk;
+      origin = 0;
+      target = 0;
+      first = no_ride;
+      middle = no_ride;
+      last = no_ride;
+    }
 
 abbrev pub number_for : List Figures → ℕ
 number_for fs = answer_number (answer_of (found_by (searched journey_figures 64 3600 21600 0 (map journey_with fs))))

@@ -1,6 +1,6 @@
 -- The journeys that a search offers, over the calls in order: "For each boarding call in order, then each origin of its stop (a stop's
--- origins are taken lowest set bit first), then each alighting call", as `routes` of crate `ways` lists them; "all three-ride journeys after all the others". Here stands what a
--- timetable's calls are to it.
+-- origins are taken lowest set bit first), then each alighting call", as `routes` of crate `ways` lists them; "all three-ride journeys
+-- after all the others". Here stands what a timetable's calls are to it.
 use Rattle.std.specs.Prelude.{Bool, ◌&&◌, List, [], ◌∷◌, map, ℕ, ◌+◌, ◌-◌, ◌*◌, ◌/◌, min, eqb, leb}
 use Rattle.laws.specs.Lists.{filterb}
 use Rattle.laws.specs.Bits.{bits_from}
@@ -12,7 +12,8 @@ use Rattle.profile.specs.declared.Journey.{Journey}
 use Rattle.profile.specs.Journeys.{no_ride}
 use Rattle.offers.specs.Order.{in_order_of}
 
--- what a search reads: the calls as taken, each stop's membership byte, counts and walks in minutes, and whether a ride joins one that boards at a call
+-- what a search reads: the calls as taken, each stop's membership byte, counts and walks in minutes, and whether a ride joins one that
+-- boards at a call
 pub record Timetable : Type 0 where
   pub calls : List Call
   pub members : ℕ → ℕ
@@ -90,8 +91,8 @@ three_of t f m l o k = journey_of t 3 f m l l.arrival o k
 abbrev pub same_run : Call → Call → Bool
 same_run b a = eqb b.trip a.trip && eqb b.day a.day
 
--- the origins and targets of a call's stop: bits 0 to 3 and bits 4 to 7 of its membership byte, those past the counts ignored; "boarding needs
--- departure at or above walk × 60"
+-- the origins and targets of a call's stop: bits 0 to 3 and bits 4 to 7 of its membership byte, those past the counts ignored; "boarding
+-- needs departure at or above walk × 60"
 abbrev pub origins_of : Timetable → Call → List ℕ
 origins_of t b = filterb (λ o. leb (t.origin_walk o * 60) b.departure) (bits_from (min t.origins 4) 0 (t.members b.stop))
 

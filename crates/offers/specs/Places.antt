@@ -1,9 +1,9 @@
--- The calls by places, as the loops over an array go: `at i` is the call at place i of the calls in order, and n is their count. The masks that a loop
--- reads, and the journey of a row: its figures, its origin and target, and its calls by their places.
+-- The calls by places, as the loops over an array go: `at i` is the call at place i of the calls in order, and n is their count. The
+-- masks that a loop reads, and the journey of a row: its figures, its origin and target, and its calls by their places.
 use Rattle.std.specs.Prelude.{◌≡◌, cond, map, ℕ, ◌/◌, ◌%◌, ◌^◌, min, eqb, leb}
 use Rattle.laws.specs.Lists.{span}
 use Rattle.calls.specs.declared.Call.{Call}
-use Rattle.profile.specs.declared.Row.{Row}
+use Rattle.profile.specs.Found.{Row}
 use Rattle.profile.specs.declared.Journey.{Journey}
 use Rattle.profile.specs.Journeys.{no_ride}
 use Rattle.offers.specs.Offers.{Timetable, ride_of, sorted}

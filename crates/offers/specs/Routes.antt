@@ -6,7 +6,8 @@ use Rattle.calls.specs.declared.Call.{Call}
 use Rattle.profile.specs.Kept.{searched}
 use Rattle.profile.specs.Journeys.{journey_figures}
 use Rattle.offers.specs.Order.{clashes, Timed}
-use Rattle.offers.specs.Offers.{Timetable, with_calls, ride_of, leave_of, arrival_of, network_of, direct_by, change_by, sorted, routes_of, offers}
+use Rattle.offers.specs.Offers.{Timetable, with_calls, ride_of, leave_of, arrival_of, network_of, direct_by, change_by, sorted, routes_of}
+use Rattle.offers.specs.Offers.{offers}
 use Rattle.offers.specs.Admitted.{Rides, Starts, Ends, Clear, InTime}
 use Rattle.offers.specs.Search.{clashing, found_by, search_of}
 use Rattle.ways.specs.Routes.{Way, Route, here, ride_then, onward}
@@ -44,7 +45,8 @@ arrives t r = arrival_of t r.way.target (arrives_at r.first.ride r.way.rides)
 
 -- what leads on in order is what leads on, at every depth
 abbrev pub OnwardIs : Type 0
-OnwardIs = (n : ℕ) (t : Timetable) → Clear t → (r : Leg Call) (w : Way Call) → Memᴰ w (onward (network_of t) n (sorted t) r) ↔ Onward n t r w
+OnwardIs = (n : ℕ) (t : Timetable) → Clear t → (r : Leg Call) (w : Way Call)
+    → Memᴰ w (onward (network_of t) n (sorted t) r) ↔ Onward n t r w
 
 -- what is listed is what is admitted
 abbrev pub RoutesAdmitted : Type 0
@@ -60,10 +62,12 @@ RoutesInAnyOrder = (t : Timetable) (ys : List Call) → Permᴰ t.calls ys → C
 
 -- with max_transfers 0 and 1 the offers are the journeys as they were, by first ride
 abbrev pub OffersUpToOne : Type 0
-OffersUpToOne = (t : Timetable) → t.max_transfers ≤ 1 → offers t ≡ journeys (network_of t) (direct_by t) (change_by t) t.max_transfers (sorted t)
+OffersUpToOne = (t : Timetable) → t.max_transfers ≤ 1
+    → offers t ≡ journeys (network_of t) (direct_by t) (change_by t) t.max_transfers (sorted t)
 
 -- so a search answers as it did
 abbrev pub SearchUpToOne : Type 0
 SearchUpToOne = (t : Timetable) (h l : ℕ) → t.max_transfers ≤ 1
     → search_of t h l
-    ≡ cond (clashes (sorted t)) clashing (found_by (searched journey_figures 64 3600 h l (journeys (network_of t) (direct_by t) (change_by t) t.max_transfers (sorted t))))
+    ≡ cond (clashes (sorted t)) clashing (found_by
+    (searched journey_figures 64 3600 h l (journeys (network_of t) (direct_by t) (change_by t) t.max_transfers (sorted t))))

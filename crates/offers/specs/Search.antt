@@ -1,4 +1,5 @@
--- What a search answers, from the timetable, its horizon and its mark: "Search 15, 14, 11"; that a load is searched once (15) is not asked here.
+-- What a search answers, from the timetable, its horizon and its mark: "Search 15, 14, 11"; that a load is searched once (15) is not
+-- asked here.
 use Rattle.refusal.specs.First.{Answer}
 use Rattle.refusal.specs.declared.Accepted.TheVariants.{Taken}
 use Rattle.std.specs.Prelude.{◌≡◌, cond, ℕ, Err, Ok}
@@ -42,7 +43,8 @@ search_of t h l = cond (clashes (sorted t)) clashing (found_by (searched journey
 -- a search that found something met no clash, and made every offer; its list is what was kept, put in order
 abbrev pub SearchFound : Type 0
 SearchFound = (t : Timetable) (h₀ l₀ h l : ℕ) (ks : List Journey) → search_of t h₀ l₀ ≡ found ks h l
-    → Clear t × (ks' : List Journey) × (searched journey_figures 64 3600 h₀ l₀ (offers t) ≡ going ks' h l) × (ks ≡ ordered journey_figures ks')
+    → Clear t × (ks' : List Journey) × (searched journey_figures 64 3600 h₀ l₀ (offers t) ≡ going ks' h l)
+    × (ks ≡ ordered journey_figures ks')
 
 -- the same by the offers alone: no list is kept
 abbrev pub ends_by_of : List Journey → Ends → Outcome
@@ -51,7 +53,8 @@ ends_by_of os (up_to h l) = found (ordered journey_figures (front (covᶠ journe
 
 abbrev pub SearchByOffers : Type 0
 SearchByOffers = (t : Timetable) (h l : ℕ)
-    → search_of t h l ≡ cond (clashes (sorted t)) clashing (ends_by_of (offers t) (fall (covᶠ journey_figures) (dueᶠ journey_figures) 64 3600 h l [] (offers t)))
+    → search_of t h l ≡ cond (clashes (sorted t)) clashing
+    (ends_by_of (offers t) (fall (covᶠ journey_figures) (dueᶠ journey_figures) 64 3600 h l [] (offers t)))
 
 -- the order in which the calls were taken is nothing to the outcome
 abbrev pub SearchInAnyOrder : Type 0

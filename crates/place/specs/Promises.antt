@@ -39,20 +39,24 @@ SameHash = (a b : PlaceKey) → a.tag ≡ b.tag → (a.tag ≢ tag_n) → a.hash
 
 -- microdegrees of a usable position are within ±90,000,000 and ±180,000,000
 abbrev pub InRange : Type 0
-InRange = (p : Option Degrees) (lat lon : ℤ) → micro_of p ≡ Some (record { lat = lat; lon = lon }) → (unsigned_abs lat ≤ 90000000) × (unsigned_abs lon ≤ 180000000)
+InRange = (p : Option Degrees) (lat lon : ℤ) → micro_of p ≡ Some (record { lat = lat; lon = lon })
+    → (unsigned_abs lat ≤ 90000000) × (unsigned_abs lon ≤ 180000000)
 
 -- so the Rust's own i32 sums can't overflow: the sum and the difference of the latitudes, and the difference of the longitudes
 abbrev pub SumsFit : Type 0
 SumsFit =
-    (p q : Option Degrees) (lat lon lat' lon' : ℤ) → micro_of p ≡ Some (record { lat = lat; lon = lon }) → micro_of q ≡ Some (record { lat = lat'; lon = lon' })
+    (p q : Option Degrees) (lat lon lat' lon' : ℤ) → micro_of p ≡ Some (record { lat = lat; lon = lon })
+    → micro_of q ≡ Some (record { lat = lat'; lon = lon' })
     → (unsigned_abs (lat +ℤ lat') < 2 ^ 31) × (unsigned_abs (lat -ℤ lat') < 2 ^ 31) × (unsigned_abs (lon -ℤ lon') < 2 ^ 31)
 
 -- a place key is never the key of a stop that has none
 abbrev pub Placed : Type 0
-Placed = (has : Bool) (parent : List ℕ) (p : Option Degrees) (named : Bool) (name id : List ℕ) → (place_key has parent p named name id).tag ≢ no_place.tag
+Placed = (has : Bool) (parent : List ℕ) (p : Option Degrees) (named : Bool) (name id : List ℕ)
+    → (place_key has parent p named name id).tag ≢ no_place.tag
 
 -- and its microdegrees are in that range, so the test is reflexive for it
 abbrev pub KeyInRange : Type 0
 KeyInRange =
     (has : Bool) (parent : List ℕ) (p : Option Degrees) (named : Bool) (name id : List ℕ)
-    → (unsigned_abs (place_key has parent p named name id).lat ≤ 90000000) × (unsigned_abs (place_key has parent p named name id).lon ≤ 180000000)
+    → (unsigned_abs (place_key has parent p named name id).lat ≤ 90000000)
+    × (unsigned_abs (place_key has parent p named name id).lon ≤ 180000000)

@@ -7,16 +7,13 @@ use Rattle.std.specs.Cmp.Lexicographic.{slice_cmp}
 use Rattle.std.proofs.Common.{Bor, Ordering}
 use Rattle.std.proofs.lemmas.Bool.Decides.{nat_tests}
 use Rattle.std.proofs.lemmas.Cmp.{same_from_slice_cmp}
-use Prim.Native.Nat.{ℕ, zero, suc, ◌≤◌}
+use Prim.Native.Nat.{ℕ}
 use mathlib.Core.Path.{◌≡◌, refl, sym, ap, ◌∙◌}
 use mathlib.Core.Bool.{Bool, true, false, cond}
-use mathlib.Core.List.{List, [], ◌∷◌, map}
+use mathlib.Core.List.{List, [], ◌∷◌}
 use native.Mathlib.Omega.{arith}
 use lib.Dec.{eqb}
-use lib.ListN.{take}
-use Rattle.laws.specs.Lists.{span}
 use Rattle.laws.specs.Order.{less_bytes}
-use Rattle.laws.specs.Tables.{table}
 use Rattle.laws.proofs.Bools.{cond-by, cond-not}
 use Rattle.place.specs.declared.PlaceKey.{PlaceKey}
 use Rattle.place.specs.Keys.{place_key, no_place, text_of}
@@ -61,17 +58,6 @@ found-is key (x ∷ l) = go (same_keys key x.key) (found-is key l)
         → option_map (λ e. e.stop) (cond b (Some x) (find (λ e. same_keys key e.key) l)) ≡ cond b (Some x.stop) (first_entry key l)
     go true e = refl
     go false e = e
-
--- ---- the first n of a table
-
-pub take-table : {A : Type 0} (f : ℕ → A) (n m : ℕ) → n ≤ m → take n (table m f) ≡ table n f
-unfolding table
-take-table {A} f n m h = go 0 n m h
-  where
-    go : (a n m : ℕ) → n ≤ m → take n (map f (span a m)) ≡ map f (span a n)
-    go a zero m h = refl
-    go a (suc n) zero h = absurd (omega arith)
-    go a (suc n) (suc m) h = ap {B = List A} (λ r. f a ∷ r) (go (suc a) n m (omega arith))
 
 -- ---- the key of texts that may be absent
 

@@ -14,7 +14,7 @@ use Rattle.laws.specs.Sort.{sort}
 use Rattle.laws.specs.Tables.{table}
 use Rattle.laws.proofs.Folds.{span-mem}
 use Rattle.laws.proofs.Sort.{sort-mem}
-use Rattle.laws.proofs.Tables.{length-table, sort-map}
+use Rattle.laws.proofs.Tables.{length-table, sort-map, take-table}
 use Rattle.place.specs.declared.PlaceKey.{PlaceKey}
 use Rattle.place.specs.Keys.{no_place, place_key, text_of}
 use Rattle.place.specs.Near.{same_keys}
@@ -26,7 +26,6 @@ use Rattle.places.specs.declared.Entry.{Entry}
 use Rattle.places.specs.Keys.{parent_id, stop_key, key_at}
 use Rattle.places.specs.Places.{has_key, same_place, id_less, Groups, first_match, place, no_groups, id_order, groups_of, places_of}
 use Rattle.places.specs.Places as P
-use Rattle.places.proofs.Laws.{take-table}
 use Rattle.places.specs.Entries.{Numbered, entry_at, id_before, first_entry, EntryGroups, put, place_entry, no_entries, group_entries}
 
 module _ (ss : List Stop) where

@@ -11,7 +11,6 @@ use place::{PlaceKey, no_place, place_key};
 use std::array;
 use stops::Stop;
 use stops::taken::blank_stop;
-use texts::Text;
 
 // The id of the stop of a number; empty past the last.
 #[tactic(auto, unfolding(stops::specs::Sound::stop_at, texts::specs::Texts::held))]
@@ -38,15 +37,11 @@ fn stop_key(stop: &Stop, parent: Option<&[u8]>) -> PlaceKey
     place_key(parent, stop.degrees, stop.name(), stop.id())
 }
 
-// What an unused slot holds. No `Default`: derived, its contract says nothing of a text.
+// What an unused slot holds: the default, by a name that contracts can give it.
 pub fn blank_entry() -> Entry
     ensures { result ≡ blank_entry }
 {
-    Entry {
-        id: Text::of(b""),
-        stop: 0,
-        key: no_place(),
-    }
+    Entry::default()
 }
 
 // The entry of the stop with the number i; past the last that of a blank stop. That i is small is asked for the cast.

@@ -9,7 +9,7 @@ use place::PlaceKey;
 use texts::Text;
 
 // What the grouping reads of a stop: its id, its number and its place key.
-#[derive(Clone, Copy, Debug, PartialEq, Eq)]
+#[derive(Clone, Copy, Debug, Default, PartialEq, Eq)]
 pub struct Entry {
     pub id: Text<32>,
     pub stop: u16,

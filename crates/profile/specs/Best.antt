@@ -1,5 +1,5 @@
--- Best over a kept list, by reading all of it and by the first that leaves in time; what it is for a list to stand for all the offers up to a
--- horizon, and to stand in order.
+-- Best over a kept list, by reading all of it and by the first that leaves in time; what it is for a list to stand for all the offers up
+-- to a horizon, and to stand in order.
 use Rattle.std.specs.Prelude.{◌≡◌, Bool, true, not, cond, ℕ, suc, ◌≤◌, leb, ltb, ℤ, pos, negsuc, None, Option, Some}
 use mathlib.Core.List.{List, [], ◌∷◌, Memᴰ}
 use Rattle.laws.specs.Lists.{filterb, firstb}

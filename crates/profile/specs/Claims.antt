@@ -16,7 +16,8 @@ module _ {A : Type 0} (fig : A → Figures) where
 
   -- what is kept is the unbeaten list, in offer order, the older of equals; there are at most 64, and the horizon is no later than it was
   abbrev pub KeptIsFront : Type 0
-  KeptIsFront = (h₀ l₀ : ℕ) (os ks : List A) (h l : ℕ) → Keeps h₀ l₀ os ks h l → (ks ≡ front (covᶠ fig) (dueᶠ fig) h os) × (length ks ≤ 64) × (h ≤ h₀)
+  KeptIsFront = (h₀ l₀ : ℕ) (os ks : List A) (h l : ℕ) → Keeps h₀ l₀ os ks h l
+      → (ks ≡ front (covᶠ fig) (dueᶠ fig) h os) × (length ks ≤ 64) × (h ≤ h₀)
 
   -- each of the unbeaten list was offered, is due by the horizon, and is beaten by no offer
   abbrev pub FrontUnbeaten : Type 0
@@ -77,9 +78,11 @@ module _ {A : Type 0} (fig : A → Figures) where
   abbrev pub CompleteCut : Type 0
   CompleteCut = (os ks : List A) (h w : ℕ) → w ≤ h → Complete fig os ks h → Complete fig os (filterb (λ k. leb (fig k).arrival w) ks) w
 
-  -- two complete lists answer alike, at every second asked and up to the earlier horizon, exactly if their offers due by it cover each other. Each second up to that horizon is among those asked
+  -- two complete lists answer alike, at every second asked and up to the earlier horizon, exactly if their offers due by it cover each
+  -- other. Each second up to that horizon is among those asked
   abbrev pub Alike : (ℤ → Type 0) → Type 0
-  Alike Asked = (os os' ks ks' : List A) (h h' : ℕ) → ((n : ℕ) → n ≤ min h h' → Asked (pos n)) → Complete fig os ks h → Complete fig os' ks' h'
+  Alike Asked = (os os' ks ks' : List A) (h h' : ℕ) → ((n : ℕ) → n ≤ min h h' → Asked (pos n)) → Complete fig os ks h
+      → Complete fig os' ks' h'
       → ((t : ℤ) → Asked t → read_by fig (min h h') (bestℤ fig ks h t) ≡ read_by fig (min h h') (bestℤ fig ks' h' t))
       ↔ (Covers fig (min h h') os os' × Covers fig (min h h') os' os)
 
@@ -89,7 +92,8 @@ module _ {A : Type 0} (fig : A → Figures) where
 
   -- and it stands in the same place
   abbrev pub PlaceInOrder : Type 0
-  PlaceInOrder = (ks : List A) → Ordered fig ks → (h : ℕ) (z : ℤ) → firstℤ (figures_at fig) (numbered 0 ks) h z ≡ bestℤ (figures_at fig) (numbered 0 ks) h z
+  PlaceInOrder = (ks : List A) → Ordered fig ks → (h : ℕ) (z : ℤ)
+      → firstℤ (figures_at fig) (numbered 0 ks) h z ≡ bestℤ (figures_at fig) (numbered 0 ks) h z
 
   -- a list put in order is in order, and has the same journeys
   abbrev pub PutInOrder : Type 0

@@ -1,4 +1,5 @@
--- The four figures of a journey, and the two orders on them: `covers` (equals or beats), by which journeys are kept, and `prefer`, by which best picks.
+-- The four figures of a journey, and the two orders on them: `covers` (equals or beats), by which journeys are kept, and `prefer`, by
+-- which best picks.
 use Rattle.std.specs.Prelude.{Bool, ◌&&◌, ℕ, leb}
 unfoldable pub use Rattle.laws.specs.Lex.{lexb}
 pub use Rattle.profile.specs.declared.figures.Figures.{Figures}

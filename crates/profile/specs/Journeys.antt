@@ -2,7 +2,7 @@
 use Rattle.std.specs.Prelude.{Bool, false, ℕ}
 use Rattle.profile.specs.declared.Ride.{Ride}
 use Rattle.profile.specs.declared.Journey.{Journey}
-use Rattle.profile.specs.declared.Row.{Row}
+use Rattle.profile.specs.Found.{Row}
 use Rattle.profile.specs.Figures.{Figures, covers}
 
 abbrev pub journey_figures : Journey → Figures
@@ -23,7 +23,17 @@ abbrev pub no_ride : Ride
 no_ride = record { trip = 0; day = 0; from = 0; to = 0; departure = 0; arrival = 0; board_request = false; alight_request = false }
 
 abbrev pub no_journey : Journey
-no_journey = record { leave = 0; arrival = 0; rides = 0; walk = 0; origin = 0; target = 0; first = no_ride; middle = no_ride; last = no_ride }
+no_journey = record {
+  leave = 0;
+  arrival = 0;
+  rides = 0;
+  walk = 0;
+  origin = 0;
+  target = 0;
+  first = no_ride;
+  middle = no_ride;
+  last = no_ride;
+}
 
 -- a row of twelve numbers; the same as contracts name it, unfolded only where a proof asks for it
 abbrev pub row : ℕ → ℕ → ℕ → ℕ → ℕ → ℕ → ℕ → ℕ → ℕ → ℕ → ℕ → ℕ → Row

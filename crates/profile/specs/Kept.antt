@@ -15,14 +15,16 @@ module _ {A : Type 0} (due : A → ℕ) where
   latest (x ∷ xs) = max (due x) (latest xs)
 
 module _ {A : Type 0} (due : A → ℕ) (cap floor : ℕ) where
-  -- ks is to be kept. If that is more than `cap`, the horizon becomes the latest arrival of them less 1, limits becomes 1, and all due later go; the search is refused if that horizon would be below `floor`
+  -- ks is to be kept. If that is more than `cap`, the horizon becomes the latest arrival of them less 1, limits becomes 1, and all due
+  -- later go; the search is refused if that horizon would be below `floor`
   abbrev pub settle : List A → ℕ → ℕ → St A
   settle ks h l =
       cond (leb (length ks) cap) (going ks h l)
       (cond (ltb (latest due ks - 1) floor) refused (going (filterb (λ k. leb (due k) (latest due ks - 1)) ks) (latest due ks - 1) 1))
 
 module _ {A : Type 0} (cov : A → A → Bool) (due : A → ℕ) (cap floor : ℕ) where
-  -- an offer (`candidate`) due after the horizon is passed over; so is one equalled or beaten by a kept one; otherwise those it equals or beats go and it is added last. It equals none then, so those are the ones it beats
+  -- an offer (`candidate`) due after the horizon is passed over; so is one equalled or beaten by a kept one; otherwise those it equals or
+  -- beats go and it is added last. It equals none then, so those are the ones it beats
   abbrev pub offer : St A → A → St A
   offer refused o = refused
   offer (going ks h l) o =

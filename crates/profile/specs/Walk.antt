@@ -1,5 +1,6 @@
--- An offer by one walk over the kept list (request 04): judged, and those that it beats dropped, in one pass. `cov a b`: a equals or beats b.
--- The first kept one that covers the offer or that it covers decides. On an antichain that is judging first and then dropping (specs/Claims).
+-- An offer by one walk over the kept list (request 04): judged, and those that it beats dropped, in one pass. `cov a b`: a equals or
+-- beats b. The first kept one that covers the offer or that it covers decides. On an antichain that is judging first and then dropping
+-- (specs/Claims).
 use Rattle.std.specs.Prelude.{◌≡◌, Bool, true, false, not, cond, ◌||◌, ℕ, suc, ltb, length}
 use mathlib.Core.List.{List, [], ◌∷◌, ◌++◌, Memᴰ}
 use Rattle.laws.specs.Lists.{filterb}
@@ -31,7 +32,8 @@ module _ {A : Type 0} (cov : A → A → Bool) where
   reads o ks = cond (passes o ks) (suc (place (λ k. near k o) ks)) (length ks)
 
 module _ {A : Type 0} (cov : A → A → Bool) (due : A → ℕ) (cap floor : ℕ) where
-  -- an offer due after the horizon is passed over, unread; so is one that the walk passes over; otherwise those it covers go and it is added last
+  -- an offer due after the horizon is passed over, unread; so is one that the walk passes over; otherwise those it covers go and it is
+  -- added last
   abbrev pub walk : St A → A → St A
   walk refused o = refused
   walk (going ks h l) o =

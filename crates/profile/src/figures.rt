@@ -3,7 +3,7 @@ ghost use Rattle.std.specs.Prelude.{◌≡◌};
 ghost use Rattle.profile.specs.Figures.{covers, prefer};
 ghost use Rattle.profile.specs.Journeys.{journey_figures, row_figures};
 
-use crate::{Journey, Row};
+use crate::{Found, Journey};
 use std::cmp::Reverse;
 
 // The figures by which journeys are compared.
@@ -39,7 +39,7 @@ impl Figures {
 }
 
 // Methods, and no `From`: callers chain them.
-impl Row {
+impl Found<u16> {
     pub fn figures(self) -> Figures
         ensures { result ≡ row_figures self }
     {

@@ -34,13 +34,13 @@ pub struct Journey {
     pub last: Ride,
 }
 
-// A journey while the search runs: its figures, its origin and target, and the numbers of the calls where it boards and
-// alights: of the first ride, the last and the middle one. For one ride, `board2` and `alight2` are 0, and for fewer than three those of
-// the middle ride: 0 and no option, as a row is twelve numbers of the state's array.
+// A journey while the search runs: its figures, its origin and target, and the numbers of the calls where it boards and alights: of the
+// first ride, the last and the middle one. For one ride, `board2` and `alight2` are 0, and for fewer than three those of the middle ride: 0
+// and no option, as a row is twelve numbers of the state's array. An arrival has 16 bits in a row, 32 in an offer (`candidate: Offer`).
 #[derive(Clone, Copy, Debug, Default, PartialEq, Eq)]
-pub struct Row {
+pub struct Found<A> {
     pub leave: u16,
-    pub arrival: u16,
+    pub arrival: A,
     pub rides: u16,
     pub walk: u16,
     pub origin: u16,
@@ -52,6 +52,9 @@ pub struct Row {
     pub middle_board: u16,
     pub middle_alight: u16,
 }
+
+// As it is kept.
+pub type Row = Found<u16>;
 
 // The blank ride, the blank journey and the blank row: what stands where there is none. Functions over the derived defaults, so that
 // contracts say which values these are.

@@ -10,6 +10,7 @@ use candidate::{Offer, candidate};
 use state::layout::State;
 
 // Offers a journey to the state (`candidate`), an array of `state::layout`. How many kept journeys are read.
+#[tactic(auto, unfolding(profile::specs::Journeys::row_of))]
 #[unsafe(no_mangle)]
 pub extern "C" fn profile_candidate(
     st: &mut State,
@@ -26,8 +27,10 @@ pub extern "C" fn profile_candidate(
     middle_board: u16,
     middle_alight: u16,
 ) -> usize
-    ensures { (view st.new ≡ offer_to (view st.old) (row_of leave arrival rides walk origin target board alight board2 alight2 middle_board middle_alight))
-        × (result ≡ reads_to (view st.old) (row_of leave arrival rides walk origin target board alight board2 alight2 middle_board middle_alight)) }
+    ensures { (view st.new ≡ offer_to (view st.old)
+        (row_of leave arrival rides walk origin target board alight board2 alight2 middle_board middle_alight))
+        × (result ≡ reads_to (view st.old)
+        (row_of leave arrival rides walk origin target board alight board2 alight2 middle_board middle_alight)) }
 {
     candidate(
         st,

@@ -1,6 +1,6 @@
--- What the reader's functions do, as equations: the next record, the records one by one, the whole file.
+-- What the reader's functions do, as equations: the records one by one, the whole file.
 use Rattle.refusal.specs.declared.Accepted.TheVariants.{Taken}
-use Rattle.std.specs.Prelude.{None, Some, Ok}
+use Rattle.std.specs.Prelude.{Ok}
 use mathlib.Core.Path.{◌≡◌, refl, sym, ap, ◌∙◌, subst}
 use mathlib.Core.Bool.{Bool, true, false, true≢false}
 use mathlib.Core.List.{List, [], ◌∷◌}
@@ -13,32 +13,11 @@ use Rattle.file.specs.declared.Reader.{Reader}
 use Rattle.file.specs.declared.Took.{Took}
 use Rattle.file.specs.declared.Fed.{Fed}
 use Rattle.file.specs.Record.{fresh_reader, record_spec}
-use Rattle.file.specs.File.{version_answer, is_second, starts_whole, size_of, body_of, whole_of, later, next_spec, fed_spec, end_answer, ended_by, read_spec_of}
+use Rattle.file.specs.File.{version_answer, is_second, later, fed_spec, end_answer, ended_by, read_spec_of}
 use Rattle.file.specs.Framed.{all_bodies, fed_each}
 use Rattle.runs.specs.Runs.{Goes, Kept}
 use Rattle.file.proofs.FramedLaws.{fed-bodies}
 use Rattle.file.proofs.FedLaws.{fed-room, later-zero, later-later}
-use Rattle.file.proofs.WholeLaws.{whole-tells, none-tells}
-
--- ---- the next record
-
-next-no : (r : Reader) (xs : List ℕ) → starts_whole xs ≡ false → next_spec r xs ≡ record { answer = Ok Taken; used = 0; reader = r }
-unfolding next_spec
-next-no r xs e = rw e refl
-
-next_one : (r : Reader) (xs : List ℕ) → starts_whole xs ≡ true → next_spec r xs ≡ record { answer = (record_spec r (body_of xs)).answer; used = size_of xs; reader = (record_spec r (body_of xs)).reader }
-unfolding next_spec
-next_one r xs e = rw e refl
-
-module _ (r : Reader) (xs : List ℕ) where
-  pub next-none : None ≡ whole_of xs → record { answer = Ok Taken; used = 0; reader = r } ≡ next_spec r xs
-  next-none e = sym (next-no r xs (none-tells xs e))
-
-  pub next-whole : {b : List ℕ} {t : Took} → Some b ≡ whole_of xs → t ≡ record_spec r b → record { answer = t.answer; used = 2 + length b; reader = t.reader } ≡ next_spec r xs
-  next-whole {b} {t} e t-is =
-      let w = whole-tells xs e in
-      let q : t ≡ record_spec r (body_of xs) = t-is ∙ ap (record_spec r) w.is in
-      (λ k. record { answer = (q k).answer; used = w.size k; reader = (q k).reader }) ∙ sym (next_one r xs w.starts)
 
 -- ---- the records one by one
 
@@ -55,24 +34,30 @@ plus-none n = omega arith
 module _ {r₀ r : Reader} {bytes : List ℕ} {at : ℕ} {rest : List (List ℕ)} (l : Rest r₀ bytes r at rest) where
   pub none-next : rest ≡ [] → record { answer = Ok Taken; used = at; reader = r } ≡ fed_spec r₀ bytes
   unfolding fed_each
-  none-next n = (λ k. record { answer = Ok Taken; used = plus-none at k; reader = r }) ∙ ap (λ (bs : List (List ℕ)). later at (fed_each r bs)) (sym n) ∙ l.is
+  none-next n = (λ k. record { answer = Ok Taken; used = plus-none at k; reader = r })
+      ∙ ap (λ (bs : List (List ℕ)). later at (fed_each r bs)) (sym n) ∙ l.is
 
   module _ {b : List ℕ} {bs : List (List ℕ)} (first : rest ≡ b ∷ bs) where
     -- where it is sent back, no more is fed
-    pub sent-back : {s : Reader} {t : Took} → s ≡ r → t ≡ record_spec s b → is_refused t.answer ≡ true → record { answer = t.answer; used = at; reader = s } ≡ fed_spec r₀ bytes
+    pub sent-back : {s : Reader} {t : Took} → s ≡ r → t ≡ record_spec s b → is_refused t.answer ≡ true
+        → record { answer = t.answer; used = at; reader = s } ≡ fed_spec r₀ bytes
     unfolding fed_each
     sent-back {s} {t} same t-is g =
         let q : t ≡ record_spec r b = t-is ∙ ap (λ (x : Reader). record_spec x b) same in
-        let here : fed_each r (b ∷ bs) ≡ record { answer = (record_spec r b).answer; used = 0; reader = r } = rw (ap (λ (t : Took). is_refused t.answer) (sym q) ∙ g) refl in
-        (λ k. record { answer = (q k).answer; used = plus-none at k; reader = same k }) ∙ ap (later at) (sym here) ∙ ap (λ (x : List (List ℕ)). later at (fed_each r x)) (sym first) ∙ l.is
+        let here : fed_each r (b ∷ bs) ≡ record { answer = (record_spec r b).answer; used = 0; reader = r } = rw
+        (ap (λ (t : Took). is_refused t.answer) (sym q) ∙ g) refl in
+        (λ k. record { answer = (q k).answer; used = plus-none at k; reader = same k }) ∙ ap (later at) (sym here)
+        ∙ ap (λ (x : List (List ℕ)). later at (fed_each r x)) (sym first) ∙ l.is
 
     -- else the others follow, from the reader that it leaves
     pub goes-on : {new : Reader} → Goes r b new → Rest r₀ bytes new (at + (2 + length b)) bs
     unfolding fed_each
     goes-on {new} g = record {
       is =
-          let here : fed_each r (b ∷ bs) ≡ later (2 + length b) (fed_each new bs) = rw g.goes (ap (λ (x : Reader). later (2 + length b) (fed_each x bs)) g.leaves) in
-          sym (later-later at (2 + length b) (fed_each new bs)) ∙ ap (later at) (sym here) ∙ ap (λ (x : List (List ℕ)). later at (fed_each r x)) (sym first) ∙ l.is;
+          let here : fed_each r (b ∷ bs) ≡ later (2 + length b) (fed_each new bs) =
+          rw g.goes (ap (λ (x : Reader). later (2 + length b) (fed_each x bs)) g.leaves) in
+          sym (later-later at (2 + length b) (fed_each new bs)) ∙ ap (later at) (sym here)
+          ∙ ap (λ (x : List (List ℕ)). later at (fed_each r x)) (sym first) ∙ l.is;
     }
 
 -- no more than all bytes are used
@@ -102,17 +87,21 @@ unfolding version_answer
 version_room [] e = absurd (true≢false e)
 version_room (x ∷ xs) e = omega arith
 
-pub read-refused : (xs : List ℕ) {r : Reader} {a : Answer} {t : Bool} → a ≡ version_answer xs → t ≡ is_refused a → t ≡ true → r ≡ (fresh_reader (is_second xs)) → record { answer = a; reader = r } ≡ read_spec_of xs
+pub read-refused : (xs : List ℕ) {r : Reader} {a : Answer} {t : Bool} → a ≡ version_answer xs → t ≡ is_refused a → t ≡ true
+    → r ≡ (fresh_reader (is_second xs)) → record { answer = a; reader = r } ≡ read_spec_of xs
 unfolding read_spec_of
-read-refused xs a-is t-is e r-is = (λ k. record { answer = a-is k; reader = r-is k }) ∙ sym (rw (sym (ap is_refused a-is) ∙ sym t-is ∙ e) refl)
+read-refused xs a-is t-is e r-is = (λ k. record { answer = a-is k; reader = r-is k })
+    ∙ sym (rw (sym (ap is_refused a-is) ∙ sym t-is ∙ e) refl)
 
-module _ (xs : List ℕ) {r : Reader} {a : Answer} {t : Bool} {f : Fed} (a-is : a ≡ version_answer xs) (t-is : t ≡ is_refused a) (e : t ≡ false) (r-is : r ≡ (fresh_reader (is_second xs)))
+module _ (xs : List ℕ) {r : Reader} {a : Answer} {t : Bool} {f : Fed} (a-is : a ≡ version_answer xs) (t-is : t ≡ is_refused a)
+    (e : t ≡ false) (r-is : r ≡ (fresh_reader (is_second xs)))
     (f-is : f ≡ fed_spec r (take (length xs - 1) (drop 1 xs))) where
   fed-is : f ≡ fed_spec (fresh_reader (is_second xs)) (drop 1 xs)
   fed-is = f-is ∙ (λ k. fed_spec (r-is k) (part_to_end xs 1 k))
 
   pub used-room : f.used ≤ length xs - 1
-  used-room = subst (λ (f : Fed). f.used ≤ length xs - 1) (sym fed-is) (let h = fed-room (fresh_reader (is_second xs)) (drop 1 xs) in omega (arith, h, length-drop 1 xs))
+  used-room = subst (λ (f : Fed). f.used ≤ length xs - 1) (sym fed-is)
+      (let h = fed-room (fresh_reader (is_second xs)) (drop 1 xs) in omega (arith, h, length-drop 1 xs))
 
   read-on : ended_by (drop 1 xs) f ≡ read_spec_of xs
   unfolding read_spec_of
@@ -123,7 +112,9 @@ module _ (xs : List ℕ) {r : Reader} {a : Answer} {t : Bool} {f : Fed} (a-is : 
       let q : ended_by (drop 1 xs) f ≡ record { answer = f.answer; reader = f.reader } = rw (sym u-is ∙ g) refl in
       sym q ∙ read-on
 
-  pub read-ended : {u : Bool} {b : Answer} → u ≡ is_refused f.answer → u ≡ false → b ≡ end_answer f.reader.opened (length xs - 1 - f.used) → record { answer = b; reader = f.reader } ≡ read_spec_of xs
+  pub read-ended : {u : Bool} {b : Answer} → u ≡ is_refused f.answer → u ≡ false → b ≡ end_answer f.reader.opened (length xs - 1 - f.used)
+      → record { answer = b; reader = f.reader } ≡ read_spec_of xs
   read-ended {b} u-is g b-is =
-      let q : ended_by (drop 1 xs) f ≡ record { answer = b; reader = f.reader } = rw (sym u-is ∙ g, length-drop f.used (drop 1 xs), length-drop 1 xs, b-is) refl in
+      let q : ended_by (drop 1 xs) f ≡ record { answer = b; reader = f.reader } = rw
+      (sym u-is ∙ g, length-drop f.used (drop 1 xs), length-drop 1 xs, b-is) refl in
       sym q ∙ read-on

@@ -3,10 +3,10 @@
 
 ghost use Rattle.std.specs.Prelude.{◌≡◌};
 ghost use Rattle.file.specs.Record.{fresh_reader};
-ghost use Rattle.file.specs.File.{version_answer, is_second, next_spec, fed_spec, end_answer, read_spec_of};
+ghost use Rattle.file.specs.File.{version_answer, is_second, fed_spec, end_answer, read_spec_of};
 
 use fields::layout::kind_of;
-use file::framed::{Records, whole};
+use file::framed::Records;
 use file::record::record;
 use file::{Fed, Reader, Took};
 use refusal::{Accepted, Answer, Refusal, is_refused};
@@ -39,25 +39,6 @@ pub fn is_second(bytes: &[u8]) -> bool
     ensures { result ≡ is_second bytes.now }
 {
     kind_of(bytes) == 2
-}
-
-// The record at the start of the bytes, if it is there whole; none is 0 bytes used, since the reader goes on after either.
-pub fn next(reader: Reader, bytes: &[u8]) -> Fed
-    ensures { result ≡ next_spec reader bytes.now }
-{
-    let Some(b) = whole(bytes) else {
-        return Fed {
-            answer: Ok(Accepted::Taken),
-            used: 0,
-            reader,
-        };
-    };
-    let t = record(reader, b);
-    Fed {
-        answer: t.answer,
-        used: 2 + b.len(),
-        reader: t.reader,
-    }
 }
 
 // The whole records at the start of the bytes, up to the first that is refused. Most are stored in place; the others copy the load.

@@ -42,7 +42,7 @@ abbrev pub takes_none : List (Bool × Answer) → Bool
 takes_none [] = true
 takes_none (t ∷ ts) = not (is_taken t.1) && takes_none ts
 
-never-taken : (ts : List (Bool × Answer)) → takes_none ts ≡ true → NeverTaken ts
+pub never-taken : (ts : List (Bool × Answer)) → takes_none ts ≡ true → NeverTaken ts
 never-taken [] e = tt
 never-taken ((b, Ok Taken) ∷ ts) e = absurd (false≢true e)
 never-taken ((b, Ok Outside) ∷ ts) e = (λ q. false≢true (ap is_taken q), never-taken ts e)

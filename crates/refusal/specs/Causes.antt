@@ -2,7 +2,11 @@
 -- request 08's display, that of request 11's withdrawal and the two of request 13's writing, each with its number.
 use Rattle.std.specs.Prelude.{ℕ}
 use Rattle.refusal.specs.declared.Refusal.{Refusal}
-use Rattle.refusal.specs.declared.Refusal.TheVariants.{SettingsRange, ClockRange, IdLength, StopsFull, IdTaken, LocationType, ParentUnknown, NameUnusable, FieldRange, TimesReversed, NoRoom, RuleType, PairTaken, Neighbours, AlreadySearched, TimeText, FileVersion, RecordLength, RecordKind, DateWrong, ServiceUnknown, ServicesFull, DisplayGroups, CallUnknown, LoadUnwritable, BufferShort}
+use Rattle.refusal.specs.declared.Refusal.TheVariants.{SettingsRange, ClockRange, IdLength, StopsFull, IdTaken, LocationType}
+use Rattle.refusal.specs.declared.Refusal.TheVariants.{ParentUnknown, NameUnusable, FieldRange, TimesReversed, NoRoom, RuleType}
+use Rattle.refusal.specs.declared.Refusal.TheVariants.{PairTaken, Neighbours, AlreadySearched, TimeText, FileVersion, RecordLength}
+use Rattle.refusal.specs.declared.Refusal.TheVariants.{RecordKind, DateWrong, ServiceUnknown, ServicesFull, DisplayGroups, CallUnknown}
+use Rattle.refusal.specs.declared.Refusal.TheVariants.{LoadUnwritable, BufferShort}
 
 abbrev pub number_of : Refusal → ℕ
 number_of SettingsRange = 1

@@ -1,6 +1,7 @@
 // Calls that name a service: their faults, and calls told in words: names, and on which days a service runs.
+// Parameters as main.rt has them.
 use crate::fault::{Fault, Faults};
-use crate::inputs::{FIRST, LAST, MONDAY, call_at, faulty_call, service_of};
+use crate::inputs::{FIRST, LAST, MONDAY, call_at, daily, faulty_call, service_of};
 use crate::loads::{on, small, week, with};
 use crate::shown::then;
 use crate::step::Step;
@@ -8,6 +9,7 @@ use crate::{good, pairs};
 use again::add;
 use load::{Load, Stepped};
 use refusal::Refusal;
+use services::{ExceptionInput, ServiceInput};
 use std::io;
 
 const FAULTS: [Fault; 7] = [
@@ -48,27 +50,10 @@ fn names(rt: &impl Print) -> io::Result<()> {
     )
 }
 
-// When a service runs: its weekdays, start and end.
-#[derive(Clone, Copy, Debug, PartialEq, Eq)]
-struct Runs {
-    weekdays: u8,
-    start: u32,
-    end: u32,
-}
-
-fn weekly(weekdays: u8) -> Runs {
-    Runs {
+fn weekly(weekdays: u8) -> ServiceInput {
+    ServiceInput {
         weekdays,
-        start: FIRST,
-        end: LAST,
-    }
-}
-
-fn daily(start: u32, end: u32) -> Runs {
-    Runs {
-        weekdays: 127,
-        start,
-        end,
+        ..daily(FIRST, LAST)
     }
 }
 
@@ -77,15 +62,13 @@ fn told_on(
     rt: &impl Print,
     label: &str,
     date: u32,
-    runs: Runs,
+    runs: ServiceInput,
     exceptions: &[u8],
 ) -> io::Result<()> {
     let dates = [date, 20261119, 20261119];
-    let mut load = on(dates)
-        .service(b"S", runs.weekdays, runs.start, runs.end)
-        .load;
+    let mut load = on(dates).service(b"S", runs).load;
     for &kind in exceptions {
-        load = load.exception(b"S", date, kind).load;
+        load = load.exception(b"S", ExceptionInput { date, kind }).load;
     }
     told(rt, label, load, b"S")
 }

@@ -1,6 +1,6 @@
-// Exceptions to services: their faults, and exceptions told in words.
+// Exceptions to services: their faults, and exceptions told in words. Parameters as main.rt has them.
 use crate::fault::{Fault, Faults};
-use crate::inputs::{MONDAY, service_of};
+use crate::inputs::{on_monday, service_of};
 use crate::loads::{searched_if, small, week, with};
 use crate::service_cases::{called, date_of};
 use crate::shown::then;
@@ -8,6 +8,7 @@ use crate::step::Step;
 use crate::{good, pairs};
 use load::{Load, Stepped};
 use refusal::Refusal;
+use services::ExceptionInput;
 use std::io;
 
 const FAULTS: [Fault; 3] = [
@@ -18,20 +19,28 @@ const FAULTS: [Fault; 3] = [
 
 fn tried(faults: Faults) -> Stepped {
     let load = searched_if(faults.meet(Refusal::AlreadySearched), week(2));
-    load.exception(service_of(faults), date_of(faults), 2)
+    let input = ExceptionInput {
+        date: date_of(faults),
+        kind: 2,
+    };
+    load.exception(service_of(faults), input)
 }
 
 fn told(rt: &impl Print, label: &str, load: Load, name: &[u8]) -> io::Result<()> {
-    then(rt, Step::Exception, label, load.exception(name, MONDAY, 1))
+    then(
+        rt,
+        Step::Exception,
+        label,
+        load.exception(name, on_monday(1)),
+    )
 }
 
-// The type is a byte, as any may be handed in, also one that no exception has.
 fn told_of(rt: &impl Print, label: &str, name: &[u8], kind: u8) -> io::Result<()> {
     then(
         rt,
         Step::Exception,
         label,
-        week(2).exception(name, MONDAY, kind),
+        week(2).exception(name, on_monday(kind)),
     )
 }
 
@@ -42,14 +51,27 @@ pub fn run(rt: &impl Print) -> io::Result<()> {
     told_of(rt, "of type 0", b"A", 0)?;
     told_of(rt, "of type 3", b"A", 3)?;
     told_of(rt, "of type 3 and an unknown service", b"unknown", 3)?;
-    let other = week(2).exception(b"A", 20240229, 1);
-    then(rt, Step::Exception, "on another date", other)?;
+    let other = ExceptionInput {
+        date: 20240229,
+        kind: 1,
+    };
+    then(
+        rt,
+        Step::Exception,
+        "on another date",
+        week(2).exception(b"A", other),
+    )?;
     told(rt, "without a name", week(2), b"")?;
     told(rt, "with a name of 33 bytes", week(2), &[b'a'; 33])?;
     let many = with(week(2), 1000, good::exception);
     told(rt, "after 1000 others", many, b"A")?;
-    let undated = small().exception(b"unknown", 0, 3);
-    then(rt, Step::Exception, "of a load without dates", undated)?;
+    let wrong = ExceptionInput { date: 0, kind: 3 };
+    then(
+        rt,
+        Step::Exception,
+        "of a load without dates",
+        small().exception(b"unknown", wrong),
+    )?;
     told(
         rt,
         "after a call that is refused",

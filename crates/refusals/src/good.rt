@@ -1,7 +1,8 @@
 // Good steps, each told by a number.
-use crate::inputs::{FIRST, LAST, MONDAY, PLAIN, call_at, rule as rule_input};
+use crate::inputs::{FIRST, LAST, PLAIN, call_at, daily, on_monday, rule as rule_input};
 use again::add;
 use load::{Load, Stepped};
+use services::ServiceInput;
 use stops::{NewStop, StopInput};
 
 fn name_of(i: u16) -> [u8; 1] {
@@ -50,12 +51,16 @@ pub fn ride(load: Load, i: u16) -> Stepped {
 
 // Service i, with the name 65 + i, which runs every day but where i is 1.
 pub fn service(load: Load, i: u16) -> Stepped {
-    load.service(&name_of(i), if i == 1 { 0 } else { 127 }, FIRST, LAST)
+    let input = ServiceInput {
+        weekdays: if i == 1 { 0 } else { 127 },
+        ..daily(FIRST, LAST)
+    };
+    load.service(&name_of(i), input)
 }
 
 // An exception to service 0 on the first day, whatever the number.
 pub fn exception(load: Load, _i: u16) -> Stepped {
-    load.exception(b"A", MONDAY, 1)
+    load.exception(b"A", on_monday(1))
 }
 
 // A call of service 0, of trip i.

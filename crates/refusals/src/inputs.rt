@@ -1,4 +1,4 @@
-// The calls, rules and stops that steps are tried with.
+// The calls, rules and stops that steps are tried with. Their numbers stand one by one, as main.rt says.
 ghost use Rattle.std.specs.Prelude.{◌≡◌, Some};
 ghost use Rattle.refusals.specs.Inputs.{call_with, rule_with};
 
@@ -6,6 +6,7 @@ use crate::fault::{Fault, Faults};
 use calls::CallInput;
 use refusal::Refusal;
 use rules::Rule;
+use services::{ExceptionInput, ServiceInput};
 use stops::StopInput;
 
 // A call of day 0.
@@ -109,3 +110,17 @@ pub const FIRST: u32 = 10101;
 pub const LAST: u32 = 99991231;
 
 pub const MONDAY: u32 = 20261116;
+
+// A service that runs from this date to that one.
+pub fn daily(start: u32, end: u32) -> ServiceInput {
+    ServiceInput {
+        weekdays: 127,
+        start,
+        end,
+    }
+}
+
+// An exception on the first day. The type is a byte, as any may be handed in, also one that no exception has.
+pub fn on_monday(kind: u8) -> ExceptionInput {
+    ExceptionInput { date: MONDAY, kind }
+}

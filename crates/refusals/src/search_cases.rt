@@ -1,4 +1,4 @@
-// Searches, and those within a limit on joins: their faults, and searches told in words.
+// Searches, and those within a limit on joins: their faults, and searches told in words. Parameters as main.rt has them.
 use crate::fault::{Fault, Faults};
 use crate::loads::{rides, searched_if, with_two};
 use crate::pairs;

@@ -1,6 +1,6 @@
-// Services: their faults, and services told in words.
+// Services: their faults, and services told in words. Parameters as main.rt has them.
 use crate::fault::{Fault, Faults};
-use crate::inputs::{FIRST, LAST, MONDAY, call_at, name_of};
+use crate::inputs::{FIRST, LAST, MONDAY, call_at, daily, name_of};
 use crate::loads::{searched_if, small, week};
 use crate::pairs;
 use crate::shown::{held, then};
@@ -33,7 +33,7 @@ fn tried(faults: Faults) -> Stepped {
         2
     });
     let load = searched_if(faults.meet(Refusal::AlreadySearched), load);
-    load.service(name_of(faults, b"A"), 127, date_of(faults), LAST)
+    load.service(name_of(faults, b"A"), daily(date_of(faults), LAST))
 }
 
 // A week after a call of a service.
@@ -47,7 +47,7 @@ fn told(rt: &impl Print, label: &str, load: Load, name: &[u8]) -> io::Result<()>
         rt,
         Step::Service,
         label,
-        load.service(name, 127, FIRST, LAST),
+        load.service(name, daily(FIRST, LAST)),
     )
 }
 
@@ -56,7 +56,7 @@ fn told_from(rt: &impl Print, label: &str, start: u32, end: u32) -> io::Result<(
         rt,
         Step::Service,
         label,
-        week(2).service(b"new", 127, start, end),
+        week(2).service(b"new", daily(start, end)),
     )
 }
 
@@ -68,7 +68,7 @@ fn words(rt: &impl Print) -> io::Result<()> {
     told_from(rt, "from 19000229", 19000229, LAST)?;
     told_from(rt, "to 20240431", FIRST, 20240431)?;
     told(rt, "of a load without dates", small(), b"new")?;
-    let unnamed = small().service(b"", 127, 0, 0);
+    let unnamed = small().service(b"", daily(0, 0));
     then(
         rt,
         Step::Service,

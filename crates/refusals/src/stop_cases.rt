@@ -1,4 +1,4 @@
-// Stops: their faults, and stops told in words.
+// Stops: their faults, and stops told in words. Parameters as main.rt has them.
 use crate::fault::{Fault, Faults};
 use crate::inputs::{PLAIN, name_of};
 use crate::loads::{searched_if, small, with_stops};

@@ -1,4 +1,4 @@
-// Calls withdrawn from loads, searched or not: their faults, and withdrawals told in words.
+// Calls withdrawn from loads, searched or not: their faults, and withdrawals told in words. Parameters as main.rt has them.
 use crate::fault::{Fault, Faults};
 use crate::inputs::call_at;
 use crate::loads::{rides, searched};

@@ -1,40 +1,37 @@
 // One load file: its records handed in one by one, each call's answer noted, and all else as of the file read whole, which goes by runs.
 use crate::load_lines;
-use reader::{fresh, is_second, next, read};
-use refusal::{Accepted, Answer};
+use fields::kind::Kind;
+use fields::layout::kind_of;
+use file::framed::Records;
+use file::record::record;
+use reader::{fresh, is_second, read};
+use refusal::Accepted;
 use stdio::load_lines::refused;
 use stdio::out::Out;
 
 // The letter of a call's answer.
-fn letter(answer: Answer) -> char {
-    match answer {
-        Ok(Accepted::Taken) => 't',
-        Ok(Accepted::Outside) => 'o',
-        Err(_) => 'r',
+fn letter(accepted: Accepted) -> char {
+    match accepted {
+        Accepted::Taken => 't',
+        Accepted::Outside => 'o',
     }
 }
 
-// Notes the answers to the calls among the records after the version, up to a record that is refused. A `while`: how long a record is,
-// the reader says, and so no chain of std cuts the records.
+// Notes the answers to the calls among the records after the version, up to a record that is refused.
 fn answers(out: &mut Out, second: bool, records: &[u8]) {
     write!(out, "answers");
     let mut between = " ";
     let mut reader = fresh(second);
-    let mut rest = records;
-    while !rest.is_empty() {
-        let f = next(reader, rest);
-        let Some((record, after)) = rest.split_at_checked(f.used) else {
+    for b in (Records { rest: records }) {
+        let t = record(reader, b);
+        let Ok(accepted) = t.answer else {
             break;
         };
-        if f.answer.is_err() || record.is_empty() {
-            break;
-        }
-        if record.get(2) == Some(&3) {
-            write!(out, "{between}{}", letter(f.answer));
+        if kind_of(b) == Kind::Call as u8 {
+            write!(out, "{between}{}", letter(accepted));
             between = "";
         }
-        reader = f.reader;
-        rest = after;
+        reader = t.reader;
     }
     writeln!(out);
 }

@@ -13,7 +13,7 @@ use Rattle.laws.proofs.Lists.{filterb-mem, filterb-cong}
 use Rattle.ways.specs.Rides.{journeys}
 use Rattle.ways.specs.Images.{Images, Stand}
 use Rattle.ways.proofs.ImageLaws.{journeys-of-images}
-use Rattle.profile.specs.declared.Row.{Row}
+use Rattle.profile.specs.Found.{Row}
 use Rattle.profile.specs.Journeys.{row, row_of}
 use Rattle.feed.specs.Feed.{same_run, leave_of, arrival_of}
 use Rattle.rides.specs.Rows.{Sheet, Joins, first_of, direct_row, change_row, direct_by, change_by, network_of, rows}

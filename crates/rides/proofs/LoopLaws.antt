@@ -18,7 +18,7 @@ use lib.Count.{count_trailing_zeros}
 use Rattle.std.specs.Int.Bits.{bit_and}
 use Rattle.laws.proofs.Bits.{bits_none, bits-set, lowest-first}
 use Rattle.laws.proofs.Places.{span-cons, span-nil}
-use Rattle.profile.specs.declared.Row.{Row}
+use Rattle.profile.specs.Found.{Row}
 use Rattle.profile.specs.Kept.{St, refused}
 use Rattle.state.specs.View.{view, open_of}
 use Rattle.candidate.specs.Offer.{offer_to}

@@ -14,7 +14,7 @@ use Rattle.rides.specs.declared.calls.Ride.{Ride}
 use Rattle.rides.specs.Places.{IsRide}
 use Rattle.rides.proofs.ReachLaws.{net, below, alighted, of-run}
 use Rattle.ways.specs.Routes.{Way, onward}
-use Rattle.profile.specs.declared.Row.{Row}
+use Rattle.profile.specs.Found.{Row}
 use Rattle.profile.specs.Journeys.{row_of}
 use Rattle.state.specs.View.{view}
 use Rattle.candidate.specs.Offer.{passed_over}

@@ -11,7 +11,7 @@ use Rattle.laws.proofs.Flat.{flat-single}
 use Rattle.laws.proofs.Places.{concat_map-cong, tails-span}
 use Rattle.ways.specs.Rides.{leg, first_ride, first_rides, directs, changes, journeys}
 use Rattle.ways.proofs.RideLaws.{over-firsts, over-joined}
-use Rattle.profile.specs.declared.Row.{Row}
+use Rattle.profile.specs.Found.{Row}
 use Rattle.feed.specs.Feed.{same_run, joined}
 use Rattle.rides.specs.Rows.{Sheet, Joins, first_of, first_at, direct_row, change_row, direct_by, change_by, network_of, rows}
 use Rattle.rides.specs.Loops.{over_bits, over_calls, later_from, over_run}

@@ -13,7 +13,7 @@ use Rattle.laws.specs.Bits.{bits_of}
 use Rattle.laws.proofs.Bools.{and-true-right}
 use Rattle.laws.proofs.Agree.{span_below}
 use Rattle.laws.proofs.Folds.{concat_map-mem}
-use Rattle.profile.specs.declared.Row.{Row}
+use Rattle.profile.specs.Found.{Row}
 use Rattle.profile.specs.Journeys.{cov, row_of}
 use Rattle.state.specs.View.{view}
 use Rattle.candidate.specs.Offer.{passed_over}

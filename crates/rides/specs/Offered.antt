@@ -1,7 +1,7 @@
 -- The state of a search after a list of offers.
 use Rattle.std.specs.Prelude.{◌≡◌, List, ℕ}
 use Rattle.laws.specs.Lists.{foldl}
-use Rattle.profile.specs.declared.Row.{Row}
+use Rattle.profile.specs.Found.{Row}
 use Rattle.profile.specs.Kept.{St}
 use Rattle.state.specs.View.{view}
 use Rattle.candidate.specs.Offer.{offer_to}

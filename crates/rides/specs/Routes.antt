@@ -3,7 +3,7 @@ use Rattle.std.specs.Prelude.{◌≡◌, List, [], ◌∷◌, ◌++◌, map, ℕ
 use Rattle.laws.specs.Lists.{span}
 use Rattle.ways.specs.Rides.{Leg}
 use Rattle.ways.specs.Routes.{Route, pass, routes}
-use Rattle.profile.specs.declared.Row.{Row}
+use Rattle.profile.specs.Found.{Row}
 use Rattle.feed.specs.declared.FirstRide.{FirstRide}
 use Rattle.rides.specs.Rows.{Sheet, Joins, first_at, direct_row, change_row, three_row, network_of, rows}
 use Rattle.rides.specs.Sheets.{sheet_of, joins_of}

@@ -4,9 +4,8 @@ use Rattle.std.specs.Prelude.{Bool, List, ℕ, ◌*◌, leb}
 use Rattle.laws.specs.Lists.{filterb, span}
 use Rattle.laws.specs.Bits.{bits_of}
 use Rattle.ways.specs.Rides.{Leg, First, Network, journeys}
-use Rattle.profile.specs.declared.Row.{Row}
+use Rattle.profile.specs.Found.{Row}
 use Rattle.profile.specs.Journeys.{row_of}
-use Rattle.candidate.specs.declared.Offer.{Offer}
 use Rattle.feed.specs.declared.FeedCall.{FeedCall}
 use Rattle.feed.specs.declared.FirstRide.{FirstRide}
 use Rattle.feed.specs.Feed.{same_run, leave_of, arrival_of}
@@ -43,7 +42,7 @@ first_of s i o k =
 
 -- what is offered of a journey of so many rides that begins with f and whose last arrives at `arrival`, to target x, but for the calls of
 -- its other rides
-unfoldable pub offer_of : Sheet → FirstRide → ℕ → ℕ → ℕ → Offer
+unfoldable pub offer_of : Sheet → FirstRide → ℕ → ℕ → ℕ → Row
 offer_of s f rides arrival x =
     record {
       leave = f.leave;

@@ -88,6 +88,7 @@ impl<'a> Iterator for FirstRides<'a> {
     ghost remaining = { item_count firsts_left };
 
     // A loop: a call where one can't alight, an origin too far and a call where one can't board give nothing, and the next is looked at.
+    // The closures of a chain of std would borrow the calls that the iterator itself holds.
     #[inline]
     fn next(&mut self) -> Option<FirstLeg> {
         'seek: loop {

@@ -26,7 +26,8 @@ fn put_targets(calls: &Calls) -> [u16; 512]
     at
 }
 
-// The earliest for whoever boards at j: the number of the next call of its run, or of whoever boards there.
+// The earliest for whoever boards at j: the number of the next call of its run, or of whoever boards there. Two arrays of one length, as
+// `boards` is being filled from what `at` holds.
 fn board_time(boards: &[u16; 512], calls: &Calls, at: &[u16; 512], j: usize) -> u16
     requires { (j < calls.now.n) × Each (BoardAt calls.now.feed.now calls.now.n at.now) (j + 1) calls.now.n boards.now }
     ensures { BoardAt calls.now.feed.now calls.now.n at.now j result }

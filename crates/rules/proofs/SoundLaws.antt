@@ -14,7 +14,7 @@ use Rattle.laws.specs.Lists.{anyb}
 use Rattle.laws.proofs.Bools.{and-true-left, and-true-right}
 use Rattle.laws.proofs.Slots.{blank-set, below-cases, anyb-below}
 use Rattle.refusal.specs.First.{first_answer}
-use Rattle.refusal.proofs.FirstLaws.{taken-all-fail}
+use Rattle.refusal.proofs.FirstLaws.{taken-all-fail, never-taken}
 use Rattle.rules.specs.declared.Rule.{Rule}
 use Rattle.rules.specs.Rules.{blank_rule, same_pair, type_right_of, rule_tests}
 use Rattle.rules.specs.Sound.{rule_at, NoRulesSound, RuleKeepsSound, MoreStopsSound}
@@ -62,17 +62,7 @@ pub passed : (b : Bool) (stops : ℕ) (rules : List Rule) (count : ℕ) (i : Rul
     → Passed b stops rules count i
 unfolding rule_tests
 passed b stops rules count i e =
-    let f =
-    taken-all-fail (rule_tests b stops rules count i) (
-      (λ q. let z : ◌≡◌ {A = ℕ} 0 1 = cc in omega arith),
-      (
-        (λ q. let z : ◌≡◌ {A = ℕ} 0 1 = cc in omega arith),
-        (
-          (λ q. let z : ◌≡◌ {A = ℕ} 0 1 = cc in omega arith),
-          ((λ q. let z : ◌≡◌ {A = ℕ} 0 1 = cc in omega arith), ((λ q. let z : ◌≡◌ {A = ℕ} 0 1 = cc in omega arith), tt)),
-        ),
-      ),
-    ) e in
+    let f = taken-all-fail (rule_tests b stops rules count i) (never-taken (rule_tests b stops rules count i) refl) e in
     let known : (ltb i.from stops && ltb i.to stops) ≡ true = not-false _ f.1.0 in
     record {
       unsearched = f.0;

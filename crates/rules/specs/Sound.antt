@@ -1,4 +1,5 @@
--- The rules of a load that the steps make: the count is in range, the tail blank, every stop known, the type 0 to 3, and no pair stands twice.
+-- The rules of a load that the steps make: the count is in range, the tail blank, every stop known, the type 0 to 3, and no pair stands
+-- twice.
 use Rattle.refusal.specs.declared.Accepted.TheVariants.{Taken}
 use Rattle.std.specs.Prelude.{ℕ, ◌+◌, ◌-◌, ◌≤◌, ◌<◌, ◌≡◌, Bool, false, List, length, get_or, drop, set, replicate, Ok}
 use Rattle.refusal.specs.First.{first_answer}
@@ -29,4 +30,5 @@ RuleKeepsSound = (searched : Bool) (stops : ℕ) (rules : List Rule) (count : �
 
 -- and so do more stops
 abbrev pub MoreStopsSound : Type 0
-MoreStopsSound = (stops more : ℕ) (rules : List Rule) (count : ℕ) → stops ≤ more → RulesSound stops rules count → RulesSound more rules count
+MoreStopsSound = (stops more : ℕ) (rules : List Rule) (count : ℕ) → stops ≤ more → RulesSound stops rules count
+    → RulesSound more rules count

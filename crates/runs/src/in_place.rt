@@ -1,5 +1,6 @@
 // A stop, a rule or a call that its record hands in is taken by the load, unless it is sent back; all else is left to the reader. The three
-// functions are alike: one for all would take the test, the reading and the step as closures, and state what each promises once more.
+// functions are alike: one for all would take the test, the reading and the step as closures, and state what each promises once more. Each
+// returns early: with `&&` the step, which stores, would stand in a condition.
 ghost use Rattle.std.specs.Prelude.{◌≡◌, []};
 ghost use Rattle.fields.specs.Layout.{
   text_at,
@@ -14,6 +15,7 @@ ghost use Rattle.fields.specs.Records.{stop_in, call_in, rule_in};
 ghost use Rattle.load.specs.Steps.{stop_spec, call_spec, rule_spec};
 ghost use Rattle.runs.specs.Runs.{Stored, Takes, Kept};
 
+use fields::kind::Kind;
 use fields::layout::{call_filled, kind_of, rule_filled, stop_filled};
 use fields::records::{call_in, rule_in};
 use file::Reader;
@@ -23,7 +25,8 @@ use refusal::is_refused;
 
 fn store_stop(load: &mut Load, b: &[u8]) -> bool
     ensures { Stored (stop_filled_of b.now)
-        (stop_spec load.old (text_at b.now 1) (option_text_at b.now (name_at b.now)) (option_text_at b.now (parent_at b.now)) (stop_in b.now))
+        (stop_spec load.old (text_at b.now 1) (option_text_at b.now (name_at b.now)) (option_text_at b.now (parent_at b.now))
+        (stop_in b.now))
         load.old load.new result }
 {
     if !stop_filled(b) {
@@ -58,11 +61,11 @@ fn store_call(load: &mut Load, b: &[u8]) -> bool
 fn store(load: &mut Load, b: &[u8]) -> bool
     ensures { Takes load.old b.now load.new result }
 {
-    match kind_of(b) {
-        2 => store_stop(load, b),
-        3 => store_call(load, b),
-        4 => store_rule(load, b),
-        _ => false,
+    match Kind::try_from(kind_of(b)) {
+        Ok(Kind::Stop) => store_stop(load, b),
+        Ok(Kind::Call) => store_call(load, b),
+        Ok(Kind::Rule) => store_rule(load, b),
+        Ok(Kind::Settings | Kind::Search) | Err(_) => false,
     }
 }
 

@@ -26,7 +26,7 @@ use Rattle.calls.specs.Sound.{All, CallSound, AtStop}
 use Rattle.calls.specs.Uncut.{uncut_on}
 use Rattle.calls.proofs.UncutLaws.{uncut-tells}
 use Rattle.rules.specs.declared.Rule.{Rule}
-use Rattle.week.specs.Weeks.{undated_week}
+use Rattle.week.specs.Weeks.{is_dated, undated_week}
 use Rattle.load.specs.declared.Load.{Load}
 use Rattle.load.specs.Load.{table_of, with_table}
 use Rattle.load.specs.Steps.{plain_call, call_spec}
@@ -63,7 +63,8 @@ epoch-is s (suc zero) h = refl
 epoch-is s (suc (suc zero)) h = refl
 epoch-is s (suc (suc (suc n))) h = absurd (omega arith)
 
-starts : (s : Settings) (day m : ℕ) → day ≤ 2 → near s.now ≡ true → time_after (get_or (at_start s).epochs day (pos 0)) (at_start s).now m ≡ Some m
+starts : (s : Settings) (day m : ℕ) → day ≤ 2 → near s.now ≡ true
+    → time_after (get_or (at_start s).epochs day (pos 0)) (at_start s).now m ≡ Some m
 unfolding at_start
 starts s day m h clock = ap (λ (e : ℤ). time_after e s.now m) (epoch-is s day h) ∙ from_start s.now m clock
 
@@ -114,7 +115,8 @@ types-known false y = refl
 
 -- ---- the call of number k
 
-module _ (s : Settings) (n : ℕ) (c : Call) (sound : CallSound 21600 c) (told : CallKept c) (at_stop : c.stop < n) (clock : near s.now ≡ true) where
+module _ (s : Settings) (n : ℕ) (c : Call) (sound : CallSound 21600 c) (told : CallKept c) (at_stop : c.stop < n)
+    (clock : near s.now ≡ true) where
   no_test : first_answer (call_tests false n (call_input_of c)) ≡ Ok Taken
   unfolding call_tests first_answer call_input_of known
   no_test =
@@ -127,17 +129,20 @@ module _ (s : Settings) (n : ℕ) (c : Call) (sound : CallSound 21600 c) (told :
   shown-in : call_seen (at_start s) 21600 (call_input_of c) ≡ Some c
   unfolding call_input_of
   shown-in =
-      (λ t. seen 21600 (starts s c.day c.arrival told.day_known clock t) (starts s c.day c.departure told.day_known clock t) (call_input_of c)) ∙ seen-in 21600 c sound
+      (λ t. seen 21600 (starts s c.day c.arrival told.day_known clock t) (starts s c.day c.departure told.day_known clock t)
+      (call_input_of c)) ∙ seen-in 21600 c sound
 
   goes_in : (k : ℕ) → k < 512 → uncut_on (at_start s) false n k 21600 (call_input_of c) ≡ Uncut.In c
   unfolding uncut_on
   goes_in k h = rw (no_test, shown-in, lt-ltb k 512 h) refl
 
-  on-table : (t : Table) → t.count < 512 → t.horizon ≡ 21600 → call_on (at_start s) false n t (call_input_of c) ≡ record { answer = Ok Taken; table = put t c }
+  on-table : (t : Table) → t.count < 512 → t.horizon ≡ 21600
+      → call_on (at_start s) false n t (call_input_of c) ≡ record { answer = Ok Taken; table = put t c }
   on-table t h e =
-      (uncut-tells (at_start s) false n t (call_input_of c)).goes_in c (ap (λ (x : ℕ). uncut_on (at_start s) false n t.count x (call_input_of c)) e ∙ goes_in t.count h)
+      (uncut-tells (at_start s) false n t (call_input_of c)).goes_in c
+      (ap (λ (x : ℕ). uncut_on (at_start s) false n t.count x (call_input_of c)) e ∙ goes_in t.count h)
 
-call-taken : (l : Load) (i : CallInput) (c : Call) → l.week.dated ≡ false
+call-taken : (l : Load) (i : CallInput) (c : Call) → is_dated l.week ≡ false
     → call_on l.settings l.searched l.stop_count (table_of l) i ≡ record { answer = Ok Taken; table = put (table_of l) c }
     → call_spec l [] i ≡ record { answer = Ok Taken; load = with_table l (put (table_of l) c) }
 unfolding call_spec plain_call
@@ -151,12 +156,14 @@ filled_is : (c : Call) → filled false (call_record c) ≡ true
 unfolding filled call_record call_body
 filled_is c = (back.call (call_input_of c)).0
 
-module _ (s : Settings) (n : ℕ) (calls : List Call) (k : ℕ) (long : length calls ≡ 512) (room : k < 512) (sound : CallSound 21600 (get_or calls k blank_call))
-    (told : CallKept (get_or calls k blank_call)) (at_stop : AtStop n (get_or calls k blank_call)) (clock : near s.now ≡ true) (stops : List Stop) (rules : List Rule) (ruleCount : ℕ) where
+module _ (s : Settings) (n : ℕ) (calls : List Call) (k : ℕ) (long : length calls ≡ 512) (room : k < 512)
+    (sound : CallSound 21600 (get_or calls k blank_call))
+    (told : CallKept (get_or calls k blank_call)) (at_stop : AtStop n (get_or calls k blank_call)) (clock : near s.now ≡ true)
+    (stops : List Stop) (rules : List Rule) (ruleCount : ℕ) where
   abbrev at : ℕ → Load
   at m = load_of (at_start s) stops n rules ruleCount (up_to blank_call 512 calls m) m
 
-  no-dates : (at k).week.dated ≡ false
+  no-dates : is_dated (at k).week ≡ false
   unfolding undated_week
   no-dates = refl
 
@@ -164,9 +171,11 @@ module _ (s : Settings) (n : ℕ) (calls : List Call) (k : ℕ) (long : length c
   unfolding add_spec_of
   stepped-is =
       let e = up_more blank_call 512 calls long k blank_call room in
-      call-taken (at k) (call_input_of (get_or calls k blank_call)) (get_or calls k blank_call) no-dates (on-table s n (get_or calls k blank_call) sound told at_stop clock (table_of (at k)) room refl)
+      call-taken (at k) (call_input_of (get_or calls k blank_call)) (get_or calls k blank_call) no-dates
+      (on-table s n (get_or calls k blank_call) sound told at_stop clock (table_of (at k)) room refl)
       ∙ (λ t. record { answer = Ok Taken; load = load_of (at_start s) stops n rules ruleCount (e t) (add-one k t) })
 
   pub call-takes : Takes (at k) (call_record (get_or calls k blank_call)) (at (suc k))
   unfolding call_record call_body kind_right
-  call-takes = takes (at k) (at (suc k)) 3 _ refl (filled_is (get_or calls k blank_call)) (ap (stepped (at k)) (step_is (get_or calls k blank_call)) ∙ stepped-is) refl
+  call-takes = takes (at k) (at (suc k)) 3 _ refl (filled_is (get_or calls k blank_call))
+      (ap (stepped (at k)) (step_is (get_or calls k blank_call)) ∙ stepped-is) refl

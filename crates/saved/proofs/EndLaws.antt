@@ -15,14 +15,20 @@ use Rattle.writer.specs.Wrote.{unwritable}
 use Rattle.written.proofs.EndLaws.{end_whole}
 use Rattle.saved.specs.Saved.{PassesWritable, EndReadsBack}
 use Rattle.saved.proofs.SearchedLaws.{reads-back}
+use Rattle.week.specs.Weeks.{is_dated}
 
 -- no table has a horizon above 21600
 no-higher : (h : ℕ) → one_of h horizons ≡ true → h ≤ 21600
-no-higher h e = one-of h (λ (n : ℕ). n ≤ 21600) horizons e (omega arith, (omega arith, (omega arith, (omega arith, (omega arith, (omega arith, (omega arith, tt)))))))
+no-higher h e = one-of h (λ (n : ℕ). n ≤ 21600) horizons e
+    (omega arith, (omega arith, (omega arith, (omega arith, (omega arith, (omega arith, (omega arith, tt)))))))
 
 never-cut : (dated stopped : Bool) (h : ℕ) → unwritable dated stopped h ≡ false → one_of h horizons ≡ true → h ≡ 21600
 unfolding unwritable
-never-cut dated stopped h e k = omega (arith, no-higher h k, ltb-false h 21600 (or-false-right stopped (ltb h 21600) (or-false-right dated (stopped || ltb h 21600) e)))
+never-cut dated stopped h e k = omega (
+  arith,
+  no-higher h k,
+  ltb-false h 21600 (or-false-right stopped (ltb h 21600) (or-false-right dated (stopped || ltb h 21600) e)),
+)
 
 no-dates : (dated stopped : Bool) (h : ℕ) → unwritable dated stopped h ≡ false → dated ≡ false
 unfolding unwritable
@@ -35,9 +41,9 @@ not_stopped dated stopped h e = or-false-left stopped (ltb h 21600) (or-false-ri
 pub passes-writable : PassesWritable
 passes-writable l w p = record {
   whole = w;
-  dateless = no-dates l.week.dated (stopped l) l.table_horizon p;
-  unstopped = not_stopped l.week.dated (stopped l) l.table_horizon p;
-  uncut = never-cut l.week.dated (stopped l) l.table_horizon p w.own.sound.table.known;
+  dateless = no-dates (is_dated l.week) (stopped l) l.table_horizon p;
+  unstopped = not_stopped (is_dated l.week) (stopped l) l.table_horizon p;
+  uncut = never-cut (is_dated l.week) (stopped l) l.table_horizon p w.own.sound.table.known;
 }
 
 pub end-reads-back : EndReadsBack

@@ -52,7 +52,8 @@ module _ (b rest : List ℕ) where
   pub rest_is : drop (size_of (framed b ++ rest)) (framed b ++ rest) ≡ rest
   rest_is =
       let e : framed b ++ rest ≡ (two_bytes (length b) ++ b) ++ rest = refl-framed in
-      rw size_is (ap (drop (2 + length b)) e ∙ drop_at (two_bytes (length b) ++ b) rest (2 + length b) (length-append (two_bytes (length b)) b ∙ rw (two-long (length b)) refl))
+      rw size_is (ap (drop (2 + length b)) e ∙ drop_at (two_bytes (length b) ++ b) rest (2 + length b)
+      (length-append (two_bytes (length b)) b ∙ rw (two-long (length b)) refl))
     where
       refl-framed : framed b ++ rest ≡ (two_bytes (length b) ++ b) ++ rest
       refl-framed = joined ∙ sym (append_assoc (two_bytes (length b)) b rest)
@@ -64,18 +65,23 @@ feeds-append none q = q
 feeds-append (more t p) q = more t (feeds-append p q)
 
 -- what follows a record is fed to the load that took it, or that it opened
-pub fed-one : (r : Reader) (m : Load) (b rest : List ℕ) → record_spec r b ≡ read_as m → fed_spec r (framed b ++ rest) ≡ later (2 + length b) (fed_spec (open_reader m) rest)
+pub fed-one : (r : Reader) (m : Load) (b rest : List ℕ) → record_spec r b ≡ read_as m
+    → fed_spec r (framed b ++ rest) ≡ later (2 + length b) (fed_spec (open_reader m) rest)
 fed-one r m b rest t =
     let body : record_spec r (body_of (framed b ++ rest)) ≡ read_as m = ap (record_spec r) (body_is b rest) ∙ t in
     fed-goes-on r (framed b ++ rest) (is_whole b rest) (ap (λ (k : Took). is_refused k.answer) body)
     ∙ (λ i. later (2 + size_is b rest i) (fed_spec (body i).reader (rest_is b rest i)))
 
 -- all bytes are used
-pub fed-all : {l m : Load} {bs : List (List ℕ)} → Feeds l bs m → fed_spec (open_reader l) (concat_map framed bs) ≡ record { answer = Ok Taken; used = length (concat_map framed bs); reader = open_reader m }
+pub fed-all : {l m : Load} {bs : List (List ℕ)} → Feeds l bs m
+    → fed_spec (open_reader l) (concat_map framed bs)
+    ≡ record { answer = Ok Taken; used = length (concat_map framed bs); reader = open_reader m }
 fed-all {l} none = fed-stops (open_reader l) [] none-whole
 fed-all {l} (more {m = m} {n = n} {b = b} {bs = bs} t p) =
-    let e : 2 + length b + length (concat_map framed bs) ≡ length (framed b ++ concat_map framed bs) = omega (arith, long b (concat_map framed bs)) in
-    fed-one (open_reader l) m b (concat_map framed bs) t.taken ∙ ap (later (2 + length b)) (fed-all p) ∙ (λ i. record { answer = Ok Taken; used = e i; reader = open_reader n })
+    let e : 2 + length b + length (concat_map framed bs) ≡ length (framed b ++ concat_map framed bs) =
+    omega (arith, long b (concat_map framed bs)) in
+    fed-one (open_reader l) m b (concat_map framed bs) t.taken ∙ ap (later (2 + length b)) (fed-all p)
+    ∙ (λ i. record { answer = Ok Taken; used = e i; reader = open_reader n })
 
 -- ---- the records of an array's first n elements
 
@@ -84,10 +90,12 @@ module _ {A : Type 0} (f : A → List ℕ) (xs : List A) (d : A) (at : ℕ → L
   map-append [] zs = refl
   map-append (y ∷ ys) zs = ap (λ (r : List (List ℕ)). f y ∷ r) (map-append ys zs)
 
-  pub feeds-first : (n : ℕ) → n ≤ length xs → ((k : ℕ) → k < n → Takes (at k) (f (get_or xs k d)) (at (suc k))) → Feeds (at 0) (map f (take n xs)) (at n)
+  pub feeds-first : (n : ℕ) → n ≤ length xs → ((k : ℕ) → k < n → Takes (at k) (f (get_or xs k d)) (at (suc k)))
+      → Feeds (at 0) (map f (take n xs)) (at n)
   feeds-first zero h t = none
   feeds-first (suc n) h t =
-      subst (λ (bs : List (List ℕ)). Feeds (at 0) bs (at (suc n))) (sym (map-append (take n xs) (get_or xs n d ∷ [])) ∙ ap (map f) (sym (take-suc xs n d h)))
+      subst (λ (bs : List (List ℕ)). Feeds (at 0) bs (at (suc n)))
+      (sym (map-append (take n xs) (get_or xs n d ∷ [])) ∙ ap (map f) (sym (take-suc xs n d h)))
       (feeds-append (feeds-first n (omega arith) (λ k g. t k (omega arith))) (more (t n (omega arith)) none))
 
 -- ---- a record of kind 2 to 5 that a step takes
@@ -95,11 +103,13 @@ module _ {A : Type 0} (f : A → List ℕ) (xs : List A) (d : A) (at : ℕ → L
 pub some_byte : (x : ℕ) (xs : List ℕ) → eqb (length (x ∷ xs)) 0 ≡ false
 some_byte x xs = eqb-suc-zero (length xs)
 
-recorded : (l m : Load) (kind : ℕ) (w : List ℕ) → kind_right true kind ≡ true → filled false (kind ∷ w) ≡ true → stepped l (step_in (kind ∷ w)) ≡ record { answer = Ok Taken; load = m }
+recorded : (l m : Load) (kind : ℕ) (w : List ℕ) → kind_right true kind ≡ true → filled false (kind ∷ w) ≡ true
+    → stepped l (step_in (kind ∷ w)) ≡ record { answer = Ok Taken; load = m }
     → record_spec (open_reader l) (kind ∷ w) ≡ read_as m
 unfolding record_spec record_tests first_answer stepped_by settled
 recorded l m kind w right fill step = rw (some_byte kind w, right, fill, step) refl
 
-pub takes : (l m : Load) (kind : ℕ) (w : List ℕ) → kind_right true kind ≡ true → filled false (kind ∷ w) ≡ true → stepped l (step_in (kind ∷ w)) ≡ record { answer = Ok Taken; load = m }
+pub takes : (l m : Load) (kind : ℕ) (w : List ℕ) → kind_right true kind ≡ true → filled false (kind ∷ w) ≡ true
+    → stepped l (step_in (kind ∷ w)) ≡ record { answer = Ok Taken; load = m }
     → m.table_horizon ≡ l.table_horizon → Takes l (kind ∷ w) m
 takes l m kind w right fill step uncut = record { taken = recorded l m kind w right fill step; uncut = uncut }

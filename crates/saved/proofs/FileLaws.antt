@@ -73,7 +73,8 @@ opening s e = go (over_counts s.origins s.targets s.max_transfers s.transfer_sec
 near-size : (z : ℤ) → near z ≡ true → nat_abs z ≤ 1099511627776
 unfolding near
 near-size (pos n) h = leb-true n 1099511627776 h
-near-size (negsuc n) h = below_top n (ltb-false 1099511627775 n (turned (ltb 1099511627775 n) (and-true-left (not (ltb 1099511627775 n)) true h)))
+near-size (negsuc n) h = below_top n (ltb-false 1099511627775 n
+    (turned (ltb 1099511627775 n) (and-true-left (not (ltb 1099511627775 n)) true h)))
   where
     turned : (b : Bool) → not b ≡ true → b ≡ false
     turned true k = sym k
@@ -93,7 +94,8 @@ pub kept : (x : Settings) → settings_tests x ≡ settings_tests (canonical_of 
 unfolding settings_tests canonical_of
 kept x = refl
 
-at-start : (s : Settings) → over_counts s.origins s.targets s.max_transfers s.transfer_seconds ≡ false → near s.now ≡ true → first_answer (settings_tests (at_start s)) ≡ Ok Taken
+at-start : (s : Settings) → over_counts s.origins s.targets s.max_transfers s.transfer_seconds ≡ false → near s.now ≡ true
+    → first_answer (settings_tests (at_start s)) ≡ Ok Taken
 unfolding first_answer settings_tests at_start all_near
 at-start s c n = rw (c, n) refl
 
@@ -106,7 +108,8 @@ unfolding settings_body
 kind s = refl
 
 -- a first record that no test sends back
-by_tests : (b : List ℕ) (s : Settings) → eqb (length b) 0 ≡ false → byte_at b 0 ≡ 1 → second_settings_filled_of b ≡ true → open_answer (undated (second_settings_in b)) ≡ Ok Taken
+by_tests : (b : List ℕ) (s : Settings) → eqb (length b) 0 ≡ false → byte_at b 0 ≡ 1 → second_settings_filled_of b ≡ true
+    → open_answer (undated (second_settings_in b)) ≡ Ok Taken
     → canonical_of (second_settings_in b) ≡ s → record_spec (fresh_reader true) b ≡ read_as (empty_load s)
 unfolding fresh_reader record_spec record_tests kind_right filled stepped_by settled first_answer open_spec_of
 by_tests b s x y z t e = rw (x, y, z, t, e) refl
@@ -157,11 +160,14 @@ module _ (s : Settings) (told : SettingsKept s) where
   canonical-at = ap at_start told.canonical
 
   no_test : open_answer (undated (second_settings_in (settings_body (at_start s)))) ≡ Ok Taken
-  no_test = open_is (second_settings_in (settings_body (at_start s))) ∙ ap first_answer (kept (second_settings_in (settings_body (at_start s))) ∙ ap settings_tests ((back.settings (at_start s) held).1 ∙ canonical-at)) ∙ at-start s o.counts o.clock
+  no_test = open_is (second_settings_in (settings_body (at_start s)))
+      ∙ ap first_answer (kept (second_settings_in (settings_body (at_start s)))
+      ∙ ap settings_tests ((back.settings (at_start s) held).1 ∙ canonical-at)) ∙ at-start s o.counts o.clock
 
   -- the first record opens the load
   pub first-opens : record_spec (fresh_reader true) (settings_body (at_start s)) ≡ read_as (empty_load (at_start s))
-  first-opens = by_tests (settings_body (at_start s)) (at_start s) (some (at_start s)) (kind (at_start s)) (back.settings (at_start s) held).0 no_test ((back.settings (at_start s) held).1 ∙ canonical-at)
+  first-opens = by_tests (settings_body (at_start s)) (at_start s) (some (at_start s)) (kind (at_start s))
+      (back.settings (at_start s) held).0 no_test ((back.settings (at_start s) held).1 ∙ canonical-at)
 
 -- ---- the file
 
@@ -176,8 +182,10 @@ unfolding read_spec_of version_answer
 read_all b bs l m e f =
     let rest = concat_map framed bs in
     let n : 2 + length b + length rest ≡ length (framed b ++ rest) = omega (arith, long b rest) in
-    let fed : fed_spec (fresh_reader true) (framed b ++ rest) ≡ record { answer = Ok Taken; used = length (framed b ++ rest); reader = open_reader m } =
-    fed-one (fresh_reader true) l b rest e ∙ ap (later (2 + length b)) (fed-all f) ∙ (λ i. record { answer = Ok Taken; used = n i; reader = open_reader m }) in
+    let fed : fed_spec (fresh_reader true) (framed b ++ rest)
+    ≡ record { answer = Ok Taken; used = length (framed b ++ rest); reader = open_reader m } =
+    fed-one (fresh_reader true) l b rest e ∙ ap (later (2 + length b)) (fed-all f)
+    ∙ (λ i. record { answer = Ok Taken; used = n i; reader = open_reader m }) in
     ap (ended_by (framed b ++ rest)) fed ∙ ended (framed b ++ rest) m
 
 -- ---- the records of a load
@@ -187,10 +195,12 @@ module _ (l : Load) (w : Writable l) (unsearched : l.searched ≡ false) where
   start = at_start l.settings
 
   abbrev calls_at : ℕ → Load
-  calls_at k = load_of start (up_to blank_stop 128 l.stops l.stop_count) l.stop_count (up_to blank_rule 128 l.rules l.rule_count) l.rule_count (up_to blank_call 512 l.calls k) k
+  calls_at k = load_of start (up_to blank_stop 128 l.stops l.stop_count) l.stop_count
+      (up_to blank_rule 128 l.rules l.rule_count) l.rule_count (up_to blank_call 512 l.calls k) k
 
   abbrev rules-at : ℕ → Load
-  rules-at k = load_of start (up_to blank_stop 128 l.stops l.stop_count) l.stop_count (up_to blank_rule 128 l.rules k) k (up_to blank_call 512 l.calls 0) 0
+  rules-at k = load_of start (up_to blank_stop 128 l.stops l.stop_count) l.stop_count (up_to blank_rule 128 l.rules k) k
+      (up_to blank_call 512 l.calls 0) 0
 
   abbrev stops_at : ℕ → Load
   stops_at k = load_of start (up_to blank_stop 128 l.stops k) k (up_to blank_rule 128 l.rules 0) 0 (up_to blank_call 512 l.calls 0) 0
@@ -198,11 +208,14 @@ module _ (l : Load) (w : Writable l) (unsearched : l.searched ≡ false) where
   empty-is : empty_load start ≡ stops_at 0
   unfolding empty_of
   empty-is =
-      λ t. load_of start (sym (up_none blank_stop 128 l.stops w.whole.own.sound.stops.long) t) 0 (sym (up_none blank_rule 128 l.rules w.whole.own.sound.rules.long) t) 0 (sym (up_none blank_call 512 l.calls w.whole.own.sound.table.long) t) 0
+      λ t. load_of start (sym (up_none blank_stop 128 l.stops w.whole.own.sound.stops.long) t) 0
+      (sym (up_none blank_rule 128 l.rules w.whole.own.sound.rules.long) t) 0
+      (sym (up_none blank_call 512 l.calls w.whole.own.sound.table.long) t) 0
 
   -- the fields that no record has
   no-journeys : l.journeys ≡ replicate 64 no_journey
-  no-journeys = let e = w.whole.own.sound.none_kept unsearched in subst (λ (n : ℕ). drop n l.journeys ≡ replicate (64 - n) no_journey) e w.whole.own.sound.blank
+  no-journeys = let e = w.whole.own.sound.none_kept unsearched in
+      subst (λ (n : ℕ). drop n l.journeys ≡ replicate (64 - n) no_journey) e w.whole.own.sound.blank
 
   no-limits : l.table_limits ≡ 0
   no-limits = w.whole.own.sound.table.limited ∙ ap (λ (h : ℕ). cond (eqb h 21600) 0 1) w.uncut
@@ -211,11 +224,14 @@ module _ (l : Load) (w : Writable l) (unsearched : l.searched ≡ false) where
   unfolding load_at_start
   load_is = λ t. record {
     settings = start;
-    stops = up-all blank_stop 128 l.stops w.whole.own.sound.stops.long l.stop_count w.whole.own.sound.stops.few w.whole.own.sound.stops.blank t;
+    stops = up-all blank_stop 128 l.stops w.whole.own.sound.stops.long l.stop_count w.whole.own.sound.stops.few
+        w.whole.own.sound.stops.blank t;
     stop_count = l.stop_count;
-    calls = up-all blank_call 512 l.calls w.whole.own.sound.table.long l.call_count w.whole.own.sound.table.few w.whole.own.sound.table.blank t;
+    calls = up-all blank_call 512 l.calls w.whole.own.sound.table.long l.call_count w.whole.own.sound.table.few
+        w.whole.own.sound.table.blank t;
     call_count = l.call_count;
-    rules = up-all blank_rule 128 l.rules w.whole.own.sound.rules.long l.rule_count w.whole.own.sound.rules.few w.whole.own.sound.rules.blank t;
+    rules = up-all blank_rule 128 l.rules w.whole.own.sound.rules.long l.rule_count w.whole.own.sound.rules.few
+        w.whole.own.sound.rules.blank t;
     rule_count = l.rule_count;
     journeys = sym no-journeys t;
     journey_count = sym (w.whole.own.sound.none_kept unsearched) t;
@@ -231,24 +247,30 @@ module _ (l : Load) (w : Writable l) (unsearched : l.searched ≡ false) where
   stops-fed : Feeds (stops_at 0) (map (stop_record l.stops) (take l.stop_count l.stops)) (stops_at l.stop_count)
   unfolding stop_at
   stops-fed =
-      feeds-first (stop_record l.stops) l.stops blank_stop stops_at l.stop_count (omega (arith, w.whole.own.sound.stops.few, w.whole.own.sound.stops.long))
-      (λ k h. stop-takes l.stops l.stop_count k w.whole.own.sound.stops h (w.whole.kept.stops k h) start (up_to blank_rule 128 l.rules 0) 0 (up_to blank_call 512 l.calls 0) 0)
+      feeds-first (stop_record l.stops) l.stops blank_stop stops_at l.stop_count
+      (omega (arith, w.whole.own.sound.stops.few, w.whole.own.sound.stops.long))
+      (λ k h. stop-takes l.stops l.stop_count k w.whole.own.sound.stops h (w.whole.kept.stops k h) start
+      (up_to blank_rule 128 l.rules 0) 0 (up_to blank_call 512 l.calls 0) 0)
 
   rules-fed : Feeds (rules-at 0) (map rule_record (take l.rule_count l.rules)) (rules-at l.rule_count)
   unfolding rule_at
   rules-fed =
-      feeds-first rule_record l.rules blank_rule rules-at l.rule_count (omega (arith, w.whole.own.sound.rules.few, w.whole.own.sound.rules.long))
-      (λ k h. rule-takes l.stop_count l.rules l.rule_count k w.whole.own.sound.rules h (w.whole.kept.rules k h) start (up_to blank_stop 128 l.stops l.stop_count) (up_to blank_call 512 l.calls 0) 0)
+      feeds-first rule_record l.rules blank_rule rules-at l.rule_count
+      (omega (arith, w.whole.own.sound.rules.few, w.whole.own.sound.rules.long))
+      (λ k h. rule-takes l.stop_count l.rules l.rule_count k w.whole.own.sound.rules h (w.whole.kept.rules k h) start
+      (up_to blank_stop 128 l.stops l.stop_count) (up_to blank_call 512 l.calls 0) 0)
 
   calls-fed : Feeds (calls_at 0) (map call_record (take l.call_count l.calls)) (calls_at l.call_count)
   calls-fed =
       let room : l.call_count ≤ length l.calls = omega (arith, w.whole.own.sound.table.few, w.whole.own.sound.table.long) in
       feeds-first call_record l.calls blank_call calls_at l.call_count room
       (λ k h. call-takes l.settings l.stop_count l.calls k w.whole.own.sound.table.long (omega (arith, w.whole.own.sound.table.few))
-      (subst (λ (n : ℕ). CallSound n (get_or l.calls k blank_call)) w.uncut (all-at (CallSound l.table_horizon) l.calls blank_call l.call_count k h room w.whole.own.sound.table.each))
+      (subst (λ (n : ℕ). CallSound n (get_or l.calls k blank_call)) w.uncut
+      (all-at (CallSound l.table_horizon) l.calls blank_call l.call_count k h room w.whole.own.sound.table.each))
       (all-at CallKept l.calls blank_call l.call_count k h room w.whole.kept.calls)
       (all-at (AtStop l.stop_count) l.calls blank_call l.call_count k h room w.whole.own.sound.calls_known)
-      (opening l.settings w.whole.kept.settings.opens).clock (up_to blank_stop 128 l.stops l.stop_count) (up_to blank_rule 128 l.rules l.rule_count) l.rule_count)
+      (opening l.settings w.whole.kept.settings.opens).clock (up_to blank_stop 128 l.stops l.stop_count)
+      (up_to blank_rule 128 l.rules l.rule_count) l.rule_count)
 
   pub all-fed : Feeds (empty_load start) (records_of l) (load_at_start l)
   unfolding records_of

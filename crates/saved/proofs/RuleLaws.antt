@@ -56,7 +56,8 @@ filled_is r = (back.rule r).0
 
 -- ---- the rule of number k
 
-module _ (n : ℕ) (rules : List Rule) (count k : ℕ) (sound : RulesSound n rules count) (below : k < count) (told : RuleKept (rule_at rules k)) where
+module _ (n : ℕ) (rules : List Rule) (count k : ℕ) (sound : RulesSound n rules count) (below : k < count)
+    (told : RuleKept (rule_at rules k)) where
   room : k < 128
   room = omega (arith, sound.few)
 
@@ -65,7 +66,8 @@ module _ (n : ℕ) (rules : List Rule) (count k : ℕ) (sound : RulesSound n rul
   unfolding rule_at
   new-pair =
       rw (up-taken blank_rule 128 rules sound.long k (omega (arith, room)))
-      (none_below (same_pair (rule_at rules k).from (rule_at rules k).to) rules blank_rule k (omega (arith, room, sound.long)) (λ j h. sound.alone j k h below))
+      (none_below (same_pair (rule_at rules k).from (rule_at rules k).to) rules blank_rule k (omega (arith, room, sound.long))
+      (λ j h. sound.alone j k h below))
 
   module _ (s : Settings) (stops : List Stop) (calls : List Call) (callCount : ℕ) where
     abbrev at : ℕ → Load
@@ -77,10 +79,16 @@ module _ (n : ℕ) (rules : List Rule) (count k : ℕ) (sound : RulesSound n rul
         let r : Rule = rule_at rules k in
         let e = up_more blank_rule 128 rules sound.long k blank_rule room in
         rule-taken (at k) r
-        (no_test false n (up_to blank_rule 128 rules k) k r refl (lt-ltb _ n (sound.from_known k below)) (lt-ltb _ n (sound.to_known k below)) told.type_right new-pair (lt-leb 128 k room))
-        ∙ (λ t. record { answer = Ok Taken; load = load_of s stops n (set (up_to blank_rule 128 rules k) k r) (add-one k t) calls callCount })
+        (no_test false n (up_to blank_rule 128 rules k) k r refl (lt-ltb _ n (sound.from_known k below))
+        (lt-ltb _ n (sound.to_known k below)) told.type_right new-pair (lt-leb 128 k room))
+        ∙ (λ t. record {
+          answer = Ok Taken;
+          load = load_of s stops n (set (up_to blank_rule 128 rules k) k r)
+              (add-one k t) calls callCount;
+        })
         ∙ (λ t. record { answer = Ok Taken; load = load_of s stops n (e t) (suc k) calls callCount })
 
     pub rule-takes : Takes (at k) (rule_record (rule_at rules k)) (at (suc k))
     unfolding rule_record rule_body kind_right
-    rule-takes = takes (at k) (at (suc k)) 4 _ refl (filled_is (rule_at rules k)) (ap (stepped (at k)) (step_is (rule_at rules k)) ∙ stepped-is) refl
+    rule-takes = takes (at k) (at (suc k)) 4 _ refl (filled_is (rule_at rules k))
+        (ap (stepped (at k)) (step_is (rule_at rules k)) ∙ stepped-is) refl

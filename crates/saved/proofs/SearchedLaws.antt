@@ -28,7 +28,8 @@ use Rattle.codec.specs.Kinds.{search_body, settings_body}
 use Rattle.codec.proofs.BackLaws.{back}
 use Rattle.codec.specs.Parts.{at_start}
 use Rattle.writer.specs.File.{settings_file, stop_file, rule_file, call_file, search_file, write_spec_of}
-use Rattle.saved.specs.Saved.{load_at_start, Writable, stop_record, rule_record, call_record, records_of, Takes, Feeds, none, more, FileIs, RecordsTaken, ReadsBack, OneFile, OneFileBack}
+use Rattle.saved.specs.Saved.{load_at_start, Writable, stop_record, rule_record, call_record, records_of, Takes, Feeds, none, more}
+use Rattle.saved.specs.Saved.{FileIs, RecordsTaken, ReadsBack, OneFile, OneFileBack}
 use Rattle.saved.proofs.FeedLaws.{takes, feeds-append}
 use Rattle.saved.proofs.FileLaws.{none-by, all-fed, first-opens, read_all}
 
@@ -49,15 +50,18 @@ unsearched-at : (l : Load) → l.searched ≡ false → (load_at_start l).search
 unfolding load_at_start
 unsearched-at l u = u
 
-search-at : (l m : Load) → l.searched ≡ false → search_spec l ≡ record { answer = Ok Taken; load = m } → search_spec (load_at_start l) ≡ record { answer = Ok Taken; load = load_at_start m }
+search-at : (l m : Load) → l.searched ≡ false → search_spec l ≡ record { answer = Ok Taken; load = m }
+    → search_spec (load_at_start l) ≡ record { answer = Ok Taken; load = load_at_start m }
 search-at l m u e =
-    let f : ◌≡◌ {A = Stepped} (record { answer = answer_of (outcome_of l); load = settled l (outcome_of l) }) (record { answer = Ok Taken; load = m }) = sym (search-runs l u) ∙ e in
+    let f : ◌≡◌ {A = Stepped} (record { answer = answer_of (outcome_of l); load = settled l (outcome_of l) })
+    (record { answer = Ok Taken; load = m }) = sym (search-runs l u) ∙ e in
     search-runs (load_at_start l) (unsearched-at l u)
     ∙ ap (λ (o : Outcome). record { answer = answer_of o; load = settled (load_at_start l) o }) (outcome-at l)
     ∙ (λ t. record { answer = (f t).answer; load = (settled_at l (outcome_of l) ∙ ap (λ (x : Stepped). load_at_start x.load) f) t })
 
 -- the search record
-search-takes : (l m : Load) → search_spec l ≡ record { answer = Ok Taken; load = m } → m.table_horizon ≡ l.table_horizon → Takes l search_body m
+search-takes : (l m : Load) → search_spec l ≡ record { answer = Ok Taken; load = m } → m.table_horizon ≡ l.table_horizon
+    → Takes l search_body m
 unfolding search_body kind_right step_in filled
 search-takes l m e h = takes l m 5 [] refl back.search e h
 
@@ -99,8 +103,11 @@ searched-fed : (l : Load) → Writable l → l.searched ≡ true → Feeds (empt
 searched-fed l w e =
     subst (λ (bs : List (List ℕ)). Feeds (empty_load (at_start l.settings)) bs (load_at_start l)) (records-are l e)
     (feeds-append
-    (subst (λ (s : Settings). Feeds (empty_load (at_start s)) (records_of (unsearched_of l)) (load_at_start (unsearched_of l))) (same-settings l) (all-fed (unsearched_of l) (back-writable l w) (unsearched-new l)))
-    (more (search-takes (load_at_start (unsearched_of l)) (load_at_start l) (search-at (unsearched_of l) l (unsearched-new l) (own-finished l w.whole.own e (none-by l.limit w.unstopped))) (same_horizon l)) none))
+    (subst (λ (s : Settings). Feeds (empty_load (at_start s)) (records_of (unsearched_of l)) (load_at_start (unsearched_of l)))
+    (same-settings l) (all-fed (unsearched_of l) (back-writable l w) (unsearched-new l)))
+    (more (search-takes (load_at_start (unsearched_of l)) (load_at_start l)
+    (search-at (unsearched_of l) l (unsearched-new l) (own-finished l w.whole.own e (none-by l.limit w.unstopped))) (same_horizon l))
+    none))
 
 pub records-taken : RecordsTaken
 records-taken l w = go l.searched refl
@@ -127,9 +134,12 @@ file-is l =
     let cs = take l.call_count l.calls in
     let tail = cond l.searched (search_body ∷ []) [] in
     ap (λ (r : List ℕ). 2 ∷ (framed (settings_body (at_start l.settings)) ++ r))
-    ((λ t. framed-all (stop_record l.stops) ss t ++ (framed-all rule_record rs t ++ (framed-all call_record cs t ++ framed-search l.searched t)))
-    ∙ ap (λ (r : List ℕ). concat_map framed (map (stop_record l.stops) ss) ++ (concat_map framed (map rule_record rs) ++ r)) (sym (concat_map-append framed (map call_record cs) tail))
-    ∙ ap (λ (r : List ℕ). concat_map framed (map (stop_record l.stops) ss) ++ r) (sym (concat_map-append framed (map rule_record rs) (map call_record cs ++ tail)))
+    ((λ t. framed-all (stop_record l.stops) ss t
+    ++ (framed-all rule_record rs t ++ (framed-all call_record cs t ++ framed-search l.searched t)))
+    ∙ ap (λ (r : List ℕ). concat_map framed (map (stop_record l.stops) ss) ++ (concat_map framed (map rule_record rs) ++ r))
+    (sym (concat_map-append framed (map call_record cs) tail))
+    ∙ ap (λ (r : List ℕ). concat_map framed (map (stop_record l.stops) ss) ++ r)
+    (sym (concat_map-append framed (map rule_record rs) (map call_record cs ++ tail)))
     ∙ sym (concat_map-append framed (map (stop_record l.stops) ss) (map rule_record rs ++ (map call_record cs ++ tail))))
 
 -- ---- read (write l)
@@ -137,7 +147,8 @@ file-is l =
 pub reads-back : ReadsBack
 reads-back l w =
     ap read_spec_of (file-is l)
-    ∙ read_all (settings_body (at_start l.settings)) (records_of l) (empty_load (at_start l.settings)) (load_at_start l) (first-opens l.settings w.whole.kept.settings) (records-taken l w)
+    ∙ read_all (settings_body (at_start l.settings)) (records_of l) (empty_load (at_start l.settings)) (load_at_start l)
+    (first-opens l.settings w.whole.kept.settings) (records-taken l w)
 
 -- ---- one file for each load
 

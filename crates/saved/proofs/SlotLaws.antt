@@ -38,10 +38,12 @@ module _ {A : Type 0} (b : A) (size : ℕ) (xs : List A) (long : length xs ≡ s
   up-taken k h = take_at (take k xs) (replicate (size - length (take k xs)) b) k (taken-long k h)
 
   pub up-all : (n : ℕ) → n ≤ size → drop n xs ≡ replicate (size - n) b → up_to b size xs n ≡ xs
-  up-all n h e = ap (λ (k : ℕ). take n xs ++ replicate (size - k) b) (taken-long n h) ∙ ap (λ (r : List A). take n xs ++ r) (sym e) ∙ take-append-drop n xs
+  up-all n h e = ap (λ (k : ℕ). take n xs ++ replicate (size - k) b) (taken-long n h) ∙ ap (λ (r : List A). take n xs ++ r) (sym e)
+      ∙ take-append-drop n xs
 
 -- none of the first k has a property
-pub none_below : {A : Type 0} (p : A → Bool) (xs : List A) (d : A) (k : ℕ) → k ≤ length xs → ((j : ℕ) → j < k → p (get_or xs j d) ≡ false) → anyb p (take k xs) ≡ false
+pub none_below : {A : Type 0} (p : A → Bool) (xs : List A) (d : A) (k : ℕ) → k ≤ length xs → ((j : ℕ) → j < k → p (get_or xs j d) ≡ false)
+    → anyb p (take k xs) ≡ false
 none_below p xs d zero h n = refl
 none_below p [] d (suc k) h n = absurd (omega arith)
 none_below p (x ∷ xs) d (suc k) h n = or-not _ (n 0 (omega arith)) ∙ none_below p xs d k (omega arith) (λ j g. n (suc j) (omega arith))

@@ -44,7 +44,8 @@ same_self : (xs : List ℕ) → same_bytes_of xs xs ≡ true
 same_self [] = refl
 same_self (x ∷ xs) = and-true _ _ (eq-eqb x x refl) (same_self xs)
 
-find_at : (p : Stop → Bool) (xs : List Stop) (m j : ℕ) → j < length xs → p (get_or xs j blank_stop) ≡ true → ((i : ℕ) → i < j → p (get_or xs i blank_stop) ≡ false) → find_stop p xs m ≡ Some (m + j)
+find_at : (p : Stop → Bool) (xs : List Stop) (m j : ℕ) → j < length xs → p (get_or xs j blank_stop) ≡ true
+    → ((i : ℕ) → i < j → p (get_or xs i blank_stop) ≡ false) → find_stop p xs m ≡ Some (m + j)
 find_at p [] m j h t n = absurd (omega arith)
 find_at p (x ∷ xs) m zero h t n =
     let e : m ≡ m + 0 = omega arith in
@@ -53,7 +54,8 @@ find_at p (x ∷ xs) m (suc j) h t n =
     let e : m + 1 + j ≡ m + suc j = omega arith in
     rw (n 0 (omega arith)) (find_at p xs (m + 1) j (omega arith) t (λ i g. n (suc i) (omega arith)) ∙ ap Some e)
 
-find_none : (p : Stop → Bool) (xs : List Stop) (m : ℕ) → ((i : ℕ) → i < length xs → p (get_or xs i blank_stop) ≡ false) → find_stop p xs m ≡ None
+find_none : (p : Stop → Bool) (xs : List Stop) (m : ℕ) → ((i : ℕ) → i < length xs → p (get_or xs i blank_stop) ≡ false)
+    → find_stop p xs m ≡ None
 find_none p [] m n = refl
 find_none p (x ∷ xs) m n = rw (n 0 (omega arith)) (find_none p xs (m + 1) (λ i g. n (suc i) (omega arith)))
 
@@ -68,7 +70,10 @@ module _ (searched : Bool) (ss : List Stop) (k : ℕ) (f : Option ℕ) (id : Lis
 
 stop-taken : (l : Load) (id : List ℕ) (name parent : Option (List ℕ)) (i : StopInput) (f : Option ℕ) → station_in l parent ≡ f
     → first_answer (stop_tests l.searched l.stops l.stop_count f id name parent i) ≡ Ok Taken
-    → stop_spec l id name parent i ≡ record { answer = Ok Taken; load = with_stops l (set l.stops l.stop_count (stop_of id name f i)) (l.stop_count + 1) }
+    → stop_spec l id name parent i ≡ record {
+      answer = Ok Taken;
+      load = with_stops l (set l.stops l.stop_count (stop_of id name f i)) (l.stop_count + 1);
+    }
 unfolding stop_spec
 stop-taken l id name parent i f e t = rw (e, t) refl
 
@@ -90,16 +95,20 @@ module _ (stops : List Stop) (count k : ℕ) (sound : StopsSound stops count) (b
   unfolding is_known
   new-id =
       rw (up-taken blank_stop 128 stops sound.long k (omega (arith, room)))
-      (ap is_some (find_none (is_it false (id_of (stop_at stops k))) (take k stops) 0 (λ j h. let g : j < k = omega (arith, first-long) in ap (is_it false (id_of (stop_at stops k))) (first-at j g) ∙ sound.alone j k g below)))
+      (ap is_some (find_none (is_it false (id_of (stop_at stops k))) (take k stops) 0
+      (λ j h. let g : j < k = omega (arith, first-long) in
+      ap (is_it false (id_of (stop_at stops k))) (first-at j g) ∙ sound.alone j k g below)))
 
   -- a station before it is found by its id
-  station-at : (p : ℕ) → p < k → (stop_at stops p).location_type ≡ 1 → station_of (up_to blank_stop 128 stops k) k (Some (id_of (stop_at stops p))) ≡ Some p
+  station-at : (p : ℕ) → p < k → (stop_at stops p).location_type ≡ 1
+      → station_of (up_to blank_stop 128 stops k) k (Some (id_of (stop_at stops p))) ≡ Some p
   unfolding station_of
   station-at p h e =
       let test = is_it true (id_of (stop_at stops p)) in
       let z : 0 + p ≡ p = omega arith in
       rw (up-taken blank_stop 128 stops sound.long k (omega (arith, room)))
-      (find_at test (take k stops) 0 p (omega (arith, first-long)) (ap test (first-at p h) ∙ and-true _ _ (eq-eqb _ 1 e) (same_self (id_of (stop_at stops p))))
+      (find_at test (take k stops) 0 p (omega (arith, first-long))
+      (ap test (first-at p h) ∙ and-true _ _ (eq-eqb _ 1 e) (same_self (id_of (stop_at stops p))))
       (λ j g. ap test (first-at j (omega arith)) ∙ and-off (eqb (stop_at stops j).location_type 1) _ (sound.alone j p g (omega arith)))
       ∙ ap Some z)
     where
@@ -118,7 +127,8 @@ module _ (stops : List Stop) (count k : ℕ) (sound : StopsSound stops count) (b
     unfolding station_of
     station-is = go here.parent told.parent_first
       where
-        go : (p : Option ℕ) → Parented stops k p → station_of (up_to blank_stop 128 stops k) k (option_map (λ (q : ℕ). id_of (stop_at stops q)) p) ≡ p
+        go : (p : Option ℕ) → Parented stops k p → station_of (up_to blank_stop 128 stops k) k
+            (option_map (λ (q : ℕ). id_of (stop_at stops q)) p) ≡ p
         go (Some p) w = station-at p w.0 w.1
         go None w = refl
 
@@ -147,14 +157,20 @@ module _ (stops : List Stop) (count k : ℕ) (sound : StopsSound stops count) (b
       abbrev at : ℕ → Load
       at n = load_of s (up_to blank_stop 128 stops n) n rules ruleCount calls callCount
 
-      stepped-is : stop_spec (at k) (id_of here) (name_of here) parent (stop_input_of here) ≡ record { answer = Ok Taken; load = at (suc k) }
+      stepped-is : stop_spec (at k) (id_of here) (name_of here) parent (stop_input_of here)
+          ≡ record { answer = Ok Taken; load = at (suc k) }
       unfolding stop_input_of stop_at
       stepped-is =
           let t : Stop = here in
           let e = up_more blank_stop 128 stops sound.long k blank_stop room in
           stop-taken (at k) (id_of t) (name_of t) parent (stop_input_of t) t.parent station-is
-          (no_test false (up_to blank_stop 128 stops k) k t.parent (id_of t) (name_of t) parent (stop_input_of t) refl told.id_right new-id type-right found told.name_right (lt-leb 128 k room))
-          ∙ (λ r. record { answer = Ok Taken; load = load_of s (set (up_to blank_stop 128 stops k) k (told.whole r)) (add-one k r) rules ruleCount calls callCount })
+          (no_test false (up_to blank_stop 128 stops k) k t.parent (id_of t) (name_of t) parent
+          (stop_input_of t) refl told.id_right new-id type-right found told.name_right (lt-leb 128 k room))
+          ∙ (λ r. record {
+            answer = Ok Taken;
+            load = load_of s (set (up_to blank_stop 128 stops k) k (told.whole r))
+                (add-one k r) rules ruleCount calls callCount;
+          })
           ∙ (λ r. record { answer = Ok Taken; load = load_of s (e r) (suc k) rules ruleCount calls callCount })
 
       pub stop-takes : Takes (at k) (stop_record stops here) (at (suc k))

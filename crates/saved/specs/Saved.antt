@@ -22,6 +22,7 @@ use Rattle.written.specs.Kept.{Whole}
 use Rattle.written.specs.Keeps.{AllGive}
 use Rattle.writer.specs.File.{write_spec_of}
 use Rattle.writer.specs.Wrote.{unwritable}
+use Rattle.week.specs.Weeks.{is_dated}
 
 -- ---- the load that is read
 
@@ -53,13 +54,13 @@ read_as l = record { answer = Ok Taken; reader = open_reader l }
 
 pub record Writable (l : Load) : Type 0 where
   pub whole : Whole l
-  pub dateless : l.week.dated ≡ false
+  pub dateless : is_dated l.week ≡ false
   pub unstopped : stopped l ≡ false
   pub uncut : l.table_horizon ≡ 21600
 
 -- which 25 does not meet
 abbrev pub Passes : Load → Type 0
-Passes l = unwritable l.week.dated (stopped l) l.table_horizon ≡ false
+Passes l = unwritable (is_dated l.week) (stopped l) l.table_horizon ≡ false
 
 abbrev pub PassesWritable : Type 0
 PassesWritable = (l : Load) → Whole l → Passes l → Writable l
@@ -79,7 +80,8 @@ call_record c = call_body (call_input_of c)
 unfoldable pub records_of : Load → List (List ℕ)
 records_of l =
     map (stop_record l.stops) (take l.stop_count l.stops)
-    ++ (map rule_record (take l.rule_count l.rules) ++ (map call_record (take l.call_count l.calls) ++ cond l.searched (search_body ∷ []) []))
+    ++ (map rule_record (take l.rule_count l.rules)
+    ++ (map call_record (take l.call_count l.calls) ++ cond l.searched (search_body ∷ []) []))
 
 -- a file is its version, the settings and these
 abbrev pub FileIs : Type 0
@@ -105,7 +107,8 @@ ReadsBack = (l : Load) → Writable l → read_spec_of (write_spec_of l) ≡ rea
 
 -- of every list of steps whose load 25 does not meet; the degrees handed in are f64s
 abbrev pub EndReadsBack : Type 0
-EndReadsBack = (o : Opening) (xs : List Step) → Opens o → AllGive xs → Passes (end_of o xs) → read_spec_of (write_spec_of (end_of o xs)) ≡ read_as (load_at_start (end_of o xs))
+EndReadsBack = (o : Opening) (xs : List Step) → Opens o → AllGive xs → Passes (end_of o xs)
+    → read_spec_of (write_spec_of (end_of o xs)) ≡ read_as (load_at_start (end_of o xs))
 
 -- ---- two loads have one file exactly if they differ in their epochs at most
 

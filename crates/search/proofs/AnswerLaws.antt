@@ -24,10 +24,12 @@ module _ (l : Load) where
   unfolding outcome_of would_fall
   outcome-first =
       rw (search-by-offers (timetable_of l) l.table_horizon l.table_limits)
-      (go (clashes (sorted (timetable_of l))) refl (fall (covᶠ journey_figures) (dueᶠ journey_figures) 64 3600 l.table_horizon l.table_limits [] (offers (timetable_of l))))
+      (go (clashes (sorted (timetable_of l))) refl
+      (fall (covᶠ journey_figures) (dueᶠ journey_figures) 64 3600 l.table_horizon l.table_limits [] (offers (timetable_of l))))
     where
       go : (b : Bool) → clashes (sorted (timetable_of l)) ≡ b → (f : Ends)
-          → First (answer_of (cond b clashing (ends_by_of (offers (timetable_of l)) f))) ((clashes (sorted (timetable_of l)), Err Neighbours) ∷ (is_never f, Err NoRoom) ∷ [])
+          → First (answer_of (cond b clashing (ends_by_of (offers (timetable_of l)) f)))
+          ((clashes (sorted (timetable_of l)), Err Neighbours) ∷ (is_never f, Err NoRoom) ∷ [])
       go true e f = hit e
       go false e never = miss e (hit refl)
       go false e (up_to h m) = miss e (miss refl none)
@@ -39,7 +41,8 @@ module _ (l : Load) where
 
   -- what the search returns, by whether the load was searched
   abbrev returned : Bool → Stepped
-  returned b = cond {A = Stepped} b (record { answer = Err AlreadySearched; load = l }) (record { answer = answer_of (outcome_of l); load = settled l (outcome_of l) })
+  returned b = cond {A = Stepped} b (record { answer = Err AlreadySearched; load = l })
+      (record { answer = answer_of (outcome_of l); load = settled l (outcome_of l) })
 
   returned-first : (b : Bool) → l.searched ≡ b → First (returned b).answer (search_causes l)
   returned-first true e = hit e

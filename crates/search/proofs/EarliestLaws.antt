@@ -50,7 +50,8 @@ or-zero (x ∷ ds) = ap (λ (t : Option ℕ). unwrap_or t 0) (soonest-least x ds
 
 -- ---- a sheet that holds the timetable
 
-module _ (f : List ℕ) (t : Timetable) (at : ℕ → Call) (n : ℕ) (a : Agree (sheet_of f) (sheet_from t at) (joins_of f []) (joins_from t at) 0 n) (p : InPlaces t at n) where
+module _ (f : List ℕ) (t : Timetable) (at : ℕ → Call) (n : ℕ)
+    (a : Agree (sheet_of f) (sheet_from t at) (joins_of f []) (joins_from t at) 0 n) (p : InPlaces t at n) where
   abbrev N : Network ℕ
   N = by.network_of (sheet_of f) (joins_of f [])
 
@@ -66,7 +67,8 @@ module _ (f : List ℕ) (t : Timetable) (at : ℕ → Call) (n : ℕ) (a : Agree
   rides-are : rides (network_of t) (map at (span 0 n)) ≡ map (leg_by at) (rides N (span 0 n))
   rides-are =
       rides-of-images M (network_of t) at 0 (span 0 n) (places t at n 0)
-      ∙ ap (map (leg_by at)) (ap (rides M) (sym (map-id (span 0 n))) ∙ rides-of-images N M (λ i. i) 0 (span 0 n) same ∙ same-leg (rides N (span 0 n)))
+      ∙ ap (map (leg_by at)) (ap (rides M) (sym (map-id (span 0 n))) ∙ rides-of-images N M (λ i. i) 0 (span 0 n) same
+      ∙ same-leg (rides N (span 0 n)))
 
   due-at : ℕ → List ℕ
   due-at i = map (λ k. feed.arrival_of (target_walk_of f k) (call_at f i).arrival) (N.targets i)
@@ -88,7 +90,8 @@ module _ (f : List ℕ) (t : Timetable) (at : ℕ → Call) (n : ℕ) (a : Agree
       ∙ ap (λ (rs : List (Leg Call)). concat_map arrivals-at (map (λ r. r.a) rs)) rides-are
       ∙ concat_map-map (λ r. r.a) arrivals-at (map (leg_by at) (rides N (span 0 n)))
       ∙ concat_map-map (leg_by at) (λ r. arrivals-at r.a) (rides N (span 0 n))
-      ∙ concat_map-agree (λ r. arrivals-at (at r.a)) (λ r. due-at r.a) (rides N (span 0 n)) (λ r m. at_place r.a (listed_in N (span 0 n) r (rides-mem N (span 0 n) r m)).1)
+      ∙ concat_map-agree (λ r. arrivals-at (at r.a)) (λ r. due-at r.a) (rides N (span 0 n))
+      (λ r m. at_place r.a (listed_in N (span 0 n) r (rides-mem N (span 0 n) r m)).1)
 
   pub due-is : ride_due f n ≡ target_arrivals t
   unfolding due-at
@@ -104,4 +107,5 @@ pub earliest-is : (l : Load) (cs : List Call) (f : List ℕ) (e : Option ℕ) �
     → e ≡ soonest (target_arrivals (timetable_of l))
 earliest-is l cs f e order long w small ee =
     let n = min l.call_count 512 in
-    ee ∙ ap soonest (due-is f (timetable_of l) (placed cs) n (agrees l cs f [] w small n 0 (omega arith) (λ one. absurd (omega arith))) (in-places l cs order long))
+    ee ∙ ap soonest (due-is f (timetable_of l) (placed cs) n (agrees l cs f [] w small n 0 (omega arith) (λ one. absurd (omega arith)))
+    (in-places l cs order long))

@@ -6,7 +6,7 @@ use Rattle.laws.specs.Lists.{span}
 use Rattle.laws.proofs.Flat.{map-agree}
 use Rattle.ways.specs.Images.{Stand}
 use Rattle.calls.specs.declared.Call.{Call}
-use Rattle.profile.specs.declared.Row.{Row}
+use Rattle.profile.specs.Found.{Row}
 use Rattle.profile.specs.declared.Journey.{Journey}
 use Rattle.profile.specs.Journeys.{journey_figures, row_figures, row_of}
 use Rattle.profile.specs.Kept.{searched}
@@ -36,11 +36,13 @@ module _ (t : Timetable) (at : ℕ → Call) (n : ℕ) where
   unfolding sheet_from first_of feed_call direct_row change_row row_of feed.leave_of feed.arrival_of journey_at
   rows-stand = record { alone = λ f k p o m. refl; changing = λ one f l k p o q m. refl }
 
-  by-places : map (event_by at (journey_at at)) (place_events t at n) ≡ events (network_of t) (direct_by t) (change_by t) t.max_transfers (map at (span 0 n))
+  by-places : map (event_by at (journey_at at)) (place_events t at n)
+      ≡ events (network_of t) (direct_by t) (change_by t) t.max_transfers (map at (span 0 n))
   unfolding place_events sheet_events
   by-places =
       events-of-images (by.network_of (sheet_from t at) (joins_from t at)) (network_of t) at t.max_transfers (span 0 n) (journey_at at)
-      (by.direct_by (sheet_from t at)) (by.change_by (sheet_from t at)) (direct_by t) (change_by t) (places t at n t.max_transfers) rows-stand
+      (by.direct_by (sheet_from t at)) (by.change_by (sheet_from t at)) (direct_by t) (change_by t)
+      (places t at n t.max_transfers) rows-stand
 
 pub events-by-places : EventsByPlaces
 unfolding events_of
@@ -70,7 +72,8 @@ module _ (s t : Sheet) (joins joins' : Joins) (depth n : ℕ) (a : Agree s t joi
   events-agree =
       let es : List RowEvent = events (by.network_of s joins) (by.direct_by s) (by.change_by s) depth (span 0 n) in
       sym (map-agree (event_by (λ i. i) (λ (r : Row). r)) (λ e. e) es (λ e m. event-itself e) ∙ map-id es)
-      ∙ events-of-images (by.network_of s joins) (by.network_of t joins') (λ i. i) depth (span 0 n) (λ (r : Row). r) (by.direct_by s) (by.change_by s) (by.direct_by t) (by.change_by t)
+      ∙ events-of-images (by.network_of s joins) (by.network_of t joins') (λ i. i) depth (span 0 n) (λ (r : Row). r) (by.direct_by s)
+      (by.change_by s) (by.direct_by t) (by.change_by t)
       (same-network s t joins joins' depth n a) (same_rows s t joins joins' depth n a)
       ∙ ap (λ (is : List ℕ). events (by.network_of t joins') (by.direct_by t) (by.change_by t) depth is) (map-id (span 0 n))
 

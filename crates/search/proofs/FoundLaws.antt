@@ -10,7 +10,7 @@ use Rattle.laws.proofs.Bounds.{take_min}
 use Rattle.laws.proofs.Sort.{length-sort, sort-mem}
 use Rattle.calls.specs.declared.Call.{Call}
 use Rattle.calls.specs.Tables.{blank_call}
-use Rattle.profile.specs.declared.Row.{Row}
+use Rattle.profile.specs.Found.{Row}
 use Rattle.profile.specs.declared.Journey.{Journey}
 use Rattle.profile.specs.Best.{sooner, ordered}
 use Rattle.profile.specs.Journeys.{no_journey, journey_figures, row_figures}
@@ -40,13 +40,15 @@ module _ (l : Load) (cs : List Call) (order : cs ≡ sort_first l.call_count l.c
   in-front = ap (take l.call_count) order ∙ sorted_front l.call_count l.calls
 
   pub in-places : InPlaces (timetable_of l) (placed cs) (min l.call_count 512)
-  in-places = array-in-places (timetable_of l) cs (min l.call_count 512) blank_call (omega (arith, long)) (take_min cs l.call_count 512 long ∙ in-front)
+  in-places = array-in-places (timetable_of l) cs (min l.call_count 512) blank_call (omega (arith, long))
+      (take_min cs l.call_count 512 long ∙ in-front)
 
 -- ---- what is found
 
 -- the rows kept are rows offered
 pub kept_small : (os ks : List Row) (h₀ l₀ h m : ℕ) → AllSmall os → searched row_figures 64 3600 h₀ l₀ os ≡ going ks h m → AllSmall ks
-kept_small os ks h₀ l₀ h m small v r i = small r (front-unbeaten row_figures h os r (subst (Memᴰ r) (kept-is-front row_figures h₀ l₀ os ks h m v).0 i)).0
+kept_small os ks h₀ l₀ h m small v r i = small r
+    (front-unbeaten row_figures h os r (subst (Memᴰ r) (kept-is-front row_figures h₀ l₀ os ks h m v).0 i)).0
 
 -- the load with these calls and journeys, searched
 abbrev holding : Load → List Call → List Journey → ℕ → ℕ → ℕ → Option ℕ → Load
@@ -56,11 +58,13 @@ holding l c j k h m n =
 
 -- the journeys of the rows kept, in list order
 pub holds-found : (l : Load) (cs : List Call) (order : cs ≡ sort_first l.call_count l.calls) (st : List ℕ) (ks : List Row) (h m : ℕ)
-    → view st ≡ going ks h m → AllSmall ks → (n : Option ℕ) → found_in l cs st n ≡ with_found l (ordered journey_figures (map (journey_at (placed cs)) ks)) h m n
+    → view st ≡ going ks h m → AllSmall ks → (n : Option ℕ)
+    → found_in l cs st n ≡ with_found l (ordered journey_figures (map (journey_at (placed cs)) ks)) h m n
 holds-found l cs order st ks h m g small n =
     let (o, c, k, eh, em) = view-parts st ks h m g in
     let right : map (journey_of cs) (ordered row_figures (kept_of st)) ≡ ordered journey_figures (map (journey_at (placed cs)) ks) =
-    ap (λ (rs : List Row). map (journey_of cs) (ordered row_figures rs)) k ∙ journeys-right cs (ordered row_figures ks) (λ r i. small r (sort-mem (sooner row_figures) ks i))
+    ap (λ (rs : List Row). map (journey_of cs) (ordered row_figures rs)) k
+    ∙ journeys-right cs (ordered row_figures ks) (λ r i. small r (sort-mem (sooner row_figures) ks i))
     ∙ ordered-maps (journey_at (placed cs)) row_figures journey_figures ks (λ r i. row-figures (placed cs) r) in
     let count : count_of st ≡ length (ordered journey_figures (map (journey_at (placed cs)) ks)) =
     c ∙ sym (length-map ks (journey_at (placed cs))) ∙ sym (length-sort (sooner journey_figures) (map (journey_at (placed cs)) ks)) in

@@ -14,7 +14,7 @@ use Rattle.laws.specs.Lists.{span}
 use Rattle.laws.proofs.Bools.{of-not, cond-by, cond-not}
 use Rattle.refusal.specs.declared.Refusal.TheVariants.{SettingsRange, AlreadySearched, Neighbours, NoRoom}
 use Rattle.calls.specs.declared.Call.{Call}
-use Rattle.profile.specs.declared.Row.{Row}
+use Rattle.profile.specs.Found.{Row}
 use Rattle.profile.specs.declared.Journey.{Journey}
 use Rattle.profile.specs.Best.{ordered}
 use Rattle.profile.specs.Journeys.{journey_figures, row_figures}
@@ -55,11 +55,14 @@ up-to-in {J} {A} n es {a} m =
     sym (offers-append (up_to n es) (past n es)) ∙ ap (λ (xs : List (Event J A)). offers_of xs) (sym (stops n es)) in
     subst (Memᴰ a) q (Memᴰ.append_left (offers_of (past n es)) m)
 
-within-small : (s : Sheet) (joins : Joins) (depth n limit : ℕ) → depth ≤ 1 → ((o : ℕ) → o < 4 → s.origin_walk o < 256) → AllSmall (offers_of (up_to limit (sheet_events s joins depth n)))
+within-small : (s : Sheet) (joins : Joins) (depth n limit : ℕ) → depth ≤ 1 → ((o : ℕ) → o < 4 → s.origin_walk o < 256)
+    → AllSmall (offers_of (up_to limit (sheet_events s joins depth n)))
 unfolding sheet_events rows
 within-small s joins depth n limit one walks r m =
     rows-small s joins depth n walks r
-    (subst (Memᴰ r) (offers-of-events (network_of s joins) (direct_by s) (change_by s) depth (span 0 n) ∙ sym (rows-up-to-one s joins depth n one)) (up-to-in limit (events (network_of s joins) (direct_by s) (change_by s) depth (span 0 n)) m))
+    (subst (Memᴰ r) (offers-of-events (network_of s joins) (direct_by s) (change_by s) depth (span 0 n)
+    ∙ sym (rows-up-to-one s joins depth n one))
+    (up-to-in limit (events (network_of s joins) (direct_by s) (change_by s) depth (span 0 n)) m))
 
 -- ---- what is returned
 
@@ -73,7 +76,8 @@ module _ (l : Load) (n : ℕ) where
   unfolding within_spec
   within-settings u h = sym (cond-not _ _ u ∙ cond-by _ _ (lt-ltb 1 l.settings.max_transfers h))
 
-module _ (l : Load) (n : ℕ) (u : l.searched ≡ false) (one : l.settings.max_transfers ≤ 1) (cs : List Call) (order : cs ≡ sort_first l.call_count l.calls)
+module _ (l : Load) (n : ℕ) (u : l.searched ≡ false) (one : l.settings.max_transfers ≤ 1) (cs : List Call)
+    (order : cs ≡ sort_first l.call_count l.calls)
     (long : length cs ≡ 512) where
   ran : (o : Outcome) → outcome_within l n ≡ o → ran_within l n o ≡ within_spec l n
   unfolding within_spec
@@ -98,12 +102,14 @@ module _ (l : Load) (n : ℕ) (u : l.searched ≡ false) (one : l.settings.max_t
     unfolding outcome_within search_within
     outcome-by =
         cond-not _ _ (ap clashes (sym (in-front l cs order long)) ∙ sym e ∙ q)
-        ∙ ap found_by (limit-by-rows n (timetable_of l) (placed cs) (min l.call_count 512) l.table_horizon l.table_limits (in-places l cs order long)).kept
+        ∙ ap found_by (limit-by-rows n (timetable_of l) (placed cs) (min l.call_count 512) l.table_horizon l.table_limits
+        (in-places l cs order long)).kept
 
     module _ {st st' : List ℕ} {r : Tested} (e0 : view st ≡ going [] l.table_horizon l.table_limits) (w : Within st st' n es r) where
       ended : view st' ≡ kept
       unfolding offer_all
-      ended = w.state ∙ ap (λ (s : St Row). offer_all s (offers_of (up_to n es))) e0 ∙ offers-search l.table_horizon l.table_limits (offers_of (up_to n es))
+      ended = w.state ∙ ap (λ (s : St Row). offer_all s (offers_of (up_to n es))) e0
+          ∙ offers-search l.table_horizon l.table_limits (offers_of (up_to n es))
 
       outcome-of : (s : St Row) → view st' ≡ s → outcome_within l n ≡ found_by (map_st (journey_at (placed cs)) s)
       outcome-of s v = outcome-by ∙ ap (λ (x : St Row). found_by (map_st (journey_at (placed cs)) x)) (sym ended ∙ v)
@@ -116,7 +122,8 @@ module _ (l : Load) (n : ℕ) (u : l.searched ≡ false) (one : l.settings.max_t
       unfolding place_events sheet_from timetable_of
       small walks ks h m g =
           kept_small (offers_of (up_to n es)) ks l.table_horizon l.table_limits h m
-          (within-small (sheet_from (timetable_of l) (placed cs)) (joins_from (timetable_of l) (placed cs)) l.settings.max_transfers (min l.call_count 512) n one (λ o lo. walks o)) (sym ended ∙ g)
+          (within-small (sheet_from (timetable_of l) (placed cs)) (joins_from (timetable_of l) (placed cs)) l.settings.max_transfers
+          (min l.call_count 512) n one (λ o lo. walks o)) (sym ended ∙ g)
 
       module _ (ks : List Row) (h m : ℕ) (g : view st' ≡ going ks h m) where
         not_refused : view st' ≡ refused → ⊥
@@ -124,16 +131,19 @@ module _ (l : Load) (n : ℕ) (u : l.searched ≡ false) (one : l.settings.max_t
 
         all : r.finished ≡ finishes_in l n
         unfolding finishes_in
-        all = w.all not_refused ∙ sym (limit-by-rows n (timetable_of l) (placed cs) (min l.call_count 512) l.table_horizon l.table_limits (in-places l cs order long)).all
+        all = w.all not_refused ∙ sym (limit-by-rows n (timetable_of l) (placed cs) (min l.call_count 512) l.table_horizon l.table_limits
+            (in-places l cs order long)).all
 
         joins : r.joins ≡ joins_within n (timetable_of l)
-        joins = w.joins not_refused ∙ sym (limit-by-rows n (timetable_of l) (placed cs) (min l.call_count 512) l.table_horizon l.table_limits (in-places l cs order long)).joins
+        joins = w.joins not_refused ∙ sym (limit-by-rows n (timetable_of l) (placed cs)
+            (min l.call_count 512) l.table_horizon l.table_limits (in-places l cs order long)).joins
 
       module _ (walks : (o : ℕ) → get_or l.settings.origin_walks o 0 < 256) (x : Option ℕ) (ex : x ≡ then_some (not r.finished) n) where
         abbrev next : Answered
         next = record { answer = Ok Taken; load = found_in l cs st' x; joins = r.joins; finished = r.finished }
 
-        either : (ks : List Journey) (h m : ℕ) (b : Bool) → with_found l ks h m (then_some (not b) n) ≡ cond b (with_found l ks h m None) (with_found l ks h m (Some n))
+        either : (ks : List Journey) (h m : ℕ) (b : Bool)
+            → with_found l ks h m (then_some (not b) n) ≡ cond b (with_found l ks h m None) (with_found l ks h m (Some n))
         either ks h m true = refl
         either ks h m false = refl
 

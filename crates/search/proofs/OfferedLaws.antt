@@ -47,13 +47,15 @@ use Rattle.search.proofs.EventsLaws.{same-events}
 -- ---- members
 
 -- the membership byte of the stop k, read at the number r that the feed has for it, or a part of the byte
-module _ (f : List ℕ) (ss : List Stop) (past : (k : ℕ) → 128 ≤ k → (stop_at ss k).members ≡ 0) (part : ℕ → ℕ) (none : part 0 ≡ 0) (count : ℕ)
+module _ (f : List ℕ) (ss : List Stop) (past : (k : ℕ) → 128 ≤ k → (stop_at ss k).members ≡ 0) (part : ℕ → ℕ) (none : part 0 ≡ 0)
+    (count : ℕ)
     (here : (k : ℕ) → k < 128 → part (get_or f (3072 + k) 0) % 16 ≡ part (stop_at ss k).members % 2 ^ min count 4) where
   member_of : (k r : ℕ) → r ≡ cond (ltb k 128) k 65535 → part (member_at f r) % 16 ≡ part (stop_at ss k).members % 2 ^ min count 4
   unfolding member_at
   member_of k r e = go (ltb k 128) refl
     where
-      go : (b : Bool) → ltb k 128 ≡ b → part (cond (ltb r 128) (get_or f (3072 + r) 0) 0) % 16 ≡ part (stop_at ss k).members % 2 ^ min count 4
+      go : (b : Bool) → ltb k 128 ≡ b → part (cond (ltb r 128) (get_or f (3072 + r) 0) 0) % 16
+          ≡ part (stop_at ss k).members % 2 ^ min count 4
       go true q =
           let same : r ≡ k = e ∙ cond-by k 65535 q in
           ap (λ (x : ℕ). part (cond (ltb x 128) (get_or f (3072 + x) 0) 0) % 16) same
@@ -63,7 +65,8 @@ module _ (f : List ℕ) (ss : List Stop) (past : (k : ℕ) → 128 ≤ k → (st
           let gone : (stop_at ss k).members ≡ 0 = past k (ltb-false k 128 q) in
           let left : part (cond (ltb r 128) (get_or f (3072 + r) 0) 0) % 16 ≡ 0 =
           ap (λ (x : ℕ). part (cond (ltb x 128) (get_or f (3072 + x) 0) 0) % 16) far ∙ ap (λ (x : ℕ). x % 16) none ∙ zero-mod 16 in
-          let right : part (stop_at ss k).members % 2 ^ min count 4 ≡ 0 = ap (λ (x : ℕ). part x % 2 ^ min count 4) gone ∙ ap (λ (x : ℕ). x % 2 ^ min count 4) none ∙ zero-mod (2 ^ min count 4) in
+          let right : part (stop_at ss k).members % 2 ^ min count 4 ≡ 0 =
+          ap (λ (x : ℕ). part x % 2 ^ min count 4) gone ∙ ap (λ (x : ℕ). x % 2 ^ min count 4) none ∙ zero-mod (2 ^ min count 4) in
           left ∙ sym right
 
 -- ---- joins
@@ -117,7 +120,9 @@ module _ (l : Load) (calls : List Call) (f g : List ℕ) (w : Feeds f calls l.st
 
   -- what the loops test, of the calls at their places
   tested : (i o k j : ℕ) → i < 512 → k < 512 → j < 512
-      → joins_of f g (first_of (sheet_of f) i o k) j ≡ (not (runs i j) && leb ((placed calls k).arrival + change_at g (get_or f (k * 6 + 2) 0) (get_or f (j * 6 + 2) 0)) (placed calls j).departure)
+      → joins_of f g (first_of (sheet_of f) i o k) j
+      ≡ (not (runs i j) && leb ((placed calls k).arrival + change_at g (get_or f (k * 6 + 2) 0) (get_or f (j * 6 + 2) 0))
+      (placed calls j).departure)
   unfolding joins_of joined first_of sheet_of call_at
   tested i o k j hi hk hj =
       λ p. not (eqb (w.trip i hi p) (w.trip j hj p) && eqb (w.day i hi p) (w.day j hj p))
@@ -134,12 +139,14 @@ module _ (l : Load) (calls : List Call) (f g : List ℕ) (w : Feeds f calls l.st
       stop-of : (m : ℕ) → m < n → stop_in f m ≡ cond (ltb (placed calls m).stop 128) (placed calls m).stop 65535
       stop-of m h = w.stop m (omega arith)
 
-      known : ltb (placed calls k).stop 128 ≡ true → ltb (placed calls j).stop 128 ≡ true → read ≡ change_number (change_in l (placed calls k).stop (placed calls j).stop)
+      known : ltb (placed calls k).stop 128 ≡ true → ltb (placed calls j).stop 128 ≡ true
+          → read ≡ change_number (change_in l (placed calls k).stop (placed calls j).stop)
       known e q =
           let same : stop_in f k ≡ (placed calls k).stop = stop-of k hk ∙ cond-by (placed calls k).stop 65535 e in
           let near : stop_in f k < 128 = omega (arith, ltb-true (placed calls k).stop 128 e) in
           change-known g (placed calls k).stop (placed calls j).stop (stop_in f k) (stop_in f j) (stop-of k hk) (stop-of j hj) _ e q
-          (here one k (placed calls j).stop hk (omega arith) near (ltb-true (placed calls j).stop 128 q) ∙ ap (λ (p : ℕ). change_number (change_in l p (placed calls j).stop)) same)
+          (here one k (placed calls j).stop hk (omega arith) near (ltb-true (placed calls j).stop 128 q)
+          ∙ ap (λ (p : ℕ). change_number (change_in l p (placed calls j).stop)) same)
 
       far : read ≡ 65536 → (not (runs i j) && leb ((placed calls k).arrival + read) (placed calls j).departure) ≡ false
       far e =
@@ -148,16 +155,23 @@ module _ (l : Load) (calls : List Call) (f g : List ℕ) (w : Feeds f calls l.st
 
       go : (b : Bool) → ltb (placed calls k).stop 128 ≡ b → (c : Bool) → ltb (placed calls j).stop 128 ≡ c
           → (not (runs i j) && leb ((placed calls k).arrival + read) (placed calls j).departure)
-          ≡ cond (b && c) (join_of (change_in l (placed calls k).stop (placed calls j).stop) (runs i j) (placed calls k).arrival (placed calls j).departure) false
+          ≡ cond (b && c) (join_of (change_in l (placed calls k).stop (placed calls j).stop) (runs i j) (placed calls k).arrival
+          (placed calls j).departure) false
       go true e true q =
           ap (λ (x : ℕ). not (runs i j) && leb ((placed calls k).arrival + x) (placed calls j).departure) (known e q)
-          ∙ ap (λ (x : Bool). not (runs i j) && x) (number-joins (change_in l (placed calls k).stop (placed calls j).stop) (placed calls k).arrival (placed calls j).departure (below j (omega arith)))
-          ∙ run-first (runs i j) (joins_by (change_in l (placed calls k).stop (placed calls j).stop) (placed calls k).arrival (placed calls j).departure)
-      go true e false q = far (change-far-to g (placed calls k).stop (placed calls j).stop (stop_in f k) (stop_in f j) (stop-of k hk) (stop-of j hj) q)
-      go false e c q = far (change-far-from g (placed calls k).stop (placed calls j).stop (stop_in f k) (stop_in f j) (stop-of k hk) (stop-of j hj) e)
+          ∙ ap (λ (x : Bool). not (runs i j) && x) (number-joins (change_in l (placed calls k).stop (placed calls j).stop)
+          (placed calls k).arrival (placed calls j).departure (below j (omega arith)))
+          ∙ run-first (runs i j) (joins_by (change_in l (placed calls k).stop (placed calls j).stop) (placed calls k).arrival
+          (placed calls j).departure)
+      go true e false q = far (change-far-to g (placed calls k).stop (placed calls j).stop (stop_in f k) (stop_in f j) (stop-of k hk)
+          (stop-of j hj) q)
+      go false e c q = far (change-far-from g (placed calls k).stop (placed calls j).stop (stop_in f k) (stop_in f j) (stop-of k hk)
+          (stop-of j hj) e)
 
-  pub agrees : Agree (sheet_of f) (sheet_from (timetable_of l) (placed calls)) (joins_of f g) (joins_from (timetable_of l) (placed calls)) depth n
-  unfolding sheet_of call_at origin_mask target_mask origin_walk_of target_walk_of timetable_of by.origin_mask by.target_mask by.mask_of feed_call sheet_from joins_from first_of
+  pub agrees : Agree (sheet_of f) (sheet_from (timetable_of l) (placed calls)) (joins_of f g)
+      (joins_from (timetable_of l) (placed calls)) depth n
+  unfolding sheet_of call_at origin_mask target_mask origin_walk_of target_walk_of timetable_of by.origin_mask by.target_mask by.mask_of
+      feed_call sheet_from joins_from first_of
   agrees = record {
     trip = λ i k. w.trip i (omega arith);
     day = λ i k. w.day i (omega arith);
@@ -165,8 +179,10 @@ module _ (l : Load) (calls : List Call) (f g : List ℕ) (w : Feeds f calls l.st
     departure = λ i k. w.departure i (omega arith);
     board = λ i k. w.board i (omega arith);
     alight = λ i k. w.alight i (omega arith);
-    origins = λ i k. member_of f l.stops w.past (λ x. x) refl l.settings.origins w.origins (placed calls i).stop (get_or f (i * 6 + 2) 0) (w.stop i (omega arith));
-    targets = λ i k. member_of f l.stops w.past (λ x. x / 16) (zero-div 16) l.settings.targets w.targets (placed calls i).stop (get_or f (i * 6 + 2) 0) (w.stop i (omega arith));
+    origins = λ i k. member_of f l.stops w.past (λ x. x) refl l.settings.origins w.origins (placed calls i).stop (get_or f (i * 6 + 2) 0)
+        (w.stop i (omega arith));
+    targets = λ i k. member_of f l.stops w.past (λ x. x / 16) (zero-div 16) l.settings.targets w.targets (placed calls i).stop
+        (get_or f (i * 6 + 2) 0) (w.stop i (omega arith));
     origin_walk = λ o k. w.origin_walk o k;
     target_walk = λ x k. w.target_walk x k;
     joined = λ one i o k j a lo b c. tested i o k j (omega arith) (omega arith) (omega arith) ∙ joins-right one i k j b c;
@@ -179,10 +195,12 @@ unfolding timetable_of
 max-is l = refl
 
 entry-number : (l : Load) (rules : List Rule) (p q : ℕ) → rules ≡ take l.rule_count l.rules
-    → entry_of rules (parents_of l.stops) (places_of (take l.stop_count l.stops)) p l.settings.transfer_seconds q ≡ change_number (change_in l p q)
+    → entry_of rules (parents_of l.stops) (places_of (take l.stop_count l.stops)) p l.settings.transfer_seconds q
+    ≡ change_number (change_in l p q)
 unfolding entry_of
 entry-number l rules p q e =
-    ap (λ (rs : List Rule). change_number (transfer_of rs (parents_of l.stops) (places_of (take l.stop_count l.stops)) p q l.settings.transfer_seconds)) e
+    ap (λ (rs : List Rule). change_number (transfer_of rs (parents_of l.stops)
+    (places_of (take l.stop_count l.stops)) p q l.settings.transfer_seconds)) e
 
 -- the changes by the rules, parents and places of the load
 pub changes-are : (l : Load) (f g : List ℕ) (rules : List Rule) (parents places : List ℕ) (change depth : ℕ)
@@ -194,27 +212,33 @@ changes-are l f g rules parents places change depth er ep el ec ed here =
     λ one k q hk few near hq. here (omega (arith, ed, one)) k q hk few near hq
     ∙ (λ i. entry_of (er i) (ep i) (el i) (stop_in f k) (ec i) q) ∙ entry-number l (take l.rule_count l.rules) (stop_in f k) q refl
 
-module _ (l : Load) (calls : List Call) (f g : List ℕ) (depth : ℕ) (w : Feeds f calls l.stops l.settings) (small : (i : ℕ) → get_or f i 0 < 65536)
-    (here : HoldsChanges g f l.call_count l.settings.max_transfers (λ p q. change_number (change_in l p q))) (ed : depth ≡ l.settings.max_transfers) where
+module _ (l : Load) (calls : List Call) (f g : List ℕ) (depth : ℕ) (w : Feeds f calls l.stops l.settings)
+    (small : (i : ℕ) → get_or f i 0 < 65536)
+    (here : HoldsChanges g f l.call_count l.settings.max_transfers (λ p q. change_number (change_in l p q)))
+    (ed : depth ≡ l.settings.max_transfers) where
   abbrev first : ℕ
   first = min l.call_count 512
 
   held : Agrees (sheet_of f) (joins_of f g) (timetable_of l) (placed calls) first
   unfolding timetable_of
-  held = agrees l calls f g w small first l.settings.max_transfers (omega arith) (λ one k q hk few near hq. here one k q (omega arith) few near hq)
+  held = agrees l calls f g w small first l.settings.max_transfers (omega arith)
+      (λ one k q hk few near hq. here one k q (omega arith) few near hq)
 
-  pub offered-is : (st st' : List ℕ) → view st ≡ going [] l.table_horizon l.table_limits → view st' ≡ offer_all (view st) (rows_of f g l.call_count depth)
+  pub offered-is : (st st' : List ℕ) → view st ≡ going [] l.table_horizon l.table_limits
+      → view st' ≡ offer_all (view st) (rows_of f g l.call_count depth)
       → view st' ≡ offered_of l calls
   unfolding offered_of offer_all rows_of
   offered-is st st' e0 e1 =
       let same : route_rows (sheet_of f) (joins_of f g) depth first ≡ row_offers (timetable_of l) (placed calls) first =
       same_rows (sheet_of f) (joins_of f g) (timetable_of l) (placed calls) first depth held (ed ∙ max-is l) in
-      e1 ∙ (λ i. foldl offer_to (e0 i) (same i)) ∙ offers-search l.table_horizon l.table_limits (row_offers (timetable_of l) (placed calls) first)
+      e1 ∙ (λ i. foldl offer_to (e0 i) (same i)) ∙ offers-search l.table_horizon l.table_limits
+      (row_offers (timetable_of l) (placed calls) first)
 
   -- the events that the loops come to within a limit are those of the timetable
   events-are : events_at f g l.call_count depth ≡ place_events (timetable_of l) (placed calls) first
   unfolding events_at sheet_events
   events-are = same-events (sheet_of f) (joins_of f g) (timetable_of l) (placed calls) first depth held (ed ∙ max-is l)
 
-  pub within-is : {st st' : List ℕ} {limit : ℕ} {r : Tested} → Within st st' limit (events_at f g l.call_count depth) r → Within st st' limit (place_events (timetable_of l) (placed calls) first) r
+  pub within-is : {st st' : List ℕ} {limit : ℕ} {r : Tested} → Within st st' limit (events_at f g l.call_count depth) r
+      → Within st st' limit (place_events (timetable_of l) (placed calls) first) r
   within-is w = rw (← events-are) w

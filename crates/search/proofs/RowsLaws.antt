@@ -32,20 +32,23 @@ module _ (t : Timetable) (at : ℕ → Call) (n : ℕ) where
         same = λ i k mi mk. refl;
         board = λ i m. refl;
         alight = λ i m. refl;
-        origins = λ i m. ap (filterb (λ o. leb (t.origin_walk o * 60) (at i).departure)) (sym (mask-bits t.origins (t.members (at i).stop)));
+        origins = λ i m. ap (filterb (λ o. leb (t.origin_walk o * 60) (at i).departure))
+            (sym (mask-bits t.origins (t.members (at i).stop)));
         targets = λ i m. sym (mask-bits t.targets (t.members (at i).stop / 16));
         joins = λ one i k j mi mk mj. refl;
       }
 
   -- and the row is the journey's
   on-journey : (f : First ℕ) (x : ℕ) (p r : Leg ℕ) (ls : List (Leg ℕ))
-      → on_journey t (ride_by (leg_by at f.ride)) f.o x (leg_by at p) (leg_by at r) (map (leg_by at) ls) ≡ journey_at at (on_row (sheet_from t at) (by.first_at (sheet_from t at) f) x p r ls)
+      → on_journey t (ride_by (leg_by at f.ride)) f.o x (leg_by at p) (leg_by at r) (map (leg_by at) ls)
+      ≡ journey_at at (on_row (sheet_from t at) (by.first_at (sheet_from t at) f) x p r ls)
   unfolding sheet_from first_of feed_call three_row row_of feed.leave_of feed.arrival_of journey_at
   on-journey f x p r [] = refl
   on-journey f x p r (l ∷ ls) = on-journey f x r l ls
 
   to-journey : (f : First ℕ) (x : ℕ) (ls : List (Leg ℕ))
-      → journey_to t (ride_by (leg_by at f.ride)) f.o x (map (leg_by at) ls) ≡ journey_at at (row_to (sheet_from t at) (by.first_at (sheet_from t at) f) x ls)
+      → journey_to t (ride_by (leg_by at f.ride)) f.o x (map (leg_by at) ls)
+      ≡ journey_at at (row_to (sheet_from t at) (by.first_at (sheet_from t at) f) x ls)
   unfolding sheet_from first_of feed_call direct_row change_row row_of feed.leave_of feed.arrival_of journey_at
   to-journey f x [] = refl
   to-journey f x (l ∷ []) = refl
@@ -55,9 +58,11 @@ module _ (t : Timetable) (at : ℕ → Call) (n : ℕ) where
   unfolding row_offers route_rows
   by-places =
       let rs = routes (by.network_of (sheet_from t at) (joins_from t at)) t.max_transfers (span 0 n) in
-      ap (map (journey_by t)) (routes-of-images (by.network_of (sheet_from t at) (joins_from t at)) (network_of t) at t.max_transfers (span 0 n) (places 1))
+      ap (map (journey_by t)) (routes-of-images (by.network_of (sheet_from t at) (joins_from t at)) (network_of t) at t.max_transfers
+      (span 0 n) (places 1))
       ∙ map-map (journey_by t) (route_by at) rs
-      ∙ map-agree (λ r. journey_by t (route_by at r)) (λ r. journey_at at (row_by (sheet_from t at) r)) rs (λ r m. to-journey r.first r.way.target r.way.rides)
+      ∙ map-agree (λ r. journey_by t (route_by at r)) (λ r. journey_at at (row_by (sheet_from t at) r)) rs
+      (λ r m. to-journey r.first r.way.target r.way.rides)
       ∙ sym (map-map (journey_at at) (row_by (sheet_from t at)) rs)
 
 pub offers-by-places : OffersByPlaces
@@ -66,8 +71,10 @@ offers-by-places t at n e = ap (λ (s : List Call). map (journey_by t) (routes (
 
 pub search-by-rows : SearchByRows
 search-by-rows t at n h l e =
-    ap (searched journey_figures 64 3600 h l) (offers-by-places t at n e) ∙ search-maps (journey_at at) row_figures journey_figures h l (row_offers t at n) (λ o m. row-figures at o)
+    ap (searched journey_figures 64 3600 h l) (offers-by-places t at n e)
+    ∙ search-maps (journey_at at) row_figures journey_figures h l (row_offers t at n) (λ o m. row-figures at o)
 
 pub same_rows : SameRows
 unfolding row_offers
-same_rows s joins t at n depth a e = ap (λ (d : ℕ). route_rows s joins d n) e ∙ route-rows-agree s (sheet_from t at) joins (joins_from t at) t.max_transfers n a
+same_rows s joins t at n depth a e = ap (λ (d : ℕ). route_rows s joins d n) e
+    ∙ route-rows-agree s (sheet_from t at) joins (joins_from t at) t.max_transfers n a

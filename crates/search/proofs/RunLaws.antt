@@ -73,7 +73,8 @@ untaken-stays l t = go l.searched refl
   where
     go : (b : Bool) → l.searched ≡ b → (search_spec l).load ≡ l
     go true e = ap (λ (r : Stepped). r.load) (search-again l e)
-    go false e = ap (λ (r : Stepped). r.load) (search-runs l e) ∙ outcome-stays l (outcome_of l) (sym (ap (λ (r : Stepped). is_taken r.answer) (search-runs l e)) ∙ t)
+    go false e = ap (λ (r : Stepped). r.load) (search-runs l e)
+        ∙ outcome-stays l (outcome_of l) (sym (ap (λ (r : Stepped). is_taken r.answer) (search-runs l e)) ∙ t)
 
 -- the calls of a sound load arrive before they depart
 pub sound-timed : (l : Load) → Sound l → Timed (timetable_of l).calls

@@ -9,7 +9,7 @@ use lib.ListN.{length, take, get_or}
 use Rattle.laws.proofs.Bools.{of-not, cond-by, cond-not}
 use Rattle.refusal.specs.declared.Refusal.TheVariants.{AlreadySearched, Neighbours, NoRoom}
 use Rattle.calls.specs.declared.Call.{Call}
-use Rattle.profile.specs.declared.Row.{Row}
+use Rattle.profile.specs.Found.{Row}
 use Rattle.profile.specs.Best.{ordered}
 use Rattle.profile.specs.Journeys.{journey_figures}
 use Rattle.profile.specs.Kept.{St, going, refused, map_st}
@@ -50,7 +50,8 @@ module _ (l : Load) (cs : List Call) (order : cs ≡ sort_first l.call_count l.c
   clash-outcome e = cond-by _ _ (ap clashes (sym (in-front l cs order long)) ∙ e)
 
   -- 14
-  pub returned-clash : (b : Bool) → b ≡ clashes (take l.call_count cs) → b ≡ true → ◌≡◌ {A = Stepped} (record { answer = Err Neighbours; load = l }) (search_spec l)
+  pub returned-clash : (b : Bool) → b ≡ clashes (take l.call_count cs) → b ≡ true
+      → ◌≡◌ {A = Stepped} (record { answer = Err Neighbours; load = l }) (search_spec l)
   returned-clash b e q = returned l clashing u (clash-outcome (sym e ∙ q))
 
   -- no neighbours clash: the outcome is read off the state
@@ -59,12 +60,15 @@ module _ (l : Load) (cs : List Call) (order : cs ≡ sort_first l.call_count l.c
     unfolding outcome_of search_of offered_of
     outcome-by =
         cond-not _ _ (ap clashes (sym (in-front l cs order long)) ∙ sym e ∙ q)
-        ∙ ap found_by (search-by-rows (timetable_of l) (placed cs) (min l.call_count 512) l.table_horizon l.table_limits (in-places l cs order long))
+        ∙ ap found_by (search-by-rows (timetable_of l) (placed cs) (min l.call_count 512) l.table_horizon l.table_limits
+        (in-places l cs order long))
 
     -- 11
-    pub returned-falling : (st : List ℕ) (r : Bool) → view st ≡ offered_of l cs → r ≡ not (open_of st) → r ≡ true → ◌≡◌ {A = Stepped} (record { answer = Err NoRoom; load = l }) (search_spec l)
+    pub returned-falling : (st : List ℕ) (r : Bool) → view st ≡ offered_of l cs → r ≡ not (open_of st) → r ≡ true
+        → ◌≡◌ {A = Stepped} (record { answer = Err NoRoom; load = l }) (search_spec l)
     returned-falling st r v er tr =
-        returned l falling u (outcome-by ∙ ap (λ (s : St Row). found_by (map_st (journey_at (placed cs)) s)) (sym v ∙ (view-is-refused st).1 (of-not (open_of st) (sym er ∙ tr))))
+        returned l falling u (outcome-by ∙ ap (λ (s : St Row). found_by (map_st (journey_at (placed cs)) s))
+        (sym v ∙ (view-is-refused st).1 (of-not (open_of st) (sym er ∙ tr))))
 
     module _ (walks : (o : ℕ) → get_or l.settings.origin_walks o 0 < 256) (st : List ℕ) (v : view st ≡ offered_of l cs) where
       abbrev next : Load
@@ -74,14 +78,18 @@ module _ (l : Load) (cs : List Call) (order : cs ≡ sort_first l.call_count l.c
       unfolding offered_of row_offers sheet_from timetable_of
       small ks h m g =
           kept_small (row_offers (timetable_of l) (placed cs) (min l.call_count 512)) ks l.table_horizon l.table_limits h m
-          (rows-small (sheet_from (timetable_of l) (placed cs)) (joins_from (timetable_of l) (placed cs)) l.settings.max_transfers (min l.call_count 512) (λ o lo. walks o)) (sym v ∙ g)
+          (rows-small (sheet_from (timetable_of l) (placed cs)) (joins_from (timetable_of l) (placed cs)) l.settings.max_transfers
+          (min l.call_count 512) (λ o lo. walks o)) (sym v ∙ g)
 
-      going-returned : (ks : List Row) (h m : ℕ) → view st ≡ going ks h m → ◌≡◌ {A = Stepped} (record { answer = Ok Taken; load = next }) (search_spec l)
+      going-returned : (ks : List Row) (h m : ℕ) → view st ≡ going ks h m
+          → ◌≡◌ {A = Stepped} (record { answer = Ok Taken; load = next }) (search_spec l)
       going-returned ks h m g =
           ap {B = Stepped} (λ (x : Load). record { answer = Ok Taken; load = x }) (holds-found l cs order st ks h m g (small ks h m g) None)
-          ∙ returned l (found (ordered journey_figures (map (journey_at (placed cs)) ks)) h m) u (outcome-by ∙ ap (λ (s : St Row). found_by (map_st (journey_at (placed cs)) s)) (sym v ∙ g))
+          ∙ returned l (found (ordered journey_figures (map (journey_at (placed cs)) ks)) h m) u
+          (outcome-by ∙ ap (λ (s : St Row). found_by (map_st (journey_at (placed cs)) s)) (sym v ∙ g))
 
-      pub returned-found : (r : Bool) → r ≡ not (open_of st) → r ≡ false → ◌≡◌ {A = Stepped} (record { answer = Ok Taken; load = next }) (search_spec l)
+      pub returned-found : (r : Bool) → r ≡ not (open_of st) → r ≡ false
+          → ◌≡◌ {A = Stepped} (record { answer = Ok Taken; load = next }) (search_spec l)
       returned-found r er fr = go (view st) refl
         where
           go : (s : St Row) → view st ≡ s → ◌≡◌ {A = Stepped} (record { answer = Ok Taken; load = next }) (search_spec l)

@@ -104,6 +104,7 @@ search-sound l s = by l.searched
     go falling e = s
     go (found ks h m) e = searched-sound l ks h m e s
 
-    by : (b : Bool) → Sound (cond {A = Stepped} b (record { answer = Err AlreadySearched; load = l }) (record { answer = answer_of (outcome_of l); load = settled l (outcome_of l) })).load
+    by : (b : Bool) → Sound (cond {A = Stepped} b (record { answer = Err AlreadySearched; load = l })
+        (record { answer = answer_of (outcome_of l); load = settled l (outcome_of l) })).load
     by true = s
     by false = go (outcome_of l) refl

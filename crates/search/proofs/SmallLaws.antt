@@ -10,7 +10,7 @@ use Rattle.ways.specs.Rides.{Leg}
 use Rattle.ways.specs.Routes.{Route, allowed, pass, routes}
 use Rattle.ways.proofs.RideLaws.{listed_in}
 use Rattle.ways.proofs.RouteLaws.{Passed, pass-mem}
-use Rattle.profile.specs.declared.Row.{Row}
+use Rattle.profile.specs.Found.{Row}
 use Rattle.profile.specs.Journeys.{row_of}
 use Rattle.feed.specs.declared.FirstRide.{FirstRide}
 use Rattle.rides.specs.Rows.{Sheet, Joins, first_of, first_at, direct_row, change_row, three_row, network_of}
@@ -41,7 +41,8 @@ module _ (s : Sheet) (joins : Joins) (depth n : ℕ) (walks : (o : ℕ) → o < 
       let f = r.first in
       let o = origin-below s joins f.ride.b f.o w.origin in
       let (x, y) = listed_in (network_of s joins) (span 0 n) f.ride w.ride in
-      to-small (first_at s f) r.way.target (walks f.o o) o (way-ends s joins n w.n f.ride r.way (place-below n f.ride.a y) w.on).1 r.way.rides
+      to-small (first_at s f) r.way.target (walks f.o o) o
+      (way-ends s joins n w.n f.ride r.way (place-below n f.ride.a y) w.on).1 r.way.rides
 
   pub rows-small : AllSmall (route_rows s joins depth n)
   unfolding route_rows routes
@@ -51,6 +52,7 @@ module _ (s : Sheet) (joins : Joins) (depth n : ℕ) (walks : (o : ℕ) → o < 
       let (r, i, e) = Memᴰ.of_map (row_by s) (routes N depth S) m in
       subst Small e (go r (Memᴰ.append_cases (pass N (allowed depth (0 ∷ 1 ∷ [])) S) i))
     where
-      go : (r : Route ℕ) → Memᴰ r (pass (network_of s joins) (allowed depth (0 ∷ 1 ∷ [])) (span 0 n)) ⊎ Memᴰ r (pass (network_of s joins) (allowed depth (2 ∷ [])) (span 0 n)) → Small (row_by s r)
+      go : (r : Route ℕ) → Memᴰ r (pass (network_of s joins) (allowed depth (0 ∷ 1 ∷ [])) (span 0 n))
+          ⊎ Memᴰ r (pass (network_of s joins) (allowed depth (2 ∷ [])) (span 0 n)) → Small (row_by s r)
       go r (inl i) = passed-small (allowed depth (0 ∷ 1 ∷ [])) r (pass-mem (network_of s joins) (span 0 n) (allowed depth (0 ∷ 1 ∷ [])) r i)
       go r (inr i) = passed-small (allowed depth (2 ∷ [])) r (pass-mem (network_of s joins) (span 0 n) (allowed depth (2 ∷ [])) r i)

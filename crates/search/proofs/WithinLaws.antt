@@ -1,5 +1,5 @@
--- A search within a limit: its answer is that of the first of its causes that holds, a finished one is the full search, what it leaves is sound,
--- and what is found within the limit.
+-- A search within a limit: its answer is that of the first of its causes that holds, a finished one is the full search, what it leaves is
+-- sound, and what is found within the limit.
 use Rattle.refusal.specs.declared.Accepted.TheVariants.{Taken}
 use Rattle.std.specs.Prelude.{None, Option, Some, Err, Ok}
 use Prim.Native.Nat.{ℕ, ◌≤◌}
@@ -31,7 +31,9 @@ use Rattle.load.specs.Load.{stopped}
 use Rattle.load.specs.Sound.{Sound}
 use Rattle.search.specs.Timetable.{timetable_of}
 use Rattle.search.specs.Search.{outcome_of, with_found, with_journeys, settled, is_never, search_spec}
-use Rattle.search.specs.Within.{Answered, outcome_within, finishes_in, within_found, settled_within, sent_back_of, ran_within, within_spec, step_of, would_fall_within, within_tests, within_causes, WithinAnswered, FinishedIsSearch, WithinTaken, WithinSound}
+use Rattle.search.specs.Within.{Answered, outcome_within, finishes_in, within_found, settled_within, sent_back_of, ran_within}
+use Rattle.search.specs.Within.{within_spec, step_of, would_fall_within, within_tests, within_causes, WithinAnswered, FinishedIsSearch}
+use Rattle.search.specs.Within.{WithinTaken, WithinSound}
 use Rattle.search.proofs.RunLaws.{search-again, search-runs}
 use Rattle.search.proofs.SearchSound.{found-sound}
 
@@ -45,7 +47,8 @@ unfolding within_spec
 within-cases l n P again wide ran = go l.searched refl (ltb 1 l.settings.max_transfers) refl
   where
     go : (b : Bool) → l.searched ≡ b → (c : Bool) → ltb 1 l.settings.max_transfers ≡ c
-        → P (cond b (sent_back_of l (Err AlreadySearched)) (cond c (sent_back_of l (Err SettingsRange)) (ran_within l n (outcome_within l n))))
+        → P (cond b (sent_back_of l (Err AlreadySearched))
+        (cond c (sent_back_of l (Err SettingsRange)) (ran_within l n (outcome_within l n))))
     go true e c f = again e
     go false e true f = wide e f
     go false e false f = ran e f (outcome_within l n) refl
@@ -58,10 +61,12 @@ module _ (l : Load) (n : ℕ) where
   unfolding outcome_within would_fall_within
   within_first =
       rw (within-by-offers n (timetable_of l) l.table_horizon l.table_limits)
-      (go (clashes (sorted (timetable_of l))) refl (fall (covᶠ journey_figures) (dueᶠ journey_figures) 64 3600 l.table_horizon l.table_limits [] (offers_within n (timetable_of l))))
+      (go (clashes (sorted (timetable_of l))) refl
+      (fall (covᶠ journey_figures) (dueᶠ journey_figures) 64 3600 l.table_horizon l.table_limits [] (offers_within n (timetable_of l))))
     where
       go : (b : Bool) → clashes (sorted (timetable_of l)) ≡ b → (f : Ends)
-          → First (answer_of (cond b clashing (ends_by_of (offers_within n (timetable_of l)) f))) ((clashes (sorted (timetable_of l)), Err Neighbours) ∷ (is_never f, Err NoRoom) ∷ [])
+          → First (answer_of (cond b clashing (ends_by_of (offers_within n (timetable_of l)) f)))
+          ((clashes (sorted (timetable_of l)), Err Neighbours) ∷ (is_never f, Err NoRoom) ∷ [])
       go true e f = hit e
       go false e never = miss e (hit refl)
       go false e (up_to h m) = miss e (miss refl none)
@@ -106,7 +111,8 @@ pub record FoundIn (l : Load) (n : ℕ) : Type 0 where
   pub outcome : outcome_within l n ≡ found kept to mark
   pub is : within_spec l n ≡ ran_within l n (found kept to mark)
 
-pub within-runs : (l : Load) (n : ℕ) → l.searched ≡ false → l.settings.max_transfers ≤ 1 → within_spec l n ≡ ran_within l n (outcome_within l n)
+pub within-runs : (l : Load) (n : ℕ) → l.searched ≡ false → l.settings.max_transfers ≤ 1
+    → within_spec l n ≡ ran_within l n (outcome_within l n)
 unfolding within_spec
 within-runs l n e one = cond-not _ _ e ∙ cond-not _ _ (le-ltb 1 l.settings.max_transfers one)
 
@@ -115,12 +121,22 @@ unfolding within_spec
 within-again l n e = cond-by _ _ e
 
 pub taken-within : (l : Load) (n : ℕ) → is_taken (within_spec l n).answer ≡ true → FoundIn l n
-taken-within l n = within-cases l n (λ w. is_taken w.answer ≡ true → FoundIn l n) (λ e q. absurd (false≢true q)) (λ e f q. absurd (false≢true q)) (λ e f o w q. go e (ltb-false 1 l.settings.max_transfers f) o w q)
+taken-within l n = within-cases l n (λ w. is_taken w.answer ≡ true → FoundIn l n) (λ e q. absurd (false≢true q))
+    (λ e f q. absurd (false≢true q)) (λ e f o w q. go e (ltb-false 1 l.settings.max_transfers f) o w q)
   where
-    go : l.searched ≡ false → l.settings.max_transfers ≤ 1 → (o : Outcome) → outcome_within l n ≡ o → is_taken (ran_within l n o).answer ≡ true → FoundIn l n
+    go : l.searched ≡ false → l.settings.max_transfers ≤ 1 → (o : Outcome) → outcome_within l n ≡ o
+        → is_taken (ran_within l n o).answer ≡ true → FoundIn l n
     go e one clashing w q = absurd (false≢true q)
     go e one falling w q = absurd (false≢true q)
-    go e one (found ks h m) w q = record { new = e; one = one; kept = ks; to = h; mark = m; outcome = w; is = within-runs l n e one ∙ ap (ran_within l n) w }
+    go e one (found ks h m) w q = record {
+      new = e;
+      one = one;
+      kept = ks;
+      to = h;
+      mark = m;
+      outcome = w;
+      is = within-runs l n e one ∙ ap (ran_within l n) w;
+    }
 
 pub untaken-within : (l : Load) (n : ℕ) → is_taken (within_spec l n).answer ≡ false → (within_spec l n).load ≡ l
 untaken-within l n = within-cases l n (λ w. is_taken w.answer ≡ false → w.load ≡ l) (λ e q. refl) (λ e f q. refl) (λ e f o w q. go o q)
@@ -131,11 +147,13 @@ untaken-within l n = within-cases l n (λ w. is_taken w.answer ≡ false → w.l
     go (found ks h m) q = absurd (true≢false q)
 
 -- what a search within the limit leaves: searched in full, or stopped at n
-pub found-load : (l : Load) (n : ℕ) (ks : List Journey) (h m : ℕ) (b : Bool) → finishes_in l n ≡ b → within_found l n ks h m ≡ cond b (with_journeys l ks h m) (with_found l ks h m (Some n))
+pub found-load : (l : Load) (n : ℕ) (ks : List Journey) (h m : ℕ) (b : Bool) → finishes_in l n ≡ b
+    → within_found l n ks h m ≡ cond b (with_journeys l ks h m) (with_found l ks h m (Some n))
 found-load l n ks h m b e = ap (λ (c : Bool). cond c (with_journeys l ks h m) (with_found l ks h m (Some n))) e
 
 -- what no search alters, this one leaves
-pub within-keeps : {X : Type 0} (f : Load → X) (l : Load) (n : ℕ) → ((ks : List Journey) (h m : ℕ) (k : Option ℕ) → f (with_found l ks h m k) ≡ f l)
+pub within-keeps : {X : Type 0} (f : Load → X) (l : Load) (n : ℕ)
+    → ((ks : List Journey) (h m : ℕ) (k : Option ℕ) → f (with_found l ks h m k) ≡ f l)
     → f (within_spec l n).load ≡ f l
 within-keeps f l n same = go (is_taken (within_spec l n).answer) refl
   where
@@ -150,7 +168,12 @@ within-keeps f l n same = go (is_taken (within_spec l n).answer) refl
 -- by whether it finished
 abbrev left_by_of : Load → ℕ → List Journey → ℕ → ℕ → Bool → Answered
 left_by_of l n ks h m b =
-    record { answer = Ok Taken; load = cond b (with_journeys l ks h m) (with_found l ks h m (Some n)); joins = joins_within n (timetable_of l); finished = b }
+    record {
+      answer = Ok Taken;
+      load = cond b (with_journeys l ks h m) (with_found l ks h m (Some n));
+      joins = joins_within n (timetable_of l);
+      finished = b;
+    }
 
 record Left (l : Load) (n : ℕ) (b : Bool) (w : Answered) : Type 0 where
   searched : w.load.searched ≡ true
@@ -161,13 +184,21 @@ record Left (l : Load) (n : ℕ) (b : Bool) (w : Answered) : Type 0 where
   holds : w.load.limit ≡ cond b None (Some n)
 
 left_by : (l : Load) (n : ℕ) (ks : List Journey) (h m : ℕ) (b : Bool) → Left l n b (left_by_of l n ks h m b)
-left_by l n ks h m true = record { searched = refl; says = refl; counts = refl; stops = λ e. absurd (false≢true e); goes_on = λ e. absurd (true≢false e); holds = refl }
+left_by l n ks h m true = record {
+  searched = refl;
+  says = refl;
+  counts = refl;
+  stops = λ e. absurd (false≢true e);
+  goes_on = λ e. absurd (true≢false e);
+  holds = refl;
+}
 left_by l n ks h m false = record { searched = refl; says = refl; counts = refl; stops = λ e. refl; goes_on = λ e. refl; holds = refl }
 
 pub within-taken : WithinTaken
 within-taken l n q =
     let w = taken-within l n (ap is_taken q) in
-    let v : Left l n (finishes_in l n) (within_spec l n) = subst (Left l n (finishes_in l n)) (sym w.is) (left_by l n w.kept w.to w.mark (finishes_in l n)) in
+    let v : Left l n (finishes_in l n) (within_spec l n) =
+    subst (Left l n (finishes_in l n)) (sym w.is) (left_by l n w.kept w.to w.mark (finishes_in l n)) in
     record { searched = v.searched; says = v.says; counts = v.counts; stops = (v.stops, v.goes_on); holds = v.holds }
 
 -- ---- one that finished
@@ -226,5 +257,6 @@ pub within-sound : WithinSound
 within-sound l n s = go (is_taken (within_spec l n).answer) refl
   where
     go : (b : Bool) → is_taken (within_spec l n).answer ≡ b → Sound (within_spec l n).load
-    go true t = let w = taken-within l n t in subst (λ (r : Answered). Sound r.load) (sym w.is) (found-within-sound l n w.kept w.to w.mark w.outcome w.one s)
+    go true t = let w = taken-within l n t in subst (λ (r : Answered). Sound r.load) (sym w.is)
+        (found-within-sound l n w.kept w.to w.mark w.outcome w.one s)
     go false t = subst Sound (sym (untaken-within l n t)) s

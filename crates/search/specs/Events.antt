@@ -25,11 +25,13 @@ place_events t at n = sheet_events (sheet_from t at) (joins_from t at) t.max_tra
 
 -- they stand for the events of the timetable
 abbrev pub EventsByPlaces : Type 0
-EventsByPlaces = (t : Timetable) (at : ℕ → Call) (n : ℕ) → InPlaces t at n → events_of t ≡ map (event_by at (journey_at at)) (place_events t at n)
+EventsByPlaces = (t : Timetable) (at : ℕ → Call) (n : ℕ) → InPlaces t at n
+    → events_of t ≡ map (event_by at (journey_at at)) (place_events t at n)
 
 -- so a search of the rows within a limit keeps the rows of what a search of the offers within it keeps, tests as many joins, and ends alike
 pub record WithinByRows (limit : ℕ) (t : Timetable) (at : ℕ → Call) (n h l : ℕ) : Type 0 where
-  pub kept : searched journey_figures 64 3600 h l (offers_within limit t) ≡ map_st (journey_at at) (searched row_figures 64 3600 h l (offers_of (up_to limit (place_events t at n))))
+  pub kept : searched journey_figures 64 3600 h l (offers_within limit t)
+      ≡ map_st (journey_at at) (searched row_figures 64 3600 h l (offers_of (up_to limit (place_events t at n))))
   pub joins : joins_within limit t ≡ joins_in (up_to limit (place_events t at n))
   pub all : finished_within limit t ≡ finished limit (place_events t at n)
 

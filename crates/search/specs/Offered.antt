@@ -3,7 +3,7 @@ use Rattle.std.specs.Prelude.{true, List, map, ℕ, min, get_or, Option}
 use Rattle.laws.specs.Lists.{padded}
 use Rattle.calls.specs.declared.Call.{Call}
 use Rattle.calls.specs.Tables.{blank_call}
-use Rattle.profile.specs.declared.Row.{Row}
+use Rattle.profile.specs.Found.{Row}
 use Rattle.profile.specs.Best.{ordered}
 use Rattle.profile.specs.Journeys.{no_journey, row_figures}
 use Rattle.profile.specs.Kept.{St, searched}
@@ -19,7 +19,8 @@ abbrev pub placed : List Call → ℕ → Call
 placed calls i = get_or calls i blank_call
 
 unfoldable pub offered_of : Load → List Call → St Row
-offered_of l calls = searched row_figures 64 3600 l.table_horizon l.table_limits (row_offers (timetable_of l) (placed calls) (min l.call_count 512))
+offered_of l calls = searched row_figures 64 3600 l.table_horizon l.table_limits
+    (row_offers (timetable_of l) (placed calls) (min l.call_count 512))
 
 -- the load with these calls, searched: with what the state keeps, and the limit at which the search was stopped, if it was
 abbrev pub found_in : Load → List Call → List ℕ → Option ℕ → Load

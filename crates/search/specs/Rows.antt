@@ -1,7 +1,7 @@
 -- A timetable and its calls by places as what the loops read, and the rows that they then offer: those of the offers.
 use Rattle.std.specs.Prelude.{◌≡◌, Bool, List, map, ℕ}
 use Rattle.calls.specs.declared.Call.{Call}
-use Rattle.profile.specs.declared.Row.{Row}
+use Rattle.profile.specs.Found.{Row}
 use Rattle.profile.specs.Journeys.{journey_figures, row_figures}
 use Rattle.profile.specs.Kept.{searched, map_st}
 use Rattle.offers.specs.Offers.{Timetable, ride_of, offers}
@@ -14,11 +14,25 @@ use Rattle.rides.specs.Agree.{Agree}
 
 -- what the loops read of a call
 unfoldable pub feed_call : Call → FeedCall
-feed_call c = record { trip = c.trip; day = c.day; stop = c.stop; arrival = c.arrival; departure = c.departure; board = c.board; alight = c.alight }
+feed_call c = record {
+  trip = c.trip;
+  day = c.day;
+  stop = c.stop;
+  arrival = c.arrival;
+  departure = c.departure;
+  board = c.board;
+  alight = c.alight;
+}
 
 unfoldable pub sheet_from : Timetable → (ℕ → Call) → Sheet
 sheet_from t at =
-    record { at = λ i. feed_call (at i); origins = origin_mask t; targets = target_mask t; origin_walk = t.origin_walk; target_walk = t.target_walk }
+    record {
+      at = λ i. feed_call (at i);
+      origins = origin_mask t;
+      targets = target_mask t;
+      origin_walk = t.origin_walk;
+      target_walk = t.target_walk;
+    }
 
 -- a first ride joins as the ride between its calls does
 unfoldable pub joins_from : Timetable → (ℕ → Call) → FirstRide → ℕ → Bool

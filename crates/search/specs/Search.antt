@@ -23,7 +23,12 @@ outcome_of l = search_of (timetable_of l) l.table_horizon l.table_limits
 
 -- the call table of a load, its calls in order
 abbrev pub sorted_table : Load → Table
-sorted_table l = record { calls = sort_first l.call_count l.calls; count = l.call_count; horizon = l.table_horizon; limits = l.table_limits }
+sorted_table l = record {
+  calls = sort_first l.call_count l.calls;
+  count = l.call_count;
+  horizon = l.table_horizon;
+  limits = l.table_limits;
+}
 
 -- the load, searched: its calls in order, these journeys, this horizon and mark; and the limit at which the search was stopped, if it was
 abbrev pub with_found : Load → List Journey → ℕ → ℕ → Option ℕ → Load
@@ -43,7 +48,8 @@ settled l (found ks h m) = with_journeys l ks h m
 
 unfoldable pub search_spec : Load → Stepped
 search_spec l =
-    cond l.searched (record { answer = Err AlreadySearched; load = l }) (record { answer = answer_of (outcome_of l); load = settled l (outcome_of l) })
+    cond l.searched (record { answer = Err AlreadySearched; load = l })
+    (record { answer = answer_of (outcome_of l); load = settled l (outcome_of l) })
 
 -- a fall with no end that a search may have
 abbrev pub is_never : Ends → Bool

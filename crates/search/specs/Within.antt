@@ -1,6 +1,6 @@
--- **Search** within a limit n on joins: 15, 1 with max_transfers above 1, 14, 11; or the calls in order and what the offers before the first join
--- past the limit leave. "It says finished when no untested join is left, and stopped otherwise". One that finished leaves the load of a full
--- search; one that was stopped leaves a load that holds its limit.
+-- **Search** within a limit n on joins: 15, 1 with max_transfers above 1, 14, 11; or the calls in order and what the offers before the
+-- first join past the limit leave. "It says finished when no untested join is left, and stopped otherwise". One that finished leaves the
+-- load of a full search; one that was stopped leaves a load that holds its limit.
 use Rattle.refusal.specs.declared.Accepted.TheVariants.{Taken}
 use Rattle.std.specs.Prelude.{◌≡◌, ◌↔◌, Bool, true, false, cond, List, [], ◌∷◌, ℕ, ◌≤◌, ltb, None, Some, Err, Ok, Result}
 use Rattle.refusal.specs.declared.Refusal.{Refusal}
@@ -78,7 +78,8 @@ step_of w = record { answer = w.answer; load = w.load }
 -- the horizon would fall below 3600, by those offers
 unfoldable pub would_fall_within : Load → ℕ → Bool
 would_fall_within l n =
-    is_never (fall (covᶠ journey_figures) (dueᶠ journey_figures) 64 3600 l.table_horizon l.table_limits [] (offers_within n (timetable_of l)))
+    is_never (fall (covᶠ journey_figures) (dueᶠ journey_figures) 64 3600 l.table_horizon l.table_limits []
+    (offers_within n (timetable_of l)))
 
 -- the tests in order, each with its answer: 15, 1, 14, 11; no test reads the answer
 abbrev pub within_tests : Load → ℕ → List (Bool × Answer)

@@ -46,12 +46,8 @@ impl Limited {
     pub fn stepped(self) -> Stepped
         ensures { result ≡ step_of (answered self) }
     {
-        let answer = match self.tested {
-            Ok(_) => Ok(Accepted::Taken),
-            Err(refusal) => Err(refusal),
-        };
         Stepped {
-            answer,
+            answer: self.tested.map(|_| Accepted::Taken),
             load: self.load,
         }
     }
@@ -59,7 +55,8 @@ impl Limited {
 
 // The changes that a search of the load reads, from the stops that the feed names.
 fn changes_for(load: &Load, feed: &Feed) -> Changes
-    ensures { HoldsChanges result feed.now load.now.call_count load.now.settings.max_transfers (λ p q. change_number (change_in load.now p q)) }
+    ensures { HoldsChanges result feed.now load.now.call_count load.now.settings.max_transfers
+        (λ p q. change_number (change_in load.now p q)) }
 {
     let settings = load.settings;
     let parents = parents_of(&load.stops);

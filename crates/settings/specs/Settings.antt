@@ -5,8 +5,8 @@ use Rattle.std.specs.Int.Signed.{lt_z, le_z}
 use Rattle.refusal.specs.declared.Refusal.TheVariants.{SettingsRange, ClockRange}
 use Rattle.settings.specs.declared.Settings.{Settings}
 
--- a count above 4, `max_transfers` above 2 (request 10: "`max_transfers` 2 is accepted and refusal 1 starts at 3"), a change time above 15300
--- seconds (request 05)
+-- a count above 4, `max_transfers` above 2 (request 10: "`max_transfers` 2 is accepted and refusal 1 starts at 3"), a change time above
+-- 15300 seconds (request 05)
 unfoldable pub over_counts : ℕ → ℕ → ℕ → ℕ → Bool
 over_counts origins targets transfers seconds = ltb 4 origins || (ltb 4 targets || (ltb 2 transfers || ltb 15300 seconds))
 
@@ -30,7 +30,8 @@ abbrev pub kept_walk : ℕ → ℕ → ℕ → ℕ
 kept_walk count i walk = cond (ltb i count) walk 0
 
 unfoldable pub walks_of : ℕ → List ℕ → List ℕ
-walks_of n w = kept_walk n 0 (get_or w 0 0) ∷ kept_walk n 1 (get_or w 1 0) ∷ kept_walk n 2 (get_or w 2 0) ∷ kept_walk n 3 (get_or w 3 0) ∷ []
+walks_of n w = kept_walk n 0 (get_or w 0 0) ∷ kept_walk n 1 (get_or w 1 0) ∷ kept_walk n 2 (get_or w 2 0) ∷ kept_walk n 3 (get_or w 3 0)
+    ∷ []
 
 -- the settings as a load holds them
 unfoldable pub canonical_of : Settings → Settings

@@ -6,6 +6,7 @@ ghost use Rattle.refusal.specs.First.{first_answer};
 ghost use Rattle.settings.specs.Settings.{near, all_near, over_counts, settings_tests, walks_of, canonical_of, kept_walk};
 
 use refusal::{Accepted, Answer, Refusal};
+use std::array;
 
 // Walks past a count are ignored, and 0 in the settings of a load. Arrays beside their counts, since the core has no heap.
 #[derive(Clone, Copy, Debug, Default, PartialEq, Eq)]
@@ -62,10 +63,10 @@ pub fn settings_answer(s: Settings) -> Answer
     Ok(Accepted::Taken)
 }
 
-fn kept_walk(count: u8, i: u8, walk: u8) -> u8
+fn kept_walk(count: u8, i: usize, walk: u8) -> u8
     ensures { result ≡ kept_walk count i walk }
 {
-    if i < count { walk } else { 0 }
+    if i < usize::from(count) { walk } else { 0 }
 }
 
 // The first `count` walks, and 0 after them.
@@ -73,13 +74,7 @@ fn kept_walk(count: u8, i: u8, walk: u8) -> u8
 fn walks_of(count: u8, walks: [u8; 4]) -> [u8; 4]
     ensures { result ≡ walks_of count walks }
 {
-    let [a, b, c, d] = walks;
-    [
-        kept_walk(count, 0, a),
-        kept_walk(count, 1, b),
-        kept_walk(count, 2, c),
-        kept_walk(count, 3, d),
-    ]
+    array::from_fn(|i| kept_walk(count, i, walks[i]))
 }
 
 // The settings as a load holds them.

@@ -1,9 +1,14 @@
 -- The shares, dealt from the first group on: what holds of those dealt from any point on.
-use mathlib.Core.Path.{◌≡◌, refl, ap}
+use Rattle.std.specs.Array.{IsMapOf, MapsFrom}
+use Rattle.std.specs.Fn.{Called}
+use denote.Param.Members.{Mut}
+use mathlib.Core.Path.{◌≡◌, refl, ap, sym, ◌∙◌}
 use mathlib.Core.List.{List, [], ◌∷◌}
 use Prim.Native.Nat.{ℕ, zero, suc, ◌+◌, ◌-◌, ◌*◌, ◌≤◌, ◌<◌, min}
 use native.Mathlib.Omega.{arith}
-use lib.ListN.{length, get_or}
+use native.Mathlib.Numerals.{add-one}
+use lib.ListN.{length, get_or, drop, drop_of_length-le}
+use lib.Seq.{drop-cons}
 use Rattle.shares.specs.Shares.{at_first_of, needs, total, first_total, dealt, shares_of}
 use Rattle.shares.specs.Promises.{SharesRight, SharesMarked}
 
@@ -45,7 +50,8 @@ dealt-left : (left : ℕ) (ns : List ℕ) (k : ℕ) → at_first_of (get_or ns k
 dealt-left zero ns k h = let m = dealt-none ns k in absurd (omega arith)
 dealt-left (suc left) ns k h = omega arith
 
-dealt-in-order : (left : ℕ) (ns : List ℕ) (i k : ℕ) → i < k → at_first_of (get_or ns k 0) < get_or (dealt left ns) k 0 → get_or (dealt left ns) i 0 ≡ get_or ns i 0
+dealt-in-order : (left : ℕ) (ns : List ℕ) (i k : ℕ) → i < k → at_first_of (get_or ns k 0) < get_or (dealt left ns) k 0
+    → get_or (dealt left ns) i 0 ≡ get_or ns i 0
 unfolding dealt
 dealt-in-order left [] i k l h = refl
 dealt-in-order left (n ∷ ns) i zero l h = absurd (omega arith)
@@ -89,14 +95,31 @@ pub shares-marked : SharesMarked
 unfolding dealt shares_of
 shares-marked = record { three = refl; two = refl; four = refl }
 
--- ---- the code's four, one after the other
+-- ---- the code's: calls in turn, of which each deals a share and leaves the rest
 
-pub four-shares : (a b c d p q r s m n o x y z w : ℕ) → p ≡ at_first_of a → q ≡ at_first_of b → r ≡ at_first_of c → s ≡ at_first_of d
-    → m ≡ (64 - (p + q + r + s)) - needs a → n ≡ m - needs b → o ≡ n - needs c
-    → x ≡ at_first_of a + min (64 - (p + q + r + s)) (needs a) → y ≡ at_first_of b + min m (needs b) → z ≡ at_first_of c + min n (needs c)
-    → w ≡ at_first_of d + min o (needs d) → x ∷ y ∷ z ∷ w ∷ [] ≡ shares_of (a ∷ b ∷ c ∷ d ∷ [])
-unfolding dealt shares_of
-four-shares a b c d p q r s m n o x y z w e₁ e₂ e₃ e₄ f g h i j k l = cc (sum p q r s)
-  where
-    sum : (p q r s : ℕ) → 64 - (p + q + r + s) ≡ 64 - (p + (q + (r + (s + 0))))
-    sum p q r s = omega arith
+module _ {F : Type 0} (g : Mut F (ℕ × Unit {0}) ℕ) (read : F → ℕ)
+    (step : (p q : F) (x y : ℕ) → Called g p (x, tt) y q → (y ≡ at_first_of x + min (read p) (needs x)) × (read q ≡ read p - needs x))
+    (ns ys : List ℕ) where
+  dealt-from : (f : F) (i n : ℕ) → length ns ≡ i + n → length ys ≡ i + n → MapsFrom g f ns ys i n → drop i ys ≡ dealt (read f) (drop i ns)
+  unfolding dealt
+  dealt-from f i zero k l m = rw (drop_of_length-le ys {i = i} (omega (arith, l)), drop_of_length-le ns {i = i} (omega (arith, k)))
+  dealt-from f i (suc n) k l (q, x, y, a, b, called, more) =
+      let s = step f q x y called in
+      let rest : drop (suc i) ys ≡ dealt (read q) (drop (suc i) ns) =
+      rw (sym (add-one i)) (dealt-from q (i + 1) n (omega (arith, k)) (omega (arith, l)) more) in
+      drop-cons ys i 0 (omega (arith, l)) ∙ (λ t. (b.1 0 ∙ s.0) t ∷ (rest ∙ ap (λ r. dealt r (drop (suc i) ns)) s.1) t)
+      ∙ sym (ap (dealt (read f)) (drop-cons ns i 0 (omega (arith, k)) ∙ ap (λ r. r ∷ drop (suc i) ns) (a.1 0)))
+
+  pub mapped-dealt : (f : F) → length ns ≡ 4 → IsMapOf g f ns ys 4 → ys ≡ dealt (read f) ns
+  mapped-dealt f k m = dealt-from f 0 4 k m.long m.each
+
+-- what is left of 64 after what four get at first
+pub left-of-four : (ns : List ℕ) {p q r s : ℕ} → length ns ≡ 4 → p ≡ at_first_of (get_or ns 0 0)
+    → q ≡ at_first_of (get_or ns 1 0) → r ≡ at_first_of (get_or ns 2 0)
+    → s ≡ at_first_of (get_or ns 3 0) → 64 - (p + q + r + s) ≡ 64 - first_total ns
+left-of-four [] l e f g h = absurd (omega arith)
+left-of-four (a ∷ []) l e f g h = absurd (omega arith)
+left-of-four (a ∷ b ∷ []) l e f g h = absurd (omega arith)
+left-of-four (a ∷ b ∷ c ∷ []) l e f g h = absurd (omega arith)
+left-of-four (a ∷ b ∷ c ∷ d ∷ []) l e f g h = omega (arith, e, f, g, h)
+left-of-four (a ∷ b ∷ c ∷ d ∷ x ∷ xs) l e f g h = absurd (omega arith)

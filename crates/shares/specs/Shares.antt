@@ -1,5 +1,5 @@
--- "A display holds 64 journeys for up to four groups .. Group i gets the smaller of 16 and its list, and what is left of 64 goes to groups in
--- number order as far as their lists need" (request 08).
+-- "A display holds 64 journeys for up to four groups .. Group i gets the smaller of 16 and its list, and what is left of 64 goes to
+-- groups in number order as far as their lists need" (request 08).
 use Rattle.std.specs.Prelude.{List, [], ◌∷◌, ℕ, ◌+◌, ◌-◌, min}
 
 -- the smaller of 16 and a list of n

@@ -32,17 +32,14 @@ fn share(left: usize, n: usize) -> usize
 }
 
 // The shares of groups 0 to 3, whose lists are so long; the list of a group that isn't there has length 0.
-pub fn shares(a: usize, b: usize, c: usize, d: usize) -> [usize; 4]
-    ensures { result ≡ shares_of (a ∷ b ∷ c ∷ d ∷ []) }
+pub fn shares(lengths: [usize; 4]) -> [usize; 4]
+    ensures { result ≡ shares_of lengths }
 {
-    let left = 64 - (at_first(a) + at_first(b) + at_first(c) + at_first(d));
-    let left_b = after(left, a);
-    let left_c = after(left_b, b);
-    let left_d = after(left_c, c);
-    [
-        share(left, a),
-        share(left_b, b),
-        share(left_c, c),
-        share(left_d, d),
-    ]
+    let [a, b, c, d] = lengths;
+    let mut left = 64 - (at_first(a) + at_first(b) + at_first(c) + at_first(d));
+    lengths.map(|n| {
+        let given = share(left, n);
+        left = after(left, n);
+        given
+    })
 }

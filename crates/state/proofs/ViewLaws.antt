@@ -9,7 +9,7 @@ use lib.Dec.{ltb, eqb}
 use borrow.Author.Tests.{eq-eqb, ne_eqb, eqb-true, ltb-false}
 use lib.ListN.{length, get_or, set, take, replicate, length-set, length-take, length-replicate, get_or-replicate, get_or-eq_default}
 use lib.Seq.{get_or-set_same, get_or-set_other, get_or-take}
-use Rattle.profile.specs.declared.Row.{Row}
+use Rattle.profile.specs.Found.{Row}
 use Rattle.profile.specs.Kept.{going, refused, too_late}
 use Rattle.state.specs.Layout.{count_place, horizon_place, limits_place, refused_place, size}
 use Rattle.state.specs.View.{rows, count_of, horizon_of, limits_of, kept_of, open_of, view, ViewParts, ViewRefused}

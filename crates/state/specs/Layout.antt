@@ -1,4 +1,5 @@
--- Where what stands in the array of a search: the slots, each of a row's numbers, then four numbers. Named here once, and in the code in `layout.rt`.
+-- Where what stands in the array of a search: the slots, each of a row's numbers, then four numbers. Named here once, and in the code in
+-- `layout.rt`.
 use Rattle.std.specs.Prelude.{ℕ}
 
 -- how many slots, and how many numbers a row has

@@ -1,6 +1,6 @@
 -- An array of numbers as the state of a search: slots of a row each, the last of them spare, then count, horizon, limits and refused.
 use Rattle.std.specs.Prelude.{◌≡◌, Bool, true, false, cond, ◌↔◌, List, ℕ, ◌+◌, ◌*◌, min, eqb, get_or, length, take}
-use Rattle.profile.specs.declared.Row.{Row}
+use Rattle.profile.specs.Found.{Row}
 use Rattle.laws.specs.Tables.{table}
 use Rattle.profile.specs.Kept.{St, going, refused}
 use Rattle.profile.specs.Journeys.{row}
@@ -9,8 +9,10 @@ use Rattle.state.specs.Layout.{slots, width, count_place, horizon_place, limits_
 -- the numbers of slot i
 abbrev pub slot : List ℕ → ℕ → Row
 slot l i =
-    row (get_or l (i * width) 0) (get_or l (i * width + 1) 0) (get_or l (i * width + 2) 0) (get_or l (i * width + 3) 0) (get_or l (i * width + 4) 0) (get_or l (i * width + 5) 0)
-    (get_or l (i * width + 6) 0) (get_or l (i * width + 7) 0) (get_or l (i * width + 8) 0) (get_or l (i * width + 9) 0) (get_or l (i * width + 10) 0) (get_or l (i * width + 11) 0)
+    row (get_or l (i * width) 0) (get_or l (i * width + 1) 0) (get_or l (i * width + 2) 0) (get_or l (i * width + 3) 0)
+    (get_or l (i * width + 4) 0) (get_or l (i * width + 5) 0)
+    (get_or l (i * width + 6) 0) (get_or l (i * width + 7) 0) (get_or l (i * width + 8) 0) (get_or l (i * width + 9) 0)
+    (get_or l (i * width + 10) 0) (get_or l (i * width + 11) 0)
 
 -- the same, unfolded only where a proof asks for it
 unfoldable pub row_at : List ℕ → ℕ → Row
@@ -44,7 +46,8 @@ view l = cond (open_of l) (going (kept_of l) (horizon_of l) (limits_of l)) refus
 
 -- what is read of the array is what its state has
 abbrev pub ViewParts : Type 0
-ViewParts = (l : List ℕ) (ks : List Row) (h g : ℕ) → view l ≡ going ks h g → (open_of l ≡ true) × (count_of l ≡ length ks) × (kept_of l ≡ ks) × (horizon_of l ≡ h) × (limits_of l ≡ g)
+ViewParts = (l : List ℕ) (ks : List Row) (h g : ℕ) → view l ≡ going ks h g
+    → (open_of l ≡ true) × (count_of l ≡ length ks) × (kept_of l ≡ ks) × (horizon_of l ≡ h) × (limits_of l ≡ g)
 
 abbrev pub ViewRefused : Type 0
 ViewRefused = (l : List ℕ) → (view l ≡ refused) ↔ (open_of l ≡ false)

@@ -18,7 +18,7 @@ use Rattle.calls.specs.Calls.{known, time_tests}
 use Rattle.calls.specs.Sound.{one_of}
 use Rattle.rules.specs.Rules.{rule_tests}
 use Rattle.stops.specs.Answer.{stop_tests}
-use Rattle.week.specs.Weeks.{service_tests, exception_tests, running}
+use Rattle.week.specs.Weeks.{is_dated, service_tests, exception_tests, running}
 use Rattle.week.proofs.StepLaws.{runs-undated}
 use Rattle.load.specs.declared.Load.{Load}
 use Rattle.load.specs.Load.{empty_load, blank_settings}
@@ -43,12 +43,14 @@ numbered (t ∷ ts) = answer_number t.1 ∷ numbered ts
 one-of-same : (n : ℕ) → eqb n n ≡ true
 one-of-same n = eq-eqb n n refl
 
-first-numbered : (a : Answer) (ts : List (Bool × Answer)) → First a ts → (one_of (answer_number a) (numbered ts) ≡ true) ⊎ (answer_number a ≡ 0)
+first-numbered : (a : Answer) (ts : List (Bool × Answer)) → First a ts
+    → (one_of (answer_number a) (numbered ts) ≡ true) ⊎ (answer_number a ≡ 0)
 first-numbered a [] no_test = inr refl
 first-numbered a (t ∷ ts) (hit e) = inl (or-true-left _ _ (one-of-same (answer_number a)))
 first-numbered a (t ∷ ts) (miss e f) = go (first-numbered a ts f)
   where
-    go : (one_of (answer_number a) (numbered ts) ≡ true) ⊎ (answer_number a ≡ 0) → (one_of (answer_number a) (answer_number t.1 ∷ numbered ts) ≡ true) ⊎ (answer_number a ≡ 0)
+    go : (one_of (answer_number a) (numbered ts) ≡ true) ⊎ (answer_number a ≡ 0)
+        → (one_of (answer_number a) (answer_number t.1 ∷ numbered ts) ≡ true) ⊎ (answer_number a ≡ 0)
     go (inl q) = inl (or_true_right (eqb (answer_number a) (answer_number t.1)) _ q)
     go (inr q) = inr q
 
@@ -68,7 +70,8 @@ call-order : (l : Load) (name : List ℕ) (i : CallInput) → map number (add_ca
 call-order l name i = go l.searched
   where
     go : (b : Bool)
-        → map number ((not (known l.stop_count i), Err FieldRange) ∷ running_tests (running l.week name i.day) ++ time_tests i ++ later_tests b l name i)
+        → map number ((not (known l.stop_count i), Err FieldRange) ∷ running_tests (running l.week name i.day) ++ time_tests i
+        ++ later_tests b l name i)
         ≡ numbers b (filling (call name i))
     go true = refl
     go false = refl
@@ -76,7 +79,8 @@ call-order l name i = go l.searched
 withdraw-order : (l : Load) (k : CallKey) → map number (withdraw_causes l k) ≡ numbers l.searched (withdraw k)
 withdraw-order l k = go l.searched
   where
-    go : (b : Bool) → map number (cond b (withdraw_tests (unsearched_of l) k ++ search_tests l (taken_out (unsearched_of l) k).load) (withdraw_tests l k)) ≡ numbers b (withdraw k)
+    go : (b : Bool) → map number (cond b (withdraw_tests (unsearched_of l) k ++ search_tests l (taken_out (unsearched_of l) k).load)
+        (withdraw_tests l k)) ≡ numbers b (withdraw k)
     go true = refl
     go false = refl
 
@@ -113,7 +117,8 @@ unfolding open_spec_of open_answer
 opening-answered o = record {
   first = answer-is-first _;
   taken = first_taken _ _ (opening-tests o) (answer-is-first _);
-  listed = subst (λ (ns : List ℕ). one_of (answer_number (open_spec_of o).answer) (0 ∷ ns) ≡ true) (open-numbered o) (listed_by _ _ (answer-is-first _));
+  listed = subst (λ (ns : List ℕ). one_of (answer_number (open_spec_of o).answer) (0 ∷ ns) ≡ true) (open-numbered o)
+      (listed_by _ _ (answer-is-first _));
   order = open_order o;
   opens = λ w. ap (λ (a : Answer). cond (is_refused a) (empty_load blank_settings) (opened o)) w.0;
 }
@@ -125,11 +130,14 @@ record Meets (l : Load) (x : Step) : Type 0 where
   unchanged : is_refused (stepped l x).answer ≡ true → (stepped l x).load ≡ l
 
 step-met : (l : Load) (x : Step) → Meets l x
-step-met l (filling (stop id name parent i)) = let w = fill-answered l (stop id name parent i) in record { first = w.first; taken = w.taken; unchanged = w.unchanged }
+step-met l (filling (stop id name parent i)) = let w =
+    fill-answered l (stop id name parent i) in record { first = w.first; taken = w.taken; unchanged = w.unchanged }
 step-met l (filling (call name i)) = let w = add-answered l name i in record { first = w.first; taken = w.taken; unchanged = w.unchanged }
 step-met l (filling (rule i)) = let w = fill-answered l (rule i) in record { first = w.first; taken = w.taken; unchanged = w.unchanged }
-step-met l (filling (service name weekdays start end)) = let w = fill-answered l (service name weekdays start end) in record { first = w.first; taken = w.taken; unchanged = w.unchanged }
-step-met l (filling (exception name date kind)) = let w = fill-answered l (exception name date kind) in record { first = w.first; taken = w.taken; unchanged = w.unchanged }
+step-met l (filling (service name weekdays start end)) = let w =
+    fill-answered l (service name weekdays start end) in record { first = w.first; taken = w.taken; unchanged = w.unchanged }
+step-met l (filling (exception name date kind)) = let w =
+    fill-answered l (exception name date kind) in record { first = w.first; taken = w.taken; unchanged = w.unchanged }
 step-met l (withdraw k) = let w = withdraw-answered l k in record { first = w.first; taken = w.taken; unchanged = w.unchanged }
 step-met l search = let w = search-answered l in record { first = w.first; taken = w.taken; unchanged = w.unchanged }
 step-met l (limited n) = let w = within-answered l n in record { first = w.first; taken = w.taken; unchanged = w.unchanged }
@@ -140,24 +148,29 @@ step-answered l x =
     record {
       first = w.first;
       taken = w.taken;
-      listed = subst (λ (ns : List ℕ). one_of (answer_number (stepped l x).answer) (0 ∷ ns) ≡ true) (numbered_is (causes l x) ∙ step-order l x) (listed_by _ _ w.first);
+      listed = subst (λ (ns : List ℕ). one_of (answer_number (stepped l x).answer) (0 ∷ ns) ≡ true)
+          (numbered_is (causes l x) ∙ step-order l x) (listed_by _ _ w.first);
       order = step-order l x;
       unchanged = w.unchanged;
     }
 
 -- the second of the tests fails
-without-second : {a b c : Answer} {x y : Bool} {ts : List (Bool × Answer)} → First a ((x, b) ∷ (y, c) ∷ ts) → y ≡ false → First a ((x, b) ∷ ts)
+without-second : {a b c : Answer} {x y : Bool} {ts : List (Bool × Answer)} → First a ((x, b) ∷ (y, c) ∷ ts) → y ≡ false
+    → First a ((x, b) ∷ ts)
 without-second (hit e) q = hit e
 without-second (miss e (hit f)) q = absurd (true≢false (sym f ∙ q))
 without-second (miss e (miss f g)) q = miss e g
 
 -- a call on a load without dates has no 21
-pub undated-listed : (l : Load) (name : List ℕ) (i : CallInput) → l.week.dated ≡ false
-    → one_of (answer_number (stepped l (filling (call name i))).answer) (0 ∷ 9 ∷ 0 ∷ 0 ∷ 10 ∷ 0 ∷ 11 ∷ cond l.searched (14 ∷ 11 ∷ 0 ∷ []) []) ≡ true
-undated-listed l name i d = go l.searched (without-second (add-answered l name i).first (ap is_unknown (sym (runs-undated l.week name i.day d))))
+pub undated-listed : (l : Load) (name : List ℕ) (i : CallInput) → is_dated l.week ≡ false
+    → one_of (answer_number (stepped l (filling (call name i))).answer)
+    (0 ∷ 9 ∷ 0 ∷ 0 ∷ 10 ∷ 0 ∷ 11 ∷ cond l.searched (14 ∷ 11 ∷ 0 ∷ []) []) ≡ true
+undated-listed l name i d = go l.searched (without-second (add-answered l name i).first
+    (ap is_unknown (sym (runs-undated l.week name i.day d))))
   where
     go : (b : Bool)
-        → First (add_spec_of l name i).answer ((not (known l.stop_count i), Err FieldRange) ∷ (is_resting (running l.week name i.day), Ok Outside) ∷ time_tests i ++ later_tests b l name i)
+        → First (add_spec_of l name i).answer ((not (known l.stop_count i), Err FieldRange)
+        ∷ (is_resting (running l.week name i.day), Ok Outside) ∷ time_tests i ++ later_tests b l name i)
         → one_of (answer_number (add_spec_of l name i).answer) (0 ∷ 9 ∷ 0 ∷ 0 ∷ 10 ∷ 0 ∷ 11 ∷ cond b (14 ∷ 11 ∷ 0 ∷ []) []) ≡ true
     go true f = listed_by _ _ f
     go false f = listed_by _ _ f

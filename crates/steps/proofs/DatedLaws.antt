@@ -9,10 +9,9 @@ use Rattle.refusal.specs.declared.Refusal.TheVariants.{AlreadySearched}
 use Rattle.settings.specs.declared.Settings.{Settings}
 use Rattle.calls.specs.declared.CallInput.{CallInput}
 use Rattle.week.specs.declared.Week.{Week}
-use Rattle.week.specs.declared.WeekStepped.{WeekStepped}
 use Rattle.week.specs.declared.Running.{Running}
 use Rattle.week.specs.declared.Running.TheVariants.{Unknown, Rests, Runs}
-use Rattle.week.specs.Weeks.{dated_week, running}
+use Rattle.week.specs.Weeks.{is_dated, WeekStepped, dated_week, running}
 use Rattle.week.proofs.SoundLaws.{closed-stays}
 use Rattle.load.specs.declared.Load.{Load}
 use Rattle.load.specs.declared.Stepped.{Stepped}
@@ -48,17 +47,22 @@ one-passed l x y p e = record {
 }
 
 none_passed : (l : Load) (x : Step) → passed l x ≡ [] → bare (next l x) ≡ bare l → Follows l x
-none_passed l x p e = record { load = ap (handed (bare l)) p ∙ sym e; answers = (λ k. same_for (p k) (stepped l x).answer) ∙ ap (answers_to (bare l)) (sym p) }
+none_passed l x p e = record {
+  load = ap (handed (bare l)) p ∙ sym e;
+  answers = (λ k. same_for (p k) (stepped l x).answer) ∙ ap (answers_to (bare l)) (sym p);
+}
 
-call-follows : (l : Load) (name : List ℕ) (i : CallInput) → l.week.dated ≡ true → Follows l (filling (call name i))
+call-follows : (l : Load) (name : List ℕ) (i : CallInput) → is_dated l.week ≡ true → Follows l (filling (call name i))
 call-follows l name i d = go (running l.week name i.day) refl
   where
     go : (r : Running) → running l.week name i.day ≡ r → Follows l (filling (call name i))
-    go Unknown e = none_passed l _ (ap (λ (r : Running). if_runs r (filling (call [] i))) e) (bare-rests l name i d (λ q. not-unknown (sym e ∙ q)))
-    go Rests e = none_passed l _ (ap (λ (r : Running). if_runs r (filling (call [] i))) e) (bare-rests l name i d (λ q. not-rests (sym e ∙ q)))
+    go Unknown e = none_passed l _ (ap (λ (r : Running). if_runs r (filling (call [] i))) e)
+        (bare-rests l name i d (λ q. not-unknown (sym e ∙ q)))
+    go Rests e = none_passed l _ (ap (λ (r : Running). if_runs r (filling (call [] i))) e)
+        (bare-rests l name i d (λ q. not-rests (sym e ∙ q)))
     go Runs e = one-passed l _ (filling (call [] i)) (ap (λ (r : Running). if_runs r (filling (call [] i))) e) (bare-add l name i d e)
 
-follows : (l : Load) (x : Step) → l.week.dated ≡ true → Follows l x
+follows : (l : Load) (x : Step) → is_dated l.week ≡ true → Follows l x
 unfolding service_spec exception_spec
 follows l (filling (stop id name parent i)) d = one-passed l _ _ refl (bare-stop l id name parent i)
 follows l (filling (call name i)) d = call-follows l name i d
@@ -79,14 +83,14 @@ answers-append : (xs ys : List Step) (l : Load) → answers_to l (xs ++ ys) ≡ 
 answers-append [] ys l = refl
 answers-append (x ∷ xs) ys l = ap (λ (rs : List Answer). (stepped l x).answer ∷ rs) (answers-append xs ys (next l x))
 
-list-follows : (xs : List Step) (l : Load) → l.week.dated ≡ true → handed (bare l) (passed_of l xs) ≡ bare (handed l xs)
+list-follows : (xs : List Step) (l : Load) → is_dated l.week ≡ true → handed (bare l) (passed_of l xs) ≡ bare (handed l xs)
 list-follows [] l d = refl
 list-follows (x ∷ xs) l d =
     handed-append (passed l x) (passed_of (next l x) xs) (bare l)
     ∙ ap (λ (m : Load). handed m (passed_of (next l x) xs)) (follows l x d).load
     ∙ list-follows xs (next l x) (step-dated l x ∙ d)
 
-list-answers : (xs : List Step) (l : Load) → l.week.dated ≡ true → passed_answers l xs ≡ answers_to (bare l) (passed_of l xs)
+list-answers : (xs : List Step) (l : Load) → is_dated l.week ≡ true → passed_answers l xs ≡ answers_to (bare l) (passed_of l xs)
 list-answers [] l d = refl
 list-answers (x ∷ xs) l d =
     ap₂ (λ (rs qs : List Answer). rs ++ qs) (follows l x d).answers (list-answers xs (next l x) (step-dated l x ∙ d))
@@ -97,7 +101,7 @@ opened-bare : (s : Settings) (dates : List ℕ) → bare (opened (dated s dates)
 unfolding empty_of
 opened-bare s dates = refl
 
-opened-dated : (s : Settings) (dates : List ℕ) → (opened (dated s dates)).week.dated ≡ true
+opened-dated : (s : Settings) (dates : List ℕ) → is_dated (opened (dated s dates)).week ≡ true
 unfolding empty_of dated_week
 opened-dated s dates = refl
 
@@ -105,7 +109,8 @@ pub dated-same : DatedSame
 dated-same s dates xs =
     let l = opened (dated s dates) in
     let d = opened-dated s dates in
-    let same : bare (handed l xs) ≡ handed (opened (undated s)) (passed_of l xs) = sym (list-follows xs l d) ∙ ap (λ (m : Load). handed m (passed_of l xs)) (opened-bare s dates) in
+    let same : bare (handed l xs) ≡ handed (opened (undated s)) (passed_of l xs) =
+    sym (list-follows xs l d) ∙ ap (λ (m : Load). handed m (passed_of l xs)) (opened-bare s dates) in
     record {
       load = same;
       answers = list-answers xs l d ∙ ap (λ (m : Load). answers_to m (passed_of l xs)) (opened-bare s dates);
@@ -130,15 +135,17 @@ closed-answers l c = (
 )
 
 pub late-services : LateServices
-late-services l called i xs d e = closed-answers (handed (next l (filling (call called i))) xs) (list-closed xs (next l (filling (call called i))) (add-closes l called i d e))
+late-services l called i xs d e = closed-answers (handed (next l (filling (call called i))) xs)
+    (list-closed xs (next l (filling (call called i))) (add-closes l called i d e))
 
 pub name-unread : NameUnread
 unfolding add_spec_of
 name-unread l name i d = go l.searched
   where
-    unread : (m : Load) → m.week.dated ≡ false → call_spec m name i ≡ call_spec m [] i
+    unread : (m : Load) → is_dated m.week ≡ false → call_spec m name i ≡ call_spec m [] i
     unread m q = sym (call-undated m name i q) ∙ call-undated m [] i q
 
-    go : (b : Bool) → cond b (added_to l (call_spec (unsearched_of l) name i)) (call_spec l name i) ≡ cond b (added_to l (call_spec (unsearched_of l) [] i)) (call_spec l [] i)
-    go true = ap (added_to l) (unread (unsearched_of l) (ap (λ (w : Week). w.dated) (back-week l) ∙ d))
+    go : (b : Bool) → cond b (added_to l (call_spec (unsearched_of l) name i)) (call_spec l name i)
+        ≡ cond b (added_to l (call_spec (unsearched_of l) [] i)) (call_spec l [] i)
+    go true = ap (added_to l) (unread (unsearched_of l) (ap (λ (w : Week). is_dated w) (back-week l) ∙ d))
     go false = unread l d

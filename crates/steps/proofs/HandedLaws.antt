@@ -60,7 +60,8 @@ unfolding again
 again-settings l r e = go (is_refused r.answer) (is_taken (researched l.limit r.load).answer)
   where
     go : (b c : Bool) → (cond {A = Stepped} b (record { answer = r.answer; load = l })
-        (cond {A = Stepped} c (record { answer = r.answer; load = (researched l.limit r.load).load }) (record { answer = (researched l.limit r.load).answer; load = l }))).load.settings ≡ l.settings
+        (cond {A = Stepped} c (record { answer = r.answer; load = (researched l.limit r.load).load })
+        (record { answer = (researched l.limit r.load).answer; load = l }))).load.settings ≡ l.settings
     go true c = refl
     go false true = research-settings l.limit r.load ∙ e
     go false false = refl
@@ -69,7 +70,8 @@ added-settings : (l : Load) (r : Stepped) → r.load.settings ≡ l.settings →
 unfolding added_to
 added-settings l r e = go (leaves_table_of l r)
   where
-    go : (b : Bool) → (cond {A = Stepped} b (record { answer = r.answer; load = with_week l r.load.week }) (again l r)).load.settings ≡ l.settings
+    go : (b : Bool) → (cond {A = Stepped} b (record { answer = r.answer; load = with_week l r.load.week }) (again l r)).load.settings
+        ≡ l.settings
     go true = refl
     go false = again-settings l r e
 
@@ -122,5 +124,6 @@ opens-within o w =
 pub change-in-range : ChangeInRange
 unfolding canonical_of
 change-in-range s xs o =
-    let e : (end_of s xs).settings.transfer_seconds ≡ s.settings.transfer_seconds = ap (λ (z : Settings). z.transfer_seconds) (handed-sound s xs o).0 in
+    let e : (end_of s xs).settings.transfer_seconds ≡ s.settings.transfer_seconds =
+    ap (λ (z : Settings). z.transfer_seconds) (handed-sound s xs o).0 in
     omega (arith, e, opens-within s o)

@@ -43,14 +43,16 @@ use Rattle.steps.specs.Lists.{next, ran_again, ran_added, ran, end_of}
 use Rattle.steps.specs.Held.{SearchedHolds, BestAgrees}
 use Rattle.steps.specs.Within.{KeptStands, AgreesWithin}
 use Rattle.steps.specs.Machine.{machine}
-use Rattle.steps.proofs.StepLaws.{filled-stays, filled-searched, found-kept, sound-in-time, sound-near, sound-near-new, best-asks, best_none}
+use Rattle.steps.proofs.StepLaws.{filled-stays, filled-searched, found-kept, sound-in-time, sound-near, sound-near-new, best-asks}
+use Rattle.steps.proofs.StepLaws.{best_none}
 
 -- ---- what a searched load reads: what its search read, in order
 
 abbrev pub From : Load → Load → Type 0
 From p l = l.searched ≡ true → timetable_of l ≡ with_calls (timetable_of p) (in_order_of (timetable_of p).calls)
 
-found-reads : (m : Load) (ks : List Journey) (h k : ℕ) (limit : Option ℕ) → timetable_of (with_found m ks h k limit) ≡ with_calls (timetable_of m) (in_order_of (timetable_of m).calls)
+found-reads : (m : Load) (ks : List Journey) (h k : ℕ) (limit : Option ℕ)
+    → timetable_of (with_found m ks h k limit) ≡ with_calls (timetable_of m) (in_order_of (timetable_of m).calls)
 unfolding timetable_of
 found-reads m ks h k limit = ap (with_calls (timetable_of m)) (sorted_front m.call_count m.calls)
 
@@ -101,7 +103,8 @@ pub record Leaves (m : Load) (r : Stepped) : Type 0 where
   pub sound : Sound r.load
   pub own : Own r.load
 
-ran-found : (m : Load) (ks : List Journey) (h k : ℕ) (limit : Option ℕ) → Sound m → m.searched ≡ false → (limit ≡ None → outcome_of m ≡ found ks h k)
+ran-found : (m : Load) (ks : List Journey) (h k : ℕ) (limit : Option ℕ) → Sound m → m.searched ≡ false
+    → (limit ≡ None → outcome_of m ≡ found ks h k)
     → Ran machine Sound m (with_found m ks h k limit)
 unfolding outcome_of
 ran-found m ks h k limit s new f = record {
@@ -171,7 +174,9 @@ unfolding again
 again-right l r s t = go (is_refused r.answer) (is_taken (researched l.limit r.load).answer) refl
   where
     go : (b c : Bool) → is_taken (researched l.limit r.load).answer ≡ c
-        → Right l (cond {A = Stepped} b (record { answer = r.answer; load = l }) (cond {A = Stepped} c (record { answer = r.answer; load = (researched l.limit r.load).load }) (record { answer = (researched l.limit r.load).answer; load = l }))).load
+        → Right l (cond {A = Stepped} b (record { answer = r.answer; load = l })
+        (cond {A = Stepped} c (record { answer = r.answer; load = (researched l.limit r.load).load })
+        (record { answer = (researched l.limit r.load).answer; load = l }))).load
         (cond b None (cond c (Some r.load) None))
     go true c e = kept l l s (λ d. refl)
     go false true e = ended l r.load (researched l.limit r.load) t (again-leaves l.limit r.load t e)
@@ -181,7 +186,8 @@ added-right : (l : Load) (r : Stepped) → Sound l → l.searched ≡ true → S
 unfolding added_to
 added-right l r s d t = go (leaves_table_of l r)
   where
-    go : (b : Bool) → Right l (cond {A = Stepped} b (record { answer = r.answer; load = with_week l r.load.week }) (again l r)).load (cond b None (ran_again l r))
+    go : (b : Bool) → Right l (cond {A = Stepped} b (record { answer = r.answer; load = with_week l r.load.week }) (again l r)).load
+        (cond b None (ran_again l r))
     go true = week-right l r.load.week s t.week d
     go false = again-right l r s t
 
@@ -189,19 +195,24 @@ added-right l r s d t = go (leaves_table_of l r)
 unsearched-right : (l n : Load) → Sound n → l.searched ≡ false → n.searched ≡ l.searched → Right l n None
 unsearched-right l n s u e = kept l n s (λ d. absurd (true≢false (sym d ∙ e ∙ u)))
 
-call-right : (l : Load) (name : List ℕ) (i : CallInput) → Sound l → Right l (add_spec_of l name i).load (cond l.searched (ran_added l (call_spec (unsearched_of l) name i)) None)
+call-right : (l : Load) (name : List ℕ) (i : CallInput) → Sound l
+    → Right l (add_spec_of l name i).load (cond l.searched (ran_added l (call_spec (unsearched_of l) name i)) None)
 unfolding add_spec_of
 call-right l name i s = go l.searched refl
   where
-    go : (b : Bool) → l.searched ≡ b → Right l (cond b (added_to l (call_spec (unsearched_of l) name i)) (call_spec l name i)).load (cond b (ran_added l (call_spec (unsearched_of l) name i)) None)
-    go true e = added-right l (call_spec (unsearched_of l) name i) s e (fill-keeps-sound (unsearched_of l) (call name i) (unsearched-sound l s))
+    go : (b : Bool) → l.searched ≡ b → Right l (cond b (added_to l (call_spec (unsearched_of l) name i)) (call_spec l name i)).load
+        (cond b (ran_added l (call_spec (unsearched_of l) name i)) None)
+    go true e = added-right l (call_spec (unsearched_of l) name i) s e
+        (fill-keeps-sound (unsearched_of l) (call name i) (unsearched-sound l s))
     go false e = unsearched-right l (call_spec l name i).load (fill-keeps-sound l (call name i) s) e (filled-searched l (call name i))
 
-withdraw-right : (l : Load) (k : CallKey) → Sound l → Right l (withdraw_spec l k).load (cond l.searched (ran_again l (taken_out (unsearched_of l) k)) None)
+withdraw-right : (l : Load) (k : CallKey) → Sound l
+    → Right l (withdraw_spec l k).load (cond l.searched (ran_again l (taken_out (unsearched_of l) k)) None)
 unfolding withdraw_spec
 withdraw-right l k s = go l.searched refl
   where
-    go : (b : Bool) → l.searched ≡ b → Right l (cond b (again l (taken_out (unsearched_of l) k)) (taken_out l k)).load (cond b (ran_again l (taken_out (unsearched_of l) k)) None)
+    go : (b : Bool) → l.searched ≡ b → Right l (cond b (again l (taken_out (unsearched_of l) k)) (taken_out l k)).load
+        (cond b (ran_again l (taken_out (unsearched_of l) k)) None)
     go true e = again-right l (taken_out (unsearched_of l) k) s (taken-out-sound (unsearched_of l) k (unsearched-sound l s))
     go false e = unsearched-right l (taken_out l k).load (taken-out-sound l k s) e (taken-out-searched l k)
 

@@ -23,7 +23,18 @@ use Rattle.again.proofs.SortLaws.{in-front, in-order-again}
 
 -- a call with the key of what was handed in, and no more
 abbrev bare : CallInput → Call
-bare i = record { trip = i.trip; day = i.day; sequence = i.sequence; stop = 0; arrival = 0; departure = 0; board = false; alight = false; board_request = false; alight_request = false }
+bare i = record {
+  trip = i.trip;
+  day = i.day;
+  sequence = i.sequence;
+  stop = 0;
+  arrival = 0;
+  departure = 0;
+  board = false;
+  alight = false;
+  board_request = false;
+  alight_request = false;
+}
 
 abbrev pub raw_earlier : CallInput → CallInput → Bool
 raw_earlier i j = earlier (bare i) (bare j)
@@ -46,7 +57,8 @@ module _ (s : Settings) (h : ℕ) where
     where
       go : (b : Bool) → cond b None (call_seen s h i) ≡ Some c → Keeps i c
       go true q = absurd (cc)
-      go false q = let same = seen-is h (call_time s i i.arrival) (call_time s i i.departure) i c q in record { trip = λ j. (same j).trip; day = λ j. (same j).day; sequence = λ j. (same j).sequence }
+      go false q = let same = seen-is h (call_time s i i.arrival) (call_time s i i.departure) i c q in
+          record { trip = λ j. (same j).trip; day = λ j. (same j).day; sequence = λ j. (same j).sequence }
 
   -- what is shown is before what is shown as what was handed in is
   shown-before : (i j : CallInput) (b c : Call) → window s h i ≡ Some b → window s h j ≡ Some c → raw_earlier i j ≡ earlier b c
@@ -60,7 +72,9 @@ module _ (s : Settings) (h : ℕ) where
   shown-from [] z m = absurd (Memᴰ.not-nil m)
   shown-from (i ∷ is) z m = go (window s h i) refl m (shown-from is z)
     where
-      go : (v : Option Call) → window s h i ≡ v → Memᴰ z (shown v ++ windowed s h is) → (Memᴰ z (windowed s h is) → (j : CallInput) × Memᴰ j is × (window s h j ≡ Some z)) → (j : CallInput) × Memᴰ j (i ∷ is) × (window s h j ≡ Some z)
+      go : (v : Option Call) → window s h i ≡ v → Memᴰ z (shown v ++ windowed s h is)
+          → (Memᴰ z (windowed s h is) → (j : CallInput) × Memᴰ j is × (window s h j ≡ Some z))
+          → (j : CallInput) × Memᴰ j (i ∷ is) × (window s h j ≡ Some z)
       go None e n ih = let (j, k, q) = ih n in (j, Memᴰ.tail k, q)
       go (Some c) e n ih = by (Memᴰ.cases_cons n)
         where
@@ -72,11 +86,13 @@ module _ (s : Settings) (h : ℕ) where
   out-insert x e [] = rw e refl
   out-insert x e (y ∷ ys) = go (raw_earlier y x) (out-insert x e ys)
     where
-      go : (b : Bool) → windowed s h (insert_by raw_earlier x ys) ≡ windowed s h ys → windowed s h (cond b (y ∷ insert_by raw_earlier x ys) (x ∷ y ∷ ys)) ≡ windowed s h (y ∷ ys)
+      go : (b : Bool) → windowed s h (insert_by raw_earlier x ys) ≡ windowed s h ys
+          → windowed s h (cond b (y ∷ insert_by raw_earlier x ys) (x ∷ y ∷ ys)) ≡ windowed s h (y ∷ ys)
       go true ih = ap (λ (r : List Call). shown (window s h y) ++ r) ih
       go false ih = rw e refl
 
-  in_insert : (x : CallInput) (c : Call) → window s h x ≡ Some c → (ys : List CallInput) → Ordered raw_earlier ys → windowed s h (insert_by raw_earlier x ys) ≡ insert_by earlier c (windowed s h ys)
+  in_insert : (x : CallInput) (c : Call) → window s h x ≡ Some c → (ys : List CallInput) → Ordered raw_earlier ys
+      → windowed s h (insert_by raw_earlier x ys) ≡ insert_by earlier c (windowed s h ys)
   in_insert x c e [] o = rw e refl
   in_insert x c e (y ∷ ys) o = go (raw_earlier y x) refl (in_insert x c e ys o.1)
     where
@@ -89,7 +105,8 @@ module _ (s : Settings) (h : ℕ) where
           by i (inl f) = ap (λ (j : CallInput). raw_earlier j x) f ∙ q
           by i (inr k) = strict_raw.pass x y i q (o.0 i k)
 
-      front : raw_earlier y x ≡ true → (v : Option Call) → window s h y ≡ v → windowed s h (insert_by raw_earlier x ys) ≡ insert_by earlier c (windowed s h ys)
+      front : raw_earlier y x ≡ true → (v : Option Call) → window s h y ≡ v
+          → windowed s h (insert_by raw_earlier x ys) ≡ insert_by earlier c (windowed s h ys)
           → shown v ++ windowed s h (insert_by raw_earlier x ys) ≡ insert_by earlier c (shown v ++ windowed s h ys)
       front q None f ih = ih
       front q (Some b) f ih = rw (sym (shown-before y x b c f e) ∙ q) (ap {B = List Call} (λ l. b ∷ l) ih)
@@ -97,20 +114,23 @@ module _ (s : Settings) (h : ℕ) where
       go : (b : Bool) → raw_earlier y x ≡ b → windowed s h (insert_by raw_earlier x ys) ≡ insert_by earlier c (windowed s h ys)
           → windowed s h (cond b (y ∷ insert_by raw_earlier x ys) (x ∷ y ∷ ys)) ≡ insert_by earlier c (windowed s h (y ∷ ys))
       go true q ih = front q (window s h y) refl ih
-      go false q ih = ap (λ (v : Option Call). shown v ++ windowed s h (y ∷ ys)) e ∙ sym (in-front earlier c (windowed s h (y ∷ ys)) (behind q))
+      go false q ih = ap (λ (v : Option Call). shown v ++ windowed s h (y ∷ ys)) e
+          ∙ sym (in-front earlier c (windowed s h (y ∷ ys)) (behind q))
 
   -- sorted as handed in, shown in order
   pub shown-sorted : (is : List CallInput) → windowed s h (raw_order is) ≡ in_order_of (windowed s h is)
   shown-sorted [] = refl
   shown-sorted (x ∷ xs) = go (window s h x) refl (shown-sorted xs)
     where
-      go : (v : Option Call) → window s h x ≡ v → windowed s h (raw_order xs) ≡ in_order_of (windowed s h xs) → windowed s h (insert_by raw_earlier x (raw_order xs)) ≡ in_order_of (shown v ++ windowed s h xs)
+      go : (v : Option Call) → window s h x ≡ v → windowed s h (raw_order xs) ≡ in_order_of (windowed s h xs)
+          → windowed s h (insert_by raw_earlier x (raw_order xs)) ≡ in_order_of (shown v ++ windowed s h xs)
       go None e ih = out-insert x e (raw_order xs) ∙ ih
       go (Some c) e ih = in_insert x c e (raw_order xs) (sort-ordered raw_earlier strict_raw xs) ∙ ap (insert_by earlier c) ih
 
   shown-append : (xs ys : List CallInput) → windowed s h (xs ++ ys) ≡ windowed s h xs ++ windowed s h ys
   shown-append [] ys = refl
-  shown-append (x ∷ xs) ys = ap (λ (r : List Call). shown (window s h x) ++ r) (shown-append xs ys) ∙ sym (append_assoc (shown (window s h x)) (windowed s h xs) (windowed s h ys))
+  shown-append (x ∷ xs) ys = ap (λ (r : List Call). shown (window s h x) ++ r) (shown-append xs ys)
+      ∙ sym (append_assoc (shown (window s h x)) (windowed s h xs) (windowed s h ys))
 
   -- a call more, after a sort
   pub shown-more : (is js : List CallInput) → in_order_of (windowed s h (raw_order is ++ js)) ≡ in_order_of (windowed s h (is ++ js))

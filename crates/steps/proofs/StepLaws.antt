@@ -29,7 +29,8 @@ use Rattle.load.specs.declared.Load.{Load}
 use Rattle.load.specs.declared.Stepped.{Stepped}
 use Rattle.stops.specs.Taken.{stop_of}
 use Rattle.load.specs.Load.{with_stops, with_rules, with_table}
-use Rattle.load.specs.Steps.{station_in, stop_answer, stop_spec, call_fitted, plain_call, call_spec, rule_answer, rule_spec, service_spec, exception_spec}
+use Rattle.load.specs.Steps.{station_in, stop_answer, stop_spec, call_fitted, plain_call, call_spec, rule_answer, rule_spec, service_spec}
+use Rattle.load.specs.Steps.{exception_spec}
 use Rattle.load.specs.Filling.{Filling, stop, call, rule, service, exception, filled}
 use Rattle.load.specs.Sound.{Sound}
 use Rattle.load.proofs.AnswerLaws.{step-answered}
@@ -50,14 +51,20 @@ first_holds (miss e f) q = absurd (true≢false (sym q ∙ e))
 -- by a call as the load takes it before its search; one that comes after it goes another way
 pub filled-stays : (l : Load) (x : Filling) → l.searched ≡ true → (filled l x).load ≡ l
 unfolding stop_tests rule_tests service_tests exception_tests
-filled-stays l (stop id name parent i) e = let w = step-answered l (stop id name parent i) in w.unchanged (ap is_refused (first_holds w.first e))
+filled-stays l (stop id name parent i) e = let w =
+    step-answered l (stop id name parent i) in w.unchanged (ap is_refused (first_holds w.first e))
 filled-stays l (call name i) e = let w = step-answered l (call name i) in w.unchanged (ap is_refused (first_holds w.first e))
 filled-stays l (rule i) e = let w = step-answered l (rule i) in w.unchanged (ap is_refused (first_holds w.first e))
-filled-stays l (service name weekdays start end) e = let w = step-answered l (service name weekdays start end) in w.unchanged (ap is_refused (first_holds w.first (or-true-left l.searched l.week.closed e)))
-filled-stays l (exception name date kind) e = let w = step-answered l (exception name date kind) in w.unchanged (ap is_refused (first_holds w.first (or-true-left l.searched l.week.closed e)))
+filled-stays l (service name weekdays start end) e = let w =
+    step-answered l (service name weekdays start end) in
+    w.unchanged (ap is_refused (first_holds w.first (or-true-left l.searched l.week.closed e)))
+filled-stays l (exception name date kind) e = let w =
+    step-answered l (exception name date kind) in w.unchanged
+    (ap is_refused (first_holds w.first (or-true-left l.searched l.week.closed e)))
 
 -- a call that the load itself answers came before its search
-pub call-before : (l : Load) (name : List ℕ) (i : CallInput) → is_refused (call_spec l name i).answer ≡ false → add_spec_of l name i ≡ call_spec l name i
+pub call-before : (l : Load) (name : List ℕ) (i : CallInput) → is_refused (call_spec l name i).answer ≡ false
+    → add_spec_of l name i ≡ call_spec l name i
 unfolding add_spec_of
 call-before l name i e = cond-not _ _ (go l.searched refl)
   where
@@ -86,7 +93,8 @@ pub sound-in-time : (l : Load) → InTime (timetable_of l)
 unfolding timetable_of
 sound-in-time l f b e =
     joins-late (change_in l f.to b.stop) f.arrival b.departure
-    (cond-false (one_run f b) (joins_by (change_in l f.to b.stop) f.arrival b.departure) (cond-true (ltb f.to 128 && ltb b.stop 128) (join_of (change_in l f.to b.stop) (one_run f b) f.arrival b.departure) e))
+    (cond-false (one_run f b) (joins_by (change_in l f.to b.stop) f.arrival b.departure)
+    (cond-true (ltb f.to 128 && ltb b.stop 128) (join_of (change_in l f.to b.stop) (one_run f b) f.arrival b.departure) e))
 
 one-of-below : (h b : ℕ) (ms : List ℕ) → All (λ m. m ≤ b) ms → one_of h ms ≡ true → h ≤ b
 one-of-below h b [] a e = absurd (false≢true e)
@@ -97,7 +105,8 @@ one-of-below h b (m ∷ ms) a e = go (or-true-cases (eqb h m) (one_of h ms) e) (
     go (inr q) ih = ih q
 
 pub sound-near : (l : Load) → Sound l → l.table_horizon ≤ 21600
-sound-near l s = one-of-below l.table_horizon 21600 horizons (omega arith, (omega arith, (omega arith, (omega arith, (omega arith, (omega arith, (omega arith, tt))))))) s.table.known
+sound-near l s = one-of-below l.table_horizon 21600 horizons
+    (omega arith, (omega arith, (omega arith, (omega arith, (omega arith, (omega arith, (omega arith, tt))))))) s.table.known
 
 pub sound-near-new : (l : Load) → Sound l → l.searched ≡ false → l.horizon ≤ 21600
 sound-near-new l s e = omega (arith, s.same_horizon e, sound-near l s)
@@ -109,7 +118,8 @@ answer-found None = refl
 answer-found (Some j) = refl
 
 -- the first of the list that leaves in time is best of all of it
-pub best-asks : (l : Load) → Sound l → l.searched ≡ true → (z : ℤ) → best.answer_of (best.best_spec l z) ≡ bestℤ journey_figures (best.kept_of l) l.horizon z
+pub best-asks : (l : Load) → Sound l → l.searched ≡ true → (z : ℤ)
+    → best.answer_of (best.best_spec l z) ≡ bestℤ journey_figures (best.kept_of l) l.horizon z
 best-asks l s e z = ap best.answer_of (best-of-all l e s.in_order z) ∙ answer-found (bestℤ journey_figures (best.kept_of l) l.horizon z)
 
 pub best_none : (l : Load) → l.searched ≡ false → (z : ℤ) → best.answer_of (best.best_spec l z) ≡ None
@@ -129,9 +139,11 @@ plain-searched l i = either-searched l (with_table l (call_fitted l i).table) (i
 pub filled-searched : (l : Load) (x : Filling) → (filled l x).load.searched ≡ l.searched
 unfolding stop_spec rule_spec service_spec exception_spec
 filled-searched l (stop id name parent i) =
-    either-searched (with_stops l (set l.stops l.stop_count (stop_of id name (station_in l parent) i)) (l.stop_count + 1)) l (is_taken (stop_answer l id name parent i)) refl
+    either-searched (with_stops l (set l.stops l.stop_count (stop_of id name (station_in l parent) i)) (l.stop_count + 1)) l
+    (is_taken (stop_answer l id name parent i)) refl
 filled-searched l (call name i) = call-keeps (λ (m : Load). m.searched) l name i (λ m w. refl) (plain-searched l i)
-filled-searched l (rule i) = either-searched (with_rules l (set l.rules l.rule_count i) (l.rule_count + 1)) l (is_taken (rule_answer l i)) refl
+filled-searched l (rule i) = either-searched (with_rules l (set l.rules l.rule_count i) (l.rule_count + 1)) l
+    (is_taken (rule_answer l i)) refl
 filled-searched l (service name weekdays start end) = refl
 filled-searched l (exception name date kind) = refl
 

@@ -64,7 +64,8 @@ plain l is e h = h ∙ ap (λ (b : Bool). ordered b (windowed l.settings l.table
 from-plain : (l : Load) (is : List CallInput) → l.searched ≡ false → ShowsIn l is → Holds l is
 from-plain l is e h = h ∙ sym (ap (λ (b : Bool). ordered b (windowed l.settings l.table_horizon is)) e)
 
-in_order : (l : Load) (is : List CallInput) → l.searched ≡ true → Holds l is → table_calls (table_of l) ≡ in_order_of (windowed l.settings l.table_horizon is)
+in_order : (l : Load) (is : List CallInput) → l.searched ≡ true → Holds l is
+    → table_calls (table_of l) ≡ in_order_of (windowed l.settings l.table_horizon is)
 in_order l is e h = h ∙ ap (λ (b : Bool). ordered b (windowed l.settings l.table_horizon is)) e
 
 -- m with what a search of it found
@@ -91,7 +92,8 @@ filled-holds l x is s n h = go l.searched refl
         (subst (ShowsIn (filled l x).load) (ap (λ (r : List CallInput). is ++ r) n ∙ append-nil is) (fill_shows l x is s (plain l is e h)))
 
 either-holds : (l : Load) (n : ℕ) (is : List CallInput) (ks : List Journey) (h k : ℕ) (c : Bool)
-    → in_order_of (table_calls (table_of l)) ≡ in_order_of (windowed l.settings l.table_horizon is) → Holds (cond c (with_journeys l ks h k) (with_found l ks h k (Some n))) is
+    → in_order_of (table_calls (table_of l)) ≡ in_order_of (windowed l.settings l.table_horizon is)
+    → Holds (cond c (with_journeys l ks h k) (with_found l ks h k (Some n))) is
 either-holds l n is ks h k true e = found-holds l is ks h k None e
 either-holds l n is ks h k false e = found-holds l is ks h k (Some n) e
 
@@ -101,7 +103,8 @@ searched-holds l is h = go (is_taken (search_spec l).answer) refl
     go : (b : Bool) → is_taken (search_spec l).answer ≡ b → Holds (search_spec l).load is
     go true t =
         let w = taken-found l t in
-        subst (λ (x : Load). Holds x is) (sym (ap (λ (r : Stepped). r.load) w.is)) (found-holds l is w.kept w.to w.mark None (ap in_order_of (plain l is w.new h)))
+        subst (λ (x : Load). Holds x is) (sym (ap (λ (r : Stepped). r.load) w.is))
+        (found-holds l is w.kept w.to w.mark None (ap in_order_of (plain l is w.new h)))
     go false t = subst (λ (m : Load). Holds m is) (sym (untaken-stays l t)) h
 
 limited-holds : (l : Load) (n : ℕ) (is : List CallInput) → Holds l is → Holds (within_spec l n).load is
@@ -110,7 +113,8 @@ limited-holds l n is h = go (is_taken (within_spec l n).answer) refl
     go : (b : Bool) → is_taken (within_spec l n).answer ≡ b → Holds (within_spec l n).load is
     go true t =
         let w = taken-within l n t in
-        subst (λ (x : Load). Holds x is) (sym (ap (λ (r : Answered). r.load) w.is)) (either-holds l n is w.kept w.to w.mark (finishes_in l n) (ap in_order_of (plain l is w.new h)))
+        subst (λ (x : Load). Holds x is) (sym (ap (λ (r : Answered). r.load) w.is))
+        (either-holds l n is w.kept w.to w.mark (finishes_in l n) (ap in_order_of (plain l is w.new h)))
     go false t = subst (λ (m : Load). Holds m is) (sym (untaken-within l n t)) h
 
 -- ---- call
@@ -123,8 +127,10 @@ either_held false is i = append-nil is
 call-holds : (l : Load) (name : List ℕ) (i : CallInput) (is : List CallInput) → Sound l → l.searched ≡ false → Holds l is
     → Holds (call_spec l name i).load (cond (is_taken (call_spec l name i).answer) (is ++ (i ∷ [])) is)
 call-holds l name i is s e h =
-    from-plain (call_spec l name i).load (cond (is_taken (call_spec l name i).answer) (is ++ (i ∷ [])) is) (filled-searched l (call name i) ∙ e)
-    (subst (ShowsIn (call_spec l name i).load) (either_held (is_taken (call_spec l name i).answer) is i) (fill_shows l (call name i) is s (plain l is e h)))
+    from-plain (call_spec l name i).load (cond (is_taken (call_spec l name i).answer) (is ++ (i ∷ [])) is)
+    (filled-searched l (call name i) ∙ e)
+    (subst (ShowsIn (call_spec l name i).load) (either_held (is_taken (call_spec l name i).answer) is i)
+    (fill_shows l (call name i) is s (plain l is e h)))
 
 module _ (l : Load) (name : List ℕ) (i : CallInput) (is : List CallInput) (s : Sound l) (d : l.searched ≡ true) (h : Holds l is) where
   abbrev u : Load
@@ -141,7 +147,8 @@ module _ (l : Load) (name : List ℕ) (i : CallInput) (is : List CallInput) (s :
   shows = in_order l is d h ∙ sym (shown-sorted l.settings l.table_horizon is)
 
   -- the unsearched load after the call, in order
-  more : in_order_of (table_calls (table_of m)) ≡ in_order_of (windowed m.settings m.table_horizon (cond (is_taken r.answer) (is ++ (i ∷ [])) is))
+  more : in_order_of (table_calls (table_of m))
+      ≡ in_order_of (windowed m.settings m.table_horizon (cond (is_taken r.answer) (is ++ (i ∷ [])) is))
   more =
       ap in_order_of (fill_shows u (call name i) (raw_order is) (unsearched-sound l s) shows)
       ∙ shown-more m.settings m.table_horizon is (cond (is_taken r.answer) (i ∷ []) [])
@@ -157,8 +164,10 @@ module _ (l : Load) (name : List ℕ) (i : CallInput) (is : List CallInput) (s :
   unfolding added_to again
   added-holds = go (leaves_table_of l r) (is_refused r.answer) (is_taken (researched l.limit m).answer) refl refl refl
     where
-      go : (b c e : Bool) → leaves_table_of l r ≡ b → is_refused r.answer ≡ c → is_taken (researched l.limit m).answer ≡ e → HeldBy (added_by l r b c e)
-      go true c e x y z = stays r.answer (with_week l r.load.week) (of-not (is_taken r.answer) (and-true-left (not (is_taken r.answer)) (eqb m.table_horizon l.table_horizon) x)) h
+      go : (b c e : Bool) → leaves_table_of l r ≡ b → is_refused r.answer ≡ c → is_taken (researched l.limit m).answer ≡ e
+          → HeldBy (added_by l r b c e)
+      go true c e x y z = stays r.answer (with_week l r.load.week)
+          (of-not (is_taken r.answer) (and-true-left (not (is_taken r.answer)) (eqb m.table_horizon l.table_horizon) x)) h
       go false true e x y z = stays r.answer l (refused-not-taken r.answer y) h
       go false false true x y z = search-holds l.limit m (cond (is_taken r.answer) (is ++ (i ∷ [])) is) z more
       go false false false x y z = stays (researched l.limit m).answer l z h
@@ -169,7 +178,8 @@ unfolding add_spec_of
 add_holds l name i is s h = go l.searched refl
   where
     go : (b : Bool) → l.searched ≡ b
-        → (let x = cond b (added_to l (call_spec (unsearched_of l) name i)) (call_spec l name i) in Holds x.load (cond (is_taken x.answer) (is ++ (i ∷ [])) is))
+        → (let x = cond b (added_to l (call_spec (unsearched_of l) name i)) (call_spec l name i) in
+        Holds x.load (cond (is_taken x.answer) (is ++ (i ∷ [])) is))
     go true e = added-holds l name i is s e h
     go false e = call-holds l name i is s e h
 
@@ -219,15 +229,21 @@ module _ (l : Load) (k : CallKey) (is : List CallInput) (w : Kept l) (h : Holds 
 
     again-holds : LeftBy (again l (taken_out v k))
     unfolding again
-    again-holds = out_cases v k (λ q. LeftBy (again l q)) (λ q. h) (λ q f. h) (λ g. go g (is_taken (researched l.limit (with_table v (withdrawn (table_of v) k))).answer) refl)
+    again-holds = out_cases v k (λ q. LeftBy (again l q)) (λ q. h) (λ q f. h)
+        (λ g. go g (is_taken (researched l.limit (with_table v (withdrawn (table_of v) k))).answer) refl)
       where
         go : Goes v k → (b : Bool) → is_taken (researched l.limit (with_table v (withdrawn (table_of v) k))).answer ≡ b
-            → LeftBy (cond {A = Stepped} b (record { answer = Ok Taken; load = (researched l.limit (with_table v (withdrawn (table_of v) k))).load }) (record { answer = (researched l.limit (with_table v (withdrawn (table_of v) k))).answer; load = l }))
+            → LeftBy (cond {A = Stepped} b (record {
+              answer = Ok Taken;
+              load = (researched l.limit (with_table v (withdrawn (table_of v) k))).load;
+            })
+            (record { answer = (researched l.limit (with_table v (withdrawn (table_of v) k))).answer; load = l }))
         go g true z = searched-left g z
         go g false z = subst (Holds l) (sym (cond-not _ _ z)) h
 
 withdraw-holds : (l : Load) (k : CallKey) (is : List CallInput) → Kept l → Holds l is
-    → Holds (withdraw_spec l k).load (cond (is_taken (withdraw_spec l k).answer) (without_last (named_in l.settings l.table_horizon k) is) is)
+    → Holds (withdraw_spec l k).load (cond (is_taken (withdraw_spec l k).answer)
+    (without_last (named_in l.settings l.table_horizon k) is) is)
 unfolding withdraw_spec
 withdraw-holds l k is w h = go l.searched refl
   where
@@ -256,7 +272,8 @@ handed-holds (x ∷ xs) l is w h = handed-holds xs (next l x) (held_after is l x
 pub table-held : TableHeld
 table-held o xs =
     handed-holds xs (opened o) [] (end_kept o []) (from-plain (opened o) [] (opened_new o) (opened-shows o))
-    ∙ (λ j. ordered (end_of o xs).searched (windowed ((list-settings xs (opened o) ∙ opened-settings o) j) (end_of o xs).table_horizon (held_by_of [] (opened o) xs)))
+    ∙ (λ j. ordered (end_of o xs).searched (windowed ((list-settings xs (opened o) ∙ opened-settings o) j) (end_of o xs).table_horizon
+    (held_by_of [] (opened o) xs)))
 
 table-reads : (l : Load) → (timetable_of l).calls ≡ table_calls (table_of l)
 unfolding timetable_of
@@ -282,13 +299,16 @@ admitted-held o xs d j = (λ a. there a.1, λ a. (d, back a))
     reads = end-from o xs d
 
     from_start : Admitted (timetable_of p) j ↔ Admitted (with_calls (timetable_of p) (in_order_of (timetable_of p).calls)) j
-    from_start = admitted-in-any-order (timetable_of p) (in_order_of (timetable_of p).calls) (Permᴰ.symm (sort-perm earlier (timetable_of p).calls)) j
+    from_start = admitted-in-any-order (timetable_of p) (in_order_of (timetable_of p).calls)
+        (Permᴰ.symm (sort-perm earlier (timetable_of p).calls)) j
 
     from_end : Admitted (with_calls (timetable_of l) ws) j ↔ Admitted (with_calls (timetable_of l) (in_order_of ws)) j
     from_end = admitted-in-any-order (with_calls (timetable_of l) ws) (in_order_of ws) (Permᴰ.symm (sort-perm earlier ws)) j
 
     there : Admitted (timetable_of p) j → Admitted (with_calls (timetable_of l) ws) j
-    there a = from_end.1 (subst (λ (cs : List Call). Admitted (with_calls (timetable_of l) cs) j) read (subst (λ (t : Timetable). Admitted t j) (sym reads) (from_start.0 a)))
+    there a = from_end.1 (subst (λ (cs : List Call). Admitted (with_calls (timetable_of l) cs) j) read
+        (subst (λ (t : Timetable). Admitted t j) (sym reads) (from_start.0 a)))
 
     back : Admitted (with_calls (timetable_of l) ws) j → Admitted (timetable_of p) j
-    back a = from_start.1 (subst (λ (t : Timetable). Admitted t j) reads (subst (λ (cs : List Call). Admitted (with_calls (timetable_of l) cs) j) (sym read) (from_end.0 a)))
+    back a = from_start.1 (subst (λ (t : Timetable). Admitted t j) reads
+        (subst (λ (cs : List Call). Admitted (with_calls (timetable_of l) cs) j) (sym read) (from_end.0 a)))

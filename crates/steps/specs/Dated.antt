@@ -6,7 +6,7 @@ use Rattle.settings.specs.declared.Settings.{Settings}
 use Rattle.calls.specs.declared.CallInput.{CallInput}
 use Rattle.week.specs.declared.Running.{Running}
 use Rattle.week.specs.declared.Running.TheVariants.{Unknown, Rests, Runs}
-use Rattle.week.specs.Weeks.{undated_week, running}
+use Rattle.week.specs.Weeks.{is_dated, undated_week, running}
 use Rattle.load.specs.declared.Load.{Load}
 use Rattle.load.specs.Load.{with_week}
 use Rattle.load.specs.Steps.{undated, dated, opened}
@@ -65,10 +65,14 @@ DatedSame = (s : Settings) (dates : List ℕ) (xs : List Step) → SameDated s d
 -- a service taken never changes the answer of an earlier call, for there is none: once a call was answered, each service and each exception
 -- meets 15, whatever was handed in between
 abbrev pub LateServices : Type 0
-LateServices = (l : Load) (called : List ℕ) (i : CallInput) (xs : List Step) → l.week.dated ≡ true → is_refused (stepped l (filling (call called i))).answer ≡ false
-    → ((name : List ℕ) (weekdays start end : ℕ) → (stepped (handed (next l (filling (call called i))) xs) (filling (service name weekdays start end))).answer ≡ Err AlreadySearched)
-    × ((name : List ℕ) (date kind : ℕ) → (stepped (handed (next l (filling (call called i))) xs) (filling (exception name date kind))).answer ≡ Err AlreadySearched)
+LateServices = (l : Load) (called : List ℕ) (i : CallInput) (xs : List Step) → is_dated l.week ≡ true
+    → is_refused (stepped l (filling (call called i))).answer ≡ false
+    → ((name : List ℕ) (weekdays start end : ℕ) →
+    (stepped (handed (next l (filling (call called i))) xs) (filling (service name weekdays start end))).answer ≡ Err AlreadySearched)
+    × ((name : List ℕ) (date kind : ℕ) → (stepped (handed (next l (filling (call called i))) xs)
+    (filling (exception name date kind))).answer ≡ Err AlreadySearched)
 
 -- on a load without dates the service's name is unread, and no service or exception is taken
 abbrev pub NameUnread : Type 0
-NameUnread = (l : Load) (name : List ℕ) (i : CallInput) → l.week.dated ≡ false → stepped l (filling (call name i)) ≡ stepped l (filling (call [] i))
+NameUnread = (l : Load) (name : List ℕ) (i : CallInput) → is_dated l.week ≡ false
+    → stepped l (filling (call name i)) ≡ stepped l (filling (call [] i))

@@ -27,7 +27,8 @@ pub record Holds (s : Opening) (xs : List Step) : Type 0 where
   -- each admitted journey due by the horizon is equalled or beaten by one of the list
   pub complete : CoveredBy (end_of s xs).horizon (Admitted s xs) (λ j. Memᴰ j (kept_of (end_of s xs)))
   -- horizon and mark fall from the table's by the offers alone: at a 65th that none beats, to the latest arrival less 1
-  pub fell : fall (covᶠ journey_figures) (dueᶠ journey_figures) 64 3600 (start_of s xs).table_horizon (start_of s xs).table_limits [] (offers_of s xs)
+  pub fell : fall (covᶠ journey_figures) (dueᶠ journey_figures) 64 3600 (start_of s xs).table_horizon (start_of s xs).table_limits []
+      (offers_of s xs)
       ≡ up_to (end_of s xs).horizon (end_of s xs).limits
 
 -- a searched load that was not stopped holds this

@@ -11,7 +11,8 @@ use Rattle.search.specs.Within.{within_spec, step_of, within_causes}
 use Rattle.again.specs.Again.{add_spec_of, withdraw_spec}
 use Rattle.again.specs.Causes.{add_causes, withdraw_causes}
 
--- a stop, a call, a rule, a service or an exception is handed in; a call is withdrawn; or the load is searched, in full or within a limit on joins
+-- a stop, a call, a rule, a service or an exception is handed in; a call is withdrawn; or the load is searched, in full or within a limit
+-- on joins
 pub data Step : Type 0 where
   filling : Filling → Step
   withdraw : CallKey → Step
@@ -40,8 +41,9 @@ causes l (withdraw k) = withdraw_causes l k
 causes l search = search_causes l
 causes l (limited n) = within_causes l n
 
--- the numbers of those answers; 0 stands for outside, which a call meets by a service that doesn't run, by an absent time and by its window.
--- On a searched load a call and a withdrawal then meet 14 and 11 of the search again; a call that is outside only after a cut, only then
+-- the numbers of those answers; 0 stands for outside, which a call meets by a service that doesn't run, by an absent time and by its
+-- window. On a searched load a call and a withdrawal then meet 14 and 11 of the search again; a call that is outside only after a cut,
+-- only then
 abbrev pub numbers : Bool → Step → List ℕ
 numbers searched (filling (stop id name parent i)) = 15 ∷ 3 ∷ 5 ∷ 6 ∷ 7 ∷ 8 ∷ 4 ∷ []
 numbers searched (filling (call name i)) = 9 ∷ 21 ∷ 0 ∷ 0 ∷ 10 ∷ 0 ∷ 11 ∷ cond searched (14 ∷ 11 ∷ 0 ∷ []) []

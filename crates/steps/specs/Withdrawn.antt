@@ -1,5 +1,5 @@
--- What is claimed of the load after any steps: it is the fresh search of its own table, in full or within the limit at which it was stopped,
--- and a call withdrawn straight after it was taken leaves it as it was.
+-- What is claimed of the load after any steps: it is the fresh search of its own table, in full or within the limit at which it was
+-- stopped, and a call withdrawn straight after it was taken leaves it as it was.
 use Rattle.refusal.specs.declared.Accepted.TheVariants.{Taken}
 use Rattle.std.specs.Prelude.{ℕ, ◌≡◌, true, false, List, Some, Ok}
 use Rattle.calls.specs.declared.CallInput.{CallInput}

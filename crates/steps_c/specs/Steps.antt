@@ -49,4 +49,5 @@ turns zero step l = l
 turns (suc n) step l = turns n step (step n l)
 
 unfoldable pub calls_held : ℕ → ℕ → ℕ → ℕ
-calls_held stops rules calls = (turns calls with_call (turns rules with_rule (turns stops with_stop (open_spec_of (undated plain_settings)).load))).call_count
+calls_held stops rules calls = (turns calls with_call
+    (turns rules with_rule (turns stops with_stop (open_spec_of (undated plain_settings)).load))).call_count

@@ -7,7 +7,7 @@ ghost use Rattle.stops.specs.Answer.{station_of, is_known, id_wrong, type_wrong,
 
 use prefix::first;
 use refusal::{Accepted, Answer, Refusal};
-use stops::find::find;
+use stops::find::{find, find_station};
 use stops::{NewStop, Stop, StopInput};
 
 // The number of the station that is named as the parent, among the stops of a load.
@@ -15,7 +15,7 @@ use stops::{NewStop, Stop, StopInput};
 pub fn parent_of(stops: &[Stop], parent: Option<&[u8]>) -> Option<u16>
     ensures { result ≡ station_of stops.now 128 (option_copied parent.entry) }
 {
-    match find(first(stops, 128), parent?, true) {
+    match find_station(first(stops, 128), parent?) {
         Some(place) => Some(place as u16),
         None => None,
     }
@@ -69,7 +69,7 @@ fn name_wrong(name: Option<&[u8]>, needed: bool, id: &[u8]) -> bool
 fn known(stops: &[Stop], id: &[u8]) -> bool
     ensures { result ≡ is_known stops.now (length stops.now) id.now }
 {
-    find(stops, id, false).is_some()
+    find(stops, id).is_some()
 }
 
 // What a stop is answered, by the stops of the load, the parent found, and the search.

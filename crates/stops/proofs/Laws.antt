@@ -14,7 +14,7 @@ use Rattle.laws.proofs.Bools.{or-false-left, or-false-right}
 use Rattle.key.specs.Utf8.{points}
 use Rattle.key.specs.Name.{usable}
 use Rattle.refusal.specs.First.{first_answer}
-use Rattle.refusal.proofs.FirstLaws.{taken-all-fail}
+use Rattle.refusal.proofs.FirstLaws.{taken-all-fail, never-taken}
 use Rattle.stops.specs.declared.Stop.{Stop}
 use Rattle.stops.specs.declared.StopInput.{StopInput}
 use Rattle.stops.specs.Answer.{is_known, id_wrong, type_wrong, name_wrong, name_needed, unusable, stop_tests}
@@ -66,22 +66,8 @@ pub passed : (b : Bool) (stops : List Stop) (count : ℕ) (station : Option ℕ)
     → first_answer (stop_tests b stops count station id name parent i) ≡ Ok Taken → Passed b stops count station id name parent i
 unfolding stop_tests
 passed b stops count station id name parent i e =
-    let f = taken-all-fail (stop_tests b stops count station id name parent i) (
-      (λ q. let z : ◌≡◌ {A = ℕ} 0 1 = cc in omega arith),
-      (
-        (λ q. let z : ◌≡◌ {A = ℕ} 0 1 = cc in omega arith),
-        (
-          (λ q. let z : ◌≡◌ {A = ℕ} 0 1 = cc in omega arith),
-          (
-            (λ q. let z : ◌≡◌ {A = ℕ} 0 1 = cc in omega arith),
-            (
-              (λ q. let z : ◌≡◌ {A = ℕ} 0 1 = cc in omega arith),
-              ((λ q. let z : ◌≡◌ {A = ℕ} 0 1 = cc in omega arith), ((λ q. let z : ◌≡◌ {A = ℕ} 0 1 = cc in omega arith), tt)),
-            ),
-          ),
-        ),
-      ),
-    ) e in
+    let ts = stop_tests b stops count station id name parent i in
+    let f = taken-all-fail ts (never-taken ts refl) e in
     record {
       unsearched = f.0;
       id-fits = id-short id f.1.0;

@@ -1,7 +1,9 @@
 -- Why a stop is sent back, in the scope's order: 15, 3, 5, 6, 7, 8, 4.
 use Rattle.refusal.specs.First.{Answer}
-use Rattle.std.specs.Prelude.{ℕ, List, [], ◌∷◌, Bool, true, false, not, ◌&&◌, ◌||◌, length, take, ltb, leb, eqb, None, Option, Some, Err, is_some}
-use Rattle.refusal.specs.declared.Refusal.TheVariants.{AlreadySearched, IdLength, IdTaken, LocationType, ParentUnknown, NameUnusable, StopsFull}
+use Rattle.std.specs.Prelude.{ℕ, List, [], ◌∷◌, Bool, true, false, not, ◌&&◌, ◌||◌, length, take, ltb, leb, eqb, None, Option, Some, Err}
+use Rattle.std.specs.Prelude.{is_some}
+use Rattle.refusal.specs.declared.Refusal.TheVariants.{AlreadySearched, IdLength, IdTaken, LocationType, ParentUnknown, NameUnusable}
+use Rattle.refusal.specs.declared.Refusal.TheVariants.{StopsFull}
 use Rattle.key.specs.Utf8.{points}
 use Rattle.key.specs.Name.{usable}
 use Rattle.place.specs.Positions.{is_usable}

@@ -1,8 +1,9 @@
--- The stops of a load that the steps make: the count is in range, the tail blank, the type 0 or 1, no two stops have one id, a parent is a station
--- of the load.
+-- The stops of a load that the steps make: the count is in range, the tail blank, the type 0 or 1, no two stops have one id, a parent is
+-- a station of the load.
 use Rattle.refusal.specs.declared.Accepted.TheVariants.{Taken}
 use Rattle.std.specs.Option.{unwrap_or}
-use Rattle.std.specs.Prelude.{ℕ, ◌+◌, ◌-◌, ◌≤◌, ◌<◌, ◌≡◌, List, Bool, true, false, length, get_or, drop, set, replicate, None, Option, Some, Ok}
+use Rattle.std.specs.Prelude.{ℕ, ◌+◌, ◌-◌, ◌≤◌, ◌<◌, ◌≡◌, List, Bool, true, false, length, get_or, drop, set, replicate, None, Option}
+use Rattle.std.specs.Prelude.{Some, Ok}
 use Rattle.refusal.specs.First.{first_answer}
 use Rattle.stops.specs.declared.Stop.{Stop}
 use Rattle.stops.specs.declared.StopInput.{StopInput}
@@ -36,9 +37,11 @@ NoStopsSound = StopsSound (replicate 128 blank_stop) 0
 
 -- a stop that is taken keeps the stops sound
 abbrev pub StopKeepsSound : Type 0
-StopKeepsSound = (searched : Bool) (stops : List Stop) (count : ℕ) (id : List ℕ) (name parent : Option (List ℕ)) (i : StopInput) → StopsSound stops count
+StopKeepsSound = (searched : Bool) (stops : List Stop) (count : ℕ) (id : List ℕ) (name parent : Option (List ℕ)) (i : StopInput)
+    → StopsSound stops count
     → let station = station_of stops count parent in
-    first_answer (stop_tests searched stops count station id name parent i) ≡ Ok Taken → StopsSound (set stops count (stop_of id name station i)) (count + 1)
+    first_answer (stop_tests searched stops count station id name parent i) ≡ Ok Taken
+    → StopsSound (set stops count (stop_of id name station i)) (count + 1)
 
 -- a taken stop is held under the id that was handed in
 abbrev pub IdKept : Type 0
@@ -57,4 +60,5 @@ NameKept = (searched : Bool) (stops : List Stop) (count : ℕ) (id : List ℕ) (
 abbrev pub NeededUsable : Type 0
 NeededUsable = (searched : Bool) (stops : List Stop) (count : ℕ) (id : List ℕ) (name parent : Option (List ℕ)) (i : StopInput)
     → let station = station_of stops count parent in
-    first_answer (stop_tests searched stops count station id name parent i) ≡ Ok Taken → name_needed parent i ≡ true → usable (points (unwrap_or name id)) ≡ true
+    first_answer (stop_tests searched stops count station id name parent i) ≡ Ok Taken → name_needed parent i ≡ true
+    → usable (points (unwrap_or name id)) ≡ true

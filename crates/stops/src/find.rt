@@ -1,7 +1,7 @@
 // A stop by its id.
-ghost use Rattle.std.specs.Prelude.{◌≡◌, ◌<◌, length, IfSome, option_copied};
+ghost use Rattle.std.specs.Prelude.{◌≡◌, ◌<◌, true, false, length, IfSome, option_copied};
 ghost use Rattle.stops.specs.Texts.{same_bytes_of};
-ghost use Rattle.stops.specs.Stops.{id_of, name_of, type_fits, is_it, find_stop};
+ghost use Rattle.stops.specs.Stops.{id_of, name_of, is_it, find_stop};
 
 use crate::Stop;
 use texts::Text;
@@ -29,23 +29,32 @@ impl Stop {
     }
 }
 
-// `kind` is the stop's type, as it is held.
-fn type_fits(station: bool, kind: u8) -> bool
-    ensures { result ≡ type_fits station kind }
-{
-    !station || kind == 1
+impl Stop {
+    fn has_id(&self, id: &[u8]) -> bool
+        ensures { result ≡ is_it false id.now self.now }
+    {
+        same_text(self.id(), id)
+    }
+
+    fn is_station_with(&self, id: &[u8]) -> bool
+        ensures { result ≡ is_it true id.now self.now }
+    {
+        self.location_type == 1 && self.has_id(id)
+    }
 }
 
-fn is_it(stop: &Stop, id: &[u8], station: bool) -> bool
-    ensures { result ≡ is_it station id.now stop.now }
-{
-    type_fits(station, stop.location_type) && same_text(stop.id(), id)
-}
-
-// The place of the first stop with the id; of stations alone, if that is asked.
-pub fn find(stops: &[Stop], id: &[u8], station: bool) -> Option<usize>
-    ensures value { result ≡ find_stop (is_it station id.now) stops.now 0 }
+// The place of the first stop with the id.
+pub fn find(stops: &[Stop], id: &[u8]) -> Option<usize>
+    ensures value { result ≡ find_stop (is_it false id.now) stops.now 0 }
     ensures bound { IfSome result (λ i. i < length stops.now) }
 {
-    stops.iter().position(|stop| is_it(stop, id, station))
+    stops.iter().position(|stop| stop.has_id(id))
+}
+
+// The place of the first station with the id.
+pub fn find_station(stops: &[Stop], id: &[u8]) -> Option<usize>
+    ensures value { result ≡ find_stop (is_it true id.now) stops.now 0 }
+    ensures bound { IfSome result (λ i. i < length stops.now) }
+{
+    stops.iter().position(|stop| stop.is_station_with(id))
 }

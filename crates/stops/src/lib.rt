@@ -8,7 +8,7 @@ use place::Degrees;
 use texts::Text;
 
 // The parent is the number of a station. `location_type` is a number and no enum: what is handed in beside the texts goes in as it is.
-#[derive(Clone, Copy, Debug, PartialEq)]
+#[derive(Clone, Copy, Debug, Default, PartialEq)]
 pub struct Stop {
     pub id: Text<32>,
     pub name: Option<Text<64>>,

@@ -27,16 +27,9 @@ pub fn stop_of(stop: NewStop<'_>, station: Option<u16>) -> Stop
     }
 }
 
-// What an unused slot holds. No `Default`: derived, its contract says nothing of a text.
+// What an unused slot holds: the default, by a name that contracts can give it.
 pub fn blank_stop() -> Stop
     ensures { result ≡ blank_stop }
 {
-    Stop {
-        id: Text::of(b""),
-        name: None,
-        parent: None,
-        location_type: 0,
-        degrees: None,
-        members: 0,
-    }
+    Stop::default()
 }

@@ -1,5 +1,5 @@
 // The table of calls: its cuts to a smaller horizon, and the call step on it.
 #![tactic(auto)]
 
-pub mod cuts;
+mod cuts;
 pub mod step;

@@ -23,7 +23,7 @@ pub fn is_known(stops: usize, input: CallInput) -> bool
         && input.drop_off <= 3
 }
 
-// What a call needs of its load beside the table, on its own, as a load is built above this.
+// What a call needs of its load beside the table, on its own, as a load is built above this. `searched` tells of no other field.
 #[derive(Clone, Copy, Debug, PartialEq, Eq)]
 pub struct CallGate {
     pub settings: Settings,

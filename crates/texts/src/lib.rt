@@ -1,7 +1,7 @@
 // Texts in fixed memory: the core has no heap.
 #![tactic(auto)]
 
-ghost use Rattle.std.specs.Prelude.{◌≡◌};
+ghost use Rattle.std.specs.Prelude.{◌≡◌, []};
 ghost use Rattle.texts.specs.Texts.{held, bytes_of};
 
 use prefix::first;
@@ -12,6 +12,15 @@ use prefix::first;
 pub struct Text<const N: usize> {
     pub bytes: [u8; N],
     pub len: u8,
+}
+
+// The text of no bytes.
+impl<const N: usize> Default for Text<N> {
+    ghost is_default = { λ text. text ≡ held N [] };
+
+    fn default() -> Self {
+        Text::of(b"")
+    }
 }
 
 impl<const N: usize> Text<N> {

@@ -1,7 +1,8 @@
--- Result ℕ Refusal text: bytes to u32 seconds, as `Result ℕ Refusal`. Err with 16: a text that is not digits, ':', 2 digits, ':', 2 digits; minutes or seconds 60
--- or more; over u32.
+-- Result ℕ Refusal text: bytes to u32 seconds, as `Result ℕ Refusal`. Err with 16: a text that is not digits, ':', 2 digits, ':', 2
+-- digits; minutes or seconds 60 or more; over u32.
 use Rattle.refusal.specs.declared.Refusal.{Refusal}
-use Rattle.std.specs.Prelude.{ℕ, ◌+◌, ◌-◌, ◌*◌, ◌^◌, List, [], ◌∷◌, Bool, true, cond, ◌&&◌, ◌⊎◌, eqb, ltb, leb, length, get_or, take, drop, Err, Ok, Result}
+use Rattle.std.specs.Prelude.{ℕ, ◌+◌, ◌-◌, ◌*◌, ◌^◌, List, [], ◌∷◌, Bool, true, cond, ◌&&◌, ◌⊎◌, eqb, ltb, leb, length, get_or, take}
+use Rattle.std.specs.Prelude.{drop, Err, Ok, Result}
 use Rattle.std.proofs.Common.{inl, inr}
 use Rattle.laws.specs.Lists.{foldl}
 use Rattle.refusal.specs.declared.Refusal.TheVariants.{TimeText}

@@ -1,5 +1,5 @@
--- "Type 3 forbids"; types 0 and 1 give the change time, `transfer_seconds` (request 05), "whatever the seconds say" (request 02), and type 2
--- max(seconds, that). "With no rule, same stop, same parent or same place gives" it; "else none."
+-- "Type 3 forbids"; types 0 and 1 give the change time, `transfer_seconds` (request 05), "whatever the seconds say" (request 02), and
+-- type 2 max(seconds, that). "With no rule, same stop, same parent or same place gives" it; "else none."
 -- And "`join`: trip or day differs, and arrival + transfer seconds is at most departure."
 use Rattle.laws.specs.Bounds.{most}
 use Rattle.std.specs.Option.{unwrap_or}
@@ -32,7 +32,8 @@ change_of None close change = cond close (Some change) None
 unfoldable pub transfer_of : List Rule → List ℕ → List ℕ → ℕ → ℕ → ℕ → Option ℕ
 unfolding ends_of_of
 transfer_of rules parents places from to change =
-    change_of (chosen (ends_of_of parents from to) rules) (near (ends_of_of parents from to) (get_or places from 65535) (get_or places to 65535)) change
+    change_of (chosen (ends_of_of parents from to) rules)
+    (near (ends_of_of parents from to) (get_or places from 65535) (get_or places to 65535)) change
 
 -- the arrival with the change is no later than the departure
 abbrev pub joins_by : Option ℕ → ℕ → ℕ → Bool

@@ -67,7 +67,8 @@ SecondsOfTypeTwo =
 abbrev pub PairOnce : Type 0
 PairOnce =
     (stops : ℕ) (rules : List Rule) (count : ℕ) → RulesSound stops rules count
-    → (j k : ℕ) → j < count → k < count → (rule_at rules j).from ≡ (rule_at rules k).from → (rule_at rules j).to ≡ (rule_at rules k).to → j ≡ k
+    → (j k : ℕ) → j < count → k < count → (rule_at rules j).from ≡ (rule_at rules k).from → (rule_at rules j).to ≡ (rule_at rules k).to
+    → j ≡ k
 
 -- of a load's rules that apply to a pair of stops no two have the same rank, so no tie is left
 abbrev pub RanksDiffer : Type 0
@@ -94,7 +95,8 @@ NoneNotNamed =
 abbrev pub RowJoins : Type 0
 RowJoins =
     (rules : List Rule) (parents places : List ℕ) (from change to arrival departure : ℕ) → to < 128 → departure < 65536
-    → leb (arrival + get_or (change_row rules parents places from change) to 0) departure ≡ joins_by (transfer_of rules parents places from to change) arrival departure
+    → leb (arrival + get_or (change_row rules parents places from change) to 0) departure
+    ≡ joins_by (transfer_of rules parents places from to change) arrival departure
 
 -- the parent that is read for a stop is that of its record
 abbrev pub ParentRead : Type 0

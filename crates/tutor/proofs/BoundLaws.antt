@@ -45,7 +45,8 @@ from-file (a_call e f) = tt
 from-file (a_rule e f) = tt
 from-file (a_search e f) = tt
 
-after_none : {s : Settings} {t u : State} {b : List ℕ} {x : Step} {a : Answer} → Says b x → runs.After s t x a u → t.stopped ≡ None → u.stopped ≡ None
+after_none : {s : Settings} {t u : State} {b : List ℕ} {x : Step} {a : Answer} → Says b x → runs.After s t x a u → t.stopped ≡ None
+    → u.stopped ≡ None
 after_none p runs.sent_back q = q
 after_none p runs.a_stop q = q
 after_none p runs.a_rule q = q
@@ -58,7 +59,8 @@ after_none p (runs.a_withdrawal d w) q = absurd (from-file p)
 after_none p runs.a_search q = refl
 after_none p (runs.a_limited w) q = absurd (from-file p)
 
-pub never-stopped : {s : Settings} {t v : State} {bs : List (List ℕ)} {xs : List Step} {rs : List Answer} → EachSays bs xs → runs.Runs s t xs rs v → t.stopped ≡ None → v.stopped ≡ None
+pub never-stopped : {s : Settings} {t v : State} {bs : List (List ℕ)} {xs : List Step} {rs : List Answer} → EachSays bs xs
+    → runs.Runs s t xs rs v → t.stopped ≡ None → v.stopped ≡ None
 never-stopped no_step runs.end q = q
 never-stopped (a_step p ps) (runs.step f w r) q = never-stopped ps r (after_none p w q)
 

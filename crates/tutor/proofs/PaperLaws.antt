@@ -26,6 +26,7 @@ use Rattle.file.specs.declared.Took.{Took}
 use Rattle.file.specs.declared.Fed.{Fed}
 use Rattle.file.specs.Record.{fresh_reader, open_reader, kind_right, filled, stepped_by, record_spec}
 use Rattle.file.specs.File.{starts_whole, size_of, body_of, version_answer, fed_spec, end_answer, ended_by, read_spec_of}
+use Rattle.file.proofs.HandedLaws.{not-sent-back}
 use Rattle.file.proofs.RecordLaws.{taken-settled}
 use Rattle.file.proofs.FedLaws.{fed-stops, fed-refuses, fed-goes-on}
 use Rattle.comparison.specs.Demands.{answers_from}
@@ -35,21 +36,13 @@ use Rattle.tutor.proofs.RecordsLaws.{taken-tests, whole-record, Rest, goes}
 
 -- ---- the settings
 
-not-sent-back : (s : Settings) → is_refused (open_answer (undated s)) ≡ false → open_answer (undated s) ≡ Ok Taken
-unfolding open_answer first_answer settings_tests
-not-sent-back s e = go (over_counts s.origins s.targets s.max_transfers s.transfer_seconds) (not (all_near s.now s.epochs)) e
-  where
-    go : (x y : Bool) → is_refused (cond x (Err SettingsRange) (cond y (Err ClockRange) (Ok Taken))) ≡ false → cond x (Err SettingsRange) (cond y (Err ClockRange) (Ok Taken)) ≡ Ok Taken
-    go true y e = absurd (true≢false e)
-    go false true e = absurd (true≢false e)
-    go false false e = refl
-
 record Opening (second : Bool) (b : List ℕ) (r : Reader) : Type 0 where
   said : SettingsSaid second b (settings_by second b)
   opens : Opens (undated (settings_by second b))
   reader : r ≡ open_reader (opened (undated (settings_by second b)))
 
-opening : (second : Bool) (b : List ℕ) → is_refused (record_spec (fresh_reader second) b).answer ≡ false → Opening second b (record_spec (fresh_reader second) b).reader
+opening : (second : Bool) (b : List ℕ) → is_refused (record_spec (fresh_reader second) b).answer ≡ false
+    → Opening second b (record_spec (fresh_reader second) b).reader
 unfolding fresh_reader stepped_by open_spec_of kind_right filled
 opening second b k =
     let t = taken-tests (fresh_reader second) b k in
@@ -83,15 +76,19 @@ reads_none : (second : Bool) (xs : List ℕ) → starts_whole xs ≡ false → R
 unfolding fresh_reader
 reads_none second xs e = subst (Reads second xs) (sym (fed-stops (fresh_reader second) xs e)) (λ k d o. absurd (false≢true o))
 
-reads-refused : (second : Bool) (xs : List ℕ) → starts_whole xs ≡ true → is_refused (record_spec (fresh_reader second) (body_of xs)).answer ≡ true → Reads second xs (fed_spec (fresh_reader second) xs)
-reads-refused second xs e f = subst (Reads second xs) (sym (fed-refuses (fresh_reader second) xs e f)) (λ k d o. absurd (true≢false (sym f ∙ k)))
+reads-refused : (second : Bool) (xs : List ℕ) → starts_whole xs ≡ true
+    → is_refused (record_spec (fresh_reader second) (body_of xs)).answer ≡ true → Reads second xs (fed_spec (fresh_reader second) xs)
+reads-refused second xs e f = subst (Reads second xs) (sym (fed-refuses (fresh_reader second) xs e f))
+    (λ k d o. absurd (true≢false (sym f ∙ k)))
 
-reads_on : (second : Bool) (xs : List ℕ) → starts_whole xs ≡ true → is_refused (record_spec (fresh_reader second) (body_of xs)).answer ≡ false → Reads second xs (fed_spec (fresh_reader second) xs)
+reads_on : (second : Bool) (xs : List ℕ) → starts_whole xs ≡ true
+    → is_refused (record_spec (fresh_reader second) (body_of xs)).answer ≡ false → Reads second xs (fed_spec (fresh_reader second) xs)
 reads_on second xs e f = subst (Reads second xs) (sym (fed-goes-on (fresh_reader second) xs e f)) (λ k d o.
     let r = (record_spec (fresh_reader second) (body_of xs)).reader in
     let ys = drop (size_of xs) xs in
     let s = opening second (body_of xs) f in
-    let w : Rest r ys (fed_spec r ys) = goes (length ys) r ys (omega arith) (ap (λ (q : Reader). q.opened) s.reader) k (drop-drop (fed_spec r ys).used (size_of xs) xs ∙ d) in
+    let w : Rest r ys (fed_spec r ys) = goes (length ys) r ys (omega arith) (ap (λ (q : Reader). q.opened) s.reader) k
+    (drop-drop (fed_spec r ys).used (size_of xs) xs ∙ d) in
     record {
       head = body_of xs;
       bodies = w.bodies;
@@ -107,7 +104,8 @@ reads_on second xs e f = subst (Reads second xs) (sym (fed-goes-on (fresh_reader
 reads : (second : Bool) (xs : List ℕ) → Reads second xs (fed_spec (fresh_reader second) xs)
 reads second xs = go (starts_whole xs) refl (is_refused (record_spec (fresh_reader second) (body_of xs)).answer) refl
   where
-    go : (b : Bool) → starts_whole xs ≡ b → (c : Bool) → is_refused (record_spec (fresh_reader second) (body_of xs)).answer ≡ c → Reads second xs (fed_spec (fresh_reader second) xs)
+    go : (b : Bool) → starts_whole xs ≡ b → (c : Bool) → is_refused (record_spec (fresh_reader second) (body_of xs)).answer ≡ c
+        → Reads second xs (fed_spec (fresh_reader second) xs)
     go false e c f = reads_none second xs e
     go true e true f = reads-refused second xs e f
     go true e false f = reads_on second xs e f
@@ -119,7 +117,8 @@ end_whole : (o : Bool) (left : ℕ) → is_refused (end_answer o left) ≡ false
 unfolding end_answer first_answer
 end_whole o left e = go (eqb left 0) refl o e
   where
-    go : (x : Bool) → eqb left 0 ≡ x → (o : Bool) → is_refused (cond (not x) (Err RecordLength) (cond (not o) (Err RecordKind) (Ok Taken))) ≡ false → (left ≡ 0) × (o ≡ true)
+    go : (x : Bool) → eqb left 0 ≡ x → (o : Bool)
+        → is_refused (cond (not x) (Err RecordLength) (cond (not o) (Err RecordKind) (Ok Taken))) ≡ false → (left ≡ 0) × (o ≡ true)
     go true q true e = (eqb-true left 0 q, refl)
     go true q false e = absurd (true≢false e)
     go false q o e = absurd (true≢false e)
@@ -138,11 +137,15 @@ pub record Whole (xs : List ℕ) (t : Took) : Type 0 where
   pub read : Read second rest fed
   pub load : t.reader.load ≡ fed.reader.load
 
-ended : (v : ℕ) (rest : List ℕ) (second : Bool) → Version v second → is_refused (ended_by rest (fed_spec (fresh_reader second) rest)).answer ≡ false → Whole (v ∷ rest) (ended_by rest (fed_spec (fresh_reader second) rest))
+ended : (v : ℕ) (rest : List ℕ) (second : Bool) → Version v second
+    → is_refused (ended_by rest (fed_spec (fresh_reader second) rest)).answer ≡ false
+    → Whole (v ∷ rest) (ended_by rest (fed_spec (fresh_reader second) rest))
 ended v rest second known e = go (is_refused (fed_spec (fresh_reader second) rest).answer) refl e
   where
     go : (c : Bool) → is_refused (fed_spec (fresh_reader second) rest).answer ≡ c
-        → is_refused (cond c (fed_spec (fresh_reader second) rest).answer (end_answer (fed_spec (fresh_reader second) rest).reader.opened (length (drop (fed_spec (fresh_reader second) rest).used rest)))) ≡ false
+        → is_refused (cond c (fed_spec (fresh_reader second) rest).answer
+        (end_answer (fed_spec (fresh_reader second) rest).reader.opened
+        (length (drop (fed_spec (fresh_reader second) rest).used rest)))) ≡ false
         → Whole (v ∷ rest) (ended_by rest (fed_spec (fresh_reader second) rest))
     go true q k = absurd (true≢false (sym q ∙ k))
     go false q k =
@@ -161,8 +164,12 @@ ended v rest second known e = go (is_refused (fed_spec (fresh_reader second) res
 
 -- by the version
 versions : (v : ℕ) (rest : List ℕ) (x y : Bool) → eqb v 1 ≡ x → eqb v 2 ≡ y
-    → is_refused (cond (is_refused (cond (x || y) (Ok Taken) (Err FileVersion))) (record { answer = cond (x || y) (Ok Taken) (Err FileVersion); reader = fresh_reader y }) (ended_by rest (fed_spec (fresh_reader y) rest))).answer ≡ false
-    → Whole (v ∷ rest) (cond (is_refused (cond (x || y) (Ok Taken) (Err FileVersion))) (record { answer = cond (x || y) (Ok Taken) (Err FileVersion); reader = fresh_reader y }) (ended_by rest (fed_spec (fresh_reader y) rest)))
+    → is_refused (cond (is_refused (cond (x || y) (Ok Taken) (Err FileVersion)))
+    (record { answer = cond (x || y) (Ok Taken) (Err FileVersion); reader = fresh_reader y })
+    (ended_by rest (fed_spec (fresh_reader y) rest))).answer ≡ false
+    → Whole (v ∷ rest) (cond (is_refused (cond (x || y) (Ok Taken) (Err FileVersion)))
+    (record { answer = cond (x || y) (Ok Taken) (Err FileVersion); reader = fresh_reader y })
+    (ended_by rest (fed_spec (fresh_reader y) rest)))
 versions v rest true true e f k = absurd (let a = eqb-true v 1 e in let b = eqb-true v 2 f in omega (arith, a, b))
 versions v rest true false e f k = ended v rest false (subst (λ (n : ℕ). Version n false) (sym (eqb-true v 1 e)) one) k
 versions v rest false true e f k = ended v rest true (subst (λ (n : ℕ). Version n true) (sym (eqb-true v 2 f)) two) k

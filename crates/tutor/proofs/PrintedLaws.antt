@@ -12,7 +12,8 @@ use Rattle.load.specs.declared.Load.{Load}
 use Rattle.lines.specs.Decimal.{spaced}
 use Rattle.lines.specs.Lines.{journey_text, journey_line_of, horizon_line_of, refused_line_of, load_lines, lines_of}
 use Rattle.lines.proofs.DecimalLaws.{decimal-right}
-use Rattle.tutor.specs.Printed.{journey_word, Numbers, newline, number, JourneyLine, journey_line, HorizonLine, horizon_line, RefusedLine, refused_line, Lines, last, next}
+use Rattle.tutor.specs.Printed.{journey_word, Numbers, newline, number, JourneyLine, journey_line, HorizonLine, horizon_line, RefusedLine}
+use Rattle.tutor.specs.Printed.{refused_line, Lines, last, next}
 
 -- figures that are written in five digits at most
 pub record Small (j : Journey) : Type 0 where
@@ -39,7 +40,8 @@ unfolding journey_text journey_line_of
 journey-says j s =
     subst (λ (r : List ℕ). JourneyLine j (journey_word ++ r))
     (sym (six-parts (spaced j.leave) (spaced j.arrival) (spaced j.rides) (spaced j.walk) (spaced j.origin) (spaced j.target) (10 ∷ [])))
-    (journey_line (and_then j.leave s.leave (and_then j.arrival s.arrival (and_then j.rides s.rides (and_then j.walk s.walk (and_then j.origin s.origin (and_then j.target s.target newline)))))))
+    (journey_line (and_then j.leave s.leave (and_then j.arrival s.arrival
+    (and_then j.rides s.rides (and_then j.walk s.walk (and_then j.origin s.origin (and_then j.target s.target newline)))))))
 
 horizon-says : (h m : ℕ) → h < 65536 → m < 65536 → HorizonLine h m (horizon_line_of h m)
 unfolding horizon_line_of spaced
@@ -49,7 +51,8 @@ pub refused_says : (n : ℕ) → n < 65536 → RefusedLine n (refused_line_of n)
 unfolding refused_line_of
 refused_says n h = refused_line (and_then n h newline)
 
-pub lines-say : (js : List Journey) (h m : ℕ) → All Small js → h < 65536 → m < 65536 → Lines js h m (concat_map journey_line_of js ++ horizon_line_of h m)
+pub lines-say : (js : List Journey) (h m : ℕ) → All Small js → h < 65536 → m < 65536
+    → Lines js h m (concat_map journey_line_of js ++ horizon_line_of h m)
 lines-say [] h m s a b = last (horizon-says h m a b)
 lines-say (j ∷ js) h m (p, s) a b =
     subst (Lines (j ∷ js) h m) (sym (append_assoc (journey_line_of j) (concat_map journey_line_of js) (horizon_line_of h m)))

@@ -15,7 +15,8 @@ use Rattle.laws.proofs.Bools.{and-true-left, and-true-right}
 use Rattle.refusal.specs.declared.Refusal.{Refusal}
 use Rattle.refusal.specs.First.{First, hit, miss, is_refused, Answer}
 use Rattle.fields.specs.Numbers.{byte_at, u16_at}
-use Rattle.fields.specs.Layout.{text_at, option_text_at, name_at, parent_at, stop_filled_of, call_filled_of, rule_filled_of, search_filled_of}
+use Rattle.fields.specs.Layout.{text_at, option_text_at, name_at, parent_at, stop_filled_of, call_filled_of, rule_filled_of}
+use Rattle.fields.specs.Layout.{search_filled_of}
 use Rattle.fields.specs.Records.{stop_in, call_in, rule_in}
 use Rattle.load.specs.Filling.{stop, call, rule}
 use Rattle.steps.specs.Steps.{Step, filling, search, stepped}
@@ -32,11 +33,13 @@ use Rattle.tutor.specs.Tutor.{NotRefused}
 
 -- ---- a record that is taken passed the tests
 
-passed : {a : Answer} {b : Bool} {r : Refusal} {ts : List (Bool × Answer)} → First a ((b, Err r) ∷ ts) → is_refused a ≡ false → (b ≡ false) × First a ts
+passed : {a : Answer} {b : Bool} {r : Refusal} {ts : List (Bool × Answer)} → First a ((b, Err r) ∷ ts) → is_refused a ≡ false
+    → (b ≡ false) × First a ts
 passed (hit e) k = absurd (true≢false k)
 passed (miss e f) k = (e, f)
 
-pub taken-tests : (r : Reader) (b : List ℕ) → is_refused (record_spec r b).answer ≡ false → (kind_right r.opened (byte_at b 0) ≡ true) × (filled r.second b ≡ true)
+pub taken-tests : (r : Reader) (b : List ℕ) → is_refused (record_spec r b).answer ≡ false
+    → (kind_right r.opened (byte_at b 0) ≡ true) × (filled r.second b ≡ true)
 unfolding record_tests
 taken-tests r b k =
     let p = passed (record-answered r b).first k in
@@ -63,7 +66,8 @@ module _ (second : Bool) (b : List ℕ) (f : filled second b ≡ true) where
   unfolding filled step_in
   by_kind (inl e) =
       let g : filled second b ≡ stop_filled_of b = rw e refl in
-      let s : step_in b ≡ filling (stop (text_at b 1) (option_text_at b (name_at b)) (option_text_at b (parent_at b)) (stop_in b)) = rw e refl in
+      let s : step_in b ≡ filling (stop (text_at b 1) (option_text_at b (name_at b)) (option_text_at b (parent_at b)) (stop_in b)) =
+      rw e refl in
       subst (Says b) (sym s) (a_stop e (sym g ∙ f))
   by_kind (inr (inl e)) =
       let g : filled second b ≡ call_filled_of b = rw e refl in
@@ -80,7 +84,8 @@ module _ (second : Bool) (b : List ℕ) (f : filled second b ≡ true) where
 
   says : kind_right true (byte_at b 0) ≡ true → Says b (step_in b)
   unfolding kind_right
-  says k = by_kind (kinds (byte_at b 0) (leb-true 2 (byte_at b 0) (and-true-left (leb 2 (byte_at b 0)) (leb (byte_at b 0) 5) k)) (leb-true (byte_at b 0) 5 (and-true-right (leb 2 (byte_at b 0)) (leb (byte_at b 0) 5) k)))
+  says k = by_kind (kinds (byte_at b 0) (leb-true 2 (byte_at b 0) (and-true-left (leb 2 (byte_at b 0)) (leb (byte_at b 0) 5) k))
+      (leb-true (byte_at b 0) 5 (and-true-right (leb 2 (byte_at b 0)) (leb (byte_at b 0) 5) k)))
 
 -- what a taken record does to an open load
 record Stepping (r : Reader) (b : List ℕ) : Type 0 where
@@ -102,7 +107,8 @@ stepping r b o k =
 
 -- ---- the bytes of a whole record
 
-pub whole-record : (xs : List ℕ) (bs : List (List ℕ)) → starts_whole xs ≡ true → Records (drop (size_of xs) xs) bs → Records xs (body_of xs ∷ bs)
+pub whole-record : (xs : List ℕ) (bs : List (List ℕ)) → starts_whole xs ≡ true → Records (drop (size_of xs) xs) bs
+    → Records xs (body_of xs ∷ bs)
 unfolding u16_at
 whole-record [] bs e w = absurd (let room = whole_room [] e in omega (arith, room))
 whole-record (a ∷ []) bs e w = absurd (let room = whole_room (a ∷ []) e in omega (arith, room))
@@ -137,11 +143,13 @@ goes-stop r xs e = subst (Goes r xs) (sym (fed-stops r xs e)) (λ k d. record {
   ends = refl;
 })
 
-goes-refused : (r : Reader) (xs : List ℕ) → starts_whole xs ≡ true → is_refused (record_spec r (body_of xs)).answer ≡ true → Goes r xs (fed_spec r xs)
+goes-refused : (r : Reader) (xs : List ℕ) → starts_whole xs ≡ true → is_refused (record_spec r (body_of xs)).answer ≡ true
+    → Goes r xs (fed_spec r xs)
 goes-refused r xs e f = subst (Goes r xs) (sym (fed-refuses r xs e f)) (λ k d. absurd (true≢false (sym f ∙ k)))
 
 goes_on : (r : Reader) (xs : List ℕ) → r.opened ≡ true → starts_whole xs ≡ true → is_refused (record_spec r (body_of xs)).answer ≡ false
-    → Goes (record_spec r (body_of xs)).reader (drop (size_of xs) xs) (fed_spec (record_spec r (body_of xs)).reader (drop (size_of xs) xs)) → Goes r xs (fed_spec r xs)
+    → Goes (record_spec r (body_of xs)).reader (drop (size_of xs) xs)
+    (fed_spec (record_spec r (body_of xs)).reader (drop (size_of xs) xs)) → Goes r xs (fed_spec r xs)
 goes_on r xs o e f ih = subst (Goes r xs) (sym (fed-goes-on r xs e f)) (λ k d.
     let g = fed_spec (record_spec r (body_of xs)).reader (drop (size_of xs) xs) in
     let w = ih k (drop-drop g.used (size_of xs) xs ∙ d) in
@@ -159,13 +167,18 @@ pub goes : (n : ℕ) (r : Reader) (xs : List ℕ) → length xs ≤ n → r.open
 goes zero r [] h o = goes-stop r [] none-whole
 goes zero r (x ∷ xs) h o = absurd (omega arith)
 goes (suc n) r xs h o =
-    go (starts_whole xs) refl (is_refused (record_spec r (body_of xs)).answer) refl (λ (k : length (drop (size_of xs) xs) ≤ n) (q : (record_spec r (body_of xs)).reader.opened ≡ true). goes n (record_spec r (body_of xs)).reader (drop (size_of xs) xs) k q)
+    go (starts_whole xs) refl (is_refused (record_spec r (body_of xs)).answer) refl
+    (λ (k : length (drop (size_of xs) xs) ≤ n) (q : (record_spec r (body_of xs)).reader.opened ≡ true).
+    goes n (record_spec r (body_of xs)).reader (drop (size_of xs) xs) k q)
   where
     go : (b : Bool) → starts_whole xs ≡ b → (c : Bool) → is_refused (record_spec r (body_of xs)).answer ≡ c
-        → (length (drop (size_of xs) xs) ≤ n → (record_spec r (body_of xs)).reader.opened ≡ true → Goes (record_spec r (body_of xs)).reader (drop (size_of xs) xs) (fed_spec (record_spec r (body_of xs)).reader (drop (size_of xs) xs)))
+        → (length (drop (size_of xs) xs) ≤ n → (record_spec r (body_of xs)).reader.opened ≡ true
+        → Goes (record_spec r (body_of xs)).reader (drop (size_of xs) xs)
+        (fed_spec (record_spec r (body_of xs)).reader (drop (size_of xs) xs)))
         → Goes r xs (fed_spec r xs)
     go false e c f ih = goes-stop r xs e
     go true e true f ih = goes-refused r xs e f
     go true e false f ih =
         let room = whole_room xs e in
-        goes_on r xs o e f (ih (rw (length-drop (size_of xs) xs) (omega (arith, room))) (ap (λ (q : Reader). q.opened) (stepping r (body_of xs) o f).reader))
+        goes_on r xs o e f (ih (rw (length-drop (size_of xs) xs) (omega (arith, room)))
+        (ap (λ (q : Reader). q.opened) (stepping r (body_of xs) o f).reader))

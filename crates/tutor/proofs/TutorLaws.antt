@@ -46,8 +46,43 @@ use Rattle.tutor.proofs.BoundLaws.{never-stopped, fall-low, body_bytes, origin_w
 -- ---- a file whose lines are no refusal is not refused
 
 file-number : (a : Answer) → one_of (answer_number a) file_numbers ≡ true → answer_number a < 65536
-file-number a e = one-of (answer_number a) (λ (n : ℕ). n < 65536) file_numbers e
-    (omega arith, (omega arith, (omega arith, (omega arith, (omega arith, (omega arith, (omega arith, (omega arith, (omega arith, (omega arith, (omega arith, (omega arith, (omega arith, (omega arith, (omega arith, (omega arith, (omega arith, (omega arith, (omega arith, tt)))))))))))))))))))
+file-number a e = one-of (answer_number a) (λ (n : ℕ). n < 65536) file_numbers e (
+  omega arith,
+  (
+    omega arith,
+    (
+      omega arith,
+      (
+        omega arith,
+        (
+          omega arith,
+          (
+            omega arith,
+            (
+              omega arith,
+              (
+                omega arith,
+                (
+                  omega arith,
+                  (
+                    omega arith,
+                    (
+                      omega arith,
+                      (
+                        omega arith,
+                        (omega arith, (omega arith, (omega arith, (omega arith, (omega arith, (omega arith, (omega arith, tt))))))),
+                      ),
+                    ),
+                  ),
+                ),
+              ),
+            ),
+          ),
+        ),
+      ),
+    ),
+  ),
+)
 
 taken-so : (a : Answer) (l : Load) → answer_number a < 65536 → ((n : ℕ) → RefusedLine n (lines_of a l) → ⊥) → is_refused a ≡ false
 unfolding lines_of
@@ -82,8 +117,10 @@ module _ (s : Settings) (o : Opens (undated s)) (xs : List Step) (walks : (i : �
   made : Lists (undated s) xs v → (k : Journey) → Memᴰ k (kept_of l) → Admits (feed_of s v) k × (k.arrival ≤ l.horizon)
   made w k m =
       let (i, t, e) = (w.list.holds.exactly k).0 m in
-      let a = (w.admitted k).0 (subst (λ (j : Journey). Memᴰ j w.offers) e (get_d-mem no_journey w.offers i t.there)) in
-      (subst (λ (u : State). Admits (feed_of s u) k) (sym (ends_so (undated s) o xs a.answers a.end a.runs)) a.admits, subst (λ (j : Journey). j.arrival ≤ l.horizon) e t.due)
+      let a = (w.admitted k).0 (subst (λ (j : Journey). Memᴰ j w.offers) e (get_d-mem no_journey w.offers i t.there)) in (
+        subst (λ (u : State). Admits (feed_of s u) k) (sym (ends_so (undated s) o xs a.answers a.end a.runs)) a.admits,
+        subst (λ (j : Journey). j.arrival ≤ l.horizon) e t.due,
+      )
 
   lists-lines : Lists (undated s) xs v → v.searched ≡ true → Listed s v (load_lines l)
   unfolding load_lines
@@ -94,9 +131,12 @@ module _ (s : Settings) (o : Opens (undated s)) (xs : List Step) (walks : (i : �
         horizon = l.horizon;
         limits = l.limits;
         says = lines-say (kept_of l) l.horizon l.limits
-            (mem-all Small (kept_of l) (λ k m. let (a, due) = made w k m in admitted-small (feed_of s v) table-near (opens (undated s) o).origins (opens (undated s) o).targets walks k (omega (arith, due, low, table-near)) a))
+            (mem-all Small (kept_of l) (λ k m. let (a, due) = made w k m in
+            admitted-small (feed_of s v) table-near (opens (undated s) o).origins (opens (undated s) o).targets walks k
+            (omega (arith, due, low, table-near)) a))
             (omega (arith, low, table-near)) (small-mark l.limits mark);
-        none_better = λ j a due. w.complete j (record { answers = answers_from (opened (undated s)) xs; end = v; runs = run (undated s) o xs; searched = d; admits = a }) due;
+        none_better = λ j a due. w.complete j (record
+            { answers = answers_from (opened (undated s)) xs; end = v; runs = run (undated s) o xs; searched = d; admits = a }) due;
         each_made = made w;
       }
 
@@ -105,13 +145,15 @@ module _ (s : Settings) (o : Opens (undated s)) (xs : List Step) (walks : (i : �
   fills-lines w = record {
     horizon = l.horizon;
     limits = l.limits;
-    says = subst (λ (js : List Journey). Lines [] l.horizon l.limits (concat_map journey_line_of js ++ horizon_line_of l.horizon l.limits)) (sym w.kept)
+    says = subst (λ (js : List Journey). Lines [] l.horizon l.limits
+        (concat_map journey_line_of js ++ horizon_line_of l.horizon l.limits)) (sym w.kept)
         (lines-say [] l.horizon l.limits tt (let h = w.horizon in omega (arith, h, table-near)) (small-mark l.limits (inl w.limits)));
   }
 
 -- ---- the whole of it
 
-answers-so : (xs : List ℕ) → Bytes xs → is_refused (read_spec_of xs).answer ≡ false → (w : Whole xs (read_spec_of xs)) → Answers xs (printed xs)
+answers-so : (xs : List ℕ) → Bytes xs → is_refused (read_spec_of xs).answer ≡ false → (w : Whole xs (read_spec_of xs))
+    → Answers xs (printed xs)
 answers-so xs p k w =
     let r = w.read in
     let s : Settings = settings_by w.second r.head in
@@ -122,13 +164,25 @@ answers-so xs p k w =
     let runs : Runs s (fresh None) r.steps (answers_from (opened (undated s)) r.steps) u = run (undated s) o r.steps in
     let stopped : u.stopped ≡ None = never-stopped r.said runs refl in
     let d = demand-2 (undated s) r.steps (answers_from (opened (undated s)) r.steps) u o runs in
-    let lines : load_lines (end_of (undated s) r.steps) ≡ printed xs = ap load_lines (sym (w.load ∙ r.ends)) ∙ sym (lines-load (read_spec_of xs).answer (read_spec_of xs).reader.load k) in
+    let lines : load_lines (end_of (undated s) r.steps) ≡ printed xs =
+    ap load_lines (sym (w.load ∙ r.ends)) ∙ sym (lines-load (read_spec_of xs).answer (read_spec_of xs).reader.load k) in
     record {
       settings = s;
       steps = r.steps;
       answers = answers_from (opened (undated s)) r.steps;
       end = u;
-      said = record { version = w.version; second = w.second; known = w.known; head = r.head; bodies = r.bodies; rest = w.rest; whole = w.whole; records = r.records; settings = r.settings; said = r.said };
+      said = record {
+        version = w.version;
+        second = w.second;
+        known = w.known;
+        head = r.head;
+        bodies = r.bodies;
+        rest = w.rest;
+        whole = w.whole;
+        records = r.records;
+        settings = r.settings;
+        said = r.said;
+      };
       runs = runs;
       none_refused = r.accepted;
       finished = stopped;

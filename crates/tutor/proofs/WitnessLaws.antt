@@ -30,7 +30,8 @@ use Rattle.search.specs.Timetable.{timetable_of}
 use Rattle.search.specs.Search.{outcome_of, search_spec}
 use Rattle.again.specs.Again.{add_spec_of}
 use Rattle.fields.specs.Numbers.{u16_at, u32_at, u64_at, signed_of}
-use Rattle.fields.specs.Layout.{option_end, option_text_end, option_text_at, settings_filled_of, stop_filled_of, call_filled_of, search_filled_of}
+use Rattle.fields.specs.Layout.{option_end, option_text_end, option_text_at, settings_filled_of, stop_filled_of, call_filled_of}
+use Rattle.fields.specs.Layout.{search_filled_of}
 use Rattle.fields.specs.Records.{walks_at, settings_in, degrees_at, stop_in, seconds_at, call_in}
 use Rattle.file.specs.Record.{fresh_reader, kind_right, filled, record_tests, step_in, stepped_by, settled, record_spec}
 use Rattle.file.specs.File.{version_answer, starts_whole, fed_by, fed_spec, end_answer, read_spec_of}
@@ -44,7 +45,13 @@ use Rattle.tutor.specs.Witness.{first_load, Met, Proved}
 use Rattle.tutor.proofs.TutorLaws.{tutors-answer}
 
 first-printed : printed first_load ≡ first_journey ++ first_horizon
-unfolding first_answer over_counts near all_near settings_tests walks_of canonical_of station_of id_wrong is_known type_wrong name_needed name_wrong stop_tests stop_at stop_of held known call_tests call_fit call_on cut fitted time_after seen_call seen open_answer open_spec_of empty_of undated_week stop_spec plain_call call_spec add_spec_of lexb clash rides first_rides joined_rides network_of offers search_of timetable_of outcome_of search_spec onward pass routes u16_at u32_at u64_at signed_of option_end option_text_end option_text_at settings_filled_of stop_filled_of call_filled_of search_filled_of walks_at settings_in degrees_at stop_in seconds_at call_in fresh_reader kind_right filled record_tests step_in stepped_by settled record_spec version_answer starts_whole fed_by fed_spec end_answer read_spec_of decimal_by decimal spaced journey_text journey_line_of horizon_line_of load_lines lines_of
+unfolding first_answer over_counts near all_near settings_tests walks_of canonical_of station_of id_wrong is_known type_wrong name_needed
+    name_wrong stop_tests stop_at stop_of held known call_tests call_fit call_on cut fitted time_after seen_call seen open_answer
+    open_spec_of empty_of undated_week stop_spec plain_call call_spec add_spec_of lexb clash rides first_rides joined_rides network_of
+    offers search_of timetable_of outcome_of search_spec onward pass routes u16_at u32_at u64_at signed_of option_end option_text_end
+    option_text_at settings_filled_of stop_filled_of call_filled_of search_filled_of walks_at settings_in degrees_at stop_in seconds_at
+    call_in fresh_reader kind_right filled record_tests step_in stepped_by settled record_spec version_answer starts_whole fed_by fed_spec
+    end_answer read_spec_of decimal_by decimal spaced journey_text journey_line_of horizon_line_of load_lines lines_of
 first-printed = refl
 
 -- the first letter of a line tells which it is
@@ -67,7 +74,10 @@ all_small (x ∷ xs) = ltb x 256 && all_small xs
 
 small_bytes : (xs : List ℕ) → all_small xs ≡ true → Bytes xs
 small_bytes [] e = tt
-small_bytes (x ∷ xs) e = (ltb-true x 256 (and-true-left (ltb x 256) (all_small xs) e), small_bytes xs (and-true-right (ltb x 256) (all_small xs) e))
+small_bytes (x ∷ xs) e = (
+  ltb-true x 256 (and-true-left (ltb x 256) (all_small xs) e),
+  small_bytes xs (and-true-right (ltb x 256) (all_small xs) e),
+)
 
 met : Met
 met = record {

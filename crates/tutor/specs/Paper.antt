@@ -5,7 +5,8 @@ use Rattle.std.specs.Prelude.{◌≡◌, Bool, true, false, List, [], ◌∷◌,
 use Rattle.laws.specs.Lists.{All}
 use Rattle.settings.specs.declared.Settings.{Settings}
 use Rattle.fields.specs.Numbers.{byte_at}
-use Rattle.fields.specs.Layout.{text_at, option_text_at, name_at, parent_at, stop_filled_of, call_filled_of, rule_filled_of, search_filled_of}
+use Rattle.fields.specs.Layout.{text_at, option_text_at, name_at, parent_at, stop_filled_of, call_filled_of, rule_filled_of}
+use Rattle.fields.specs.Layout.{search_filled_of}
 use Rattle.fields.specs.Records.{stop_in, call_in, rule_in}
 use Rattle.fields.specs.Second.{settings_by, settings_filled_by}
 use Rattle.load.specs.Filling.{stop, call, rule}

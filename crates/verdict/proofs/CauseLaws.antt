@@ -55,7 +55,8 @@ module _ (s : Settings) (stops : List Stop) (c : Connection) (w : Way) where
   unfolding ends_asked
   ends-chain start end leg r es el ee e =
       let end-is : end ≡ alights (last_leg c.rides w) = ee ∙ ap alights el in
-      e ∙ (λ i. first_of (end_tests s.origins s.targets c.origin c.target (stop_at stops (es i).stop).members (stop_at stops (end-is i).stop).members
+      e ∙ (λ i. first_of (end_tests s.origins s.targets c.origin c.target (stop_at stops (es i).stop).members
+      (stop_at stops (end-is i).stop).members
       (get_or s.origin_walks c.origin 0) (es i).departure))
 
   pub cause-chain : (count : ℕ) (rs : List Rule) (r₁ r₂ r₃ r₄ r₅ o₁ o₂ o₃ r : Option Cause)
@@ -71,7 +72,8 @@ module _ (s : Settings) (stops : List Stop) (c : Connection) (w : Way) where
       let cs = ends_asked s stops c w in
       let ds = count_tests c.rides s.max_transfers in
       let es = changes_asked stops count rs s.transfer_seconds c.rides w in
-      first-two (((az ++ bs) ++ cs) ++ ds) es (first-two ((az ++ bs) ++ cs) ds (first-two (az ++ bs) cs (first-two az bs e₁ e₂ p₁) e₃ p₂) e₄ p₃) e₅ p₄
+      first-two (((az ++ bs) ++ cs) ++ ds) es (first-two ((az ++ bs) ++ cs) ds
+      (first-two (az ++ bs) cs (first-two az bs e₁ e₂ p₁) e₃ p₂) e₄ p₃) e₅ p₄
       ∙ ap first_of (from-left az bs cs ds es)
     where
       from-left : (az bs cs ds es : List (Bool × Cause)) → (((az ++ bs) ++ cs) ++ ds) ++ es ≡ az ++ (bs ++ (cs ++ (ds ++ es)))

@@ -61,10 +61,12 @@ made-admitted t c j (inr (inl m)) = inr (inl m.way)
 made-admitted t c j (inr (inr m)) = inr (inr m.way)
 
 -- what the searched load admits is what its last accepted search was given
-start-admits : (o : Opening) (xs : List Step) → (end_of o xs).searched ≡ true → (j : Journey) → by.Admitted (timetable_of (end_of o xs)) j → by.Admitted (timetable_of (start_of o xs)) j
+start-admits : (o : Opening) (xs : List Step) → (end_of o xs).searched ≡ true → (j : Journey) → by.Admitted (timetable_of (end_of o xs)) j
+    → by.Admitted (timetable_of (start_of o xs)) j
 start-admits o xs d j a =
     let t = timetable_of (start_of o xs) in
-    (admitted-in-any-order t (in_order_of t.calls) (Permᴰ.symm (sort-perm earlier t.calls)) j).1 (subst (λ (u : Timetable). by.Admitted u j) (end-from o xs d) a)
+    (admitted-in-any-order t (in_order_of t.calls) (Permᴰ.symm (sort-perm earlier t.calls)) j).1
+    (subst (λ (u : Timetable). by.Admitted u j) (end-from o xs d) a)
 
 pub causes-admitted : CausesAdmitted
 causes-admitted o xs c f =
@@ -79,17 +81,20 @@ causes-admitted o xs c f =
     }
 
 -- a connection without a cause that is due: the verdict is the list's
-by-list : (l : Load) (c : Connection) → is_finished l ≡ true → cause_of l c ≡ None → (journey_in l c).arrival ≤ l.horizon → verdict_of l c ≡ listed_in_of (kept_of l) (journey_in l c)
+by-list : (l : Load) (c : Connection) → is_finished l ≡ true → cause_of l c ≡ None → (journey_in l c).arrival ≤ l.horizon
+    → verdict_of l c ≡ listed_in_of (kept_of l) (journey_in l c)
 unfolding verdict_of judged_in
 by-list l c d f h =
-    cond-by _ _ d ∙ ap (λ (t : Option Cause). judged_by t (judged_in (kept_of l) l.horizon (journey_in l c))) f ∙ cond-not _ _ (le-ltb l.horizon (journey_in l c).arrival h)
+    cond-by _ _ d ∙ ap (λ (t : Option Cause). judged_by t (judged_in (kept_of l) l.horizon (journey_in l c))) f
+    ∙ cond-not _ _ (le-ltb l.horizon (journey_in l c).arrival h)
 
 pub due-is-covered : DueIsCovered
 due-is-covered o xs c op d f h =
     let l = end_of o xs in
     let right = causes-admitted o xs c d in
     let (p, q) = finished-parts l.searched l.limit d in
-    let (k, m, e) = (searched-holds o xs op p (ap is_some q)).complete (journey_in l c) (right.admitted (journey_in l c) (right.makes f)) h in
+    let (k, m, e) = (searched-holds o xs op p (ap is_some q)).complete (journey_in l c)
+    (right.admitted (journey_in l c) (right.makes f)) h in
     subst (Says (kept_of l) (journey_in l c)) (sym (by-list l c d f h)) (says (kept_of l) (journey_in l c) k m e)
 
 says_never : (ks : List Journey) (j : Journey) (v : Verdict) → Says ks j v → number v ≡ 5 → ⊥

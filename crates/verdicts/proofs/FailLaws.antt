@@ -78,11 +78,13 @@ listed-number ks j =
     (place-number Beaten (place_over ks j) Uncovered (λ n. (omega arith, omega arith)) (omega arith, omega arith)))
 
 -- up to the horizon: late exactly if it is due after it
-judged-cases : (ks : List Journey) (h : ℕ) (j : Journey) → ((h < j.arrival) × (judged_in ks h j ≡ Late)) ⊎ ((1 < number (judged_in ks h j)) × (number (judged_in ks h j) < 6))
+judged-cases : (ks : List Journey) (h : ℕ) (j : Journey)
+    → ((h < j.arrival) × (judged_in ks h j ≡ Late)) ⊎ ((1 < number (judged_in ks h j)) × (number (judged_in ks h j) < 6))
 unfolding judged_in
 judged-cases ks h j = go (ltb h j.arrival) refl
   where
-    go : (b : Bool) → ltb h j.arrival ≡ b → ((h < j.arrival) × (cond b Late (listed_in_of ks j) ≡ Late)) ⊎ ((1 < number (cond b Late (listed_in_of ks j))) × (number (cond b Late (listed_in_of ks j)) < 6))
+    go : (b : Bool) → ltb h j.arrival ≡ b → ((h < j.arrival) × (cond b Late (listed_in_of ks j) ≡ Late))
+        ⊎ ((1 < number (cond b Late (listed_in_of ks j))) × (number (cond b Late (listed_in_of ks j)) < 6))
     go true e = inl (ltb-true h j.arrival e, refl)
     go false e = inr (listed-number ks j)
 
@@ -97,7 +99,8 @@ module _ (ks : List Journey) (h : ℕ) (j : Journey) where
   nothing_said true (Some x) e = let z : ◌≡◌ {A = ℕ} 6 0 = ap number e in absurd (omega arith)
   nothing_said true None e = go (judged-cases ks h j)
     where
-      go : ((h < j.arrival) × (judged_in ks h j ≡ Late)) ⊎ ((1 < number (judged_in ks h j)) × (number (judged_in ks h j) < 6)) → true ≡ false
+      go : ((h < j.arrival) × (judged_in ks h j ≡ Late)) ⊎ ((1 < number (judged_in ks h j)) × (number (judged_in ks h j) < 6))
+          → true ≡ false
       go (inl w) = let z : ◌≡◌ {A = ℕ} 1 0 = ap number (sym w.1 ∙ e) in absurd (omega arith)
       go (inr w) = absurd (omega (arith, ap number e, w.0))
 
@@ -107,7 +110,8 @@ module _ (ks : List Journey) (h : ℕ) (j : Journey) where
   cause-said true (Some y) x e = (refl, cc)
   cause-said true None x e = go (judged-cases ks h j)
     where
-      go : ((h < j.arrival) × (judged_in ks h j ≡ Late)) ⊎ ((1 < number (judged_in ks h j)) × (number (judged_in ks h j) < 6)) → (true ≡ true) × (None ≡ Some x)
+      go : ((h < j.arrival) × (judged_in ks h j ≡ Late)) ⊎ ((1 < number (judged_in ks h j)) × (number (judged_in ks h j) < 6))
+          → (true ≡ true) × (None ≡ Some x)
       go (inl w) = let z : ◌≡◌ {A = ℕ} 1 6 = ap number (sym w.1 ∙ e) in absurd (omega arith)
       go (inr w) = absurd (omega (arith, ap number e, w.1))
 
@@ -117,7 +121,8 @@ module _ (ks : List Journey) (h : ℕ) (j : Journey) where
   late-said true (Some y) e = let z : ◌≡◌ {A = ℕ} 6 1 = ap number e in absurd (omega arith)
   late-said true None e = go (judged-cases ks h j)
     where
-      go : ((h < j.arrival) × (judged_in ks h j ≡ Late)) ⊎ ((1 < number (judged_in ks h j)) × (number (judged_in ks h j) < 6)) → (true ≡ true) × (◌≡◌ {A = Option Cause} None None) × (h < j.arrival)
+      go : ((h < j.arrival) × (judged_in ks h j ≡ Late)) ⊎ ((1 < number (judged_in ks h j)) × (number (judged_in ks h j) < 6))
+          → (true ≡ true) × (◌≡◌ {A = Option Cause} None None) × (h < j.arrival)
       go (inl w) = (refl, refl, w.0)
       go (inr w) = absurd (omega (arith, ap number e, w.0))
 
@@ -127,7 +132,8 @@ module _ (ks : List Journey) (h : ℕ) (j : Journey) where
   uncovered-said true (Some y) e = let z : ◌≡◌ {A = ℕ} 6 5 = ap number e in absurd (omega arith)
   uncovered-said true None e = go (ltb h j.arrival) refl e
     where
-      go : (b : Bool) → ltb h j.arrival ≡ b → cond b Late (listed_in_of ks j) ≡ Uncovered → (true ≡ true) × (◌≡◌ {A = Option Cause} None None) × (j.arrival ≤ h)
+      go : (b : Bool) → ltb h j.arrival ≡ b → cond b Late (listed_in_of ks j) ≡ Uncovered
+          → (true ≡ true) × (◌≡◌ {A = Option Cause} None None) × (j.arrival ≤ h)
       go true q f = let z : ◌≡◌ {A = ℕ} 1 5 = ap number f in absurd (omega arith)
       go false q f = (refl, refl, ltb-false h j.arrival q)
 
@@ -142,7 +148,13 @@ always-given l c =
     let j = journey_in l c in
     record {
       not_finished = ((λ e. cond-not _ _ e), nothing_said ks l.horizon j (is_finished l) (cause_of l c));
-      impossible = λ x. ((λ w. cond-by _ _ w.0 ∙ ap (λ (t : Option Cause). judged_by t (judged_in ks l.horizon j)) w.1), cause-said ks l.horizon j (is_finished l) (cause_of l c) x);
-      late = ((λ w. late-given ks l.horizon j (is_finished l) (cause_of l c) w.0 w.1 w.2), late-said ks l.horizon j (is_finished l) (cause_of l c));
+      impossible = λ x. (
+        (λ w. cond-by _ _ w.0 ∙ ap (λ (t : Option Cause). judged_by t (judged_in ks l.horizon j)) w.1),
+        cause-said ks l.horizon j (is_finished l) (cause_of l c) x,
+      );
+      late = (
+        (λ w. late-given ks l.horizon j (is_finished l) (cause_of l c) w.0 w.1 w.2),
+        late-said ks l.horizon j (is_finished l) (cause_of l c),
+      );
       free = (free-fails (causes l c), fails-free (causes l c));
     }

@@ -97,7 +97,8 @@ module _ (cs : List Call) (k : CallKey) where
       held : Option Call
       held = Some (get_or cs (last_of (has_key k) cs - 1) blank_call)
 
-      go : (b : Bool) → eqb (last_of (has_key k) cs) 0 ≡ b → is_none (cond b None held) ≡ false → Found (unwrap_or (cond b None held) blank_call)
+      go : (b : Bool) → eqb (last_of (has_key k) cs) 0 ≡ b → is_none (cond b None held) ≡ false
+          → Found (unwrap_or (cond b None held) blank_call)
       go true q f = absurd (true≢false f)
       go false q f = at_last (not-false (anyb (has_key k) cs) (sym (place-tells (has_key k) cs) ∙ q))
 
@@ -146,8 +147,10 @@ module _ (cs : List Call) (g : Leg) where
     pub ride-found : find_leg cs g ≡ found b a
     unfolding find_leg
     ride-found = λ i. record {
-      board = found-one cs (board_key g) d b (record { there = r.from; key = record { trip = n.board_trip; day = n.board_day; sequence = n.board_at } }) i;
-      alight = found-one cs (alight_key g) d a (record { there = r.to; key = record { trip = n.alight_trip; day = n.alight_day; sequence = n.alight_at } }) i;
+      board = found-one cs (board_key g) d b (record
+          { there = r.from; key = record { trip = n.board_trip; day = n.board_day; sequence = n.board_at } }) i;
+      alight = found-one cs (alight_key g) d a (record
+          { there = r.to; key = record { trip = n.alight_trip; day = n.alight_day; sequence = n.alight_at } }) i;
     }
 
     pub ride-free : (i : ℕ) → AllFail (leg_tests i g (find_leg cs g))

@@ -33,9 +33,16 @@ use Rattle.connection.specs.Ends.{low_digit, is_member_of}
 use Rattle.connection.specs.Changes.{in_reach, change_tests}
 use Rattle.listing.specs.Same.{same_ride, same_figures, same_journey}
 use Rattle.listing.specs.Listed.{listed_in_of, judged_in}
-use Rattle.verdict.specs.Verdicts.{ride_found, last_leg, middle_ride, last_ride, journey_on, ends_asked, changes_asked, causes_by, finished_by, verdict_of}
+use Rattle.verdict.specs.Verdicts.{ride_found, last_leg, middle_ride, last_ride, journey_on, ends_asked, changes_asked, causes_by}
+use Rattle.verdict.specs.Verdicts.{finished_by, verdict_of}
 use Rattle.verdicts.specs.Instances.{Instances}
 
 pub instances : Instances
-unfolding first_answer over_counts near all_near settings_tests walks_of canonical_of station_of id_wrong is_known type_wrong name_needed name_wrong stop_tests stop_at stop_of held known call_tests call_fit call_on cut fitted time_after seen_call seen open_answer empty_of undated_week stop_spec plain_call call_spec add_spec_of rule_tests rule_spec table parents_of keyed id_less id_order groups_of places_of ends_of_of transfer_of lexb clash rides first_rides joined_rides network_of offers search_of timetable_of outcome_of search_spec onward pass routes has_key find_in find_leg way_of ride_right low_digit is_member_of in_reach change_tests same_ride same_figures same_journey listed_in_of judged_in ride_found last_leg middle_ride last_ride journey_on ends_asked changes_asked causes_by verdict_of finished_by
+unfolding first_answer over_counts near all_near settings_tests walks_of canonical_of station_of id_wrong is_known type_wrong name_needed
+    name_wrong stop_tests stop_at stop_of held known call_tests call_fit call_on cut fitted time_after seen_call seen open_answer empty_of
+    undated_week stop_spec plain_call call_spec add_spec_of rule_tests rule_spec table parents_of keyed id_less id_order groups_of
+    places_of ends_of_of transfer_of lexb clash rides first_rides joined_rides network_of offers search_of timetable_of outcome_of
+    search_spec onward pass routes has_key find_in find_leg way_of ride_right low_digit is_member_of in_reach change_tests same_ride
+    same_figures same_journey listed_in_of judged_in ride_found last_leg middle_ride last_ride journey_on ends_asked changes_asked
+    causes_by verdict_of finished_by
 instances = record { opens = (refl, tt); finished = refl; each = refl; none = refl }

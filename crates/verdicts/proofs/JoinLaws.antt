@@ -63,11 +63,13 @@ module _ (l : Load) (b a : Call) (o k : ℕ) where
 
 -- ---- changes
 
-takes-some : (c : Option ℕ) (arrival departure : ℕ) → is_none c ≡ false → leb (arrival + unwrap_or c 0) departure ≡ true → joins_by c arrival departure ≡ true
+takes-some : (c : Option ℕ) (arrival departure : ℕ) → is_none c ≡ false → leb (arrival + unwrap_or c 0) departure ≡ true
+    → joins_by c arrival departure ≡ true
 takes-some (Some s) arrival departure e f = f
 takes-some None arrival departure e f = absurd (true≢false e)
 
-some-takes : (c : Option ℕ) (arrival departure : ℕ) → joins_by c arrival departure ≡ true → (is_none c ≡ false) × (leb (arrival + unwrap_or c 0) departure ≡ true)
+some-takes : (c : Option ℕ) (arrival departure : ℕ) → joins_by c arrival departure ≡ true
+    → (is_none c ≡ false) × (leb (arrival + unwrap_or c 0) departure ≡ true)
 some-takes (Some s) arrival departure e = (refl, e)
 some-takes None arrival departure e = absurd (false≢true e)
 
@@ -83,19 +85,22 @@ made-allowed r close s e = go (forbids r) refl
     go true q = absurd (true≢false (sym (ap is_none (forbids-never r close s q)) ∙ e))
     go false q = refl
 
-join-parts : (c : Option ℕ) (run : Bool) (arrival departure : ℕ) → join_of c run arrival departure ≡ true → (run ≡ false) × (joins_by c arrival departure ≡ true)
+join-parts : (c : Option ℕ) (run : Bool) (arrival departure : ℕ) → join_of c run arrival departure ≡ true
+    → (run ≡ false) × (joins_by c arrival departure ≡ true)
 join-parts c true arrival departure e = absurd (false≢true e)
 join-parts c false arrival departure e = (refl, e)
 
 module _ (l : Load) (i : ℕ) (b a c : Call) where
   abbrev pub changes : List (Bool × Cause)
-  changes = change_tests i (take l.rule_count l.rules) (parents_of l.stops) (places_of (take l.stop_count l.stops)) l.settings.transfer_seconds b a c
+  changes = change_tests i (take l.rule_count l.rules) (parents_of l.stops)
+      (places_of (take l.stop_count l.stops)) l.settings.transfer_seconds b a c
 
   pub joins-right : AllFail changes → joins_in l (ride_of b a) c ≡ true
   unfolding change_tests in_reach
   joins-right f =
       let reach : (ltb a.stop 128 && ltb c.stop 128) ≡ true = not-false _ f.1.0 in
-      cond-by _ _ reach ∙ cond-not _ _ f.0 ∙ takes-some (change_in l a.stop c.stop) a.arrival c.departure f.1.1.1.0 (not-false _ f.1.1.1.1.0)
+      cond-by _ _ reach ∙ cond-not _ _ f.0 ∙ takes-some (change_in l a.stop c.stop) a.arrival c.departure f.1.1.1.0
+      (not-false _ f.1.1.1.1.0)
 
   pub right-joins : joins_in l (ride_of b a) c ≡ true → AllFail changes
   unfolding change_tests in_reach transfer_of ends_of_of
@@ -113,7 +118,8 @@ module _ (l : Load) (i : ℕ) (b a c : Call) where
       close : Bool
       close = near ends (get_or places a.stop 65535) (get_or places c.stop 65535)
 
-      go : (x : Bool) → (ltb a.stop 128 && ltb c.stop 128) ≡ x → cond x (join_of (change_in l a.stop c.stop) (same_run b c) a.arrival c.departure) false ≡ true → AllFail changes
+      go : (x : Bool) → (ltb a.stop 128 && ltb c.stop 128) ≡ x
+          → cond x (join_of (change_in l a.stop c.stop) (same_run b c) a.arrival c.departure) false ≡ true → AllFail changes
       go false q w = absurd (false≢true w)
       go true q w =
           let (run, joined) = join-parts (change_in l a.stop c.stop) (same_run b c) a.arrival c.departure w in

@@ -22,7 +22,8 @@ use Rattle.verdicts.specs.Makes.{Names, ByOne, ByTwo, ByThree, Makes}
 use Rattle.verdicts.specs.Claims.{AllFail}
 use Rattle.verdicts.proofs.FailLaws.{free-fails, fails-free}
 use Rattle.verdicts.proofs.FoundLaws.{leg-ride, ride-found, ride-free}
-use Rattle.verdicts.proofs.PartLaws.{right_is, is_right, table, leg, boards, alights, journey-1, journey-2, journey-3, Clear, clear_of, clear-all, last-1, last-2, last-3, right_of}
+use Rattle.verdicts.proofs.PartLaws.{right_is, is_right, table, leg, boards, alights, journey-1, journey-2, journey-3, Clear, clear_of}
+use Rattle.verdicts.proofs.PartLaws.{clear-all, last-1, last-2, last-3, right_of}
 use Rattle.verdicts.proofs.JoinLaws.{asked, ends-right, right-ends, changes, joins-right, right-joins}
 
 module _ (l : Load) (c : Connection) where
@@ -42,7 +43,16 @@ module _ (l : Load) (c : Connection) where
           let ends = ends-right l (boards l c 0) (alights l c 0) c.origin c.target w.ends in
           inl (record {
             rides = n;
-            way = record { b = boards l c 0; a = alights l c 0; o = c.origin; k = c.target; ride = one.0; starts = ends.0; ends = ends.1; is = journey-1 l c n };
+            way = record {
+              b = boards l c 0;
+              a = alights l c 0;
+              o = c.origin;
+              k = c.target;
+              ride = one.0;
+              starts = ends.0;
+              ends = ends.1;
+              is = journey-1 l c n;
+            };
             origin = refl;
             target = refl;
             first = one.1;
@@ -127,11 +137,13 @@ module _ (l : Load) (c : Connection) where
           to = sym (ap (λ (f : FoundLeg). alights_at f) e);
         }
 
-    ends-free : {b a : Call} {o k : ℕ} (i : ℕ) → b ≡ boards l c 0 → a ≡ alights l c i → o ≡ c.origin → k ≡ c.target → Starts (timetable_of l) b o → Ends (timetable_of l) a k
+    ends-free : {b a : Call} {o k : ℕ} (i : ℕ) → b ≡ boards l c 0 → a ≡ alights l c i → o ≡ c.origin → k ≡ c.target
+        → Starts (timetable_of l) b o → Ends (timetable_of l) a k
         → AllFail (asked l (boards l c 0) (alights l c i) c.origin c.target)
     ends-free {b} {a} {o} {k} i eb ea eo ek s e = subst AllFail (λ t. asked l (eb t) (ea t) (eo t) (ek t)) (right-ends l b a o k s e)
 
-    change-free : (i : ℕ) {b a x : Call} (p q : ℕ) → b ≡ boards l c p → a ≡ alights l c p → x ≡ boards l c q → joins_in l (ride_of b a) x ≡ true → AllFail (changes l i (boards l c p) (alights l c p) (boards l c q))
+    change-free : (i : ℕ) {b a x : Call} (p q : ℕ) → b ≡ boards l c p → a ≡ alights l c p → x ≡ boards l c q
+        → joins_in l (ride_of b a) x ≡ true → AllFail (changes l i (boards l c p) (alights l c p) (boards l c q))
     change-free i {b} {a} {x} p q eb ea ex e = subst AllFail (λ t. changes l i (eb t) (ea t) (ex t)) (right-joins l i b a x e)
 
     -- the journey is without a cause, and is the one judged
@@ -152,8 +164,10 @@ module _ (l : Load) (c : Connection) where
           change-0 = λ h. absurd (omega (arith, m.rides));
           change-1 = λ h. absurd (omega (arith, m.rides));
         } in (
-          fails-free (causes l c) (clear-all l c 0 (last-1 l c m.rides) (right_is c.rides (omega (arith, m.rides)) (omega (arith, m.rides))) clear),
-          w.is ∙ (λ t. direct_of (timetable_of l) (ride_of (one.from t) (one.to t)) (m.origin t) (m.target t)) ∙ sym (journey-1 l c m.rides),
+          fails-free (causes l c) (clear-all l c 0 (last-1 l c m.rides)
+              (right_is c.rides (omega (arith, m.rides)) (omega (arith, m.rides))) clear),
+          w.is ∙ (λ t. direct_of (timetable_of l) (ride_of (one.from t) (one.to t)) (m.origin t) (m.target t))
+              ∙ sym (journey-1 l c m.rides),
         )
 
     made-2 : (j : Journey) → ByTwo (timetable_of l) c j → Judged j
@@ -171,8 +185,10 @@ module _ (l : Load) (c : Connection) where
           change-0 = λ h. change-free 0 0 1 one.from one.to two.from w.joined;
           change-1 = λ h. absurd (omega (arith, m.rides));
         } in (
-          fails-free (causes l c) (clear-all l c 1 (last-2 l c m.rides) (right_is c.rides (omega (arith, m.rides)) (omega (arith, m.rides))) clear),
-          w.is ∙ (λ t. change_of (timetable_of l) (ride_of (one.from t) (one.to t)) (ride_of (two.from t) (two.to t)) (m.origin t) (m.target t)) ∙ sym (journey-2 l c m.rides),
+          fails-free (causes l c) (clear-all l c 1 (last-2 l c m.rides)
+              (right_is c.rides (omega (arith, m.rides)) (omega (arith, m.rides))) clear),
+          w.is ∙ (λ t. change_of (timetable_of l) (ride_of (one.from t) (one.to t)) (ride_of (two.from t) (two.to t)) (m.origin t)
+              (m.target t)) ∙ sym (journey-2 l c m.rides),
         )
 
     made-3 : (j : Journey) → ByThree (timetable_of l) c j → Judged j
@@ -191,9 +207,11 @@ module _ (l : Load) (c : Connection) where
           change-0 = λ h. change-free 0 0 1 one.from one.to two.from w.joins_middle;
           change-1 = λ h. change-free 1 1 2 two.from two.to three.from w.joins_last;
         } in (
-          fails-free (causes l c) (clear-all l c 2 (last-3 l c m.rides) (right_is c.rides (omega (arith, m.rides)) (omega (arith, m.rides))) clear),
+          fails-free (causes l c) (clear-all l c 2 (last-3 l c m.rides)
+              (right_is c.rides (omega (arith, m.rides)) (omega (arith, m.rides))) clear),
           w.is
-              ∙ (λ t. three_of (timetable_of l) (ride_of (one.from t) (one.to t)) (ride_of (two.from t) (two.to t)) (ride_of (three.from t) (three.to t)) (m.origin t) (m.target t))
+              ∙ (λ t. three_of (timetable_of l) (ride_of (one.from t) (one.to t)) (ride_of (two.from t) (two.to t))
+              (ride_of (three.from t) (three.to t)) (m.origin t) (m.target t))
               ∙ sym (journey-3 l c m.rides),
         )
 

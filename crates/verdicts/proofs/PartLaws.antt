@@ -21,7 +21,8 @@ use Rattle.connection.specs.Tests.{asking}
 use Rattle.connection.specs.Find.{boards as boards_at, alights as alights_at, leg_at, find_leg, way_of}
 use Rattle.connection.specs.Legs.{ride_right, ride_tests, leg_tests}
 use Rattle.connection.specs.Ends.{count_tests}
-use Rattle.verdict.specs.Verdicts.{ride_found, last_leg, middle_ride, last_ride, journey_on, ends_asked, changes_asked, causes_by, way_in, journey_in, causes}
+use Rattle.verdict.specs.Verdicts.{ride_found, last_leg, middle_ride, last_ride, journey_on, ends_asked, changes_asked, causes_by, way_in}
+use Rattle.verdict.specs.Verdicts.{journey_in, causes}
 use Rattle.verdicts.specs.Claims.{AllFail}
 use Rattle.verdicts.proofs.FailLaws.{fails-left, fails-right, fails_both, fails-asked, fails-asking}
 use Rattle.verdicts.proofs.JoinLaws.{asked, changes}
@@ -80,12 +81,14 @@ module _ (l : Load) (c : Connection) where
   unfolding journey_on way_of ride_found last_leg middle_ride last_ride timetable_of
   journey-1 e = λ i. judged_as (e i)
 
-  pub journey-2 : c.rides ≡ 2 → journey_in l c ≡ change_of (timetable_of l) (ride_of (boards 0) (alights 0)) (ride_of (boards 1) (alights 1)) c.origin c.target
+  pub journey-2 : c.rides ≡ 2 → journey_in l c ≡ change_of (timetable_of l) (ride_of (boards 0) (alights 0))
+      (ride_of (boards 1) (alights 1)) c.origin c.target
   unfolding journey_on way_of ride_found last_leg middle_ride last_ride timetable_of
   journey-2 e = λ i. judged_as (e i)
 
   pub journey-3 : c.rides ≡ 3
-      → journey_in l c ≡ three_of (timetable_of l) (ride_of (boards 0) (alights 0)) (ride_of (boards 1) (alights 1)) (ride_of (boards 2) (alights 2)) c.origin c.target
+      → journey_in l c ≡ three_of (timetable_of l) (ride_of (boards 0) (alights 0)) (ride_of (boards 1) (alights 1))
+      (ride_of (boards 2) (alights 2)) c.origin c.target
   unfolding journey_on way_of ride_found last_leg middle_ride last_ride timetable_of
   journey-3 e = λ i. judged_as (e i)
 
@@ -145,12 +148,16 @@ module _ (l : Load) (c : Connection) where
         let more = fails-right legs₀ legs₊ fl in
         record {
           leg-0 = fails-left legs₀ legs₊ fl;
-          leg-1 = λ h. fails-asked legs₁ (le-leb 2 c.rides h) (fails-left (asking (leb 2 c.rides) legs₁) (asking (leb 3 c.rides) legs₂) more);
-          leg-2 = λ h. fails-asked legs₂ (le-leb 3 c.rides h) (fails-right (asking (leb 2 c.rides) legs₁) (asking (leb 3 c.rides) legs₂) more);
+          leg-1 = λ h. fails-asked legs₁ (le-leb 2 c.rides h)
+              (fails-left (asking (leb 2 c.rides) legs₁) (asking (leb 3 c.rides) legs₂) more);
+          leg-2 = λ h. fails-asked legs₂ (le-leb 3 c.rides h)
+              (fails-right (asking (leb 2 c.rides) legs₁) (asking (leb 3 c.rides) legs₂) more);
           ends = subst (λ (x : FoundLeg). AllFail (asked l (boards 0) (alights_at x) c.origin c.target)) e fe;
           count = ltb-false (l.settings.max_transfers + 1) c.rides fc.0;
-          change-0 = λ h. fails-asked first-change (le-leb 2 c.rides h) (fails-left (asking (leb 2 c.rides) first-change) (asking (leb 3 c.rides) second-change) g₄);
-          change-1 = λ h. fails-asked second-change (le-leb 3 c.rides h) (fails-right (asking (leb 2 c.rides) first-change) (asking (leb 3 c.rides) second-change) g₄);
+          change-0 = λ h. fails-asked first-change (le-leb 2 c.rides h)
+              (fails-left (asking (leb 2 c.rides) first-change) (asking (leb 3 c.rides) second-change) g₄);
+          change-1 = λ h. fails-asked second-change (le-leb 3 c.rides h)
+              (fails-right (asking (leb 2 c.rides) first-change) (asking (leb 3 c.rides) second-change) g₄);
         }
 
     pub clear-all : ride_right c.rides ≡ true → Clear last → AllFail (causes l c)
@@ -160,7 +167,8 @@ module _ (l : Load) (c : Connection) where
         (fails_both asked_legs (asked_ends ++ (asked_count ++ asked_changes))
         (fails_both legs₀ legs₊ w.leg-0
         (fails_both (asking (leb 2 c.rides) legs₁) (asking (leb 3 c.rides) legs₂)
-        (fails-asking (leb 2 c.rides) legs₁ (λ q. w.leg-1 (leb-true 2 c.rides q))) (fails-asking (leb 3 c.rides) legs₂ (λ q. w.leg-2 (leb-true 3 c.rides q)))))
+        (fails-asking (leb 2 c.rides) legs₁ (λ q. w.leg-1 (leb-true 2 c.rides q)))
+        (fails-asking (leb 3 c.rides) legs₂ (λ q. w.leg-2 (leb-true 3 c.rides q)))))
         (fails_both asked_ends (asked_count ++ asked_changes)
         (subst (λ (x : FoundLeg). AllFail (asked l (boards 0) (alights_at x) c.origin c.target)) (sym e) w.ends)
         (fails_both asked_count asked_changes (le-ltb (l.settings.max_transfers + 1) c.rides w.count, tt)

@@ -21,7 +21,8 @@ use Rattle.withdrawal.specs.Removal.{last_of}
 use Rattle.verdicts.specs.Claims.{RuleNumbered}
 
 -- the place of the last that passes, in front of which so many stand
-last-split : (p : Rule → Bool) (xs : List Rule) (y : Rule) (ys : List Rule) → p y ≡ true → anyb p ys ≡ false → last_of p (xs ++ (y ∷ ys)) ≡ suc (length xs)
+last-split : (p : Rule → Bool) (xs : List Rule) (y : Rule) (ys : List Rule) → p y ≡ true → anyb p ys ≡ false
+    → last_of p (xs ++ (y ∷ ys)) ≡ suc (length xs)
 last-split p [] y ys e f = rw (f, e) refl
 last-split p (x ∷ xs) y ys e f =
     let some : anyb p (xs ++ (y ∷ ys)) ≡ true = anyb-append p xs (y ∷ ys) ∙ or_true_right (anyb p xs) (p y || anyb p ys) (rw e refl) in
@@ -65,7 +66,8 @@ module _ (e : Ends) where
     last = anyb-append (same_pair b.from b.to) w.behind (x ∷ []) ∙ rw (w.last, q) refl;
   }
 
-  read-last : (rs : List Rule) (x : Rule) (c : Option Rule) → ((b : Rule) → c ≡ Some b → Last rs b) → (r : Rule) → read e c x ≡ Some r → Last (rs ++ (x ∷ [])) r
+  read-last : (rs : List Rule) (x : Rule) (c : Option Rule) → ((b : Rule) → c ≡ Some b → Last rs b) → (r : Rule) → read e c x ≡ Some r
+      → Last (rs ++ (x ∷ [])) r
   read-last rs x None ih r q = go (applies e x) refl q
     where
       go : (a : Bool) → applies e x ≡ a → cond a (Some x) None ≡ Some r → Last (rs ++ (x ∷ [])) r

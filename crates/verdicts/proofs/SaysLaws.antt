@@ -35,7 +35,8 @@ module _ (p : Journey → Bool) where
   place-some i n [] e = absurd (none-ne-some n e)
   place-some i n (k ∷ ks) e = go (p k) refl e (place-some (i + 1) n ks)
     where
-      go : (b : Bool) → p k ≡ b → cond b (Some i) (position_from p (i + 1) ks) ≡ Some n → (position_from p (i + 1) ks ≡ Some n → Stands (i + 1) n ks)
+      go : (b : Bool) → p k ≡ b → cond b (Some i) (position_from p (i + 1) ks) ≡ Some n
+          → (position_from p (i + 1) ks ≡ Some n → Stands (i + 1) n ks)
           → Stands i n (k ∷ ks)
       go true q f ih = record { m = 0; is = omega (arith, some-injective i n f); there = omega arith; passes = q }
       go false q f ih = let w = ih f in record { m = suc w.m; is = omega (arith, w.is); there = omega (arith, w.there); passes = w.passes }

@@ -67,7 +67,8 @@ pub data Says (ks : List Journey) (j : Journey) : Verdict → Type 0 where
 
 -- a connection without a cause that is due by the horizon is listed, equalled or beaten, by a member of the list
 abbrev pub DueIsCovered : Type 0
-DueIsCovered = (o : Opening) (xs : List Step) (c : Connection) → Opens o → is_finished (end_of o xs) ≡ true → cause_of (end_of o xs) c ≡ None
+DueIsCovered = (o : Opening) (xs : List Step) (c : Connection) → Opens o → is_finished (end_of o xs) ≡ true
+    → cause_of (end_of o xs) c ≡ None
     → (journey_in (end_of o xs) c).arrival ≤ (end_of o xs).horizon → Says (kept_of (end_of o xs)) (journey_in (end_of o xs) c) (verdict_of (end_of o xs) c)
 
 -- so the one verdict that would contradict the list, a connection without a cause that is due and that nothing of the list equals or

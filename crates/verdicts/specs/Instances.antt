@@ -10,7 +10,8 @@ use Rattle.steps.specs.Steps.{Step, filling, search}
 use Rattle.steps.specs.Lists.{end_of}
 use Rattle.connection.specs.declared.Leg.{Leg}
 use Rattle.connection.specs.declared.Connection.{Connection}
-use Rattle.connection.specs.declared.Cause.TheVariants.{RideCount, NoCall, BoardingBarred, AlightingBarred, NotLater, NotOrigin, NotTarget, TooEarly, TooManyChanges, SameRun, Forbidden, NoChange, TooShort}
+use Rattle.connection.specs.declared.Cause.TheVariants.{RideCount, NoCall, BoardingBarred, AlightingBarred, NotLater, NotOrigin}
+use Rattle.connection.specs.declared.Cause.TheVariants.{NotTarget, TooEarly, TooManyChanges, SameRun, Forbidden, NoChange, TooShort}
 use Rattle.listing.specs.declared.Verdict.{Verdict}
 use Rattle.listing.specs.declared.Verdict.TheVariants.{NotFinished, Late, Listed, AsGood, Beaten, Impossible}
 use Rattle.verdict.specs.Verdicts.{verdict_of}
@@ -39,7 +40,16 @@ station id members = filling (stop (id ∷ []) None None (record { location_type
 -- trip, sequence, stop, time, pickup and drop-off
 abbrev pub call_at : ℕ → ℕ → ℕ → ℕ → ℕ → ℕ → Step
 call_at trip sequence at time pickup off =
-    filling (call [] (record { trip = trip; day = 0; sequence = sequence; stop = at; arrival = Some time; departure = Some time; pickup = pickup; drop_off = off }))
+    filling (call [] (record {
+      trip = trip;
+      day = 0;
+      sequence = sequence;
+      stop = at;
+      arrival = Some time;
+      departure = Some time;
+      pickup = pickup;
+      drop_off = off;
+    }))
 
 -- stop 0 is of the origin, stop 3 of the target; from stop 1 to stop 2 one may not change, and to stop 4 it takes 240 seconds
 abbrev pub typed : List Step
@@ -92,7 +102,8 @@ abbrev pub said : List Verdict
 said =
     Listed 0 ∷ AsGood 0 ∷ Beaten 0 ∷ Late
     ∷ Impossible (RideCount 0) ∷ Impossible (RideCount 4)
-    ∷ Impossible (NoCall 0 7) ∷ Impossible (NoCall 0 1) ∷ Impossible (NoCall 0 3) ∷ Impossible (BoardingBarred 0) ∷ Impossible (AlightingBarred 0) ∷ Impossible (NotLater 0)
+    ∷ Impossible (NoCall 0 7) ∷ Impossible (NoCall 0 1) ∷ Impossible (NoCall 0 3) ∷ Impossible (BoardingBarred 0)
+    ∷ Impossible (AlightingBarred 0) ∷ Impossible (NotLater 0)
     ∷ Impossible NotOrigin ∷ Impossible NotOrigin ∷ Impossible NotTarget ∷ Impossible NotTarget
     ∷ Impossible (TooEarly 300 299)
     ∷ Impossible (TooManyChanges 1)

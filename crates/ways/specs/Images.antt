@@ -25,7 +25,8 @@ RideIn s r = Memᴰ r.b s × Memᴰ r.a s
 
 -- a direct journey, and one with a change, stands for that of the images
 pub record Stand {C D A B : Type 0} (N : Network C) (h : C → D) (depth : ℕ) (s : List C) (φ : A → B)
-    (direct : First C → ℕ → A) (change : First C → Leg C → ℕ → A) (direct' : First D → ℕ → B) (change' : First D → Leg D → ℕ → B) : Type 0 where
+    (direct : First C → ℕ → A) (change : First C → Leg C → ℕ → A) (direct' : First D → ℕ → B)
+    (change' : First D → Leg D → ℕ → B) : Type 0 where
   pub alone : (f : First C) (k : ℕ) → RideIn s f.ride → Memᴰ f.o (N.origins f.ride.b) → Memᴰ k (N.targets f.ride.a)
       → φ (direct f k) ≡ direct' (first_by h f) k
   pub changing : depth ≡ 1 → (f : First C) (l : Leg C) (k : ℕ) → RideIn s f.ride → Memᴰ f.o (N.origins f.ride.b) → RideIn s l
@@ -42,7 +43,8 @@ module _ {C D : Type 0} (N : Network C) (M : Network D) (h : C → D) (depth : �
   FirstRidesOfImages = Images N M h depth s → first_rides M (map h s) ≡ map (first_by h) (first_rides N s)
 
   -- if each journey stands for that of the images, so do all of them, in order
-  module _ {A B : Type 0} (φ : A → B) (direct : First C → ℕ → A) (change : First C → Leg C → ℕ → A) (direct' : First D → ℕ → B) (change' : First D → Leg D → ℕ → B) where
+  module _ {A B : Type 0} (φ : A → B) (direct : First C → ℕ → A) (change : First C → Leg C → ℕ → A) (direct' : First D → ℕ → B)
+      (change' : First D → Leg D → ℕ → B) where
     abbrev pub JourneysOfImages : Type 0
     JourneysOfImages = Images N M h depth s → Stand N h depth s φ direct change direct' change'
         → map φ (journeys N direct change depth s) ≡ journeys M direct' change' depth (map h s)

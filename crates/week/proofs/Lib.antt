@@ -1,5 +1,4 @@
 pub mod PlaceLaws
 pub mod StepLaws
-pub mod Known
 pub mod SoundLaws
 pub mod Held

@@ -15,7 +15,7 @@ use Rattle.refusal.specs.First.{hit, is_refused, is_taken, Answer}
 use Rattle.refusal.proofs.FirstLaws.{first-is-answer}
 use Rattle.services.specs.Exceptions.{days_on, excepted_of}
 use Rattle.week.specs.declared.Week.{Week}
-use Rattle.week.specs.declared.WeekStepped.{WeekStepped}
+use Rattle.week.specs.Weeks.{is_dated, dates_in, WeekStepped}
 use Rattle.week.specs.Weeks.{blank_service, service_of, undated_week, dated_week, closed_week, with_services, service_tests, service_answer}
 use Rattle.week.specs.Weeks.{service_on, exception_tests, exception_answer, place_in, service_in, exception_on}
 use Rattle.week.specs.Sound.{WeekSound, UndatedSound, DatedSound, ClosedSound, ServiceKeepsSound, ExceptionKeepsSound}
@@ -43,7 +43,7 @@ pub closed-sound : ClosedSound
 closed-sound w s = record { few = s.few; long = s.long; blank = s.blank; undated = λ e. ap closed_week (s.undated e) ∙ closed-undated }
 
 -- a week that takes a service or an exception is dated
-open-dated : (w : Week) (searched : Bool) → WeekSound w → (searched || w.closed) ≡ false → w.dated ≡ false → ⊥
+open-dated : (w : Week) (searched : Bool) → WeekSound w → (searched || w.closed) ≡ false → is_dated w ≡ false → ⊥
 open-dated w searched s t e =
     true≢false (sym (ap (λ (v : Week). v.closed) (s.undated e) ∙ undated-closed) ∙ or-false-right searched w.closed t)
 
@@ -69,7 +69,8 @@ exception-keeps-sound w searched name date kind s = go (is_taken (exception_answ
   where
     go : (b : Bool) → is_taken (exception_answer w searched name date kind) ≡ b
         → WeekSound (cond b
-        (with_services w (set w.services (place_in w name) (excepted_of (service_in w name) (days_on w.dates date) kind)) w.service_count)
+        (with_services w (set w.services (place_in w name) (excepted_of (service_in w name) (days_on (dates_in w) date) kind))
+        w.service_count)
         w)
     go false e = s
     go true e =
@@ -77,9 +78,10 @@ exception-keeps-sound w searched name date kind s = go (is_taken (exception_answ
         let below = (place-below w.services w.service_count name p.known).0 in
         record {
           few = s.few;
-          long = length-set w.services (place_in w name) (excepted_of (service_in w name) (days_on w.dates date) kind) ∙ s.long;
+          long = length-set w.services (place_in w name) (excepted_of (service_in w name) (days_on (dates_in w) date) kind) ∙ s.long;
           blank =
-              drop-set-lt w.service_count w.services (place_in w name) (excepted_of (service_in w name) (days_on w.dates date) kind) below
+              drop-set-lt w.service_count w.services (place_in w name)
+              (excepted_of (service_in w name) (days_on (dates_in w) date) kind) below
               ∙ s.blank;
           undated = λ d. absurd (open-dated w searched s p.in_time d);
         }

@@ -14,15 +14,14 @@ use Rattle.laws.proofs.Bools.{cond-by, cond-not}
 use Rattle.refusal.specs.First.{is_taken, Answer}
 use Rattle.refusal.proofs.FirstLaws.{answer-is-first, first_taken, taken_is}
 use Rattle.services.specs.declared.Service.{Service}
-use Rattle.services.specs.Runs.{runs_of}
 use Rattle.services.specs.Exceptions.{days_on, excepted_of}
 use Rattle.stops.specs.Answer.{id_wrong}
 use Rattle.services.specs.Wrong.{span_wrong, exception_wrong}
 use Rattle.week.specs.declared.Week.{Week}
-use Rattle.week.specs.declared.WeekStepped.{WeekStepped}
-use Rattle.week.specs.declared.Running.TheVariants.{Unknown, Rests, Runs}
-use Rattle.week.specs.Weeks.{blank_service, service_of, named, place_of, with_services, service_tests, service_answer, service_on}
-use Rattle.week.specs.Weeks.{exception_tests, exception_answer, place_in, service_in, exception_on, running}
+use Rattle.week.specs.declared.Running.TheVariants.{Runs}
+use Rattle.week.specs.Weeks.{is_dated, dates_in, blank_service, service_of, named, place_of, with_services, service_tests, service_answer}
+use Rattle.week.specs.Weeks.{service_on}
+use Rattle.week.specs.Weeks.{week_stepped, exception_tests, exception_answer, place_in, service_in, exception_on, running}
 use Rattle.week.proofs.PlaceLaws.{place_found, found-at, find-is}
 
 -- ---- service
@@ -46,8 +45,8 @@ module _ (w : Week) (searched : Bool) (name : List ℕ) (weekdays start end : �
       record { in_time = f.0; name_right = f.1.0; new = f.1.1.0; span_right = f.1.1.1.0; room = leb-false 64 w.service_count f.1.1.1.1.0 }
 
   pub service-taken : (s : Service) → is_taken a ≡ true → s ≡ service_of name weekdays start end
-      → ◌≡◌ {A = WeekStepped} (record { answer = a; week = with_services w (set w.services w.service_count s) (w.service_count + 1) })
-      (service_on w searched name weekdays start end)
+      → week_stepped a (with_services w (set w.services w.service_count s) (w.service_count + 1))
+      ≡ service_on w searched name weekdays start end
   unfolding service_on
   service-taken s e q =
       let same : with_services w (set w.services w.service_count s) (w.service_count + 1)
@@ -57,8 +56,7 @@ module _ (w : Week) (searched : Bool) (name : List ℕ) (weekdays start end : �
       ∙ sym (cond-by _ _ (ap is_taken (sym h) ∙ e)) in
       λ k. record { answer = h k; week = same k }
 
-  pub service-refused : is_taken a ≡ false
-      → ◌≡◌ {A = WeekStepped} (record { answer = a; week = w }) (service_on w searched name weekdays start end)
+  pub service-refused : is_taken a ≡ false → week_stepped a w ≡ service_on w searched name weekdays start end
   unfolding service_on
   service-refused e =
       let same : w ≡ cond (is_taken (service_answer w searched name start end))
@@ -111,22 +109,21 @@ module _ (w : Week) (searched : Bool) (name : List ℕ) (date kind : ℕ) (a : A
   marked at s = with_services w (set w.services at s) w.service_count
 
   pub exception-taken : (at : ℕ) (old s : Service) (days : ℕ) → is_taken a ≡ true → at ≡ place_in w name → old ≡ service_in w name
-      → days ≡ days_on w.dates date → s ≡ excepted_of old days kind
-      → ◌≡◌ {A = WeekStepped} (record { answer = a; week = marked at s }) (exception_on w searched name date kind)
+      → days ≡ days_on (dates_in w) date → s ≡ excepted_of old days kind
+      → week_stepped a (marked at s) ≡ exception_on w searched name date kind
   unfolding exception_on
   exception-taken at old s days e pe oe de q =
-      let new : s ≡ excepted_of (service_in w name) (days_on w.dates date) kind = q ∙ (λ k. excepted_of (oe k) (de k) kind) in
+      let new : s ≡ excepted_of (service_in w name) (days_on (dates_in w) date) kind = q ∙ (λ k. excepted_of (oe k) (de k) kind) in
       let same : marked at s ≡ cond (is_taken (exception_answer w searched name date kind))
-      (marked (place_in w name) (excepted_of (service_in w name) (days_on w.dates date) kind)) w =
+      (marked (place_in w name) (excepted_of (service_in w name) (days_on (dates_in w) date) kind)) w =
       (λ k. marked (pe k) (new k)) ∙ sym (cond-by _ _ (ap is_taken (sym h) ∙ e)) in
       λ k. record { answer = h k; week = same k }
 
-  pub exception-refused : is_taken a ≡ false
-      → ◌≡◌ {A = WeekStepped} (record { answer = a; week = w }) (exception_on w searched name date kind)
+  pub exception-refused : is_taken a ≡ false → week_stepped a w ≡ exception_on w searched name date kind
   unfolding exception_on
   exception-refused e =
       let same : w ≡ cond (is_taken (exception_answer w searched name date kind))
-      (marked (place_in w name) (excepted_of (service_in w name) (days_on w.dates date) kind)) w =
+      (marked (place_in w name) (excepted_of (service_in w name) (days_on (dates_in w) date) kind)) w =
       sym (cond-not _ _ (ap is_taken (sym h) ∙ e)) in
       λ k. record { answer = h k; week = same k }
 
@@ -148,18 +145,6 @@ module _ (w : Week) (name : List ℕ) where
           ap Some (get_or-take w.service_count w.services (place_in w name) blank_service below)
 
 module _ (w : Week) (name : List ℕ) (day : ℕ) where
-  pub runs-undated : w.dated ≡ false → Runs ≡ running w name day
+  pub runs-undated : is_dated w ≡ false → Runs ≡ running w name day
   unfolding running
   runs-undated e = sym (cond-not _ _ e)
-
-  pub runs-unknown : w.dated ≡ true → anyb (named name) (take w.service_count w.services) ≡ false → Unknown ≡ running w name day
-  unfolding running
-  runs-unknown d e = sym (cond-by _ _ d ∙ cond-not _ _ e)
-
-  pub runs-known : w.dated ≡ true → anyb (named name) (take w.service_count w.services) ≡ true → (b : Bool) (s : Service) (date : ℕ)
-      → s ≡ service_in w name → date ≡ get_or w.dates day 0 → b ≡ runs_of s day date
-      → cond b Runs Rests ≡ running w name day
-  unfolding running
-  runs-known d e b s date se de q =
-      let same : b ≡ runs_of (service_in w name) day (get_or w.dates day 0) = q ∙ (λ k. runs_of (se k) day (de k)) in
-      ap (λ (x : Bool). cond x Runs Rests) same ∙ sym (cond-by _ _ d ∙ cond-by _ _ e)

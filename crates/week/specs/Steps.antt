@@ -7,8 +7,10 @@ use Rattle.week.specs.Weeks.{service_answer, service_on, exception_answer, excep
 
 -- no service or exception is taken after an answered call
 pub record Closed (w : Week) : Type 0 where
-  pub service : (searched : Bool) (name : List ℕ) (weekdays start end : ℕ) → service_on w searched name weekdays start end ≡ record { answer = Err AlreadySearched; week = w }
-  pub exception : (searched : Bool) (name : List ℕ) (date kind : ℕ) → exception_on w searched name date kind ≡ record { answer = Err AlreadySearched; week = w }
+  pub service : (searched : Bool) (name : List ℕ) (weekdays start end : ℕ)
+      → service_on w searched name weekdays start end ≡ record { answer = Err AlreadySearched; week = w }
+  pub exception : (searched : Bool) (name : List ℕ) (date kind : ℕ)
+      → exception_on w searched name date kind ≡ record { answer = Err AlreadySearched; week = w }
 
 abbrev pub ClosedStays : Type 0
 ClosedStays = (w : Week) → w.closed ≡ true → Closed w

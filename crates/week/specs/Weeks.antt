@@ -1,6 +1,8 @@
--- The dated part of a load: the dates of its days and its services. Why a service or an exception is sent back, what it leaves, and whether the
--- service that a call names runs.
-use Rattle.std.specs.Prelude.{ℕ, suc, ◌+◌, ◌%◌, Bool, true, false, not, cond, ◌||◌, List, [], ◌∷◌, leb, get_or, take, set, replicate, Err}
+-- The dated part of a load: the dates of its days and its services. Why a service or an exception is sent back, what it leaves, and
+-- whether the service that a call names runs.
+use Rattle.std.specs.Prelude.{ℕ, suc, ◌+◌, ◌%◌, Bool, true, false, not, cond, ◌||◌, List, [], ◌∷◌, leb, get_or, take, set, replicate}
+use Rattle.std.specs.Prelude.{None, Some, Err}
+use Rattle.std.specs.Option.{is_some, unwrap_or}
 use Rattle.laws.specs.Lists.{anyb}
 use Rattle.refusal.specs.declared.Refusal.TheVariants.{AlreadySearched, IdLength, IdTaken, DateWrong, ServiceUnknown, ServicesFull}
 use Rattle.refusal.specs.First.{first_answer, is_taken, Answer}
@@ -12,7 +14,6 @@ use Rattle.services.specs.Wrong.{span_wrong, exception_wrong}
 use Rattle.stops.specs.Texts.{same_bytes_of}
 use Rattle.stops.specs.Answer.{id_wrong}
 use Rattle.week.specs.declared.Week.{Week}
-use Rattle.week.specs.declared.WeekStepped.{WeekStepped}
 use Rattle.week.specs.declared.Running.{Running}
 use Rattle.week.specs.declared.Running.TheVariants.{Unknown, Rests, Runs}
 
@@ -47,21 +48,37 @@ place_of p (s ∷ ss) = cond (p s) 0 (suc (place_of p ss))
 
 -- ---- weeks
 
+-- what a service or an exception is answered, and the week after it
+pub record WeekStepped : Type 0 where
+  pub answer : Answer
+  pub week : Week
+
+-- a step in place: its answer, and the week that it leaves
+abbrev pub week_stepped : Answer → Week → WeekStepped
+week_stepped a w = record { answer = a; week = w }
+
+abbrev pub is_dated : Week → Bool
+is_dated w = is_some w.dates
+
+-- the dates of the three days; none without dates
+abbrev pub dates_in : Week → List ℕ
+dates_in w = unwrap_or w.dates []
+
 -- of a load opened without dates: its services are closed from the start
 unfoldable pub undated_week : Week
-undated_week = record { dated = false; dates = 0 ∷ 0 ∷ 0 ∷ []; services = replicate 64 blank_service; service_count = 0; closed = true }
+undated_week = record { dates = None; services = replicate 64 blank_service; service_count = 0; closed = true }
 
 -- of a load opened with these dates
 unfoldable pub dated_week : List ℕ → Week
-dated_week dates = record { dated = true; dates = dates; services = replicate 64 blank_service; service_count = 0; closed = false }
+dated_week dates = record { dates = Some dates; services = replicate 64 blank_service; service_count = 0; closed = false }
 
 -- after an answered call
 abbrev pub closed_week : Week → Week
-closed_week w = record { dated = w.dated; dates = w.dates; services = w.services; service_count = w.service_count; closed = true }
+closed_week w = record { dates = w.dates; services = w.services; service_count = w.service_count; closed = true }
 
 -- with these services, of which n are taken
 abbrev pub with_services : Week → List Service → ℕ → Week
-with_services w ss n = record { dated = w.dated; dates = w.dates; services = ss; service_count = n; closed = w.closed }
+with_services w ss n = record { dates = w.dates; services = ss; service_count = n; closed = w.closed }
 
 -- ---- service: 15, 3, 5, 20, 22
 
@@ -111,7 +128,8 @@ unfoldable pub exception_on : Week → Bool → List ℕ → ℕ → ℕ → Wee
 exception_on w searched name date kind = record {
   answer = exception_answer w searched name date kind;
   week = cond (is_taken (exception_answer w searched name date kind))
-      (with_services w (set w.services (place_in w name) (excepted_of (service_in w name) (days_on w.dates date) kind)) w.service_count) w;
+      (with_services w (set w.services (place_in w name) (excepted_of (service_in w name) (days_on (dates_in w) date) kind))
+      w.service_count) w;
 }
 
 -- ---- call
@@ -119,6 +137,7 @@ exception_on w searched name date kind = record {
 -- the service that a call names, on the call's day; without dates the name is unread
 unfoldable pub running : Week → List ℕ → ℕ → Running
 running w name day =
-    cond w.dated
-    (cond (anyb (named name) (take w.service_count w.services)) (cond (runs_of (service_in w name) day (get_or w.dates day 0)) Runs Rests) Unknown)
+    cond (is_dated w)
+    (cond (anyb (named name) (take w.service_count w.services))
+    (cond (runs_of (service_in w name) day (get_or (dates_in w) day 0)) Runs Rests) Unknown)
     Runs

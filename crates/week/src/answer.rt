@@ -9,35 +9,28 @@ ghost use Rattle.refusal.specs.First.{first_answer};
 ghost use Rattle.week.specs.Weeks.{blank_service, service_of, named, place_of, service_tests, exception_tests};
 
 use refusal::{Accepted, Answer, Refusal};
-use services::{Service, exception_wrong, span_wrong};
+use services::{ExceptionInput, Service, ServiceInput, exception_wrong, span_wrong};
 use stop_answer::id_wrong;
 use stops::find::same_text;
 use texts::Text;
 
-// What an unused slot holds. No `Default`: derived, its contract says nothing of a text.
+// What an unused slot holds: the default, by a name that contracts can give it.
 pub fn blank_service() -> Service
     ensures { result ≡ blank_service }
 {
-    Service {
-        name: Text::of(b""),
-        weekdays: 0,
-        start: 0,
-        end: 0,
-        added: 0,
-        removed: 0,
-    }
+    Service::default()
 }
 
-// A new service: seven weekday marks, no exception yet. Its three numbers come one by one, and a record of them would be taken apart here.
+// A new service: seven weekday marks, no exception yet. No `From`: it takes a name beside the numbers.
 #[tactic(auto, unfolding(crate::specs::Weeks::service_of))]
-pub fn service_of(name: &[u8], weekdays: u8, start: u32, end: u32) -> Service
-    ensures { result ≡ service_of name.now weekdays start end }
+pub fn service_of(name: &[u8], input: ServiceInput) -> Service
+    ensures { result ≡ service_of name.now input.weekdays input.start input.end }
 {
     Service {
         name: Text::of(name),
-        weekdays: weekdays % 128,
-        start,
-        end,
+        weekdays: input.weekdays % 128,
+        start: input.start,
+        end: input.end,
         added: 0,
         removed: 0,
     }
@@ -58,17 +51,17 @@ fn place_of(services: &[Service], name: &[u8]) -> Option<usize>
     services.iter().position(|service| is_named(service, name))
 }
 
-// What a service is answered, by the services taken: 15, 3, 5, 20, 22. Of its numbers two are read, so they come one by one.
+// What a service is answered, by the services taken: 15, 3, 5, 20, 22.
 #[tactic(auto, unfolding(crate::specs::Weeks::service_tests, refusal::specs::First::first_answer))]
 pub fn service_answer(
     searched: bool,
     closed: bool,
     services: &[Service],
     name: &[u8],
-    start: u32,
-    end: u32,
+    input: ServiceInput,
 ) -> Answer
-    ensures { result ≡ first_answer (service_tests searched closed services.now (length services.now) name.now start end) }
+    ensures { result
+        ≡ first_answer (service_tests searched closed services.now (length services.now) name.now input.start input.end) }
 {
     if searched || closed {
         return Err(Refusal::AlreadySearched);
@@ -79,7 +72,7 @@ pub fn service_answer(
     if place_of(services, name).is_some() {
         return Err(Refusal::IdTaken);
     }
-    if span_wrong(start, end) {
+    if span_wrong(input) {
         return Err(Refusal::DateWrong);
     }
     if 64 <= services.len() {
@@ -88,25 +81,23 @@ pub fn service_answer(
     Ok(Accepted::Taken)
 }
 
-// The place of the service that an exception is for, or why the exception is sent back: 15, 20, 21. Its kind is a number and no enum: any
-// may be handed in, and one that is not 1 or 2 is sent back.
+// The place of the service that an exception is for, or why the exception is sent back: 15, 20, 21.
 #[tactic(auto, unfolding(crate::specs::Weeks::exception_tests, refusal::specs::First::first_answer))]
 pub fn exception_place(
     searched: bool,
     closed: bool,
     services: &[Service],
     name: &[u8],
-    date: u32,
-    kind: u8,
+    input: ExceptionInput,
 ) -> Result<usize, Refusal>
     ensures answer { result_map_both (λ _. Taken) (λ r. r) result
-        ≡ first_answer (exception_tests searched closed services.now (length services.now) name.now date kind) }
+        ≡ first_answer (exception_tests searched closed services.now (length services.now) name.now input.date input.kind) }
     ensures place { ForOk result (λ at. position_from (named name.now) 0 services.now ≡ Some at) }
 {
     if searched || closed {
         return Err(Refusal::AlreadySearched);
     }
-    if exception_wrong(date, kind) {
+    if exception_wrong(input) {
         return Err(Refusal::DateWrong);
     }
     place_of(services, name).ok_or(Refusal::ServiceUnknown)

@@ -8,27 +8,16 @@ ghost use Rattle.std.specs.Prelude.{◌≡◌};
 ghost use Rattle.week.specs.Weeks.{undated_week, dated_week, closed_week};
 
 use crate::answer::blank_service;
-use refusal::Answer;
 use services::Service;
 
-// A load opened without dates is not dated, and its services are closed from the start. `dated` stands beside `dates`, and no option: an
-// exception is taken only where there are dates, and would have to unwrap them again. `closed` tells of no other field. The services are an
+// A load opened without dates has none, and its services are closed from the start. `closed` tells of no other field. The services are an
 // array with a count, since the core has no heap: a slot past the count holds the blank service.
 #[derive(Clone, Copy, Debug, PartialEq, Eq)]
 pub struct Week {
-    pub dated: bool,
-    pub dates: [u32; 3],
+    pub dates: Option<[u32; 3]>,
     pub services: [Service; 64],
     pub service_count: usize,
     pub closed: bool,
-}
-
-// What a service or an exception is answered, and the week after it: the week given, where it is sent back. No `Result`:
-// the week goes on after either.
-#[derive(Clone, Copy, Debug, PartialEq, Eq)]
-pub struct WeekStepped {
-    pub answer: Answer,
-    pub week: Week,
 }
 
 // Of the service that a call names, on the call's day: three ends, so no `Option`.
@@ -46,10 +35,8 @@ pub fn undated() -> Week
 {
     let service = blank_service();
     let services = [service; 64];
-    let dates = [0u32; 3];
     Week {
-        dated: false,
-        dates,
+        dates: None,
         services,
         service_count: 0,
         closed: true,
@@ -64,8 +51,7 @@ pub fn dated(dates: [u32; 3]) -> Week
     let service = blank_service();
     let services = [service; 64];
     Week {
-        dated: true,
-        dates,
+        dates: Some(dates),
         services,
         service_count: 0,
         closed: false,

@@ -1,13 +1,14 @@
 // The steps on a week: a service, an exception, and what a call asks of it.
 ghost use Rattle.std.specs.Prelude.{◌≡◌, take, cond, None, Some};
 ghost use Rattle.laws.specs.Lists.{anyb};
-ghost use Rattle.week.specs.Weeks.{named, service_in, service_on, exception_on, running};
+ghost use Rattle.services.specs.Exceptions.{days_on};
+ghost use Rattle.week.specs.Weeks.{dates_in, named, service_in, week_stepped, service_on, exception_on, running};
 
 use crate::answer::{exception_place, is_named, service_answer, service_of};
-use crate::{Running, Week, WeekStepped};
+use crate::{Running, Week};
 use prefix::first;
-use refusal::{Accepted, is_taken};
-use services::{Service, days_on};
+use refusal::{Accepted, Answer, is_taken};
+use services::{ExceptionInput, Service, ServiceInput, days_on};
 
 impl Week {
     // The services taken.
@@ -28,50 +29,39 @@ impl Week {
             .copied()
     }
 
-    // A service is taken or sent back; `searched` is the load's. Its numbers come one by one, as those of an exception do: a record would
-    // be made by the caller and taken apart here.
-    pub fn service(
-        self,
-        searched: bool,
-        name: &[u8],
-        weekdays: u8,
-        start: u32,
-        end: u32,
-    ) -> WeekStepped
-        ensures { result ≡ service_on self searched name.now weekdays start end }
+    // A service is taken, or sent back and the week left as it was; `searched` is the load's.
+    pub fn take_service(&mut self, searched: bool, name: &[u8], input: ServiceInput) -> Answer
+        ensures { week_stepped result self.new
+            ≡ service_on self.old searched name.now input.weekdays input.start input.end }
     {
-        let services = self.taken();
-        let answer = service_answer(searched, self.closed, services, name, start, end);
+        let at = self.service_count;
+        let answer = service_answer(searched, self.closed, self.taken(), name, input);
         if is_taken(answer) {
-            let at = self.service_count;
-            let mut next = self;
-            next.services[at] = service_of(name, weekdays, start, end);
-            next.service_count = at + 1;
-            return WeekStepped { answer, week: next };
+            self.services[at] = service_of(name, input);
+            self.service_count = at + 1;
         }
-        WeekStepped { answer, week: self }
+        answer
     }
 
-    // An exception is taken or sent back; its kind may be any number, as it is handed in.
-    pub fn exception(self, searched: bool, name: &[u8], date: u32, kind: u8) -> WeekStepped
-        ensures { result ≡ exception_on self searched name.now date kind }
+    // The days that have the date, as a mask; none without dates.
+    fn days_on(&self, date: u32) -> u8
+        ensures { result ≡ days_on (dates_in self.now) date }
     {
-        match exception_place(searched, self.closed, self.taken(), name, date, kind) {
-            Ok(at) => {
-                let days = days_on(self.dates, date);
-                let mut next = self;
-                let service = &mut next.services[at];
-                *service = service.excepted(days, kind);
-                WeekStepped {
-                    answer: Ok(Accepted::Taken),
-                    week: next,
-                }
-            }
-            Err(cause) => WeekStepped {
-                answer: Err(cause),
-                week: self,
-            },
+        match self.dates {
+            Some(dates) => days_on(dates, date),
+            None => 0,
         }
+    }
+
+    // An exception is taken, or sent back and the week left as it was.
+    pub fn take_exception(&mut self, searched: bool, name: &[u8], input: ExceptionInput) -> Answer
+        ensures { week_stepped result self.new ≡ exception_on self.old searched name.now input.date input.kind }
+    {
+        let at = exception_place(searched, self.closed, self.taken(), name, input)?;
+        let days = self.days_on(input.date);
+        let service = &mut self.services[at];
+        *service = service.excepted(days, input.kind);
+        Ok(Accepted::Taken)
     }
 
     // Whether the service that a call names runs on the call's day. A week without dates lets every call pass.
@@ -79,13 +69,13 @@ impl Week {
     pub fn running(self, name: &[u8], day: u8) -> Running
         ensures { result ≡ running self name.now day }
     {
-        if !self.dated {
+        let Some(dates) = self.dates else {
             return Running::Runs;
-        }
+        };
         let Some(service) = self.service_in(name) else {
             return Running::Unknown;
         };
-        let date = self.dates.get(usize::from(day)).copied().unwrap_or(0);
+        let date = dates.get(usize::from(day)).copied().unwrap_or(0);
         if service.runs(day, date) {
             Running::Runs
         } else {

@@ -21,13 +21,14 @@ use Rattle.load.specs.declared.Load.{Load}
 use Rattle.writer.specs.File.{write_spec_of}
 use Rattle.writer.specs.Wrote.{unwritable, write_tests, write_answer, wrote_spec, buffer_after}
 use Rattle.writer.specs.Claims.{Unwritten, dated, stopped, cut, UnwritableExactly, ShortExactly, WriteAnswered, Left, BufferLeft}
+use Rattle.week.specs.Weeks.{is_dated}
 
 -- what is answered, by its two tests
 abbrev by_tests_of : Bool → Bool → ℕ → Result ℕ Refusal
 by_tests_of x y n = cond x (Err LoadUnwritable) (cond y (Err BufferShort) (Ok n))
 
 abbrev barred : Load → Bool
-barred l = unwritable l.week.dated (is_some l.limit) l.table_horizon
+barred l = unwritable (is_dated l.week) (is_some l.limit) l.table_horizon
 
 abbrev size : Load → ℕ
 size l = length (write_spec_of l)
@@ -36,7 +37,8 @@ pub wrote-is : (l : Load) (room : ℕ) → wrote_spec l room ≡ by_tests_of (ba
 unfolding wrote_spec write_tests first_answer
 wrote-is l room = go (barred l) (ltb room (size l))
   where
-    go : (x y : Bool) → result_and (cond x (Err LoadUnwritable) (cond y (Err BufferShort) (Ok Taken))) (Ok (size l)) ≡ by_tests_of x y (size l)
+    go : (x y : Bool) → result_and (cond x (Err LoadUnwritable) (cond y (Err BufferShort) (Ok Taken))) (Ok (size l))
+        ≡ by_tests_of x y (size l)
     go true y = refl
     go false true = refl
     go false false = refl
@@ -46,14 +48,15 @@ barred-cause : (l : Load) → barred l ≡ true → Unwritten l
 unfolding unwritable
 barred-cause l e =
     ⊎_elim (λ d. dated d)
-    (λ h. ⊎_elim (λ d. stopped d) (λ k. cut (ltb-true l.table_horizon 21600 k)) (or-true-cases (is_some l.limit) (ltb l.table_horizon 21600) h))
-    (or-true-cases l.week.dated (is_some l.limit || ltb l.table_horizon 21600) e)
+    (λ h. ⊎_elim (λ d. stopped d) (λ k. cut (ltb-true l.table_horizon 21600 k))
+    (or-true-cases (is_some l.limit) (ltb l.table_horizon 21600) h))
+    (or-true-cases (is_dated l.week) (is_some l.limit || ltb l.table_horizon 21600) e)
 
 cause-barred : (l : Load) → Unwritten l → barred l ≡ true
 unfolding unwritable
-cause-barred l (dated d) = or-true-left l.week.dated _ d
-cause-barred l (stopped d) = or_true_right l.week.dated _ (or-true-left (is_some l.limit) _ d)
-cause-barred l (cut h) = or_true_right l.week.dated _ (or_true_right (is_some l.limit) _ (lt-ltb l.table_horizon 21600 h))
+cause-barred l (dated d) = or-true-left (is_dated l.week) _ d
+cause-barred l (stopped d) = or_true_right (is_dated l.week) _ (or-true-left (is_some l.limit) _ d)
+cause-barred l (cut h) = or_true_right (is_dated l.week) _ (or_true_right (is_some l.limit) _ (lt-ltb l.table_horizon 21600 h))
 
 -- each answer by its tests
 is-25 : (x y : Bool) (n : ℕ) → by_tests_of x y n ≡ Err LoadUnwritable → x ≡ true
@@ -127,7 +130,8 @@ module _ (l : Load) (before : List ℕ) where
   unfolding buffer_after write_tests first_answer after_of
   after-is = go x y
     where
-      go : (a b : Bool) → cond (is_taken (cond a (Err LoadUnwritable) (cond b (Err BufferShort) (Ok Taken)))) (write_spec_of l ++ drop (size l) before) before ≡ after_of a b
+      go : (a b : Bool) → cond (is_taken (cond a (Err LoadUnwritable) (cond b (Err BufferShort) (Ok Taken))))
+          (write_spec_of l ++ drop (size l) before) before ≡ after_of a b
       go true b = refl
       go false true = refl
       go false false = refl

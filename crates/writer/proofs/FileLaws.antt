@@ -25,6 +25,7 @@ use Rattle.codec.specs.Parts.{at_start, parent_id_of, stop_input_of, call_input_
 use Rattle.buffer.specs.Bytes.{two_bytes}
 use Rattle.writer.specs.File.{settings_file, stop_file, rule_file, call_file, search_file, write_spec_of}
 use Rattle.writer.specs.Wrote.{unwritable, write_tests, wrote_spec, buffer_after}
+use Rattle.week.specs.Weeks.{is_dated}
 
 pub search-there : {t : Bool} {a b : Buffer} → t ≡ true → Put 3 (0 ∷ 1 ∷ 5 ∷ []) a b → Put 3 (search_file t) a b
 unfolding search_file search_body framed two_bytes
@@ -39,7 +40,8 @@ module _ (l : Load) where
       → length l.stops ≡ 128 → length l.rules ≡ 128 → length l.calls ≡ 512
       → stops ≡ take l.stop_count l.stops → rules ≡ take l.rule_count l.rules → calls ≡ take l.call_count l.calls
       → Put 1 (2 ∷ []) a b → Put 65537 (framed (settings_body (at_start l.settings))) b c
-      → Put (65537 * length stops) (concat_map (λ (s : Stop). framed (stop_body (id_of s) (name_of s) (parent_id_of l.stops s) (stop_input_of s))) stops) c d
+      → Put (65537 * length stops) (concat_map (λ (s : Stop).
+      framed (stop_body (id_of s) (name_of s) (parent_id_of l.stops s) (stop_input_of s))) stops) c d
       → Put (65537 * length rules) (concat_map (λ (r : Rule). framed (rule_body r)) rules) d e
       → Put (65537 * length calls) (concat_map (λ (k : Call). framed (call_body (call_input_of k))) calls) e f
       → Put 3 (search_file l.searched) f g → Put 50397957 (write_spec_of l) a g
@@ -57,16 +59,17 @@ module _ (l : Load) (before : List ℕ) where
   abbrev room : ℕ
   room = length before
 
-  pub wrote-barred : unwritable l.week.dated (stopped l) l.table_horizon ≡ true → (Err LoadUnwritable ≡ wrote_spec l room) × (before ≡ buffer_after l before)
+  pub wrote-barred : unwritable (is_dated l.week) (stopped l) l.table_horizon ≡ true
+      → (Err LoadUnwritable ≡ wrote_spec l room) × (before ≡ buffer_after l before)
   unfolding wrote_spec buffer_after write_tests first_answer
   wrote-barred e = (rw e refl, rw e refl)
 
-  pub wrote-short : unwritable l.week.dated (stopped l) l.table_horizon ≡ false → room < length (write_spec_of l)
+  pub wrote-short : unwritable (is_dated l.week) (stopped l) l.table_horizon ≡ false → room < length (write_spec_of l)
       → (Err BufferShort ≡ wrote_spec l room) × (before ≡ buffer_after l before)
   unfolding wrote_spec buffer_after write_tests first_answer
   wrote-short e h = let k = lt-ltb room (length (write_spec_of l)) h in (rw (e, k) refl, rw (e, k) refl)
 
-  pub wrote-all : {n : ℕ} {after : List ℕ} → unwritable l.week.dated (stopped l) l.table_horizon ≡ false → n ≡ length (write_spec_of l)
+  pub wrote-all : {n : ℕ} {after : List ℕ} → unwritable (is_dated l.week) (stopped l) l.table_horizon ≡ false → n ≡ length (write_spec_of l)
       → length (write_spec_of l) ≤ room → after ≡ write_spec_of l ++ drop (length (write_spec_of l)) before
       → (Ok n ≡ wrote_spec l room) × (after ≡ buffer_after l before)
   unfolding wrote_spec buffer_after write_tests first_answer

@@ -55,17 +55,21 @@ framed-stored l xs at from n h e k = go (ltb at (length l)) refl
     go false t =
         let i = ltb-false at (length l) t in
         let p : length l ≤ from = omega arith in
-        ap (λ (r : List ℕ). sets r at (two_bytes n)) (sets-past xs l from p) ∙ sets-past (two_bytes n) l at i ∙ sym (sets-past (two_bytes (length xs) ++ xs) l at i)
+        ap (λ (r : List ℕ). sets r at (two_bytes n)) (sets-past xs l from p) ∙ sets-past (two_bytes n) l at i
+        ∙ sym (sets-past (two_bytes (length xs) ++ xs) l at i)
 
 -- the record put behind room for two bytes, then the two bytes put there
-pub put-framed : {xs : List ℕ} {a b c d e f : Buffer} {n : ℕ} → b.out ≡ a.out → b.len ≡ min (a.len + 2) 18446744073709551615 → Put 65535 xs b c
-    → d.out ≡ c.out → d.len ≡ a.len → n ≡ c.len - b.len → Put 2 (two_bytes n) d e → f.out ≡ e.out → f.len ≡ c.len → Put 65537 (framed xs) a f
+pub put-framed : {xs : List ℕ} {a b c d e f : Buffer} {n : ℕ} → b.out ≡ a.out → b.len ≡ min (a.len + 2) 18446744073709551615
+    → Put 65535 xs b c
+    → d.out ≡ c.out → d.len ≡ a.len → n ≡ c.len - b.len → Put 2 (two_bytes n) d e → f.out ≡ e.out → f.len ≡ c.len
+    → Put 65537 (framed xs) a f
 unfolding framed two_bytes
 put-framed {xs} {a} {b} {c} {d} {e} {f} {n} bo bl p co cl q r fo fl =
     record {
       same = ap (λ o. o.ghost_name) fo ∙ r.same ∙ ap (λ o. o.ghost_name) co ∙ p.same ∙ ap (λ o. o.ghost_name) bo;
       small = omega (arith, p.small);
-      stored = ap (λ o. o.now) fo ∙ r.stored ∙ rw (co, cl, p.stored, bo) (framed-stored a.out.now xs a.len b.len n (omega (arith, a.room)) bl at);
+      stored = ap (λ o. o.now) fo ∙ r.stored ∙ rw (co, cl, p.stored, bo)
+          (framed-stored a.out.now xs a.len b.len n (omega (arith, a.room)) bl at);
       behind = fl ∙ rw (p.behind, bl) (omega arith);
     }
   where
@@ -88,6 +92,7 @@ module _ (s : Stop) where
       → write (option text) (option_map bytes_of o) ≡ write (option text) (parent_id_of stops s)
   station-is stops e = ap (λ o. write (option text) (option_map bytes_of o)) e ∙ ap (write (option text)) (both s.parent)
     where
-      both : (p : Option ℕ) → option_map bytes_of (option_map (λ (p : ℕ). (stop_at stops p).id) p) ≡ option_map (λ (p : ℕ). id_of (stop_at stops p)) p
+      both : (p : Option ℕ) → option_map bytes_of (option_map (λ (p : ℕ). (stop_at stops p).id) p)
+          ≡ option_map (λ (p : ℕ). id_of (stop_at stops p)) p
       both (Some p) = refl
       both None = refl

@@ -7,10 +7,11 @@ use Rattle.refusal.specs.First.{First, AllFail}
 use Rattle.load.specs.declared.Load.{Load}
 use Rattle.writer.specs.File.{write_spec_of}
 use Rattle.writer.specs.Wrote.{write_tests, wrote_spec, buffer_after}
+use Rattle.week.specs.Weeks.{is_dated}
 
 -- a load that is not of the kind that is written: one with dates, one whose search was stopped, or one whose table was cut
 pub data Unwritten (l : Load) : Type 0 where
-  dated : l.week.dated ≡ true → Unwritten l
+  dated : is_dated l.week ≡ true → Unwritten l
   stopped : is_some l.limit ≡ true → Unwritten l
   cut : l.table_horizon < 21600 → Unwritten l
 
@@ -25,7 +26,8 @@ pub record Short (l : Load) (room : ℕ) : Type 0 where
   pub longer : room < length (write_spec_of l)
 
 abbrev pub ShortExactly : Type 0
-ShortExactly = (l : Load) (room : ℕ) → (wrote_spec l room ≡ Err BufferShort → Short l room) × (Short l room → wrote_spec l room ≡ Err BufferShort)
+ShortExactly = (l : Load) (room : ℕ) → (wrote_spec l room ≡ Err BufferShort → Short l room)
+    × (Short l room → wrote_spec l room ≡ Err BufferShort)
 
 -- the answer is that of the first cause that holds, and a written load has none
 pub record WroteAnswered (l : Load) (room : ℕ) : Type 0 where

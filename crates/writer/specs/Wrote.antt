@@ -7,6 +7,7 @@ use Rattle.refusal.specs.First.{first_answer, is_taken, Answer}
 use Rattle.load.specs.declared.Load.{Load}
 use Rattle.load.specs.Load.{stopped}
 use Rattle.writer.specs.File.{write_spec_of}
+use Rattle.week.specs.Weeks.{is_dated}
 
 -- "Only loads without dates, not stopped, and with horizon 21600 before any search are written": the table's horizon
 unfoldable pub unwritable : Bool → Bool → ℕ → Bool
@@ -15,7 +16,7 @@ unwritable dated stopped horizon = dated || (stopped || ltb horizon 21600)
 -- why a load is not written, in request 13's order: 25, then 26 for a buffer with room for less than the file
 unfoldable pub write_tests : Load → ℕ → List (Bool × Answer)
 write_tests l room =
-    (unwritable l.week.dated (stopped l) l.table_horizon, Err LoadUnwritable)
+    (unwritable (is_dated l.week) (stopped l) l.table_horizon, Err LoadUnwritable)
     ∷ (ltb room (length (write_spec_of l)), Err BufferShort)
     ∷ []
 

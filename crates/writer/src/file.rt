@@ -7,6 +7,7 @@ ghost use Rattle.writer.specs.File.{write_spec_of};
 
 use crate::records::Record;
 use buffer::Buffer;
+use fields::kind::Kind;
 use load::Load;
 use prefix::first;
 use stops::Stop;
@@ -43,7 +44,7 @@ fn put_parts(out: &mut Buffer<'_>, load: &Load)
     put_records(out, first(&load.rules, load.rule_count), stops);
     put_records(out, first(&load.calls, load.call_count), stops);
     if load.searched {
-        out.bytes(&[0, 1, 5]);
+        out.bytes(&[0, 1, Kind::Search as u8]);
     }
 }
 

@@ -5,6 +5,7 @@ mod file;
 mod records;
 
 ghost use Rattle.std.specs.Prelude.{◌≡◌, length};
+ghost use Rattle.week.specs.Weeks.{is_dated};
 ghost use Rattle.load.specs.Load.{stopped};
 ghost use Rattle.writer.specs.Wrote.{unwritable, wrote_spec, buffer_after};
 
@@ -14,9 +15,9 @@ use refusal::Refusal;
 
 #[tactic(auto, unfolding(crate::specs::Wrote::unwritable))]
 fn is_unwritable(load: &Load) -> bool
-    ensures { result ≡ unwritable load.now.week.dated (stopped load.now) load.now.table_horizon }
+    ensures { result ≡ unwritable (is_dated load.now.week) (stopped load.now) load.now.table_horizon }
 {
-    load.week.dated || load.limit.is_some() || load.table_horizon < 21600
+    load.week.dates.is_some() || load.limit.is_some() || load.table_horizon < 21600
 }
 
 // How long the file is, or why nothing was written. The file stands at the start of the buffer; bytes past it stay, and so does a buffer

@@ -12,12 +12,12 @@ ghost use Rattle.codec.specs.Parts.{at_start, parent_id_of, stop_input_of, type_
 
 use buffer::Buffer;
 use calls::Call;
+use fields::kind::Kind;
 use place::Degrees;
 use prefix::first;
 use rules::Rule;
 use settings::Settings;
 use stops::Stop;
-use stops::taken::blank_stop;
 use texts::Text;
 
 // What is a record of a load file. A stop names its station by the id that it has among the stops.
@@ -97,7 +97,7 @@ impl Record for Settings {
     ghost body = { λ _ s. settings_body (at_start s) };
 
     fn put(&self, out: &mut Buffer<'_>, _stops: &[Stop]) {
-        out.byte(1);
+        out.byte(Kind::Settings as u8);
         out.byte(self.origins);
         out.byte(self.targets);
         out.bytes(first(&self.origin_walks, usize::from(self.origins)));
@@ -123,7 +123,8 @@ fn stop_id(stops: &[Stop], number: u16) -> Text<32>
 {
     stops
         .get(usize::from(number))
-        .map_or(blank_stop().id, |stop| stop.id)
+        .map(|stop| stop.id)
+        .unwrap_or_default()
 }
 
 fn station_id(stops: &[Stop], parent: Option<u16>) -> Option<Text<32>>
@@ -136,7 +137,7 @@ impl Record for Stop {
     ghost body = { λ stops s. stop_body (id_of s) (name_of s) (parent_id_of stops s) (stop_input_of s) };
 
     fn put(&self, out: &mut Buffer<'_>, stops: &[Stop]) {
-        out.byte(2);
+        out.byte(Kind::Stop as u8);
         self.id.put(out);
         put_option(out, &self.name);
         put_option(out, &station_id(stops, self.parent));
@@ -152,7 +153,7 @@ impl Record for Rule {
     ghost body = { λ _ r. rule_body r };
 
     fn put(&self, out: &mut Buffer<'_>, _stops: &[Stop]) {
-        out.byte(4);
+        out.byte(Kind::Rule as u8);
         out.u16(self.from);
         out.u16(self.to);
         out.byte(self.transfer_type);
@@ -162,7 +163,7 @@ impl Record for Rule {
 
 // ---- call
 
-// The file's number for it: 1 where boarding or alighting is barred, 2 where it is on request, else 0.
+// The file's number for it, put at once, and so no enum: 1 where boarding or alighting is barred, 2 where it is on request, else 0.
 #[tactic(auto, unfolding(codec::specs::Parts::type_of))]
 fn type_of(may: bool, asked: bool) -> u8
     ensures { result ≡ type_of may asked }
@@ -186,7 +187,7 @@ impl Record for Call {
     ghost body = { λ _ c. call_body (call_input_of c) };
 
     fn put(&self, out: &mut Buffer<'_>, _stops: &[Stop]) {
-        out.byte(3);
+        out.byte(Kind::Call as u8);
         out.u16(self.trip);
         out.byte(self.day);
         out.u32(self.sequence);

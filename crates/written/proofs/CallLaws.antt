@@ -32,7 +32,18 @@ trim-kept : (h : ℕ) (c : Call) → CallKept c → CallKept (trim h c)
 unfolding trim
 trim-kept h c q = go (leb c.departure h)
   where
-    go : (b : Bool) → CallKept (cond b c (record { trip = c.trip; day = c.day; sequence = c.sequence; stop = c.stop; arrival = c.arrival; departure = h; board = false; alight = c.alight; board_request = false; alight_request = c.alight_request }))
+    go : (b : Bool) → CallKept (cond b c (record {
+      trip = c.trip;
+      day = c.day;
+      sequence = c.sequence;
+      stop = c.stop;
+      arrival = c.arrival;
+      departure = h;
+      board = false;
+      alight = c.alight;
+      board_request = false;
+      alight_request = c.alight_request;
+    }))
     go true = q
     go false = record { trip_known = q.trip_known; day_known = q.day_known }
 
@@ -44,17 +55,20 @@ held_keeps : (a d : Option ℕ) (i : CallInput) → Keeps Held a d i
 held_keeps a d i t c p e f l = record {
   sound = sound-keeps a d i t c p.sound e f l;
   kept = subst (All CallKept) (sym (cut-calls (less t.horizon) t p.sound))
-      (all-gather CallKept CallKept (due_by (less t.horizon)) (trim (less t.horizon)) (λ x q r. trim-kept (less t.horizon) x q) (take t.count t.calls) p.kept);
+      (all-gather CallKept CallKept (due_by (less t.horizon)) (trim (less t.horizon)) (λ x q r. trim-kept (less t.horizon) x q)
+      (take t.count t.calls) p.kept);
 }
 
 seen-kept : (h : ℕ) (a d : Option ℕ) (i : CallInput) (c : Call) → i.trip < 65535 → i.day ≤ 2 → seen h a d i ≡ Some c → CallKept c
 unfolding seen_call
 seen-kept h a d i c t k e = subst CallKept (seen-is h a d i c e) (record { trip_known = t; day_known = k })
 
-ended-kept : (u : Table) (a d : Option ℕ) (i : CallInput) → i.trip < 65535 → i.day ≤ 2 → TableKept u → (f : Tried) → Ends Held a d i f → TableKept (ended u f).table
+ended-kept : (u : Table) (a d : Option ℕ) (i : CallInput) → i.trip < 65535 → i.day ≤ 2 → TableKept u → (f : Tried) → Ends Held a d i f
+    → TableKept (ended u f).table
 ended-kept u a d i x y s _ (stands t p e) = p.kept
 ended-kept u a d i x y s _ (enters t c p e h) =
-    subst (All CallKept) (sym (put-calls t c p.sound h)) (all_append CallKept (take t.count t.calls) (c ∷ []) p.kept (seen-kept t.horizon a d i c x y e, tt))
+    subst (All CallKept) (sym (put-calls t c p.sound h))
+    (all_append CallKept (take t.count t.calls) (c ∷ []) p.kept (seen-kept t.horizon a d i c x y e, tt))
 ended-kept u a d i x y s _ (turned t c p e h m) = s
 
 -- 9, where it was not met
@@ -69,11 +83,17 @@ known_of n i e = go (known n i) refl e
     go : (b : Bool) → known n i ≡ b → not b ≡ false → Known i
     go false q k = absurd (true≢false k)
     go true q k = record {
-      trip_known = ltb-true i.trip 65535 (and-true-right (ltb i.stop n) _ (and-true-left (ltb i.stop n && ltb i.trip 65535) _ (and-true-left (ltb i.stop n && ltb i.trip 65535 && leb i.day 2) _ (and-true-left (ltb i.stop n && ltb i.trip 65535 && leb i.day 2 && leb i.pickup 3) _ q))));
-      day_known = leb-true i.day 2 (and-true-right (ltb i.stop n && ltb i.trip 65535) _ (and-true-left (ltb i.stop n && ltb i.trip 65535 && leb i.day 2) _ (and-true-left (ltb i.stop n && ltb i.trip 65535 && leb i.day 2 && leb i.pickup 3) _ q)));
+      trip_known = ltb-true i.trip 65535 (and-true-right (ltb i.stop n) _
+          (and-true-left (ltb i.stop n && ltb i.trip 65535) _
+          (and-true-left (ltb i.stop n && ltb i.trip 65535 && leb i.day 2) _
+          (and-true-left (ltb i.stop n && ltb i.trip 65535 && leb i.day 2 && leb i.pickup 3) _ q))));
+      day_known = leb-true i.day 2 (and-true-right (ltb i.stop n && ltb i.trip 65535) _
+          (and-true-left (ltb i.stop n && ltb i.trip 65535 && leb i.day 2) _
+          (and-true-left (ltb i.stop n && ltb i.trip 65535 && leb i.day 2 && leb i.pickup 3) _ q)));
     }
 
-pub call-keeps : (s : Settings) (b : Bool) (n : ℕ) (t : Table) (i : CallInput) → TableSound t → TableKept t → TableKept (call_on s b n t i).table
+pub call-keeps : (s : Settings) (b : Bool) (n : ℕ) (t : Table) (i : CallInput) → TableSound t → TableKept t
+    → TableKept (call_on s b n t i).table
 unfolding call_on call_fit call_tests
 call-keeps s b n t i p k = go (first_answer (call_tests b n i)) refl
   where
@@ -82,4 +102,5 @@ call-keeps s b n t i p k = go (first_answer (call_tests b n i)) refl
     go (Ok Outside) e = k
     go (Ok Taken) e =
         let w = known_of n i (call-tests-fail b n i e).1.0 in
-        ended-kept t (call_time s i i.arrival) (call_time s i i.departure) i w.trip_known w.day_known k _ (ends Held _ _ i (held_keeps _ _ i) t (record { sound = p; kept = k }))
+        ended-kept t (call_time s i i.arrival) (call_time s i i.departure) i w.trip_known w.day_known k _
+        (ends Held _ _ i (held_keeps _ _ i) t (record { sound = p; kept = k }))

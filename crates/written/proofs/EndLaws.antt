@@ -64,7 +64,8 @@ within-keeps l n w = go (is_taken (within_spec l n).answer) refl
     left ks h m false = sorted-kept l ks h m (Some n) w
 
     go : (b : Bool) → is_taken (within_spec l n).answer ≡ b → Kept (within_spec l n).load
-    go true t = let f = taken-within l n t in subst Kept (sym (ap (λ (r : Answered). r.load) f.is)) (left f.kept f.to f.mark (finishes_in l n))
+    go true t = let f = taken-within l n t in subst Kept (sym (ap (λ (r : Answered). r.load) f.is))
+        (left f.kept f.to f.mark (finishes_in l n))
     go false t = subst Kept (sym (untaken-within l n t)) w
 
 -- ---- a call on any load, and a withdrawal
@@ -74,7 +75,8 @@ unfolding again
 again-keeps l r w n = go (is_refused r.answer) (is_taken (researched l.limit r.load).answer)
   where
     go : (b c : Bool) → Kept (cond {A = Stepped} b (record { answer = r.answer; load = l })
-        (cond {A = Stepped} c (record { answer = r.answer; load = (researched l.limit r.load).load }) (record { answer = (researched l.limit r.load).answer; load = l }))).load
+        (cond {A = Stepped} c (record { answer = r.answer; load = (researched l.limit r.load).load })
+        (record { answer = (researched l.limit r.load).answer; load = l }))).load
     go true c = w
     go false true = research-cases l.limit r.load (λ q. Kept q.load) (λ k x. within-keeps r.load k n) (search-keeps r.load n)
     go false false = w
@@ -91,7 +93,9 @@ add-keeps l name i s w = go l.searched (leaves_table_of l (call_spec (unsearched
     made = fill-keeps (unsearched_of l) (call name i) (unsearched-sound l s) (back-keeps l w) tt
 
     go : (b c : Bool)
-        → Kept (cond b (cond {A = Stepped} c (record { answer = (call_spec (unsearched_of l) name i).answer; load = with_week l (call_spec (unsearched_of l) name i).load.week }) (again l (call_spec (unsearched_of l) name i))) (call_spec l name i)).load
+        → Kept (cond b (cond {A = Stepped} c (record
+        { answer = (call_spec (unsearched_of l) name i).answer; load = with_week l (call_spec (unsearched_of l) name i).load.week })
+        (again l (call_spec (unsearched_of l) name i))) (call_spec l name i)).load
     go true true = week-kept l (call_spec (unsearched_of l) name i).load.week w
     go true false = again-keeps l (call_spec (unsearched_of l) name i) w made
     go false c = fill-keeps l (call name i) s w tt
@@ -113,7 +117,8 @@ out-keeps l k s w = out_cases l k (λ r. Kept r.load) (λ e. w) (λ e f. w)
       settings = w.settings;
       stops = w.stops;
       rules = w.rules;
-      calls = subst (All CallKept) (sym (withdrawn-leaves (table_of l) k s.table g.there).calls) (without_all (has_key k) (take l.call_count l.calls) w.calls);
+      calls = subst (All CallKept) (sym (withdrawn-leaves (table_of l) k s.table g.there).calls)
+          (without_all (has_key k) (take l.call_count l.calls) w.calls);
     })
 
 pub withdraw-keeps : WithdrawKeeps
@@ -140,7 +145,8 @@ reached l (filling x ∷ xs) r g =
 reached l (withdraw k ∷ xs) r g =
     reached (next l (withdraw k)) xs (record { own = step_kept l (withdraw k) r.own; kept = withdraw-keeps l k r.own.sound r.kept }) g
 reached l (search ∷ xs) r g = reached (next l search) xs (record { own = step_kept l search r.own; kept = search-keeps l r.kept }) g
-reached l (limited n ∷ xs) r g = reached (next l (limited n)) xs (record { own = step_kept l (limited n) r.own; kept = within-keeps l n r.kept }) g
+reached l (limited n ∷ xs) r g = reached (next l (limited n)) xs
+    (record { own = step_kept l (limited n) r.own; kept = within-keeps l n r.kept }) g
 
 pub end_whole : EndWhole
 end_whole o xs w g = reached (opened o) xs (record { own = end_kept o []; kept = open_kept o w }) g

@@ -21,7 +21,8 @@ use Rattle.week.specs.Weeks.{closed_week}
 use Rattle.load.specs.declared.Load.{Load}
 use Rattle.load.specs.declared.Stepped.{Stepped}
 use Rattle.load.specs.Load.{empty_of, table_of, with_table, with_week}
-use Rattle.load.specs.Steps.{station_in, stop_answer, stop_load, stop_spec, call_fitted, plain_call, call_spec, rule_answer, rule_load, rule_spec, service_spec, exception_spec}
+use Rattle.load.specs.Steps.{station_in, stop_answer, stop_load, stop_spec, call_fitted, plain_call, call_spec, rule_answer, rule_load}
+use Rattle.load.specs.Steps.{rule_spec, service_spec, exception_spec}
 use Rattle.load.specs.Filling.{stop, call, rule, service, exception}
 use Rattle.load.specs.Sound.{Sound}
 use Rattle.load.proofs.ClockLaws.{open-fails}
@@ -44,7 +45,8 @@ kept-twice n i x = go (ltb i n)
 
 walks-twice : (n : ℕ) (w : List ℕ) → walks_of n (walks_of n w) ≡ walks_of n w
 unfolding walks_of
-walks-twice n w = λ t. kept-twice n 0 (get_or w 0 0) t ∷ kept-twice n 1 (get_or w 1 0) t ∷ kept-twice n 2 (get_or w 2 0) t ∷ kept-twice n 3 (get_or w 3 0) t ∷ []
+walks-twice n w = λ t. kept-twice n 0 (get_or w 0 0) t ∷ kept-twice n 1 (get_or w 1 0) t ∷ kept-twice n 2 (get_or w 2 0) t
+    ∷ kept-twice n 3 (get_or w 3 0) t ∷ []
 
 canonical-twice : (s : Settings) → canonical_of (canonical_of s) ≡ canonical_of s
 unfolding canonical_of
@@ -80,11 +82,13 @@ open_kept o w = record {
 pub week-kept : (l : Load) (w : Week) → Kept l → Kept (with_week l w)
 week-kept l w k = record { settings = k.settings; stops = k.stops; rules = k.rules; calls = k.calls }
 
-stop-kept : (l : Load) (id : List ℕ) (name parent : Option (List ℕ)) (i : StopInput) → Sound l → Kept l → DegreesHeld i.degrees → Kept (stop_spec l id name parent i).load
+stop-kept : (l : Load) (id : List ℕ) (name parent : Option (List ℕ)) (i : StopInput) → Sound l → Kept l → DegreesHeld i.degrees
+    → Kept (stop_spec l id name parent i).load
 unfolding stop_spec
 stop-kept l id name parent i s w d = go (is_taken (stop_answer l id name parent i)) refl
   where
-    go : (b : Bool) → is_taken (stop_answer l id name parent i) ≡ b → Kept (stop_load l (stop_of id name (station_in l parent) i) (stop_answer l id name parent i))
+    go : (b : Bool) → is_taken (stop_answer l id name parent i) ≡ b
+        → Kept (stop_load l (stop_of id name (station_in l parent) i) (stop_answer l id name parent i))
     go true e = rw e (record {
       settings = w.settings;
       stops = stop-keeps l.searched l.stops l.stop_count id name parent i s.stops (taken_is (stop_answer l id name parent i) e) d w.stops;

@@ -17,7 +17,8 @@ use Rattle.rules.specs.Rules.{blank_rule, rule_tests}
 use Rattle.rules.specs.Sound.{rule_at}
 use Rattle.written.specs.Kept.{RuleKept}
 
-module _ (searched : Bool) (stops : ℕ) (rules : List Rule) (n : ℕ) (i : Rule) (taken : first_answer (rule_tests searched stops rules n i) ≡ Ok Taken) where
+module _ (searched : Bool) (stops : ℕ) (rules : List Rule) (n : ℕ) (i : Rule)
+    (taken : first_answer (rule_tests searched stops rules n i) ≡ Ok Taken) where
   rule-tests : AllFail (rule_tests searched stops rules n i)
   unfolding rule_tests
   rule-tests = first_taken _ (rule_tests searched stops rules n i) refl (answer-is-first (rule_tests searched stops rules n i)) taken
@@ -30,7 +31,8 @@ module _ (searched : Bool) (stops : ℕ) (rules : List Rule) (n : ℕ) (i : Rule
   unfolding rule_tests
   rule-room = leb-false 128 n rule-tests.1.1.1.1.0
 
-  pub rules-kept : n < length rules → ((k : ℕ) → k < n → RuleKept (rule_at rules k)) → (k : ℕ) → k < n + 1 → RuleKept (rule_at (set rules n i) k)
+  pub rules-kept : n < length rules → ((k : ℕ) → k < n → RuleKept (rule_at rules k)) → (k : ℕ) → k < n + 1
+      → RuleKept (rule_at (set rules n i) k)
   unfolding rule_at
   rules-kept h old k g =
       below-cases (λ m. RuleKept (get_or (set rules n i) m blank_rule)) n k g

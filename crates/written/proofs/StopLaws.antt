@@ -62,7 +62,8 @@ module _ (ss : List Stop) (n : ℕ) (s : Stop) (h : n < length ss) where
     id_right = w.id_right;
     type_right = w.type_right;
     parent_first = first t.parent w.parent_first;
-    name_right = ap (λ (x : Bool). name_wrong (name_of t) x (id_of t)) (needed-by (λ (p : ℕ). id_of (stop_at (set ss n s) p)) (λ (p : ℕ). id_of (stop_at ss p)) t.parent (stop_input_of t)) ∙ w.name_right;
+    name_right = ap (λ (x : Bool). name_wrong (name_of t) x (id_of t))
+        (needed-by (λ (p : ℕ). id_of (stop_at (set ss n s) p)) (λ (p : ℕ). id_of (stop_at ss p)) t.parent (stop_input_of t)) ∙ w.name_right;
     whole = w.whole;
     degrees = w.degrees;
   }
@@ -71,7 +72,8 @@ module _ (ss : List Stop) (n : ℕ) (s : Stop) (h : n < length ss) where
       first None q = tt
       first (Some p) q = (q.0, ap (λ (x : Stop). x.location_type) (at_old p (omega (arith, q.0))) ∙ q.1)
 
-  stops-kept : StopKept ss n s → ((k : ℕ) → k < n → StopKept ss k (stop_at ss k)) → (k : ℕ) → k < n + 1 → StopKept (set ss n s) k (stop_at (set ss n s) k)
+  stops-kept : StopKept ss n s → ((k : ℕ) → k < n → StopKept ss k (stop_at ss k)) → (k : ℕ) → k < n + 1
+      → StopKept (set ss n s) k (stop_at (set ss n s) k)
   stops-kept new old k g =
       below-cases (λ m. StopKept (set ss n s) m (stop_at (set ss n s) m)) n k g
       (λ less. subst (StopKept (set ss n s) k) (sym (at_old k less)) (still k (stop_at ss k) (omega arith) (old k less)))
@@ -80,7 +82,8 @@ module _ (ss : List Stop) (n : ℕ) (s : Stop) (h : n < length ss) where
 -- ---- the stop that is taken
 
 module _ (searched : Bool) (ss : List Stop) (n : ℕ) (id : List ℕ) (name parent : Option (List ℕ)) (i : StopInput) (sound : StopsSound ss n)
-    (taken : first_answer (stop_tests searched ss n (station_of ss n parent) id name parent i) ≡ Ok Taken) (deg : DegreesHeld i.degrees) where
+    (taken : first_answer (stop_tests searched ss n (station_of ss n parent) id name parent i) ≡ Ok Taken)
+    (deg : DegreesHeld i.degrees) where
   abbrev f : Option ℕ
   f = station_of ss n parent
 
@@ -89,7 +92,8 @@ module _ (searched : Bool) (ss : List Stop) (n : ℕ) (id : List ℕ) (name pare
 
   tests : AllFail (stop_tests searched ss n f id name parent i)
   unfolding stop_tests
-  tests = first_taken _ (stop_tests searched ss n f id name parent i) refl (answer-is-first (stop_tests searched ss n f id name parent i)) taken
+  tests = first_taken _ (stop_tests searched ss n f id name parent i) refl
+      (answer-is-first (stop_tests searched ss n f id name parent i)) taken
 
   named_is : is_some f ≡ is_some parent
   unfolding stop_tests
@@ -132,7 +136,8 @@ module _ (searched : Bool) (ss : List Stop) (n : ℕ) (id : List ℕ) (name pare
     degrees = deg-is;
   }
 
-  pub stop-keeps : ((k : ℕ) → k < n → StopKept ss k (stop_at ss k)) → (k : ℕ) → k < n + 1 → StopKept (set ss n st) k (stop_at (set ss n st) k)
+  pub stop-keeps : ((k : ℕ) → k < n → StopKept ss k (stop_at ss k)) → (k : ℕ) → k < n + 1
+      → StopKept (set ss n st) k (stop_at (set ss n st) k)
   stop-keeps old =
       let room = (passed searched ss n f id name parent i taken).room in
       stops-kept ss n st (omega (arith, room, sound.long)) new-kept old

@@ -9,9 +9,11 @@ returns-then-is_refused c = again-refused c.args.load c.args.made (sym c.is_refu
 pub returns-then-is_taken : goal.returns-then-is_taken
 returns-then-is_taken c =
     let a = c.args in
-    again-found a.load a.made _ c.search_as-found.ensures (sym c.is_refused.ensures ∙ c.if-is_refused.false) (sym c.is_taken.ensures ∙ c.if-is_taken.true)
+    again-found a.load a.made _ c.search_as-found.ensures (sym c.is_refused.ensures ∙ c.if-is_refused.false)
+    (sym c.is_taken.ensures ∙ c.if-is_taken.true)
 
 pub returns : goal.returns
 returns c =
     let a = c.args in
-    again-turned a.load a.made _ c.search_as-found.ensures (sym c.is_refused.ensures ∙ c.if-is_refused.false) (sym c.is_taken.ensures ∙ c.if-is_taken.false)
+    again-turned a.load a.made _ c.search_as-found.ensures (sym c.is_refused.ensures ∙ c.if-is_refused.false)
+    (sym c.is_taken.ensures ∙ c.if-is_taken.false)

@@ -10,18 +10,22 @@ use Rattle.again.proofs.taken_out.Goals as goal
 pub returns-in_default : goal.returns-in_default
 returns-in_default c =
     let a = c.args in
-    out_none a.load a.key _ (sym (ap counted c.in_default.is) ∙ c.last_of.ensures ∙ ap (last_of (has_key a.key)) c.first-held.ensures) (sym c.is_known.ensures ∙ c.if-is_known.true) refl
+    out_none a.load a.key _ (sym (ap counted c.in_default.is) ∙ c.last_of.ensures ∙ ap (last_of (has_key a.key)) c.first-held.ensures)
+    (sym c.is_known.ensures ∙ c.if-is_known.true) refl
 
 pub overflow_sub-next : goal.overflow_sub-next
 overflow_sub-next c =
     let a = c.args in
-    one-counted a.load a.key _ (sym (ap counted c.in-Some.is) ∙ c.last_of.ensures ∙ ap (last_of (has_key a.key)) c.first-held.ensures) (λ q. omega (arith, q))
+    one-counted a.load a.key _ (sym (ap counted c.in-Some.is) ∙ c.last_of.ensures ∙ ap (last_of (has_key a.key)) c.first-held.ensures)
+    (λ q. omega (arith, q))
 
 pub returns-then-is_known : goal.returns-then-is_known
 returns-then-is_known c =
     let a = c.args in
     let less : suc c.in-Some.place - 1 ≡ c.in-Some.place = omega arith in
-    out-there a.load a.key (suc c.in-Some.place) _ (sym (ap counted c.in-Some.is) ∙ c.last_of.ensures ∙ ap (last_of (has_key a.key)) c.first-held.ensures) (sym c.is_known.ensures ∙ c.if-is_known.true) (λ q. omega (arith, q))
+    out-there a.load a.key (suc c.in-Some.place) _
+    (sym (ap counted c.in-Some.is) ∙ c.last_of.ensures ∙ ap (last_of (has_key a.key)) c.first-held.ensures)
+    (sym c.is_known.ensures ∙ c.if-is_known.true) (λ q. omega (arith, q))
     (c.close_up.ensures ∙ ap (λ (n : ℕ). closed_up blank_call n a.load.calls) (sym less))
 
 pub returns : goal.returns

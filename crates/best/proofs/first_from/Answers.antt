@@ -9,4 +9,5 @@ use Rattle.best.proofs.first_from.Goals as goal
 pub returns : goal.returns
 returns c =
     c.copied.ensures
-    ∙ find_from_yields_List (λ (j : Journey). leb c.args.t j.leave) _ _ c.find.result c.find.ensures.ran (YieldsList-from_slice c.args.journeys.now cc) (λ x b q k. search (rules, tests))
+    ∙ find_from_yields_List (λ (j : Journey). leb c.args.t j.leave) _ _ c.find.result c.find.ensures.ran
+    (YieldsList-from_slice c.args.journeys.now cc) (λ x b q k. search (rules, tests))

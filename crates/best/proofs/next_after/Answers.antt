@@ -8,4 +8,5 @@ use Rattle.best.proofs.QueryLaws.{best-next}
 use Rattle.best.proofs.next_after.Goals as goal
 
 pub returns : goal.returns
-returns c = best-next c.args.load c.args.second c.args.missed (again {w = w64} (record { sfits = c.after.type_inv })) (c.after.ensures ∙ ap (λ (z : ℤ). after_of z c.args.missed.leave) (again c.ranges.second)) c.best.ensures
+returns c = best-next c.args.load c.args.second c.args.missed (again {w = w64} (record { sfits = c.after.type_inv }))
+    (c.after.ensures ∙ ap (λ (z : ℤ). after_of z c.args.missed.leave) (again c.ranges.second)) c.best.ensures

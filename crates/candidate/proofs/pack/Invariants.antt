@@ -3,7 +3,7 @@ use mathlib.Core.Path.{◌≡◌}
 use mathlib.Core.Bool.{Bool}
 use Prim.Native.Nat.{◌≤◌}
 use lib.ListN.{length}
-use Rattle.profile.specs.declared.Row.{Row}
+use Rattle.profile.specs.Found.{Row}
 use Rattle.state.specs.Layout.{size}
 use Rattle.candidate.specs.Pieces.{Packed}
 use Rattle.candidate.proofs.pack.Given as goal

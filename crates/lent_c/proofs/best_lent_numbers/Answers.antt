@@ -6,4 +6,5 @@ use Rattle.lent_c.proofs.best_lent_numbers.Goals as goal
 
 pub returns : goal.returns
 returns c =
-    answered _ _ _ _ c.args.count c.args.horizon (to_z-of_z c.ranges.second) c.journeys_of-journeys.ensures refl c.best_lent.ensures c.answer_of.ensures
+    answered _ _ _ _ c.args.count c.args.horizon
+    (to_z-of_z c.ranges.second) c.journeys_of-journeys.ensures refl c.best_lent.ensures c.answer_of.ensures

@@ -5,4 +5,5 @@ use Rattle.lent_c.proofs.best_over_numbers.Goals as goal
 
 pub returns : goal.returns
 returns c =
-    answered _ _ _ _ c.args.count c.args.horizon (to_z-of_z c.ranges.second) c.journeys_of-journeys.ensures c.first.ensures c.best_over.ensures c.answer_of.ensures
+    answered _ _ _ _ c.args.count c.args.horizon
+    (to_z-of_z c.ranges.second) c.journeys_of-journeys.ensures c.first.ensures c.best_over.ensures c.answer_of.ensures

@@ -5,5 +5,6 @@ use Rattle.lines.proofs.lines.Goals as goal
 
 pub returns : goal.returns
 returns c =
-    let p = plain_lines c.args.answer c.args.load c.new-text.ensures.empty (rw c.new-text.ensures.bytes (omega arith)) c.answer_lines.ensures in
+    let p = plain_lines c.args.answer c.args.load c.new-text.ensures.empty
+    (rw c.new-text.ensures.bytes (omega arith)) c.answer_lines.ensures in
     record { out_after = p.0; counts = p.1 }

@@ -12,29 +12,45 @@ use Rattle.reader.proofs.fed.Goals.{then-not-stored+else-is_refused, else-not-st
 
 pub loop-b-init : goal.loop-b-init
 loop-b-init c =
-    subst (λ (r : Records). Rest c.args.reader c.args.bytes.now c.args.reader 0 (records_left r)) (sym c.into_iter-b-iterator.ensures.into_iter_gives) (all-rest c.args.reader c.args.bytes.now)
+    subst (λ (r : Records). Rest c.args.reader c.args.bytes.now c.args.reader 0 (records_left r))
+    (sym c.into_iter-b-iterator.ensures.into_iter_gives) (all-rest c.args.reader c.args.bytes.now)
 
 pub returns-then-is_refused : goal.returns-then-is_refused
 returns-then-is_refused c =
-    sent-back c.loop-b.invariant c.in-Some.ensures.steps (stayed c.loop-b.after c.in-Some.b.now c.stored.new.reader c.if-not-stored.true c.stored.ensures) c.record-t.ensures (sym c.is_refused.ensures ∙ c.if-is_refused.true)
+    sent-back c.loop-b.invariant c.in-Some.ensures.steps
+    (stayed c.loop-b.after c.in-Some.b.now c.stored.new.reader c.if-not-stored.true c.stored.ensures) c.record-t.ensures
+    (sym c.is_refused.ensures ∙ c.if-is_refused.true)
 
 pub overflow_add-used-in-loop-b : goal.overflow_add-used-in-loop-b
 overflow_add-used-in-loop-b c =
     elim c.if-not-stored.branch [
       | then-not-stored+else-is_refused w ↦ omega (
         arith,
-        rest-room (goes-on c.loop-b.invariant c.in-Some.ensures.steps (taken-goes (stayed c.loop-b.after c.in-Some.b.now c.stored.new.reader w.if-not-stored.true c.stored.ensures) w.record-t.ensures (sym w.is_refused.ensures ∙ w.if-is_refused.false))),
+        rest-room (goes-on c.loop-b.invariant c.in-Some.ensures.steps
+            (taken-goes (stayed c.loop-b.after c.in-Some.b.now c.stored.new.reader w.if-not-stored.true c.stored.ensures)
+            w.record-t.ensures (sym w.is_refused.ensures ∙ w.if-is_refused.false))),
       )
-      | else-not-stored w ↦ omega (arith, rest-room (goes-on c.loop-b.invariant c.in-Some.ensures.steps (stored-goes c.loop-b.after c.in-Some.b.now c.stored.new.reader w.if-not-stored.false c.stored.ensures)))
+      | else-not-stored w ↦ omega (
+        arith,
+        rest-room
+            (goes-on c.loop-b.invariant c.in-Some.ensures.steps
+            (stored-goes c.loop-b.after c.in-Some.b.now c.stored.new.reader w.if-not-stored.false c.stored.ensures)),
+      )
     ]
 
 pub loop-b-preserved : goal.loop-b-preserved
 loop-b-preserved c =
     elim c.if-not-stored.branch [
-      | then-not-stored+else-is_refused w ↦ subst (λ (r : Reader). Rest c.args.reader c.args.bytes.now r (c.loop-b.used + (2 + length c.in-Some.b.now)) (records_left c.next.new.self)) (sym w.after-is)
-          (goes-on c.loop-b.invariant c.in-Some.ensures.steps (taken-goes (stayed c.loop-b.after c.in-Some.b.now c.stored.new.reader w.if-not-stored.true c.stored.ensures) w.record-t.ensures (sym w.is_refused.ensures ∙ w.if-is_refused.false)))
-      | else-not-stored w ↦ subst (λ (r : Reader). Rest c.args.reader c.args.bytes.now r (c.loop-b.used + (2 + length c.in-Some.b.now)) (records_left c.next.new.self)) (sym w.after-is)
-          (goes-on c.loop-b.invariant c.in-Some.ensures.steps (stored-goes c.loop-b.after c.in-Some.b.now c.stored.new.reader w.if-not-stored.false c.stored.ensures))
+      | then-not-stored+else-is_refused w ↦ subst (λ (r : Reader).
+          Rest c.args.reader c.args.bytes.now r (c.loop-b.used + (2 + length c.in-Some.b.now)) (records_left c.next.new.self))
+          (sym w.after-is)
+          (goes-on c.loop-b.invariant c.in-Some.ensures.steps
+          (taken-goes (stayed c.loop-b.after c.in-Some.b.now c.stored.new.reader w.if-not-stored.true c.stored.ensures)
+          w.record-t.ensures (sym w.is_refused.ensures ∙ w.if-is_refused.false)))
+      | else-not-stored w ↦ subst (λ (r : Reader). Rest c.args.reader c.args.bytes.now r (c.loop-b.used + (2 + length c.in-Some.b.now))
+          (records_left c.next.new.self)) (sym w.after-is)
+          (goes-on c.loop-b.invariant c.in-Some.ensures.steps
+          (stored-goes c.loop-b.after c.in-Some.b.now c.stored.new.reader w.if-not-stored.false c.stored.ensures))
     ]
 
 pub returns : goal.returns

@@ -14,15 +14,18 @@ returns-then-load c = returned-again c.args.load c.if-load.true
 
 pub returns-then-neighbours_clash : goal.returns-then-neighbours_clash
 returns-then-neighbours_clash c =
-    returned-clash c.args.load _ c.sorted-calls.ensures c.sorted-calls.type_inv.1.0.1 c.if-load.false _ (c.neighbours_clash.ensures ∙ ap clashes c.first.ensures) c.if-neighbours_clash.true
+    returned-clash c.args.load _ c.sorted-calls.ensures c.sorted-calls.type_inv.1.0.1 c.if-load.false _
+    (c.neighbours_clash.ensures ∙ ap clashes c.first.ensures) c.if-neighbours_clash.true
 
 pub returns-then-is_refused : goal.returns-then-is_refused
 returns-then-is_refused c =
-    returned-falling c.args.load _ c.sorted-calls.ensures c.sorted-calls.type_inv.1.0.1 c.if-load.false _ (c.neighbours_clash.ensures ∙ ap clashes c.first.ensures) c.if-neighbours_clash.false
+    returned-falling c.args.load _ c.sorted-calls.ensures c.sorted-calls.type_inv.1.0.1 c.if-load.false _
+    (c.neighbours_clash.ensures ∙ ap clashes c.first.ensures) c.if-neighbours_clash.false
     _ _ c.offered-st.ensures c.is_refused.ensures c.if-is_refused.true
 
 pub returns : goal.returns
 returns c =
     ap {B = Stepped} (λ (l : Load). record { answer = Ok Taken; load = l }) c.keep.ensures
-    ∙ returned-found c.args.load _ c.sorted-calls.ensures c.sorted-calls.type_inv.1.0.1 c.if-load.false _ (c.neighbours_clash.ensures ∙ ap clashes c.first.ensures) c.if-neighbours_clash.false
+    ∙ returned-found c.args.load _ c.sorted-calls.ensures c.sorted-calls.type_inv.1.0.1 c.if-load.false _
+    (c.neighbours_clash.ensures ∙ ap clashes c.first.ensures) c.if-neighbours_clash.false
     (walks-small c.args.load _ c.well_formed.0) _ c.offered-st.ensures _ c.is_refused.ensures c.if-is_refused.false

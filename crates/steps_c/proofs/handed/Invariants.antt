@@ -7,4 +7,5 @@ use Rattle.steps_c.proofs.handed.Given as goal
 
 abbrev pub invariant-loop-left : goal.invariant-loop-left
 invariant-loop-left g l =
-    (f : ℕ → Load → Load) → ((m : Load) (k : ℕ) (r : Load) → k < l.times → goal.F-post g l.step m k r → r ≡ f k m) → turns l.left f l.next ≡ turns l.times f l.initial.next
+    (f : ℕ → Load → Load) → ((m : Load) (k : ℕ) (r : Load) → k < l.times → goal.F-post g l.step m k r → r ≡ f k m)
+    → turns l.left f l.next ≡ turns l.times f l.initial.next

@@ -9,5 +9,6 @@ pub returns : goal.returns
 returns c =
     all-handed _ _ _ c.settings.ensures c.open.ensures
     (c.handed-with_stops.ensures with_stop (λ l k r low e. e.1) ∙ ap (λ (n : ℕ). turns n with_stop c.open.result.load) c.from.ensures)
-    (c.handed-with_rules.ensures with_rule (λ l k r low e. e.1) ∙ ap (λ (n : ℕ). turns n with_rule c.handed-with_stops.result) c.from-2.ensures)
+    (c.handed-with_rules.ensures with_rule (λ l k r low e. e.1)
+    ∙ ap (λ (n : ℕ). turns n with_rule c.handed-with_stops.result) c.from-2.ensures)
     (c.handed.ensures with_call (λ l k r low e. e.1))

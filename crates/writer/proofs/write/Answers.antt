@@ -23,5 +23,6 @@ pub returns : goal.returns
 returns c =
     let a = c.args in
     let h : length (write_spec_of a.load) ≤ length a.out.now = omega (arith, c.put_file.ensures.size, c.if-out-put_file.false) in
-    let w = wrote-all a.load a.out.now (sym c.is_unwritable.ensures ∙ c.if-is_unwritable.false) c.put_file-2.ensures.size h (c.put_file-2.ensures.out_after h) in
+    let w = wrote-all a.load a.out.now (sym c.is_unwritable.ensures ∙ c.if-is_unwritable.false) c.put_file-2.ensures.size h
+    (c.put_file-2.ensures.out_after h) in
     record { value = w.0; out_after = w.1 }

@@ -12,5 +12,6 @@ pub returns : goal.returns
 returns c =
     let ks = c.args.list.now in
     let w = c.args.window in
-    count_from_yields_List c.filter.result c.count.result c.count.ensures.ran (YieldsList-from_filter _ (is_due w) (YieldsList-from_slice ks cc) c.filter.ensures.closure (λ x r q k. search (rules, tests)))
+    count_from_yields_List c.filter.result c.count.result c.count.ensures.ran
+    (YieldsList-from_filter _ (is_due w) (YieldsList-from_slice ks cc) c.filter.ensures.closure (λ x r q k. search (rules, tests)))
     ∙ ap length (due-same w ks)

@@ -7,4 +7,5 @@ use Rattle.fields.proofs.numbers.bytes_at.Goals as goal
 
 pub returns : goal.returns
 unfolding bytes_at
-returns g c = made-table _ _ (λ (i : ℕ). byte_at c.args.b.now (c.args.at + i)) (λ i y q called. search (rules, tests)) 0 _ _ c.from_fn.ensures.items
+returns g c = made-table _ _ (λ (i : ℕ). byte_at c.args.b.now (c.args.at + i))
+    (λ i y q called. search (rules, tests)) 0 _ _ c.from_fn.ensures.items

@@ -1,12 +1,21 @@
 -- The record's tests, then the load's answer.
+use mathlib.Core.Path.{refl, sym, ◌∙◌}
 use Rattle.file.proofs.RecordLaws.{turned-away, sent_back, taken}
+use Rattle.file.proofs.KindLaws.{stepped-as}
+use Rattle.file.proofs.TestedLaws.{refusal-is, kind-is}
 use Rattle.file.proofs.record.record.Goals as goal
 
-pub returns-then-is_refused : goal.returns-then-is_refused
-returns-then-is_refused c = turned-away _ _ c.record_answer-answer.ensures c.is_refused.ensures c.if-is_refused.true
+pub returns-in-Err : goal.returns-in-Err
+returns-in-Err c = turned-away _ _ (refusal-is _ _ _ (sym c.tested.ensures ∙ c.in-Err.is)) refl refl
 
-pub returns-then-is_refused-2 : goal.returns-then-is_refused-2
-returns-then-is_refused-2 c = sent_back _ _ c.record_answer-answer.ensures c.is_refused.ensures c.stepped_by-s.ensures c.is_refused-2.ensures c.if-is_refused.false c.if-is_refused-2.true
+pub returns-then-is_refused : goal.returns-then-is_refused
+returns-then-is_refused c =
+    let p = kind-is _ _ _ (sym c.tested.ensures ∙ c.in-Ok.is) in
+    let s = c.stepped_as-s.ensures ∙ stepped-as _ _ _ p.number p.right in
+    sent_back _ _ refl refl s c.is_refused.ensures p.goes c.if-is_refused.true
 
 pub returns : goal.returns
-returns c = taken _ _ c.record_answer-answer.ensures c.is_refused.ensures c.stepped_by-s.ensures c.is_refused-2.ensures c.if-is_refused.false c.if-is_refused-2.false
+returns c =
+    let p = kind-is _ _ _ (sym c.tested.ensures ∙ c.in-Ok.is) in
+    let s = c.stepped_as-s.ensures ∙ stepped-as _ _ _ p.number p.right in
+    taken _ _ refl refl s c.is_refused.ensures p.goes c.if-is_refused.false

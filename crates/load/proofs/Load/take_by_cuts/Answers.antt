@@ -1,12 +1,13 @@
 -- The table that the call leaves, or the load as it was.
-use mathlib.Core.Path.{refl, sym, ap, ◌∙◌}
-use Rattle.calls.specs.Tried.{tried}
-use Rattle.load.specs.Load.{table_of}
+use mathlib.Core.Path.{refl}
+use Rattle.std.proofs.lemmas.Result.{err_from_is_err_and}
 use Rattle.load.proofs.StepLaws.{call-refused, call-taken}
 use Rattle.load.proofs.Load.take_by_cuts.Goals as goal
 
-pub returns-in-Err : goal.returns-in-Err
-returns-in-Err c = call-refused c.args.self.now _ _ (ap (tried (table_of c.args.self.now)) (sym c.in-Err.is) ∙ c.call_on.ensures) refl
+pub returns-in_err-fitted : goal.returns-in_err-fitted
+returns-in_err-fitted c =
+    let p = err_from_is_err_and c.from_residual.result c.from_residual.ensures.1 in
+    rw (p.1, p.2) (call-refused c.args.self.now _ _ c.in_err-fitted.ensures refl)
 
-pub returns-in-Ok : goal.returns-in-Ok
-returns-in-Ok c = call-taken c.args.self.now _ _ (ap (tried (table_of c.args.self.now)) (sym c.in-Ok.is) ∙ c.call_on.ensures) refl
+pub returns : goal.returns
+returns c = call-taken c.args.self.now _ _ c.in_ok-fitted.ensures refl

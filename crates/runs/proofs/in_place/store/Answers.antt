@@ -1,13 +1,21 @@
 -- By the kind.
-use mathlib.Core.Path.{sym, ◌∙◌}
+use mathlib.Core.Path.{ap, ◌∙◌}
+use Rattle.fields.specs.Kind.{number_of}
+use Rattle.fields.proofs.KindLaws.{number-read}
 use Rattle.runs.proofs.MovedLaws.{stop-takes, call-takes, rule-takes}
 use Rattle.runs.proofs.in_place.store.Goals as goal
 
-pub returns-in-2 : goal.returns-in-2
-returns-in-2 c = stop-takes _ _ _ _ (sym c.kind_of.ensures ∙ c.in-2.is) c.store_stop.ensures
+pub returns-in-Ok-Stop : goal.returns-in-Ok-Stop
+returns-in-Ok-Stop c =
+    let e = number-read c.kind_of.ensures c.try_from.ensures c.in-Ok-Stop.is ∙ ap number_of c.in-Ok-Stop.field-0-is in
+    stop-takes _ _ _ _ e c.store_stop.ensures
 
-pub returns-in-3 : goal.returns-in-3
-returns-in-3 c = call-takes _ _ _ _ (sym c.kind_of.ensures ∙ c.in-3.is) c.store_call.ensures
+pub returns-in-Ok-Call : goal.returns-in-Ok-Call
+returns-in-Ok-Call c =
+    let e = number-read c.kind_of.ensures c.try_from.ensures c.in-Ok-Call.is ∙ ap number_of c.in-Ok-Call.field-0-is in
+    call-takes _ _ _ _ e c.store_call.ensures
 
-pub returns-in-4 : goal.returns-in-4
-returns-in-4 c = rule-takes _ _ _ _ (sym c.kind_of.ensures ∙ c.in-4.is) c.store_rule.ensures
+pub returns-in-Ok-Rule : goal.returns-in-Ok-Rule
+returns-in-Ok-Rule c =
+    let e = number-read c.kind_of.ensures c.try_from.ensures c.in-Ok-Rule.is ∙ ap number_of c.in-Ok-Rule.field-0-is in
+    rule-takes _ _ _ _ e c.store_rule.ensures

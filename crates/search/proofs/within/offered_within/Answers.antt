@@ -7,4 +7,5 @@ use Rattle.search.proofs.within.offered_within.Goals as goal
 pub returns : goal.returns
 returns c =
     let l = c.args.load.now in
-    within-is l c.args.calls.now _ _ _ c.feed_of-feed.ensures (numbers-small _ _ c.feed_of-feed.type_inv.1.1) c.changes_for-changes.ensures refl c.paths_within.ensures
+    within-is l c.args.calls.now _ _ _ c.feed_of-feed.ensures
+    (numbers-small _ _ c.feed_of-feed.type_inv.1.1) c.changes_for-changes.ensures refl c.paths_within.ensures

@@ -36,4 +36,5 @@ returns c =
     ap {B = Answered} (λ (l : Load). record { answer = Ok Taken; load = l; joins = t.joins; finished = t.finished }) c.keep.ensures
     ∙ within-found c.args.load c.args.limit c.if-load.false (omega (arith, c.if-settings-gt1.false)) _ c.sorted-calls.ensures c.sorted-calls.type_inv.1.0.1
     _ (c.neighbours_clash.ensures ∙ ap clashes c.first.ensures) c.if-neighbours_clash.false
-    c.fresh-st.ensures c.offered_within-tested.ensures (walks-small c.args.load _ c.well_formed.0) _ c.then_some.ensures _ c.is_refused.ensures c.if-is_refused.false
+    c.fresh-st.ensures c.offered_within-tested.ensures
+    (walks-small c.args.load _ c.well_formed.0) _ c.then_some.ensures _ c.is_refused.ensures c.if-is_refused.false
