@@ -152,7 +152,7 @@ fn consider(st: &mut State, o: Row) -> usize
 // A journey as it is offered, with an arrival that may be past 65535, and so due after every horizon.
 pub type Offer = Found<u32>;
 
-// Offers a journey; how many kept journeys are read.
+// Offers a journey; how many kept journeys are read. Its row is made field by field, as `..offer` can't change a field's type.
 pub fn candidate(st: &mut State, offer: Offer) -> usize
     ensures { (view st.new ≡ offer_to (view st.old) offer) × (result ≡ reads_to (view st.old) offer) }
 {

@@ -33,6 +33,7 @@ fn kind_right(opened: bool, kind: Kind) -> bool
     }
 }
 
+// A match, since each kind has a test of its own fields.
 fn is_filled(kind: Kind, second: bool, b: &[u8]) -> bool
     ensures { result ≡ filled_as kind second b.now }
 {

@@ -35,6 +35,7 @@ fn told(rt: &impl Print, label: &str, load: Load, name: &[u8]) -> io::Result<()>
     )
 }
 
+// Of any kind, as `inputs: on_monday`.
 fn told_of(rt: &impl Print, label: &str, name: &[u8], kind: u8) -> io::Result<()> {
     then(
         rt,

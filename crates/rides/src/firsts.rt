@@ -88,7 +88,7 @@ impl<'a> Iterator for FirstRides<'a> {
     ghost remaining = { item_count firsts_left };
 
     // A loop: a call where one can't alight, an origin too far and a call where one can't board give nothing, and the next is looked at.
-    // The closures of a chain of std would borrow the calls that the iterator itself holds.
+    // What `next_gives` says rests on where the search stands between two calls of this, which a chain of std would not show.
     #[inline]
     fn next(&mut self) -> Option<FirstLeg> {
         'seek: loop {
