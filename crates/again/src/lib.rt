@@ -1,5 +1,5 @@
-// Calls added to and withdrawn from any load. On a searched load each goes back to the unsearched load, is done there, and the load
-// is searched again.
+// Calls added to and withdrawn from any load. A searched load goes back to an unsearched one, on which the step is done, and is searched
+// again (RULES 10).
 #![tactic(auto)]
 
 ghost use Rattle.std.specs.Prelude.{◌≡◌};

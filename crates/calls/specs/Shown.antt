@@ -49,7 +49,7 @@ FallsOnlyFull = (s : Settings) (b : Bool) (n : ℕ) (t : Table) (i : CallInput) 
 abbrev pub NeverRises : Type 0
 NeverRises = (s : Settings) (b : Bool) (n : ℕ) (t : Table) (i : CallInput) → (call_on s b n t i).table.horizon ≤ t.horizon
 
--- and so does 11
+-- a call is refused with 11 only then, too
 abbrev pub FullOnlyFull : Type 0
 FullOnlyFull = (s : Settings) (b : Bool) (n : ℕ) (t : Table) (i : CallInput) → (call_on s b n t i).answer ≡ Err NoRoom → Meets s t i
 

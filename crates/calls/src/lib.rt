@@ -1,5 +1,5 @@
-// The calls of a load: what is handed in, what the window shows of it, and the table that it goes into. The steps on that stand
-// in `table`.
+// The calls of a load: what is handed in, what the window shows of it, and the table that it goes into. The steps on that table stand in
+// crate `table`.
 #![tactic(auto)]
 
 pub mod window;

@@ -1,6 +1,5 @@
--- "A 513th call first shrinks the horizon h to h − h/4 (quotient cut), sets limits to 1 .. and tries anew: 21600, 16200, 12150, 9113,
--- 6835, 5127, 3846, then refusal." By the calls handed in and taken: no table is read.
--- RULES 5.4.
+-- How a call finds room, and how a full table is cut: a 513th makes the horizon h − h/4 (rounded down) and the mark 1, and is tried anew.
+-- By the calls handed in and taken: no table is read. RULES 5.4.
 use Rattle.refusal.specs.First.{Answer}
 use Rattle.refusal.specs.declared.Accepted.TheVariants.{Taken, Outside}
 use Rattle.std.specs.Prelude.{ℕ, ◌-◌, ◌/◌, ◌≤◌, ◌<◌, List, length, Err, Ok}

@@ -53,24 +53,28 @@ services_in (rule i ∷ xs) = services_in xs
 services_in (service name weekdays start end ∷ xs) = record { name = name; weekdays = weekdays; start = start; end = end } ∷ services_in xs
 services_in (exception name date kind ∷ xs) = services_in xs
 
--- what was taken and not withdrawn, in order, of calls those answered taken; the horizon of the window and the mark, as the cuts leave them
--- (the table's, also once a search was taken: the list's own are not held here); whether a search was taken, and its limit where the last
--- one was stopped at one; the dates of the three days, where the load was opened with dates; whether services are closed
+-- what stands taken after some steps
 pub record State : Type 0 where
+  -- what was answered taken and not withdrawn, in order
   pub taken : List Filling
+  -- the table's horizon and mark, as its cuts leave them; what a search lowers further is not held here
   pub horizon : ℕ
   pub limits : ℕ
+  -- whether a search was taken
   pub searched : Bool
+  -- the limit of the last search, if it was stopped at one
   pub stopped : Option ℕ
+  -- the dates of the three days, if the load was opened with dates
   pub dates : Option (List ℕ)
+  -- whether services and exceptions come too late (RULES 4.3)
   pub closed : Bool
 
--- "Loads opened without dates answer as before, and a service or exception there meets 15": there they are closed from the opening
+-- whether services are closed from the opening on: where there are no dates
 abbrev pub without : Option (List ℕ) → Bool
 without None = true
 without (Some dates) = false
 
--- "Opening gives an empty load with horizon 21600 and limits 0"
+-- after the opening (RULES 1.4)
 abbrev pub fresh : Option (List ℕ) → State
 fresh dates = record { taken = []; horizon = 21600; limits = 0; searched = false; stopped = None; dates = dates; closed = without dates }
 
@@ -110,7 +114,7 @@ up_to t h m = record {
   closed = t.closed;
 }
 
--- searched, and stopped at the limit or, with none, finished: "a limited search that finished" holds no limit
+-- searched: stopped at the limit, or with none finished
 abbrev pub done : Option ℕ → State → State
 done limit t = record {
   taken = t.taken;
@@ -122,12 +126,12 @@ done limit t = record {
   closed = t.closed;
 }
 
--- what a search within the limit n leaves, finished or not
+-- after a search within the limit n, finished (true) or stopped
 abbrev pub limited_to : ℕ → Bool → State → State
 limited_to n true t = done None t
 limited_to n false t = done (Some n) t
 
--- "Services and exceptions come before the search and the first answered call"
+-- with services closed
 abbrev pub shut : State → State
 shut t = record {
   taken = t.taken;

@@ -1,4 +1,4 @@
-// A load file (requests 01 and 13, versions 1 and 2): the definitions of what is read of one, and its records, tested and taken one by one.
+// A load file of version 1 or 2 (RULES 13): the definitions of what is read of one, and its records, tested and taken one by one.
 #![tactic(auto)]
 
 pub mod framed;

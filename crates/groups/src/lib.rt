@@ -1,4 +1,4 @@
-// The groups of a display (request 08): what is read of each one's load, the group of a number, and why a display is turned away.
+// The groups of a display (RULES 12): what is read of each one's load, the group of a number, and why a display is turned away.
 #![tactic(auto)]
 
 ghost use Rattle.std.specs.Prelude.{◌≡◌, eqb, ltb, option_copied};

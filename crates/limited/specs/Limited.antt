@@ -93,7 +93,7 @@ LargerNeverLater = (n m : ℕ) (t : Timetable) (h₀ l₀ : ℕ) (ks ks' : List 
     → (j : Journey) → bestℤ journey_figures ks h (pos 0) ≡ Some j
     → (j' : Journey) × (bestℤ journey_figures ks' h' (pos 0) ≡ Some j') × (j'.arrival ≤ j.arrival)
 
--- the order in which the calls were taken is nothing to a search within a limit
+-- a search within a limit doesn't depend on the order in which the calls were taken
 pub record WithinSame (n : ℕ) (t u : Timetable) (h l : ℕ) : Type 0 where
   pub outcome : search_within n t h l ≡ search_within n u h l
   pub joins : Clear t → joins_within n t ≡ joins_within n u

@@ -1,4 +1,4 @@
-// The lines that are printed of a load, as bytes in a lent buffer: request 01's, or each journey with its rides.
+// The lines that are printed of a load, as bytes in a lent buffer: those of RULES 13.3, or each journey with its rides.
 #![tactic(auto)]
 
 ghost use Rattle.std.specs.Prelude.{◌≡◌, take};

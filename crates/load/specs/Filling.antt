@@ -26,6 +26,7 @@ pub data Filling : Type 0 where
   -- the service's name, date, type
   exception : List ℕ → ℕ → ℕ → Filling
 
+-- the answer, and the load that is returned
 abbrev pub filled : Load → Filling → Stepped
 filled l (stop id name parent i) = stop_spec l id name parent i
 filled l (call name i) = call_spec l name i

@@ -36,7 +36,7 @@ pub record Sound (l : Load) : Type 0 where
   pub none_kept : l.searched ≡ false → l.journey_count ≡ 0
   pub same_horizon : l.searched ≡ false → l.horizon ≡ l.table_horizon
   pub same_limits : l.searched ≡ false → l.limits ≡ l.table_limits
-  -- a search that was stopped, and of what load
+  -- a load that holds a limit is searched, and has at most one change, as a limited search with two is refused (RULES 11.3)
   pub stopped_search : stopped l ≡ true → l.searched ≡ true
   pub stopped_change : stopped l ≡ true → l.settings.max_transfers ≤ 1
   pub week : WeekSound l.week

@@ -1,4 +1,5 @@
-// The load: settings, stops, calls, rules and journeys, passed by value. It is opened, filled, searched once, then queried.
+// The load: settings, stops, calls, rules, services and journeys, passed by value. It is opened and filled here; crates above search and
+// query it, and add and withdraw calls.
 #![tactic(auto)]
 
 mod calling;

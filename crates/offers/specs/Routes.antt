@@ -56,7 +56,7 @@ RoutesAdmitted = (t : Timetable) → Clear t → (r : Route Call) → Memᴰ r (
 abbrev pub RoutesAhead : Type 0
 RoutesAhead = (t : Timetable) → Clear t → Timed t.calls → InTime t → (r : Route Call) → Memᴰ r (routes_of t) → leaves t r ≤ arrives t r
 
--- the order in which the calls were taken is nothing to the routes
+-- the routes don't depend on the order in which the calls were taken
 abbrev pub RoutesInAnyOrder : Type 0
 RoutesInAnyOrder = (t : Timetable) (ys : List Call) → Permᴰ t.calls ys → Clear t → routes_of t ≡ routes_of (with_calls t ys)
 

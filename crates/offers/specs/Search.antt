@@ -56,6 +56,6 @@ SearchByOffers = (t : Timetable) (h l : ℕ)
     → search_of t h l ≡ cond (clashes (sorted t)) clashing
     (ends_by_of (offers t) (fall (covᶠ journey_figures) (dueᶠ journey_figures) 64 3600 h l [] (offers t)))
 
--- the order in which the calls were taken is nothing to the outcome
+-- the outcome doesn't depend on the order in which the calls were taken
 abbrev pub SearchInAnyOrder : Type 0
 SearchInAnyOrder = (t : Timetable) (ys : List Call) (h l : ℕ) → Permᴰ t.calls ys → search_of t h l ≡ search_of (with_calls t ys) h l

@@ -1,5 +1,5 @@
-// The places of stops: each stop of type 0, in the byte order of ids, goes with the smallest-id representative that is one place with it,
-// else as its own.
+// The places of stops: each stop of type 0, in the byte order of ids, joins the representative with the smallest id whose key matches its
+// own, else is its own (RULES 7.5).
 #![tactic(auto)]
 
 mod entries;

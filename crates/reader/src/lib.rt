@@ -1,4 +1,4 @@
-// The reader of a load file (requests 01 and 13, versions 1 and 2), whole or in parts: version, records, end.
+// The reader of a load file of version 1 or 2 (RULES 13), whole or in parts: version, records, end.
 #![tactic(auto)]
 
 ghost use Rattle.std.specs.Prelude.{◌≡◌};

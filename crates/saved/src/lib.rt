@@ -1,2 +1,2 @@
-// No code: a load that was written is read as it was (request 13).
+// A load that was written is read as it was (RULES 13.5). There is no code here.
 #![tactic(auto)]

@@ -81,10 +81,11 @@ would_fall_within l n =
     is_never (fall (covᶠ journey_figures) (dueᶠ journey_figures) 64 3600 l.table_horizon l.table_limits []
     (offers_within n (timetable_of l)))
 
--- the tests in order, each with its answer: 15, 1, 14, 11; no test reads the answer
+-- the tests in order, each with its answer; no test reads the answer. Those of the search itself: 14, 11
 abbrev pub within_tests : Load → ℕ → List (Bool × Answer)
 within_tests l n = (clashes (sorted (timetable_of l)), Err Neighbours) ∷ (would_fall_within l n, Err NoRoom) ∷ []
 
+-- all of them: 15, 1, 14, 11
 abbrev pub within_causes : Load → ℕ → List (Bool × Answer)
 within_causes l n =
     (l.searched, Err AlreadySearched) ∷ (ltb 1 l.settings.max_transfers, Err SettingsRange) ∷ within_tests l n

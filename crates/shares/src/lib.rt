@@ -1,4 +1,4 @@
-// How many journeys of a display each of four groups gets: numbers alone.
+// How many journeys of a display each of four groups gets (RULES 12.2), of numbers alone.
 #![tactic(auto)]
 
 ghost use Rattle.std.specs.Prelude.{◌≡◌, [], ◌∷◌, ◌+◌, ◌-◌, min};

@@ -1,4 +1,4 @@
--- Why a stop is sent back, in the scope's order: 15, 3, 5, 6, 7, 8, 4.
+-- Why a stop is sent back, in the order of RULES 16.2: 15, 3, 5, 6, 7, 8, 4.
 use Rattle.refusal.specs.First.{Answer}
 use Rattle.std.specs.Prelude.{ℕ, List, [], ◌∷◌, Bool, true, false, not, ◌&&◌, ◌||◌, length, take, ltb, leb, eqb, None, Option, Some, Err}
 use Rattle.std.specs.Prelude.{is_some}

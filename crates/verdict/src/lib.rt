@@ -1,5 +1,5 @@
-// What is said of a connection that a person names, by a load: that there is no verdict, why it can't be made, or where the list has it or
-// one as good or better.
+// What a load says of a connection that a person names: that there is no verdict, why it can't be made, or which journey of the list is it,
+// or is as good or better.
 #![tactic(auto)]
 
 pub mod causes;

@@ -1,4 +1,4 @@
-// A load written as a load file of version 2 into a lent buffer (request 13).
+// A load written as a load file of version 2 into a lent buffer (RULES 13.4).
 #![tactic(auto)]
 
 mod file;
