@@ -28,7 +28,7 @@ fn better(found: Option<Journey>, j: Journey, second: u64) -> Option<Journey>
 }
 
 // The second, where a query at it is answered: none before 0 and after the horizon.
-fn asked(horizon: u16, second: i64) -> Option<u64>
+pub fn asked(horizon: u16, second: i64) -> Option<u64>
     ensures { result ≡ asked horizon second }
 {
     if second < 0 || second as u64 > horizon as u64 {

@@ -3,16 +3,16 @@
 
 pub mod altered;
 
-ghost use Rattle.std.specs.Prelude.{◌≡◌, pos, take};
+ghost use Rattle.std.specs.Prelude.{◌≡◌, take};
 ghost use Rattle.file.specs.File.{read_spec_of};
 ghost use Rattle.lines.specs.Lines.{lines_of};
-ghost use Rattle.best.specs.Best.{best_spec};
-ghost use Rattle.load_c.specs.Best.{times_of};
+ghost use Rattle.load_c.specs.Best.{times_of, times_in};
 
 use best::best;
 use lines::lines;
 use profile::Journey;
 use reader::read;
+use refusal::is_refused;
 
 // The file read, and its lines printed: how many bytes they are.
 #[unsafe(no_mangle)]
@@ -34,10 +34,15 @@ fn times_of(found: Option<Journey>) -> u64
     }
 }
 
-// The file read, and best asked at second 0.
+// The file read, and best asked at second 0: none of a file that is refused.
+#[tactic(auto, unfolding(crate::specs::Best::times_in))]
 #[unsafe(no_mangle)]
 pub extern "C" fn load_best(bytes: &[u8]) -> u64
-    ensures { result ≡ times_of (best_spec (read_spec_of bytes.now).reader.load (pos 0)) }
+    ensures { result ≡ times_in (read_spec_of bytes.now) }
 {
-    times_of(best(read(bytes).reader.load, 0))
+    let t = read(bytes);
+    if is_refused(t.answer) {
+        return times_of(None);
+    }
+    times_of(best(t.reader.load, 0))
 }
