@@ -43,7 +43,8 @@ filled_by l (x ∷ xs) = filled_by (filled l x).load xs
 abbrev pub window_tests : Load → CallInput → List (Bool × Answer)
 window_tests l i = call_window l.settings (table_of l) i
 
--- the tests of a step, each with its answer, in the scope's order; no test reads the answer:
+-- the tests of a step, each with its answer, in the order of RULES 16.2 (with 15 for a call after the search, which `again` takes); no test
+-- reads the answer:
 -- stop 15, 3, 5, 6, 7, 8, 4; call 15, 9, 21, not running, absent time, 10, outside, 11; rule 15, 9, 12, 13, 11; service 15, 3, 5, 20, 22;
 -- exception 15, 20, 21
 abbrev pub causes : Load → Filling → List (Bool × Answer)

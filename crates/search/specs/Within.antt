@@ -1,6 +1,6 @@
 -- **Search** within a limit n on joins: 15, 1 with max_transfers above 1, 14, 11; or the calls in order and what the offers before the
--- first join past the limit leave. "It says finished when no untested join is left, and stopped otherwise". One that finished leaves the
--- load of a full search; one that was stopped leaves a load that holds its limit.
+-- first join past the limit leave. It is finished if no join is left untested, else stopped. One that finished leaves the load of a full
+-- search; one that was stopped leaves a load that holds its limit. RULES 11.
 use Rattle.refusal.specs.declared.Accepted.TheVariants.{Taken}
 use Rattle.std.specs.Prelude.{◌≡◌, ◌↔◌, Bool, true, false, cond, List, [], ◌∷◌, ℕ, ◌≤◌, ltb, None, Some, Err, Ok, Result}
 use Rattle.refusal.specs.declared.Refusal.{Refusal}
