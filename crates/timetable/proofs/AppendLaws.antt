@@ -18,7 +18,7 @@ use Rattle.file.specs.declared.Took.{Took}
 use Rattle.file.specs.declared.Fed.{Fed}
 use Rattle.file.specs.Record.{fresh_reader, record_spec}
 use Rattle.file.specs.File.{body_of, version_answer, is_second, later, fed_spec, end_answer, ended_by, read_spec_of}
-use Rattle.file.proofs.FedLaws.{none-whole, fed-room, fed-stops, fed-goes-on, fed-in-parts}
+use Rattle.file.proofs.FedLaws.{none-whole, fed-stops, fed-goes-on, fed-in-parts}
 use Rattle.file.proofs.RecordLaws.{taken-settled}
 use Rattle.reader.proofs.ReadLaws.{version_room}
 use Rattle.saved.proofs.FeedLaws.{size_is, long, is_whole, body_is, rest_is}
@@ -146,7 +146,8 @@ past-all used zs b none =
     let size : length (framed b) ≡ 2 + (length b + 0) = ap length (sym (append-nil (framed b))) ∙ long b [] in
     drop_all (used + (2 + length b + 0)) (zs ++ framed b) (omega (arith, left, size, length-append zs (framed b)))
 
-appended-to : (xs b : List ℕ) {r : Reader} → Begun xs r → (record_spec r b).answer ≡ Ok Taken → read_spec_of (xs ++ framed b) ≡ record_spec r b
+appended-to : (xs b : List ℕ) {r : Reader} → Begun xs r → (record_spec r b).answer ≡ Ok Taken
+    → read_spec_of (xs ++ framed b) ≡ record_spec r b
 appended-to [] b w t = let some = w.some in absurd (omega (arith, some))
 appended-to (x ∷ zs) b {r} w t =
     let f : Fed = fed_of (x ∷ zs) in

@@ -3,9 +3,11 @@ use mathlib.Core.Path.{◌≡◌, refl}
 use mathlib.Core.Bool.{Bool, true, false, cond}
 use mathlib.Core.List.{[], ◌∷◌}
 use lib.Dec.{eqb}
+use Rattle.profile.specs.declared.Ride.{Ride}
 use Rattle.profile.specs.declared.Journey.{Journey}
 use Rattle.timetable.specs.declared.journeys.TimetableRide.{TimetableRide}
-use Rattle.timetable.specs.Journeys.{ride_row, ride_of, second_ride, third_ride, journey_row, journey_of, JourneyOfRow}
+use Rattle.timetable.specs.declared.journeys.TimetableJourney.{TimetableJourney}
+use Rattle.timetable.specs.Journeys.{ride_row, ride_of, second_ride, third_ride, journey_row, middle_of, last_of, journey_of, ride_in, JourneyOfRow}
 
 -- whichever ride stands second
 stands : (j : Journey) (b : Bool) → record {
@@ -23,7 +25,7 @@ stands j true = refl
 stands j false = refl
 
 pub journey-of-row : JourneyOfRow
-unfolding ride_row ride_of second_ride third_ride journey_row journey_of
+unfolding ride_row ride_of second_ride third_ride journey_row middle_of last_of journey_of
 journey-of-row j = stands j (eqb j.rides 2)
 
 -- a row by its three rides
@@ -46,4 +48,30 @@ row-made j p q r = λ i. record {
   origin = j.origin;
   target = j.target;
   ride = p i ∷ q i ∷ r i ∷ [];
+}
+
+-- a journey by its three rides
+pub journey-made : (r : TimetableJourney) {a b c : Ride} → a ≡ ride_in r 0 → b ≡ middle_of r → c ≡ last_of r
+    → record {
+      leave = r.leave;
+      arrival = r.arrival;
+      rides = r.rides;
+      walk = r.walk;
+      origin = r.origin;
+      target = r.target;
+      first = a;
+      middle = b;
+      last = c;
+    } ≡ journey_of r
+unfolding journey_of
+journey-made r p q s = λ i. record {
+  leave = r.leave;
+  arrival = r.arrival;
+  rides = r.rides;
+  walk = r.walk;
+  origin = r.origin;
+  target = r.target;
+  first = p i;
+  middle = q i;
+  last = s i;
 }

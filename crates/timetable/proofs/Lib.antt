@@ -5,3 +5,4 @@ pub mod WithinLaws
 pub mod VerdictLaws
 pub mod RoomLaws
 pub mod AppendLaws
+pub mod GroupLaws

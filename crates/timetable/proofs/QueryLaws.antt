@@ -17,7 +17,6 @@ use Rattle.refusal.specs.First.{Answer}
 use Rattle.profile.specs.declared.Journey.{Journey}
 use Rattle.profile.specs.Journeys.{no_journey}
 use Rattle.load.specs.declared.Load.{Load}
-use Rattle.load.specs.Load.{empty_load}
 use Rattle.load.specs.Sound.{Sound}
 use Rattle.load.specs.Steps.{undated}
 use Rattle.fields.specs.Second.{settings_by}
@@ -46,10 +45,11 @@ rows-kept ks few =
         → get_or (table (length ks) (λ k. journey_row (get_or ks k no_journey))) k (journey_row no_journey)
         ≡ get_or (map journey_row ks) k (journey_row no_journey)
     at k below =
-        get_d-table _ (journey_row no_journey) (length ks) k (omega (arith, length-table (λ k. journey_row (get_or ks k no_journey)) (length ks)))
-        ∙ sym (get_or-map journey_row ks k no_journey)
+        let long = length-table (λ k. journey_row (get_or ks k no_journey)) (length ks) in
+        get_d-table _ (journey_row no_journey) (length ks) k (omega (arith, long)) ∙ sym (get_or-map journey_row ks k no_journey)
 
-found-in : (t : ℕ) (ks : List Journey) → option_map journey_of (find (λ r. leb t r.leave) (map journey_row ks)) ≡ find (λ k. leb t k.leave) ks
+found-in : (t : ℕ) (ks : List Journey)
+    → option_map journey_of (find (λ r. leb t r.leave) (map journey_row ks)) ≡ find (λ k. leb t k.leave) ks
 unfolding journey_row
 found-in t [] = refl
 found-in t (k ∷ ks) = by (leb t k.leave) (found-in t ks)
@@ -60,20 +60,26 @@ found-in t (k ∷ ks) = by (leb t k.leave) (found-in t ks)
     by true others = ap Some (journey-of-row k)
     by false others = others
 
-asked-in : (o : Option ℕ) (ks : List Journey) → option_map journey_of (option_and_then (λ t. find (λ r. leb t r.leave) (map journey_row ks)) o)
+asked-in : (o : Option ℕ) (ks : List Journey)
+    → option_map journey_of (option_and_then (λ t. find (λ r. leb t r.leave) (map journey_row ks)) o)
     ≡ option_and_then (λ t. find (λ k. leb t k.leave) ks) o
 asked-in None ks = refl
 asked-in (Some t) ks = found-in t ks
 
+-- what is asked of the rows of a load
+abbrev in-rows : Load → ℤ → Option TimetableJourney
+in-rows l s = option_and_then (λ t. find (λ r. leb t r.leave) (take (length (kept_of l)) (rows_of (kept_of l)))) (asked l.horizon s)
+
 -- of a load with a list of at most 64
-pub best-of-list : (l : Load) (n : ℕ) (s : ℤ) → length (kept_of l) ≤ 64 → option_map journey_of (best_in (load_list n l) s) ≡ best_spec l s
+pub best-of-list : (l : Load) (n : ℕ) (s : ℤ) → length (kept_of l) ≤ 64
+    → option_map journey_of (best_in (load_list n l) s) ≡ best_spec l s
 unfolding best_in load_list state_of best_spec Rattle.timetable.specs.Queries.first_leaving
 best-of-list l n s few = by l.searched (is_some l.limit)
   where
-    searched : option_map journey_of (option_and_then (λ t. find (λ r. leb t r.leave) (take (length (kept_of l)) (rows_of (kept_of l)))) (asked l.horizon s)) ≡ first_leaving (kept_of l) l.horizon s
+    searched : option_map journey_of (in-rows l s) ≡ first_leaving (kept_of l) l.horizon s
     searched = rw (rows-kept (kept_of l) few) (asked-in (asked l.horizon s) (kept_of l)) ∙ first-asked l.horizon s (kept_of l)
 
-    by : (b c : Bool) → option_map journey_of (cond (ltb (cond b (cond c 2 3) 1) 2) None (option_and_then (λ t. find (λ r. leb t r.leave) (take (length (kept_of l)) (rows_of (kept_of l)))) (asked l.horizon s)))
+    by : (b c : Bool) → option_map journey_of (cond (ltb (cond b (cond c 2 3) 1) 2) None (in-rows l s))
         ≡ cond b (first_leaving (kept_of l) l.horizon s) None
     by false c = refl
     by true true = searched
@@ -89,7 +95,7 @@ read-sound xs e =
 pub few-kept : (l : Load) → Sound l → length (kept_of l) ≤ 64
 few-kept l s = let long = s.long in let kept = length-take l.journey_count l.journeys in omega (arith, long, kept)
 
-taken-list : {a : Answer} (l : Load) → a ≡ Ok Taken → list_by a 0 l ≡ load_list 0 l
+pub taken-list : {a : Answer} (l : Load) → a ≡ Ok Taken → list_by a 0 l ≡ load_list 0 l
 unfolding list_by
 taken-list l e = ap (λ (a : Answer). list_by a 0 l) e
 

@@ -1,7 +1,8 @@
 -- A journey as C and Rust read it, and the journey that it stands for.
-use Rattle.std.specs.Prelude.{◌≡◌, false, cond, List, [], ◌∷◌, ℕ, eqb, get_or}
+use Rattle.std.specs.Prelude.{◌≡◌, false, cond, [], ◌∷◌, ℕ, eqb, get_or}
 use Rattle.profile.specs.declared.Ride.{Ride}
 use Rattle.profile.specs.declared.Journey.{Journey}
+use Rattle.profile.specs.Journeys.{no_journey}
 use Rattle.timetable.specs.declared.journeys.TimetableRide.{TimetableRide}
 use Rattle.timetable.specs.declared.journeys.TimetableJourney.{TimetableJourney}
 
@@ -55,6 +56,13 @@ journey_row j = record {
 abbrev pub ride_in : TimetableJourney → ℕ → Ride
 ride_in r i = ride_of (get_or r.ride i no_ride_row)
 
+-- of two rides the middle one stands third
+unfoldable pub middle_of : TimetableJourney → Ride
+middle_of r = cond (eqb r.rides 2) (ride_in r 2) (ride_in r 1)
+
+unfoldable pub last_of : TimetableJourney → Ride
+last_of r = cond (eqb r.rides 2) (ride_in r 1) (ride_in r 2)
+
 unfoldable pub journey_of : TimetableJourney → Journey
 journey_of r = record {
   leave = r.leave;
@@ -64,9 +72,13 @@ journey_of r = record {
   origin = r.origin;
   target = r.target;
   first = ride_in r 0;
-  middle = cond (eqb r.rides 2) (ride_in r 2) (ride_in r 1);
-  last = cond (eqb r.rides 2) (ride_in r 1) (ride_in r 2);
+  middle = middle_of r;
+  last = last_of r;
 }
+
+-- what is read past the end of a list of rows: all 0
+abbrev pub no_row : TimetableJourney
+no_row = journey_row no_journey
 
 -- nothing of a journey is lost
 abbrev pub JourneyOfRow : Type 0

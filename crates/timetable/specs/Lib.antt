@@ -4,3 +4,4 @@ pub mod Queries
 pub mod Verdicts
 pub mod Written
 pub mod Append
+pub mod Displays

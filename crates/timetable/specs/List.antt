@@ -1,5 +1,5 @@
 -- What a load file's search found, as plain numbers.
-use Rattle.std.specs.Prelude.{◌≡◌, Bool, true, false, cond, List, [], ℕ, pos, length, get_or, None, Option, Some, Err, Ok, is_some}
+use Rattle.std.specs.Prelude.{Bool, cond, List, [], ℕ, pos, length, get_or, Option, Err, Ok, is_some}
 use Rattle.std.specs.Prelude.{unwrap_or}
 use Rattle.laws.specs.Tables.{table}
 use Rattle.refusal.specs.Causes.{number_of}

@@ -1,5 +1,5 @@
 -- Best and next after, over a list of rows.
-use Rattle.std.specs.Prelude.{◌≡◌, Bool, true, false, cond, List, ℕ, leb, ltb, take, ℤ, None, Option, Some, is_some, option_map, option_and_then, Ok}
+use Rattle.std.specs.Prelude.{◌≡◌, cond, List, ℕ, leb, ltb, take, ℤ, None, Option, is_some, option_map, option_and_then, Ok}
 use Rattle.std.specs.List.{find}
 use Rattle.profile.specs.declared.Journey.{Journey}
 use Rattle.refusal.specs.declared.Accepted.TheVariants.{Taken}

@@ -1,5 +1,5 @@
 -- What is said of a connection, as plain numbers.
-use Rattle.std.specs.Prelude.{List, [], ◌∷◌, ℕ, get_or, min, Err, Ok}
+use Rattle.std.specs.Prelude.{[], ◌∷◌, ℕ, get_or, min, Err, Ok}
 use Rattle.refusal.specs.First.{Answer}
 use Rattle.load.specs.declared.Load.{Load}
 use Rattle.connection.specs.declared.Leg.{Leg}

@@ -1,6 +1,6 @@
 // A journey as C and Rust read it: plain numbers, its rides in order.
 ghost use Rattle.std.specs.Prelude.{◌≡◌};
-ghost use Rattle.timetable.specs.Journeys.{ride_row, ride_of, second_ride, third_ride, journey_row, journey_of};
+ghost use Rattle.timetable.specs.Journeys.{ride_row, ride_of, second_ride, third_ride, journey_row, middle_of, last_of, journey_of};
 
 use profile::{Journey, Ride};
 
@@ -92,5 +92,43 @@ pub fn journey_row(j: Journey) -> TimetableJourney
             ride_row(second_ride(j)),
             ride_row(third_ride(j)),
         ],
+    }
+}
+
+// The middle ride of two stands third.
+#[tactic(auto, unfolding(crate::specs::Journeys::middle_of))]
+fn middle_of(r: &TimetableJourney) -> Ride
+    ensures { result ≡ middle_of r.now }
+{
+    if r.rides == 2 {
+        return ride_of(r.ride[2]);
+    }
+    ride_of(r.ride[1])
+}
+
+#[tactic(auto, unfolding(crate::specs::Journeys::last_of))]
+fn last_of(r: &TimetableJourney) -> Ride
+    ensures { result ≡ last_of r.now }
+{
+    if r.rides == 2 {
+        return ride_of(r.ride[1]);
+    }
+    ride_of(r.ride[2])
+}
+
+// The journey that a row stands for.
+pub fn journey_of(r: &TimetableJourney) -> Journey
+    ensures { result ≡ journey_of r.now }
+{
+    Journey {
+        leave: r.leave,
+        arrival: r.arrival,
+        rides: r.rides,
+        walk: r.walk,
+        origin: r.origin,
+        target: r.target,
+        first: ride_of(r.ride[0]),
+        middle: middle_of(r),
+        last: last_of(r),
     }
 }

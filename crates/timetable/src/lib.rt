@@ -7,6 +7,7 @@ ghost use Rattle.file.specs.File.{read_spec_of};
 ghost use Rattle.timetable.specs.List.{list_of, within_of, list_within};
 ghost use Rattle.timetable.specs.Queries.{best_in, next_in, query_number};
 ghost use Rattle.timetable.specs.Verdicts.{judged_of};
+ghost use Rattle.timetable.specs.Displays.{dealt_of, display_row, shown_best, shown_next};
 ghost use Rattle.timetable.specs.Append.{appended_of};
 ghost use Rattle.timetable.specs.Written.{wrote_of, buffer_of, length_of, wrote_number};
 
@@ -15,6 +16,7 @@ pub mod journeys;
 pub mod judged;
 pub mod list;
 mod queries;
+pub mod shown;
 mod within;
 mod wrote;
 
@@ -22,6 +24,7 @@ use crate::append::{answer_at, left_number, put_behind};
 use crate::journeys::TimetableJourney;
 use crate::judged::{TimetableConnection, TimetableVerdict, judged};
 use crate::list::{TimetableList, list_by, number_of};
+use crate::shown::{TimetableDisplay, TimetablePart, dealt, display_row, shown_best};
 use crate::within::{answer_of, found_within, joins_of};
 use crate::wrote::{length_of, write_file, wrote_number};
 use best::after;
@@ -136,4 +139,48 @@ pub extern "C" fn timetable_append(buffer: &mut [u8], size: &mut usize, b: &[u8]
         }
         None => 26,
     }
+}
+
+// A display of lists, each given for the group of a number.
+#[unsafe(no_mangle)]
+pub extern "C" fn timetable_deal(
+    lists: &[TimetableList],
+    numbers: &[u8],
+    display: &mut TimetableDisplay,
+) -> u8
+    ensures number { result ≡ (display_row (dealt_of lists.now numbers.now)).refusal }
+    ensures display_after { display.new ≡ display_row (dealt_of lists.now numbers.now) }
+{
+    *display = display_row(dealt(lists, numbers));
+    display.refusal
+}
+
+// The best of what a display shows of a list.
+#[unsafe(no_mangle)]
+pub extern "C" fn timetable_shown_best(
+    list: &TimetableList,
+    part: &TimetablePart,
+    second: i64,
+    journey: &mut TimetableJourney,
+) -> u8
+    ensures number { result ≡ query_number list.entry.now.state (shown_best list.entry.now part.now second) }
+    ensures row { journey.new ≡ unwrap_or (shown_best list.entry.now part.now second) journey.old }
+{
+    queries::answer(list.state, shown_best(list, part, second), journey)
+}
+
+// Of what it shows, the best after `missed` has been missed.
+#[unsafe(no_mangle)]
+pub extern "C" fn timetable_shown_next(
+    list: &TimetableList,
+    part: &TimetablePart,
+    second: i64,
+    missed: &TimetableJourney,
+    journey: &mut TimetableJourney,
+) -> u8
+    ensures number { result ≡ query_number list.entry.now.state (shown_next list.entry.now part.now second missed.now) }
+    ensures row { journey.new ≡ unwrap_or (shown_next list.entry.now part.now second missed.now) journey.old }
+{
+    let found = shown_best(list, part, after(second, missed.leave));
+    queries::answer(list.state, found, journey)
 }

@@ -67,7 +67,7 @@ fn state_of(searched: bool, limit: Option<u64>) -> u8
     if limit.is_some() { 2 } else { 3 }
 }
 
-fn refused_list(number: u8) -> TimetableList
+pub fn refused_list(number: u8) -> TimetableList
     ensures { result ≡ refused_list number }
 {
     TimetableList {
