@@ -13,6 +13,7 @@ use load::Load;
 use prefix::first;
 use refusal::Answer;
 
+pub mod digits;
 mod journeys;
 mod text;
 

@@ -1,8 +1,8 @@
 -- The digits before the last two, then these.
 use native.Mathlib.Omega.{arith}
 use Rattle.lines.proofs.DecimalLaws.{one-put, two-put, more-put}
-use Rattle.lines.proofs.text.+decimal.Goals as goal
-use Rattle.lines.proofs.text.+decimal.Goals.{then-n-ge100, else-n-ge100}
+use Rattle.lines.proofs.digits.+decimal.Goals as goal
+use Rattle.lines.proofs.digits.+decimal.Goals.{then-n-ge100, else-n-ge100}
 
 pub returns-then-n-lt10 : goal.returns-then-n-lt10
 returns-then-n-lt10 t c = one-put c.args.n c.if-n-lt10.true c.byte.ensures
