@@ -35,7 +35,7 @@ cov-rank : (a b : Row) → b.leave ≤ a.leave → cov a b ≡ rank_by a.arrival
 unfolding cov rank_by
 cov-rank a b h = rw (le-leb b.leave a.leave h) refl
 
-cov-total : (a b : Row) → a.leave ≡ b.leave → cov a b ≡ false → cov b a ≡ true
+pub cov-total : (a b : Row) → a.leave ≡ b.leave → cov a b ≡ false → cov b a ≡ true
 cov-total a b e h =
     let f = sym (cov-rank a b (omega arith)) ∙ h in
     cov-rank b a (omega arith) ∙ rank-total a.arrival a.rides a.walk b.arrival b.rides b.walk f

@@ -1,5 +1,5 @@
 -- The offer of a row to the state of a search.
-use Rattle.std.specs.Prelude.{◌≡◌, Bool, true, ◌||◌, ℕ, ltb}
+use Rattle.std.specs.Prelude.{◌≡◌, Bool, true, ◌||◌, ℕ, leb, ltb}
 use mathlib.Core.List.{List, [], Memᴰ}
 use Rattle.laws.specs.Lists.{foldl}
 use Rattle.profile.specs.Found.{Row}
@@ -39,3 +39,16 @@ passed_over refused o = true
 abbrev pub OffersCovered : Type 0
 OffersCovered = (s : St Row) (b : Row) (os : List Row) → passed_over s b ≡ true → ((o : Row) → Memᴰ o os → cov b o ≡ true)
     → foldl offer_to s os ≡ s
+
+-- an offer with this leave, rides and walk would be passed over exactly if it is due at t or later
+unfoldable pub PassedFrom : St Row → ℕ → ℕ → ℕ → ℕ → Type 0
+PassedFrom s leave rides walk t =
+    (a : ℕ) → passed_over s (with_figures (record { leave = leave; arrival = a; rides = rides; walk = walk })) ≡ leb t a
+
+-- where a row would be passed over, so would what it equals or beats
+abbrev pub CoveredPassed : Type 0
+CoveredPassed = (s : St Row) (b o : Row) → passed_over s b ≡ true → cov b o ≡ true → passed_over s o ≡ true
+
+-- after its offer, a row would be passed over
+abbrev pub OfferedPassed : Type 0
+OfferedPassed = (s : St Row) (o : Row) → passed_over (offer_to s o) o ≡ true

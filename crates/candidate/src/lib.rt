@@ -9,6 +9,7 @@ ghost use Rattle.state.specs.View.{row_at, rows, count_of, horizon_of, view};
 ghost use Rattle.candidate.specs.Offer.{with_figures, offer_to, reads_to, passed_over};
 ghost use Rattle.candidate.specs.Pieces.{stored, put_row, Ends, Packed, Open, latest_due, settled};
 
+pub mod times;
 mod walk;
 
 use crate::walk::first_near;

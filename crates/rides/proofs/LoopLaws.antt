@@ -73,7 +73,7 @@ module _ {S X E : Type 0} {see : S → X} {step : X → E → X} (feed changes :
 refused_all : (s : St Row) (os : List Row) → s ≡ refused → foldl offer_to s os ≡ s
 refused_all s os e = ap (λ (r : St Row). foldl offer_to r os) e ∙ offers-late refused os (λ o m. refl) ∙ sym e
 
-run-same : (a b c : FeedCall) → same_run a b ≡ true → same_run a c ≡ same_run b c
+pub run-same : (a b c : FeedCall) → same_run a b ≡ true → same_run a c ≡ same_run b c
 unfolding same_run
 run-same a b c h = rw (eqb-true a.trip b.trip (and-true-left _ _ h), eqb-true a.day b.day (and-true-right (eqb a.trip b.trip) _ h))
 

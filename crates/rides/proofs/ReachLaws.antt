@@ -33,7 +33,7 @@ use Rattle.rides.specs.Reach.{due_at, NotBefore, alighted_at, BoardAt, JoinAt, L
 
 -- ---- arrays filled from the left and from the right
 
-length-replicate : (k x : ℕ) → length (replicate k x) ≡ k
+pub length-replicate : (k x : ℕ) → length (replicate k x) ≡ k
 length-replicate zero x = refl
 length-replicate (suc k) x = ap suc (length-replicate k x)
 

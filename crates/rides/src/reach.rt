@@ -2,20 +2,22 @@
 // A time past 65535 is cut to it, which also stands where no target is reached: a minimum begins with it, so it needs no option.
 ghost use Rattle.std.specs.Prelude.{◌≡◌, ◌+◌, ◌≤◌, ◌<◌};
 ghost use Rattle.rides.specs.Bounds.{AtCall};
-ghost use Rattle.rides.specs.Reach.{TargetTimes, TimesBefore, Onward, BoardAt, Least, JoinsAt, Each};
+ghost use Rattle.rides.specs.Reach.{Onward, BoardAt, Least, JoinsAt, Each};
 
 use crate::bounds::alight_bound;
 use crate::calls::{Calls, Ride};
 use crate::lent::Lent;
 use feed::FirstRide;
 
-// With no change left, whatever the changes are: the targets of the stop at each place.
-pub fn target_times(calls: &Calls) -> [u16; 512]
-    ensures { TargetTimes calls.now.feed.now calls.now.n result }
-{
-    put_targets(calls)
+// The numbers by place: from where a ride alights, with no change left, one and two; and of the rides that board there, with no change
+// left after them and one.
+#[derive(Clone, Copy, Debug, PartialEq, Eq)]
+pub struct Times {
+    pub on: [[u16; 512]; 3],
+    pub boards: [[u16; 512]; 2],
 }
 
+// With no change left: the targets of the stop at each place.
 fn put_targets(calls: &Calls) -> [u16; 512]
     ensures { Each (AtCall calls.now.feed.now) 0 calls.now.n result }
 {
@@ -90,18 +92,18 @@ fn put_joined(lent: &Lent, boards: &[u16; 512]) -> [u16; 512]
     at
 }
 
-// Those with one change more than `at` has.
-pub fn times_before(lent: &Lent, at: &[u16; 512]) -> [u16; 512]
-    ensures { TimesBefore lent.now.calls.feed.now lent.now.changes.now lent.now.calls.n at.now result }
+// From the last ride back.
+pub fn onward_times(lent: &Lent) -> Times
+    ensures { Onward result.on result.boards lent.now.calls.feed.now lent.now.changes.now lent.now.calls.n }
 {
-    put_joined(lent, &put_boards(&lent.calls, at))
-}
-
-// Those with one change left, then those with two.
-pub fn onward_times(lent: &Lent) -> [[u16; 512]; 2]
-    ensures { Onward result lent.now.calls.feed.now lent.now.changes.now lent.now.calls.n }
-{
-    let one = times_before(lent, &target_times(&lent.calls));
-    let two = times_before(lent, &one);
-    [one, two]
+    let calls = &lent.calls;
+    let none = put_targets(calls);
+    let last = put_boards(calls, &none);
+    let one = put_joined(lent, &last);
+    let middle = put_boards(calls, &one);
+    let two = put_joined(lent, &middle);
+    Times {
+        on: [none, one, two],
+        boards: [last, middle],
+    }
 }
