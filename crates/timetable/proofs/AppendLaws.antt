@@ -118,12 +118,12 @@ begun xs e = go (eqb (length xs) 1) refl e
 
 -- ---- a record more
 
-fed-behind : (r : Reader) (b : List ℕ) → (record_spec r b).answer ≡ Ok Taken
+fed-behind : (r : Reader) (b : List ℕ) → is_refused (record_spec r b).answer ≡ false
     → fed_spec r (framed b) ≡ record { answer = Ok Taken; used = 2 + length b + 0; reader = (record_spec r b).reader }
 fed-behind r b e =
     let body : record_spec r (body_of (framed b ++ [])) ≡ record_spec r b = ap (record_spec r) (body_is b []) in
     ap (fed_spec r) (sym (append-nil (framed b)))
-    ∙ fed-goes-on r (framed b ++ []) (is_whole b []) (ap (λ (t : Took). is_refused t.answer) body ∙ ap is_refused e)
+    ∙ fed-goes-on r (framed b ++ []) (is_whole b []) (ap (λ (t : Took). is_refused t.answer) body ∙ e)
     ∙ (λ i. later (2 + size_is b [] i) (fed_spec (body i).reader (rest_is b [] i)))
     ∙ ap (later (2 + length b)) (fed-stops (record_spec r b).reader [] none-whole)
 
@@ -146,8 +146,8 @@ past-all used zs b none =
     let size : length (framed b) ≡ 2 + (length b + 0) = ap length (sym (append-nil (framed b))) ∙ long b [] in
     drop_all (used + (2 + length b + 0)) (zs ++ framed b) (omega (arith, left, size, length-append zs (framed b)))
 
-appended-to : (xs b : List ℕ) {r : Reader} → Begun xs r → (record_spec r b).answer ≡ Ok Taken
-    → read_spec_of (xs ++ framed b) ≡ record_spec r b
+appended-to : (xs b : List ℕ) {r : Reader} → Begun xs r → is_refused (record_spec r b).answer ≡ false
+    → read_spec_of (xs ++ framed b) ≡ record { answer = Ok Taken; reader = (record_spec r b).reader }
 appended-to [] b w t = let some = w.some in absurd (omega (arith, some))
 appended-to (x ∷ zs) b {r} w t =
     let f : Fed = fed_of (x ∷ zs) in
@@ -156,11 +156,11 @@ appended-to (x ∷ zs) b {r} w t =
     fed-in-parts (fresh_reader (is_second (x ∷ zs))) zs (framed b) ∙ rw w.fed refl in
     let all : fed_of (x ∷ (zs ++ framed b)) ≡ record { answer = Ok Taken; used = f.used + (2 + length b + 0); reader = new } =
     parts ∙ (λ i. later f.used (fed_spec (w.reader i) (w.whole i ++ framed b))) ∙ ap (later f.used) (fed-behind r b t) in
-    let opened : new.opened ≡ true = ap (λ (s : Reader). s.opened) (taken-settled r b (ap is_refused t)).1 in
+    let opened : new.opened ≡ true = ap (λ (s : Reader). s.opened) (taken-settled r b t).1 in
     let none : length (drop (f.used + (2 + length b + 0)) (zs ++ framed b)) ≡ 0 = ap length (past-all f.used zs b w.whole) in
     read-whole (x ∷ (zs ++ framed b)) (ap is_refused (same-version x (zs ++ framed b) zs) ∙ w.version)
     ∙ ap (ended_by (zs ++ framed b)) all
-    ∙ (λ i. record { answer = (nothing-left opened none ∙ sym t) i; reader = new })
+    ∙ (λ i. record { answer = nothing-left opened none i; reader = new })
 
 pub read-appended : ReadAppended
 read-appended xs b e t = appended-to xs b (begun xs e) t

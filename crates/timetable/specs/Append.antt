@@ -1,9 +1,9 @@
 -- One step over a file: the file's load so far takes a record, which is then put behind the file.
-use Rattle.refusal.specs.declared.Accepted.TheVariants.{Taken}
-use Rattle.std.specs.Prelude.{◌≡◌, Bool, cond, ◌&&◌, List, ◌++◌, ℕ, ◌+◌, ◌-◌, eqb, leb, min, length, take, drop, Err, Ok, None, Option}
+use Rattle.refusal.specs.declared.Accepted.TheVariants.{Taken, Outside}
+use Rattle.std.specs.Prelude.{◌≡◌, Bool, false, cond, ◌&&◌, List, ◌++◌, ℕ, ◌+◌, ◌-◌, eqb, leb, min, length, take, drop, Err, Ok, None, Option}
 use Rattle.std.specs.Prelude.{Some}
 use Rattle.refusal.specs.Causes.{number_of}
-use Rattle.refusal.specs.First.{Answer, is_refused, is_taken}
+use Rattle.refusal.specs.First.{Answer, is_refused}
 use Rattle.codec.specs.Shapes.{framed}
 use Rattle.file.specs.declared.Took.{Took}
 use Rattle.file.specs.Record.{fresh_reader, record_spec}
@@ -37,18 +37,20 @@ pub record Appended : Type 0 where
   pub size : ℕ
   pub number : ℕ
 
--- 255 for a call outside the window, or the number of the refusal
-unfoldable pub left_number : Answer → ℕ
-left_number (Ok a) = 255
-left_number (Err r) = number_of r
+-- 0, 255 for a call outside the window, or the number of the refusal
+unfoldable pub append_number : Answer → ℕ
+append_number (Ok Taken) = 0
+append_number (Ok Outside) = 255
+append_number (Err r) = number_of r
 
--- behind the first n bytes, if the record is taken and there is room: 26 where there is none; else everything is as it was
+-- behind the first n bytes, unless the record is refused, and if there is room: 26 where there is none. That of a call outside too, as a
+-- full table may be cut by it (RULES 5.4).
 unfoldable pub appended_by : Answer → List ℕ → ℕ → ℕ → List ℕ → Appended
 appended_by a xs given n b =
-    cond (is_taken a) (cond (has_room (length xs) n (length b))
-    (record { buffer = put_behind xs n b; size = n + 2 + length b; number = 0 })
+    cond (is_refused a) (record { buffer = xs; size = given; number = append_number a })
+    (cond (has_room (length xs) n (length b))
+    (record { buffer = put_behind xs n b; size = n + 2 + length b; number = append_number a })
     (record { buffer = xs; size = given; number = 26 }))
-    (record { buffer = xs; size = given; number = left_number a })
 
 -- a length past the buffer is that of the whole buffer
 abbrev pub appended_at : List ℕ → ℕ → ℕ → List ℕ → Appended
@@ -57,8 +59,8 @@ appended_at xs given n b = appended_by (step_of (take n xs) b).answer xs given n
 abbrev pub appended_of : List ℕ → ℕ → List ℕ → Appended
 appended_of xs given b = appended_at xs given (min given (length xs)) b
 
--- ---- what is claimed: a file with a record that its load takes is read as the load that this step leaves
+-- ---- what is claimed: a file with a record behind it that its load doesn't refuse is read as the load that this step leaves
 
 abbrev pub ReadAppended : Type 0
-ReadAppended = (xs b : List ℕ) → (so_far xs).answer ≡ Ok Taken → (record_spec (so_far xs).reader b).answer ≡ Ok Taken
-    → read_spec_of (xs ++ framed b) ≡ record_spec (so_far xs).reader b
+ReadAppended = (xs b : List ℕ) → (so_far xs).answer ≡ Ok Taken → is_refused (record_spec (so_far xs).reader b).answer ≡ false
+    → read_spec_of (xs ++ framed b) ≡ record { answer = Ok Taken; reader = (record_spec (so_far xs).reader b).reader }

@@ -1,12 +1,12 @@
 // One step over a file: its load so far takes a record, which is then put behind the file.
 ghost use Rattle.std.specs.Prelude.{◌≡◌, ◌+◌, ◌≤◌, length, take};
-ghost use Rattle.timetable.specs.Append.{so_far, step_of, has_room, put_behind, size_behind, buffer_behind, left_number};
+ghost use Rattle.timetable.specs.Append.{so_far, step_of, has_room, put_behind, size_behind, buffer_behind, append_number};
 
 use file::Took;
 use file::record::record;
 use prefix::first;
 use reader::{fresh, is_second, read, version};
-use refusal::{Answer, is_refused};
+use refusal::{Accepted, Answer, is_refused};
 
 // The version byte alone begins a file, and so isn't refused with 19 as a file without a record.
 fn so_far(file: &[u8]) -> Took
@@ -39,13 +39,13 @@ pub fn answer_at(file: &[u8], n: usize, b: &[u8]) -> Answer
     step(first(file, n), b).answer
 }
 
-// The number of an answer that isn't `Taken`.
-#[tactic(auto, unfolding(crate::specs::Append::left_number))]
-pub fn left_number(answer: Answer) -> u8
-    ensures { result ≡ left_number answer }
+#[tactic(auto, unfolding(crate::specs::Append::append_number))]
+pub fn append_number(answer: Answer) -> u8
+    ensures { result ≡ append_number answer }
 {
     match answer {
-        Ok(_) => 255,
+        Ok(Accepted::Taken) => 0,
+        Ok(Accepted::Outside) => 255,
         Err(refusal) => u8::from(refusal),
     }
 }

@@ -20,7 +20,7 @@ pub mod shown;
 mod within;
 mod wrote;
 
-use crate::append::{answer_at, left_number, put_behind};
+use crate::append::{answer_at, append_number, put_behind};
 use crate::journeys::TimetableJourney;
 use crate::judged::{TimetableConnection, TimetableVerdict, judged};
 use crate::list::{TimetableList, list_by, number_of};
@@ -29,7 +29,7 @@ use crate::within::{answer_of, found_within, joins_of};
 use crate::wrote::{length_of, write_file, wrote_number};
 use best::after;
 use reader::read;
-use refusal::is_taken;
+use refusal::is_refused;
 
 // Of these functions and structs.
 const VERSION: u32 = 1;
@@ -119,7 +119,7 @@ pub extern "C" fn timetable_write(file: &[u8], out: &mut [u8], written: &mut usi
     wrote_number(wrote)
 }
 
-// One step: the record is put behind the file, which stands in the first bytes of a buffer, if the file's load takes it.
+// One step: the record is put behind the file, which stands in the first bytes of a buffer, unless the file's load refuses it.
 #[tactic(auto, unfolding(crate::specs::Append::appended_by))]
 #[unsafe(no_mangle)]
 pub extern "C" fn timetable_append(buffer: &mut [u8], size: &mut usize, b: &[u8]) -> u8
@@ -129,13 +129,13 @@ pub extern "C" fn timetable_append(buffer: &mut [u8], size: &mut usize, b: &[u8]
 {
     let n = (*size).min(buffer.len());
     let answer = answer_at(buffer, n, b);
-    if !is_taken(answer) {
-        return left_number(answer);
+    if is_refused(answer) {
+        return append_number(answer);
     }
     match put_behind(buffer, n, b) {
         Some(longer) => {
             *size = longer;
-            0
+            append_number(answer)
         }
         None => 26,
     }
