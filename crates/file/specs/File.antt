@@ -8,6 +8,7 @@ use Rattle.fields.specs.Numbers.{byte_at, u16_at}
 use Rattle.file.specs.declared.Reader.{Reader}
 use Rattle.file.specs.declared.Took.{Took}
 use Rattle.file.specs.declared.Fed.{Fed}
+use Rattle.file.specs.declared.Used.{Used}
 use Rattle.file.specs.Record.{fresh_reader, record_spec}
 
 -- ---- 17, before all else: another or no version
@@ -35,6 +36,10 @@ body_of xs = take (u16_at xs 0) (drop 2 xs)
 -- the record at their start, if it is there whole
 abbrev pub whole_of : List ℕ → Option (List ℕ)
 whole_of xs = cond (starts_whole xs) (Some (body_of xs)) None
+
+-- records in place: what they are answered, and the reader that they leave
+abbrev pub fed_as : Used → Reader → Fed
+fed_as u r = record { answer = u.answer; used = u.used; reader = r }
 
 -- so many bytes were used before
 abbrev pub later : ℕ → Fed → Fed
@@ -68,6 +73,11 @@ ended_by xs f = record {
   answer = cond (is_refused f.answer) f.answer (end_answer f.reader.opened (length (drop f.used xs)));
   reader = f.reader;
 }
+
+-- read to a reader
+unfoldable pub read_to_of : Reader → List ℕ → Took
+read_to_of r xs =
+    cond (is_refused (version_answer xs)) (record { answer = version_answer xs; reader = r }) (ended_by (drop 1 xs) (fed_spec r (drop 1 xs)))
 
 unfoldable pub read_spec_of : List ℕ → Took
 read_spec_of xs =

@@ -1,5 +1,5 @@
 -- A record by its kind: what fills it, what it is tested for, and what it hands in.
-use Rattle.std.specs.Prelude.{ℕ, Bool, List, [], Result, Err, Ok}
+use Rattle.std.specs.Prelude.{ℕ, Bool, false, List, [], Result, Err, Ok}
 use Rattle.refusal.specs.declared.Refusal.{Refusal}
 use Rattle.refusal.specs.First.{first_answer, Answer}
 use Rattle.fields.specs.declared.kind.Kind.{Kind}
@@ -10,6 +10,7 @@ use Rattle.fields.specs.Layout.{text_at, option_text_at, name_at, parent_at}
 use Rattle.fields.specs.Layout.{stop_filled_of, call_filled_of, rule_filled_of, search_filled_of}
 use Rattle.fields.specs.Records.{stop_in, call_in, rule_in}
 use Rattle.fields.specs.Second.{settings_by, settings_filled_by}
+use Rattle.load.specs.declared.Load.{Load}
 use Rattle.load.specs.declared.Stepped.{Stepped}
 use Rattle.load.specs.Steps.{undated, open_spec_of, stop_spec, rule_spec}
 use Rattle.again.specs.Again.{add_spec_of}
@@ -23,6 +24,10 @@ filled_as Stop second b = stop_filled_of b
 filled_as Call second b = call_filled_of b
 filled_as Rule second b = rule_filled_of b
 filled_as Search second b = search_filled_of b
+
+-- a reader of this load, of which a record reads no more
+abbrev pub closed_reader : Bool → Load → Reader
+closed_reader second l = record { opened = false; second = second; load = l }
 
 abbrev pub stepped_as : Kind → Reader → List ℕ → Stepped
 stepped_as Settings r b = open_spec_of (undated (settings_by r.second b))

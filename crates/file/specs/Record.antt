@@ -26,6 +26,10 @@ fresh_reader second = record { opened = false; second = second; load = empty_loa
 abbrev pub open_reader : Load → Reader
 open_reader l = record { opened = true; second = false; load = l }
 
+-- a record in place: its answer, and the reader that it leaves
+abbrev pub took : Answer → Reader → Took
+took a r = record { answer = a; reader = r }
+
 -- settings come first and only first; after them kinds 2 to 5: stop, call, rule, search
 unfoldable pub kind_right : Bool → ℕ → Bool
 kind_right false kind = eqb kind 1

@@ -32,3 +32,10 @@ pub struct Fed {
     pub used: usize,
     pub reader: Reader,
 }
+
+// The same of a reader that is lent.
+#[derive(Clone, Copy, Debug, PartialEq)]
+pub struct Used {
+    pub answer: Answer,
+    pub used: usize,
+}

@@ -28,6 +28,10 @@ use Rattle.load.specs.Load.{empty_of, empty_load, blank_settings, table_of, with
 abbrev pub stepped : Answer → Load → Stepped
 stepped a l = record { answer = a; load = l }
 
+-- a step made of l, by which l stays where it is sent back
+abbrev pub unless_refused : Load → Stepped → Stepped
+unless_refused l s = record { answer = s.answer; load = cond (is_refused s.answer) l s.load }
+
 -- ---- opening: 1, 2, 20
 
 -- the settings, and the dates of the three days where there are any

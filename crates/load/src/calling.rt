@@ -20,7 +20,7 @@ impl Load {
     }
 
     // The same in place.
-    fn take_call_of(&mut self, service: &[u8], input: CallInput) -> Answer
+    pub fn take_call_of(&mut self, service: &[u8], input: CallInput) -> Answer
         ensures { stepped result self.new ≡ call_spec self.old service.now input }
     {
         if self.week.dates.is_some() {

@@ -13,6 +13,7 @@ ghost use Rattle.load.specs.Steps.{
   open_by,
   open_spec_of,
   stepped,
+  unless_refused,
   stop_spec,
   rule_spec,
   service_spec,
@@ -133,6 +134,18 @@ impl Load {
         ensures { result ≡ open_spec_of (dated settings dates) }
     {
         opening(dated_answer(settings, dates), settings, dated(dates))
+    }
+
+    // An empty load in place of this one, or why the settings are sent back: then it stays.
+    pub fn reopen(&mut self, settings: Settings) -> Answer
+        ensures { stepped result self.new ≡ unless_refused self.old (open_spec_of (undated settings)) }
+    {
+        let answer = settings_answer(settings);
+        if is_refused(answer) {
+            return answer;
+        }
+        *self = empty(canonical(settings), undated());
+        answer
     }
 
     // A stop is taken or sent back.

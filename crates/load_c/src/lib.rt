@@ -8,10 +8,10 @@ ghost use Rattle.file.specs.File.{read_spec_of};
 ghost use Rattle.lines.specs.Lines.{lines_of};
 ghost use Rattle.load_c.specs.Best.{times_of, times_in};
 
-use best::best;
-use lines::lines;
+use best::best_of;
+use lines::lines_of;
 use profile::Journey;
-use reader::read;
+use reader::{fresh, is_second, read_to};
 use refusal::is_refused;
 
 // The file read, and its lines printed: how many bytes they are.
@@ -19,8 +19,9 @@ use refusal::is_refused;
 pub extern "C" fn load_lines(bytes: &[u8], out: &mut [u8; 4096]) -> usize
     ensures { take result out.new ≡ lines_of (read_spec_of bytes.now).answer (read_spec_of bytes.now).reader.load }
 {
-    let t = read(bytes);
-    lines(out, t.answer, t.reader.load)
+    let mut reader = fresh(is_second(bytes));
+    let answer = read_to(&mut reader, bytes);
+    lines_of(out, answer, &reader.load)
 }
 
 // When a journey leaves and arrives, as the one number that C is handed.
@@ -40,9 +41,10 @@ fn times_of(found: Option<Journey>) -> u64
 pub extern "C" fn load_best(bytes: &[u8]) -> u64
     ensures { result ≡ times_in (read_spec_of bytes.now) }
 {
-    let t = read(bytes);
-    if is_refused(t.answer) {
+    let mut reader = fresh(is_second(bytes));
+    let answer = read_to(&mut reader, bytes);
+    if is_refused(answer) {
         return times_of(None);
     }
-    times_of(best(t.reader.load, 0))
+    times_of(best_of(&reader.load, 0))
 }

@@ -4,9 +4,9 @@
 
 ghost use Rattle.std.specs.Prelude.{◌≡◌, ◌-◌, ◌≤◌, length};
 
-use file::Took;
-use reader::{ended, fed, fresh, is_second, version};
-use refusal::is_refused;
+use file::Reader;
+use reader::{ended, is_second, take_records, version};
+use refusal::{Answer, is_refused};
 use std::io::{Stderr, Stdin, Stdout};
 use stdio::input::{Unread, full};
 use stdio::told;
@@ -24,25 +24,24 @@ fn move_down(buf: &mut [u8], from: usize, end: usize) -> usize
 
 // The records of the parts that follow the first bytes of the buffer; the records begin after a version that was taken. The file's end
 // or a refusal ends the loop; its range bounds it, as each loop needs a bound. A file that doesn't end in 2^64 parts counts as unread.
-fn records(stdin: Stdin, buf: &mut [u8], first: usize, second: bool) -> Result<Took, Unread>
+fn records(
+    stdin: Stdin,
+    buf: &mut [u8],
+    first: usize,
+    reader: &mut Reader,
+) -> Result<Answer, Unread>
     requires { first ≤ length buf.old }
 {
     let mut held = first;
     let mut at = held.min(1);
-    let mut reader = fresh(second);
     for _ in 0..u64::MAX {
-        let f = fed(reader, &buf[at..held]);
-        let answer = f.answer;
-        reader = f.reader;
-        if is_refused(answer) {
-            return Ok(Took { answer, reader });
+        let f = take_records(reader, &buf[at..held]);
+        if is_refused(f.answer) {
+            return Ok(f.answer);
         }
         let from = at + f.used.min(held - at);
         if held < buf.len() {
-            return Ok(Took {
-                answer: ended(reader.opened, held - from),
-                reader,
-            });
+            return Ok(ended(reader.opened, held - from));
         }
         let left = move_down(buf, from, held);
         held = left + full(stdin, &mut buf[left..])?;
@@ -52,27 +51,25 @@ fn records(stdin: Stdin, buf: &mut [u8], first: usize, second: bool) -> Result<T
 }
 
 // The version, then the records.
-fn file(stdin: Stdin, buf: &mut [u8]) -> Result<Took, Unread> {
+fn file(stdin: Stdin, buf: &mut [u8], reader: &mut Reader) -> Result<Answer, Unread> {
     let held = full(stdin, buf)?;
     let answer = version(&buf[..held]);
-    let second = is_second(&buf[..held]);
     if is_refused(answer) {
-        return Ok(Took {
-            answer,
-            reader: fresh(second),
-        });
+        return Ok(answer);
     }
-    records(stdin, buf, held, second)
+    reader.second = is_second(&buf[..held]);
+    records(stdin, buf, held, reader)
 }
 
-// Reads standard input to its end: what the last record was answered, and the reader then. A read that fails is told on standard error.
-pub fn read_input(stdin: Stdin, stderr: Stderr) -> Option<Took> {
+// Reads standard input to its end, to a fresh reader: what the last record was answered. A read that fails is told on standard error. The
+// reader is lent, and not returned: a copy of it would stand in each frame.
+pub fn read_input(stdin: Stdin, stderr: Stderr, reader: &mut Reader) -> Option<Answer> {
     let mut buf = [0; 131072];
-    let took = file(stdin, &mut buf);
-    if took.is_err() {
+    let answer = file(stdin, &mut buf, reader);
+    if answer.is_err() {
         told::unread(stderr);
     }
-    took.ok()
+    answer.ok()
 }
 
 // Writes to standard output; if that fails, says so on standard error.

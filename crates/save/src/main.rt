@@ -29,9 +29,10 @@ fn save(stdout: Stdout, stderr: Stderr, load: Load) -> Result<(), Refusal> {
 }
 
 fn main(rt: HostRuntime) {
-    if let Some(t) = read_input(rt.stdin(), rt.stderr()) {
-        let load = t.reader.load;
-        let saved = t.answer.and_then(|_| save(rt.stdout(), rt.stderr(), load));
+    let mut reader = reader::fresh(false);
+    if let Some(answer) = read_input(rt.stdin(), rt.stderr(), &mut reader) {
+        let load = reader.load;
+        let saved = answer.and_then(|_| save(rt.stdout(), rt.stderr(), load));
         if let Err(r) = saved {
             tell(rt.stderr(), Err(r), load);
         }

@@ -1,9 +1,10 @@
 // The search step: the calls put in order, every offer made, and what is kept; and the same within a limit on joins.
 #![tactic(auto)]
 
-ghost use Rattle.std.specs.Prelude.{◌≡◌, take};
+ghost use Rattle.std.specs.Prelude.{◌≡◌, ◌<◌, ℕ, get_or, take};
 ghost use Rattle.state.specs.View.{view};
 ghost use Rattle.places.specs.Places.{places_of};
+ghost use Rattle.load.specs.Steps.{stepped};
 ghost use Rattle.search.specs.Search.{search_spec};
 ghost use Rattle.transfer.specs.Changes.{change_number};
 ghost use Rattle.change_array.specs.Named.{HoldsChanges};
@@ -21,7 +22,7 @@ use order::{neighbours_clash, sorted};
 use places::group::group_places;
 use prefix::first;
 use read_back::journeys_of;
-use refusal::{Accepted, Refusal};
+use refusal::{Accepted, Answer, Refusal};
 use rides::paths::endpoint_paths;
 use state::layout::State;
 use state::{count, fresh, horizon, is_refused, limits};
@@ -32,7 +33,7 @@ use transfer::copied::parents_of;
 pub mod earliest;
 mod within;
 
-pub use within::search_within;
+pub use within::{search_within, take_search_within};
 
 // What a search within a limit on joins tested, or why it is sent back, beside the load that it returns, as of every step.
 #[derive(Clone, Copy, Debug, PartialEq)]
@@ -88,6 +89,11 @@ fn offered(load: &Load, calls: &[Call; 512]) -> State
     st
 }
 
+// A walk is a byte. Nothing is computed: of a load that is lent a proof knows only what a call tells it.
+fn bytes_told(walks: [u8; 4])
+    ensures { (o : ℕ) → get_or walks o 0 < 256 }
+{}
+
 // The load is given what a search over these calls left in the state; with the limit at which it was stopped, if it was.
 fn keep(load: &mut Load, calls: &[Call; 512], st: &State, limit: Option<u64>)
     ensures { load.new ≡ found_in load.old calls.now st.now limit }
@@ -101,34 +107,31 @@ fn keep(load: &mut Load, calls: &[Call; 512], st: &State, limit: Option<u64>)
     load.limit = limit;
 }
 
-// The load searched, or why it is sent back: 15, 14, 11.
+// The load searched, or why it is sent back: 15, 14, 11. By value the search in place of a copy.
 pub fn search(load: Load) -> Stepped
     ensures { result ≡ search_spec load }
 {
+    let mut next = load;
+    let answer = take_search(&mut next);
+    Stepped { answer, load: next }
+}
+
+// The same in place.
+pub fn take_search(load: &mut Load) -> Answer
+    ensures { stepped result load.new ≡ search_spec load.old }
+{
     if load.searched {
-        return Stepped {
-            answer: Err(Refusal::AlreadySearched),
-            load,
-        };
+        return Err(Refusal::AlreadySearched);
     }
     let calls = sorted(&load.calls, load.call_count);
     if neighbours_clash(first(&calls, load.call_count)) {
-        return Stepped {
-            answer: Err(Refusal::Neighbours),
-            load,
-        };
+        return Err(Refusal::Neighbours);
     }
-    let st = offered(&load, &calls);
+    let st = offered(load, &calls);
     if is_refused(&st) {
-        return Stepped {
-            answer: Err(Refusal::NoRoom),
-            load,
-        };
+        return Err(Refusal::NoRoom);
     }
-    let mut next = load;
-    keep(&mut next, &calls, &st, None);
-    Stepped {
-        answer: Ok(Accepted::Taken),
-        load: next,
-    }
+    bytes_told(load.settings.origin_walks);
+    keep(load, &calls, &st, None);
+    Ok(Accepted::Taken)
 }

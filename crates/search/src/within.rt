@@ -1,12 +1,12 @@
 // The search within a limit on joins: as the search step, with the offers before the first join past the limit.
-ghost use Rattle.std.specs.Prelude.{◌≡◌, min, Err};
+ghost use Rattle.std.specs.Prelude.{◌≡◌, min};
 ghost use Rattle.limited_rides.specs.Within.{Within};
 ghost use Rattle.search.specs.Timetable.{timetable_of};
 ghost use Rattle.search.specs.Events.{place_events};
 ghost use Rattle.search.specs.Offered.{placed};
-ghost use Rattle.search.specs.Within.{answered, sent_back_of, within_spec};
+ghost use Rattle.search.specs.Within.{answered, answered_by, within_spec};
 
-use crate::{Limited, changes_for, keep};
+use crate::{Limited, bytes_told, changes_for, keep};
 use calls::Call;
 use feed_array::feed_of;
 use limited_rides::Tested;
@@ -29,39 +29,37 @@ fn offered_within(load: &Load, calls: &[Call; 512], limit: u64, st: &mut State) 
     paths_within(st, &feed, &changes, load.call_count, depth, limit)
 }
 
-fn sent_back(load: Load, refusal: Refusal) -> Limited
-    ensures { answered result ≡ sent_back_of load (Err refusal) }
-{
-    Limited {
-        tested: Err(refusal),
-        load,
-    }
-}
-
-// The load searched within a limit on joins, or why it is sent back: 15, 1, 14, 11. A stopped search holds its limit.
+// The load searched within a limit on joins, or why it is sent back: 15, 1, 14, 11. A stopped search holds its limit. By value the search
+// in place of a copy.
 pub fn search_within(load: Load, limit: u64) -> Limited
     ensures { answered result ≡ within_spec load limit }
 {
+    let mut next = load;
+    let tested = take_search_within(&mut next, limit);
+    Limited { tested, load: next }
+}
+
+// The same in place.
+pub fn take_search_within(load: &mut Load, limit: u64) -> Result<Tested, Refusal>
+    ensures { answered_by load.new result ≡ within_spec load.old limit }
+{
     if load.searched {
-        return sent_back(load, Refusal::AlreadySearched);
+        return Err(Refusal::AlreadySearched);
     }
     let settings = load.settings;
     if 1 < settings.max_transfers {
-        return sent_back(load, Refusal::SettingsRange);
+        return Err(Refusal::SettingsRange);
     }
     let calls = sorted(&load.calls, load.call_count);
     if neighbours_clash(first(&calls, load.call_count)) {
-        return sent_back(load, Refusal::Neighbours);
+        return Err(Refusal::Neighbours);
     }
     let mut st = fresh(load.table_horizon, load.table_limits);
-    let tested = offered_within(&load, &calls, limit, &mut st);
+    let tested = offered_within(load, &calls, limit, &mut st);
     if is_refused(&st) {
-        return sent_back(load, Refusal::NoRoom);
+        return Err(Refusal::NoRoom);
     }
-    let mut next = load;
-    keep(&mut next, &calls, &st, (!tested.finished).then_some(limit));
-    Limited {
-        tested: Ok(tested),
-        load: next,
-    }
+    bytes_told(settings.origin_walks);
+    keep(load, &calls, &st, (!tested.finished).then_some(limit));
+    Ok(tested)
 }
