@@ -148,7 +148,8 @@ impl<'a> ThreeRides<'a> {
         over
     }
 
-    // The rides that board at c, if one of them leads on before `over` and the ride r, as p, joins them.
+    // The rides that board at c, if one of them leads on before `over` and the ride r, as p, joins them. Inlined, as in `change`.
+    #[inline]
     #[cycle(onward)]
     fn board_on(
         &self,
