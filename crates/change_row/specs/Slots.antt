@@ -1,12 +1,17 @@
 -- How the rule of each change of a row is found: the best rule for each `to`, of those from a stop or its parent.
-use Rattle.std.specs.Prelude.{Bool, false, cond, not, ◌&&◌, ◌||◌, List, ℕ, min, eqb, get_or, None, Option, Some}
+use Rattle.std.specs.Prelude.{Bool, false, cond, not, ◌&&◌, ◌||◌, List, ℕ, ◌+◌, min, eqb, get_or, None, Option, Some}
 use Rattle.laws.specs.Lists.{foldl}
 use Rattle.rules.specs.declared.Rule.{Rule}
 use Rattle.transfer.specs.declared.Ends.{Ends}
+use Rattle.stops.specs.Sizes.{stop_room}
 
 -- each of 128 stops has a slot; any number past them has the slot 128
 abbrev pub slot_of : ℕ → ℕ
-slot_of to = min to 128
+slot_of to = min to stop_room
+
+-- how many slots
+abbrev pub slots : ℕ
+slots = stop_room + 1
 
 abbrev pub is_from : ℕ → Option Rule → Bool
 is_from from None = false

@@ -5,21 +5,26 @@
 ghost use Rattle.std.specs.Prelude.{◌≡◌, ◌<◌, ◌≤◌, get_or, set, replicate, None};
 ghost use Rattle.laws.specs.Tables.{table};
 ghost use Rattle.transfer.specs.Lent.{row_of};
-ghost use Rattle.change_row.specs.Slots.{is_from, better_from, slot_of, best_to, picked, picked_in};
+ghost use Rattle.change_row.specs.Slots.{slots, is_from, better_from, slot_of, best_to, picked, picked_in};
+ghost use Rattle.stops.specs.Sizes.{stop_room, no_stop};
 
 use rules::Rule;
+use stops::STOPS;
 use transfer::parts::{change_by, change_number};
 use transfer::{Ends, Transfers};
 
 // Each of 128 stops has a slot. One more, the last, is that of every number past them.
-const PAST: usize = 128;
+const PAST: usize = STOPS;
+
+// How many there are.
+const SLOTS: usize = STOPS + 1;
 
 // The best rule for each slot.
-type Best = [Option<Rule>; 129];
+type Best = [Option<Rule>; SLOTS];
 
 // The bound is told beside the value: the index needs it.
 fn slot_of(to: u16) -> usize
-    ensures { (result ≡ slot_of to) × (result ≤ 128) }
+    ensures { (result ≡ slot_of to) × (result ≤ stop_room) }
 {
     usize::from(to).min(PAST)
 }
@@ -42,8 +47,8 @@ fn read_rule(best: &mut Best, rule: Rule, from: u16, parent: u16)
 
 // The best for each slot.
 fn read_rules(best: &mut Best, rules: &[Rule], from: u16, parent: u16)
-    requires { best.old ≡ replicate 129 None }
-    ensures { best.new ≡ table 129 (best_to rules.now from parent) }
+    requires { best.old ≡ replicate slots None }
+    ensures { best.new ≡ table slots (best_to rules.now from parent) }
 {
     for &rule in rules {
         read_rule(best, rule, from, parent);
@@ -62,7 +67,7 @@ fn picked(from: u16, own: Option<Rule>, other: Option<Rule>) -> Option<Rule>
 
 // The same of two stops and their parents.
 fn rule_by(best: &Best, ends: Ends) -> Option<Rule>
-    requires { ends.to < 128 }
+    requires { ends.to < stop_room }
     ensures { result ≡ picked_in best.now ends }
 {
     let own = best[usize::from(ends.to)];
@@ -72,9 +77,9 @@ fn rule_by(best: &Best, ends: Ends) -> Option<Rule>
 
 // The changes by the best rules. The parent and the place of `from` are read once: read anew for each stop, by `Transfers::ends` and
 // `change_by`, a row took longer by four fifths.
-fn by_best(row: &mut [u32; 128], best: &Best, transfers: &Transfers, from: u16)
-    requires { (best.now ≡ table 129 (best_to transfers.now.rules.now from (get_or transfers.now.parents.now from 65535)))
-        × (get_or best.now 128 None ≡ None) }
+fn by_best(row: &mut [u32; STOPS], best: &Best, transfers: &Transfers, from: u16)
+    requires { (best.now ≡ table slots (best_to transfers.now.rules.now from (get_or transfers.now.parents.now from no_stop)))
+        × (get_or best.now stop_room None ≡ None) }
     ensures { row.new ≡ row_of transfers.now from }
 {
     let parents = transfers.parents;
@@ -95,7 +100,7 @@ fn by_best(row: &mut [u32; 128], best: &Best, transfers: &Transfers, from: u16)
 }
 
 // Each change by itself. It takes what `by_best` and `change_row` take: a struct of the three would be made for one call each.
-fn one_by_one(row: &mut [u32; 128], transfers: &Transfers, from: u16)
+fn one_by_one(row: &mut [u32; STOPS], transfers: &Transfers, from: u16)
     ensures { row.new ≡ row_of transfers.now from }
 {
     for (k, entry) in row.iter_mut().enumerate() {
@@ -105,10 +110,10 @@ fn one_by_one(row: &mut [u32; 128], transfers: &Transfers, from: u16)
 
 // The changes from a stop: the seconds for each of 128 stops, 65536 for never. A rule to a number past the stops, which no load has, may be
 // for the parent of any of them: then all rules are read for each.
-pub fn change_row(row: &mut [u32; 128], transfers: &Transfers, from: u16)
+pub fn change_row(row: &mut [u32; STOPS], transfers: &Transfers, from: u16)
     ensures { row.new ≡ row_of transfers.now from }
 {
-    let mut best = [None; 129];
+    let mut best = [None; SLOTS];
     read_rules(&mut best, transfers.rules, from, transfers.parent(from));
     if best[PAST].is_some() {
         one_by_one(row, transfers, from);

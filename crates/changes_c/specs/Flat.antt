@@ -3,6 +3,7 @@
 use Rattle.std.specs.Prelude.{List, ℕ, ◌+◌, ◌*◌, ◌%◌, get_or, Some}
 use Rattle.laws.specs.Tables.{table}
 use Rattle.rules.specs.declared.Rule.{Rule}
+use Rattle.rules.specs.Sizes.{rule_room}
 
 -- the rule at a place of such an array
 abbrev pub rule_at : List ℕ → ℕ → Rule
@@ -15,4 +16,4 @@ rule_at l i = record {
 
 -- the 128 of it
 unfoldable pub rules_of : List ℕ → List Rule
-rules_of l = table 128 (rule_at l)
+rules_of l = table rule_room (rule_at l)

@@ -6,20 +6,24 @@ ghost use Rattle.transfer.specs.Rows.{change_row};
 ghost use Rattle.places.specs.Places.{places_of};
 ghost use Rattle.changes_c.specs.Flat.{rule_at, rules_of};
 ghost use Rattle.changes_c.specs.Plain.{stop_with, stops_with};
+ghost use Rattle.rules.specs.Sizes.{rule_room};
 
 use place::Degrees;
 use places::group::group_places;
 use prefix::first;
-use rules::Rule;
+use rules::{RULES, Rule};
 use std::array;
-use stops::Stop;
-use texts::Text;
+use stops::{NAME_BYTES, STOPS, Stop};
+use texts::{ID_BYTES, Text};
 use transfer::Transfers;
+
+// Five numbers for each rule.
+const NUMBERS: usize = RULES * 5;
 
 // The rule at a place: from, to, type, seconds, and 1 if seconds were given, which no row depends on, as none count as 0. C lends 16 bits
 // for a type, of which the low 8 are read; a cast that may lose bits is refused. The bound is that of the places that `from_fn` counts.
-fn rule_at(flat: &[u16; 640], i: usize) -> Rule
-    requires { i < 128 }
+fn rule_at(flat: &[u16; NUMBERS], i: usize) -> Rule
+    requires { i < rule_room }
     ensures { result ≡ rule_at flat.now i }
 {
     let at = i * 5;
@@ -32,7 +36,7 @@ fn rule_at(flat: &[u16; 640], i: usize) -> Rule
 }
 
 // The rules that C lends, five numbers for each.
-fn rules_of(flat: &[u16; 640]) -> [Rule; 128]
+fn rules_of(flat: &[u16; NUMBERS]) -> [Rule; RULES]
     ensures { result ≡ rules_of flat.now }
 {
     array::from_fn(|i| rule_at(flat, i))
@@ -41,11 +45,11 @@ fn rules_of(flat: &[u16; 640]) -> [Rule; 128]
 // The changes from a stop to each of 128 (`change_row`). C lends plain arrays, and a count beside the rules.
 #[unsafe(no_mangle)]
 pub extern "C" fn changes_row(
-    row: &mut [u32; 128],
-    rules: &[u16; 640],
+    row: &mut [u32; STOPS],
+    rules: &[u16; NUMBERS],
     count: usize,
-    parents: &[u16; 128],
-    places: &[u16; 128],
+    parents: &[u16; STOPS],
+    places: &[u16; STOPS],
     from: u16,
     change: u16,
 )
@@ -66,18 +70,21 @@ fn stop_with(id: u16, name: u8, latitude: f64, longitude: f64) -> Stop
     ensures { result ≡ stop_with id name latitude longitude }
 {
     let [high, low] = id.to_be_bytes();
-    let mut bytes = [0; 32];
-    bytes[30] = high;
-    bytes[31] = low;
+    let mut bytes = [0; ID_BYTES];
+    bytes[ID_BYTES - 2] = high;
+    bytes[ID_BYTES - 1] = low;
     let degrees = Degrees {
         latitude,
         longitude,
     };
     Stop {
-        id: Text { bytes, len: 32 },
+        id: Text {
+            bytes,
+            len: ID_BYTES as u8,
+        },
         name: Some(Text {
-            bytes: [name; 64],
-            len: 64,
+            bytes: [name; NAME_BYTES],
+            len: NAME_BYTES as u8,
         }),
         parent: None,
         location_type: 0,
@@ -88,11 +95,11 @@ fn stop_with(id: u16, name: u8, latitude: f64, longitude: f64) -> Stop
 
 // 128 of them, of the arrays that C lends.
 fn stops_with(
-    ids: &[u16; 128],
-    names: &[u8; 128],
-    latitudes: &[f64; 128],
-    longitudes: &[f64; 128],
-) -> [Stop; 128]
+    ids: &[u16; STOPS],
+    names: &[u8; STOPS],
+    latitudes: &[f64; STOPS],
+    longitudes: &[f64; STOPS],
+) -> [Stop; STOPS]
     ensures { result ≡ stops_with ids.now names.now latitudes.now longitudes.now }
 {
     array::from_fn(|k| stop_with(ids[k], names[k], latitudes[k], longitudes[k]))
@@ -101,11 +108,11 @@ fn stops_with(
 // The place of each of the first `count` of 128 stops (`group_places`), of plain arrays and a count as C lends them.
 #[unsafe(no_mangle)]
 pub extern "C" fn changes_places(
-    places: &mut [u16; 128],
-    ids: &[u16; 128],
-    names: &[u8; 128],
-    latitudes: &[f64; 128],
-    longitudes: &[f64; 128],
+    places: &mut [u16; STOPS],
+    ids: &[u16; STOPS],
+    names: &[u8; STOPS],
+    latitudes: &[f64; STOPS],
+    longitudes: &[f64; STOPS],
     count: usize,
 )
     ensures { places.new ≡ places_of (take count (stops_with ids.now names.now latitudes.now longitudes.now)) }

@@ -6,12 +6,12 @@ mod entries;
 pub mod group;
 
 use place::PlaceKey;
-use texts::Text;
+use texts::{ID_BYTES, Text};
 
 // What the grouping reads of a stop: its id, its number and its place key.
 #[derive(Clone, Copy, Debug, Default, PartialEq, Eq)]
 pub struct Entry {
-    pub id: Text<32>,
+    pub id: Text<ID_BYTES>,
     pub stop: u16,
     pub key: PlaceKey,
 }
