@@ -1,18 +1,22 @@
 -- The changes that a search reads: from the stops that its calls name.
 use Rattle.std.specs.Prelude.{◌≡◌, Bool, true, false, List, ℕ, ◌+◌, ◌*◌, ◌<◌, ◌≤◌, length, get_or}
+use Rattle.stops.specs.Sizes.{stop_room}
+use Rattle.calls.specs.Sizes.{call_room}
+use Rattle.feed.specs.Layout.{call_width}
 
 -- the stop of the call at place i of a feed
 abbrev pub stop_in : List ℕ → ℕ → ℕ
-stop_in f i = get_or f (i * 6 + 2) 0
+stop_in f i = get_or f (i * call_width + 2) 0
 
 -- each stop that one of the first n calls names is marked
 abbrev pub Marks : List Bool → List ℕ → ℕ → Type 0
-Marks m f n = (i : ℕ) → i < n → i < 512 → stop_in f i < 128 → get_or m (stop_in f i) false ≡ true
+Marks m f n = (i : ℕ) → i < n → i < call_room → stop_in f i < stop_room → get_or m (stop_in f i) false ≡ true
 
 -- with a change, g has at from * 128 + to the entry of each two stops of which one of the first n calls names the first
 abbrev pub HoldsChanges : List ℕ → List ℕ → ℕ → ℕ → (ℕ → ℕ → ℕ) → Type 0
 HoldsChanges g f n depth entry =
-    1 ≤ depth → (i to : ℕ) → i < n → i < 512 → stop_in f i < 128 → to < 128 → get_or g (stop_in f i * 128 + to) 0 ≡ entry (stop_in f i) to
+    1 ≤ depth → (i to : ℕ) → i < n → i < call_room → stop_in f i < stop_room → to < stop_room
+    → get_or g (stop_in f i * stop_room + to) 0 ≡ entry (stop_in f i) to
 
 -- if it is marked, the n places from a have f of 0, 1, ..; those before them what they had in `first`
 pub record Marked (mark : Bool) (f : ℕ → ℕ) (a n : ℕ) (first last : List ℕ) : Type 0 where

@@ -5,6 +5,7 @@ ghost use Rattle.std.specs.Prelude.{◌≡◌, true, false, ℕ, ◌+◌, ◌*�
 ghost use Rattle.transfer.specs.Lent.{entry_in};
 ghost use Rattle.laws.specs.Regions.{Region};
 ghost use Rattle.change_array.specs.Named.{Marks, Marked, HoldsChanges};
+ghost use Rattle.stops.specs.Sizes.{stop_room};
 
 use change_row::change_row;
 use feed::at_most_512;
@@ -12,9 +13,9 @@ use feed::layout::{CALL_WIDTH, CHANGES_SIZE, Changes, Feed, STOPS};
 use transfer::Transfers;
 
 // A row is copied into its place. The bound on a stop's number is asked for: a type that holds it would be taken apart at each use.
-fn put_row(changes: &mut Changes, from: usize, row: &[u32; 128])
-    requires { from < 128 }
-    ensures { Region (λ k. get_or row.now k 0) (from * 128) 128 changes.old changes.new }
+fn put_row(changes: &mut Changes, from: usize, row: &[u32; STOPS])
+    requires { from < stop_room }
+    ensures { Region (λ k. get_or row.now k 0) (from * stop_room) stop_room changes.old changes.new }
 {
     let at = from * STOPS;
     changes[at..at + STOPS].copy_from_slice(row);
@@ -22,8 +23,8 @@ fn put_row(changes: &mut Changes, from: usize, row: &[u32; 128])
 
 // The changes from one stop are put in; the bound as in `put_row`.
 fn put_changes(changes: &mut Changes, transfers: &Transfers, from: u16)
-    requires { from < 128 }
-    ensures { Region (entry_in transfers.now from) (from * 128) 128 changes.old changes.new }
+    requires { from < stop_room }
+    ensures { Region (entry_in transfers.now from) (from * stop_room) stop_room changes.old changes.new }
 {
     let mut row = [0u32; STOPS];
     change_row(&mut row, transfers, from);
@@ -32,8 +33,8 @@ fn put_changes(changes: &mut Changes, transfers: &Transfers, from: u16)
 
 // The same for a stop that is marked, the bound as there; for any other nothing is done.
 fn put_marked(changes: &mut Changes, mark: bool, transfers: &Transfers, from: u16)
-    requires { from < 128 }
-    ensures { Marked mark (entry_in transfers.now from) (from * 128) 128 changes.old changes.new }
+    requires { from < stop_room }
+    ensures { Marked mark (entry_in transfers.now from) (from * stop_room) stop_room changes.old changes.new }
 {
     if mark {
         put_changes(changes, transfers, from);
@@ -41,7 +42,7 @@ fn put_marked(changes: &mut Changes, mark: bool, transfers: &Transfers, from: u1
 }
 
 // A stop is marked; a number past the 128 stops marks none.
-fn mark_stop(marks: &mut [bool; 128], stop: u16)
+fn mark_stop(marks: &mut [bool; STOPS], stop: u16)
     ensures { marks.new ≡ set marks.old stop true }
 {
     let k = usize::from(stop);
@@ -51,7 +52,7 @@ fn mark_stop(marks: &mut [bool; 128], stop: u16)
 }
 
 // The stops that the first `calls` calls of the feed name are marked.
-fn named_stops(feed: &Feed, calls: usize) -> [bool; 128]
+fn named_stops(feed: &Feed, calls: usize) -> [bool; STOPS]
     ensures { Marks result feed.now calls }
 {
     let mut marks = [false; STOPS];
@@ -63,12 +64,12 @@ fn named_stops(feed: &Feed, calls: usize) -> [bool; 128]
 
 // The rows of the marked stops. By number, and not over the array's chunks: once a loop over `chunks_exact_mut` or `as_chunks_mut` ends, a
 // proof knows the array's length and none of its elements (tried).
-fn marked_rows(marks: &[bool; 128], transfers: &Transfers) -> Changes
-    ensures { (from to : ℕ) → from < 128 → get_or marks.now from false ≡ true → to < 128
-        → get_or result (from * 128 + to) 0 ≡ entry_in transfers.now from to }
+fn marked_rows(marks: &[bool; STOPS], transfers: &Transfers) -> Changes
+    ensures { (from to : ℕ) → from < stop_room → get_or marks.now from false ≡ true → to < stop_room
+        → get_or result (from * stop_room + to) 0 ≡ entry_in transfers.now from to }
 {
     let mut changes = [0; CHANGES_SIZE];
-    for from in 0..128 {
+    for from in 0..STOPS as u16 {
         put_marked(&mut changes, marks[from as usize], transfers, from);
     }
     changes

@@ -6,23 +6,25 @@ use Rattle.std.specs.Prelude.{Bool, cond, not, ◌&&◌, List, ℕ, ◌+◌, ◌
 use Rattle.profile.specs.declared.figures.Figures.{Figures}
 use Rattle.feed.specs.declared.FeedCall.{FeedCall}
 use Rattle.feed.specs.declared.FirstRide.{FirstRide}
+use Rattle.stops.specs.Sizes.{stop_room}
+use Rattle.feed.specs.Layout.{call_width, members_place, origin_walks_place, target_walks_place, changes_size, no_change}
 
 -- the call at place i; bit 0 of the flags is boardable, bit 1 alightable
 unfoldable pub call_at : List ℕ → ℕ → FeedCall
 call_at f i =
     record {
-      trip = get_or f (i * 6) 0;
-      day = get_or f (i * 6 + 1) 0;
-      stop = get_or f (i * 6 + 2) 0;
-      arrival = get_or f (i * 6 + 3) 0;
-      departure = get_or f (i * 6 + 4) 0;
-      board = eqb (get_or f (i * 6 + 5) 0 % 2) 1;
-      alight = eqb (get_or f (i * 6 + 5) 0 / 2 % 2) 1;
+      trip = get_or f (i * call_width) 0;
+      day = get_or f (i * call_width + 1) 0;
+      stop = get_or f (i * call_width + 2) 0;
+      arrival = get_or f (i * call_width + 3) 0;
+      departure = get_or f (i * call_width + 4) 0;
+      board = eqb (get_or f (i * call_width + 5) 0 % 2) 1;
+      alight = eqb (get_or f (i * call_width + 5) 0 / 2 % 2) 1;
     }
 
 -- the membership byte of a stop; no stop past the 128 has members
 unfoldable pub member_at : List ℕ → ℕ → ℕ
-member_at f stop = cond (ltb stop 128) (get_or f (3072 + stop) 0) 0
+member_at f stop = cond (ltb stop stop_room) (get_or f (members_place + stop) 0) 0
 
 -- bits 0 to 3 are origins, bits 4 to 7 targets
 unfoldable pub origin_mask : List ℕ → ℕ → ℕ
@@ -33,14 +35,14 @@ target_mask f stop = member_at f stop / 16 % 16
 
 -- walks in minutes
 unfoldable pub origin_walk_of : List ℕ → ℕ → ℕ
-origin_walk_of f o = get_or f (3200 + o) 0
+origin_walk_of f o = get_or f (origin_walks_place + o) 0
 
 unfoldable pub target_walk_of : List ℕ → ℕ → ℕ
-target_walk_of f x = get_or f (3204 + x) 0
+target_walk_of f x = get_or f (target_walks_place + x) 0
 
 -- the seconds of a change; 65536, which no departure allows, past the end
 unfoldable pub change_at : List ℕ → ℕ → ℕ → ℕ
-change_at g from to = cond (ltb (from * 128 + to) 16384) (get_or g (from * 128 + to) 0) 65536
+change_at g from to = cond (ltb (from * stop_room + to) changes_size) (get_or g (from * stop_room + to) 0) no_change
 
 -- two calls are of one trip and day
 unfoldable pub same_run : FeedCall → FeedCall → Bool

@@ -4,6 +4,7 @@
 
 ghost use Rattle.std.specs.Prelude.{◌≡◌, ◌*◌, min, leb};
 ghost use Rattle.feed.specs.Feed.{member_at, origin_mask, target_mask, change_at, same_run, leave_of, arrival_of, figures_of, joined};
+ghost use Rattle.calls.specs.Sizes.{call_room};
 
 pub mod layout;
 
@@ -128,7 +129,7 @@ pub fn join(f: FirstRide, b: FeedCall, seconds: u32) -> bool
 
 // How many calls are read.
 pub fn at_most_512(n: usize) -> usize
-    ensures { result ≡ min n 512 }
+    ensures { result ≡ min n call_room }
 {
     n.min(CALLS)
 }

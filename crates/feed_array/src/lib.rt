@@ -5,14 +5,17 @@ ghost use Rattle.std.specs.Prelude.{◌≡◌, ℕ, ◌+◌, ◌*◌, ◌%◌, �
 ghost use Rattle.calls.specs.Tables.{blank_call};
 ghost use Rattle.stops.specs.Sound.{stop_at};
 ghost use Rattle.laws.specs.Regions.{Region, Blocks};
+ghost use Rattle.feed.specs.Layout.{call_width, members_place, target_walks_place};
 ghost use Rattle.feed_array.specs.Feeds.{stop_number, flags_of, six_of, masked_of, Feeds};
+ghost use Rattle.stops.specs.Sizes.{stop_room};
+ghost use Rattle.calls.specs.Sizes.{call_room};
 
 use calls::Call;
 use feed::layout::{
     CALL_WIDTH, CALLS, FEED_SIZE, Feed, MEMBERS, ORIGIN_WALKS, STOPS, TARGET_WALKS,
 };
 use settings::Settings;
-use stops::Stop;
+use stops::{NO_STOP, Stop};
 
 // A stop past the 128th is 65535: that is no stop in the feed, which C lends.
 #[tactic(auto, unfolding(crate::specs::Feeds::stop_number))]
@@ -22,7 +25,7 @@ fn stop_number(stop: u16) -> u16
     if (stop as usize) < STOPS {
         stop
     } else {
-        u16::MAX
+        NO_STOP
     }
 }
 
@@ -35,8 +38,8 @@ fn flags_of(board: bool, alight: bool) -> u16
 
 // The six numbers of a call. The array is lent whole with a place in it: what is proved of a feed speaks of places in the whole.
 fn put_call(feed: &mut Feed, i: usize, call: Call)
-    requires { i < 512 }
-    ensures { Region (λ k. get_or (six_of call) k 0) (i * 6) 6 feed.old feed.new }
+    requires { i < call_room }
+    ensures { Region (λ k. get_or (six_of call) k 0) (i * call_width) call_width feed.old feed.new }
 {
     let stop = stop_number(call.stop);
     let flags = flags_of(call.board, call.alight);
@@ -50,8 +53,8 @@ fn put_call(feed: &mut Feed, i: usize, call: Call)
 }
 
 // Every call.
-fn put_calls(feed: &mut Feed, calls: &[Call; 512])
-    ensures { Blocks 6 (λ i k. get_or (six_of (get_or calls.now i blank_call)) k 0) 512 feed.old feed.new }
+fn put_calls(feed: &mut Feed, calls: &[Call; CALLS])
+    ensures { Blocks call_width (λ i k. get_or (six_of (get_or calls.now i blank_call)) k 0) call_room feed.old feed.new }
 {
     for i in 0..CALLS {
         put_call(feed, i, calls[i]);
@@ -82,8 +85,8 @@ fn masked_of(members: u8, origins: u8, targets: u8) -> u16
 }
 
 // The members of every stop.
-fn put_members(feed: &mut Feed, stops: &[Stop; 128], origins: u8, targets: u8)
-    ensures { Region (λ k. masked_of origins targets (stop_at stops.now k).members) 3072 128 feed.old feed.new }
+fn put_members(feed: &mut Feed, stops: &[Stop; STOPS], origins: u8, targets: u8)
+    ensures { Region (λ k. masked_of origins targets (stop_at stops.now k).members) members_place stop_room feed.old feed.new }
 {
     for k in 0..STOPS {
         feed[MEMBERS + k] = masked_of(stops[k].members, origins, targets);
@@ -92,7 +95,7 @@ fn put_members(feed: &mut Feed, stops: &[Stop; 128], origins: u8, targets: u8)
 
 // Four walks from a place on; lent whole, as in `put_call`.
 fn put_walks(feed: &mut Feed, at: usize, walks: [u8; 4])
-    requires { at ≤ 3204 }
+    requires { at ≤ target_walks_place }
     ensures { Region (λ k. get_or walks k 0) at 4 feed.old feed.new }
 {
     for k in 0..4 {
@@ -101,7 +104,7 @@ fn put_walks(feed: &mut Feed, at: usize, walks: [u8; 4])
 }
 
 // What a search reads of a load.
-pub fn feed_of(calls: &[Call; 512], stops: &[Stop; 128], settings: Settings) -> Feed
+pub fn feed_of(calls: &[Call; CALLS], stops: &[Stop; STOPS], settings: Settings) -> Feed
     ensures { Feeds result calls.now stops.now settings }
 {
     let mut feed = [0; FEED_SIZE];

@@ -5,6 +5,7 @@ use Rattle.laws.specs.Tables.{table}
 use Rattle.profile.specs.Kept.{St, going, refused}
 use Rattle.profile.specs.Journeys.{row}
 use Rattle.state.specs.Layout.{slots, width, count_place, horizon_place, limits_place, refused_place}
+use Rattle.profile.specs.Sizes.{kept_room}
 
 -- the numbers of slot i
 abbrev pub slot : List ℕ → ℕ → Row
@@ -24,7 +25,7 @@ rows l = table slots (row_at l)
 
 -- how many are kept: the number stored, read as 64 if it is more
 unfoldable pub count_of : List ℕ → ℕ
-count_of l = min (get_or l count_place 0) 64
+count_of l = min (get_or l count_place 0) kept_room
 
 unfoldable pub horizon_of : List ℕ → ℕ
 horizon_of l = get_or l horizon_place 0

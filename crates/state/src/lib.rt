@@ -12,7 +12,7 @@ ghost use Rattle.state.specs.View.{slot, rows, count_of, horizon_of, limits_of, 
 pub mod layout;
 
 use crate::layout::{COUNT, HORIZON, LIMITS, REFUSED, SIZE, SLOTS, State, WIDTH};
-use profile::{Row, no_row};
+use profile::{KEPT, Row, no_row};
 
 // The row in slot i.
 fn slot_at(st: &State, i: usize) -> Row
@@ -61,7 +61,7 @@ pub fn fresh(horizon: u16, limits: u8) -> State
 pub fn count(st: &State) -> usize
     ensures { result ≡ count_of st.now }
 {
-    st[COUNT].min(64) as usize
+    usize::from(st[COUNT]).min(KEPT)
 }
 
 #[tactic(auto, unfolding(crate::specs::View::horizon_of))]
