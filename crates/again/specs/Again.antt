@@ -16,12 +16,13 @@ use Rattle.load.specs.Load.{table_of, with_seen, with_table, with_week}
 use Rattle.load.specs.Steps.{call_spec}
 use Rattle.search.specs.Search.{search_spec}
 use Rattle.search.specs.Within.{within_spec, step_of}
+use Rattle.profile.specs.Sizes.{kept_room}
 
 -- the unsearched load: calls as they stand, no journey, the table's horizon and mark
 unfoldable pub unsearched_of : Load → Load
 unsearched_of l =
     with_seen l (table_of l) (record {
-      journeys = replicate 64 no_journey;
+      journeys = replicate kept_room no_journey;
       count = 0;
       horizon = l.table_horizon;
       limits = l.table_limits;

@@ -25,6 +25,7 @@ use Rattle.search.specs.Timetable.{timetable_of}
 use Rattle.search.specs.Search.{would_fall}
 use Rattle.search.specs.Within.{would_fall_within}
 use Rattle.again.specs.Again.{unsearched_of, add_spec_of, withdraw_tests, taken_out, withdraw_spec}
+use Rattle.profile.specs.Sizes.{least_horizon}
 
 -- the horizon would fall below 3600 in the search again, by the offers before the stop or by all of them
 abbrev pub falls_again : Option ℕ → Load → Bool
@@ -37,7 +38,7 @@ search_tests l m = (clashes (sorted (timetable_of m)), Err Neighbours) ∷ (fall
 
 -- a full table whose horizon would fall below 3600
 abbrev pub no_room_of : Table → Bool
-no_room_of r = is_full r && ltb (less r.horizon) 3600
+no_room_of r = is_full r && ltb (less r.horizon) least_horizon
 
 -- of a call with arrival a and departure d on a searched load l: r is the table that the cuts reach, m what the call leaves of the
 -- unsearched load. A call that is outside only after a cut has the load searched again, so 14 and 11 of that search

@@ -12,7 +12,7 @@ use calls::{CallInput, CallKey};
 use limited_rides::Tested;
 use load::{Load, Stepped};
 use prefix::first;
-use profile::no_journey;
+use profile::{KEPT, no_journey};
 use refusal::{Accepted, Answer, Refusal, is_refused, is_taken};
 use search::{take_search, take_search_within};
 use withdrawal::{close_up, is_known, last_of};
@@ -22,7 +22,7 @@ use withdrawal::{close_up, is_known, last_of};
 fn unsearch(load: &mut Load)
     ensures { load.new ≡ unsearched_of load.old }
 {
-    load.journeys = [no_journey(); 64];
+    load.journeys = [no_journey(); KEPT];
     load.journey_count = 0;
     load.horizon = load.table_horizon;
     load.limits = load.table_limits;

@@ -10,6 +10,7 @@ use Rattle.search.specs.Within.{within_spec, step_of}
 use Rattle.steps.specs.Steps.{filling, stepped}
 use Rattle.any_order.specs.Calls.{Named, calling, called, answers, answer_first, cramped}
 use Rattle.any_order.specs.Alike.{OnlyOrder, Alike}
+use Rattle.calls.specs.Sizes.{call_room}
 
 -- what two orders of the same calls, handed to l, have in common
 pub record InAnyOrder (l : Load) (xs ys : List Named) : Type 0 where
@@ -38,7 +39,7 @@ AnyOrder = (o : Opening) (fs : List Filling) (xs ys : List Named) → Permᴰ xs
 -- calls for which the table has room, taken or not, meet neither: two orders may differ from 513 calls on
 abbrev pub RoomForAll : Type 0
 RoomForAll = (o : Opening) (fs : List Filling) (cs : List Named)
-    → (filled_by (opened o) fs).call_count + length cs ≤ 512 → cramped (filled_by (opened o) fs) cs ≡ false
+    → (filled_by (opened o) fs).call_count + length cs ≤ call_room → cramped (filled_by (opened o) fs) cs ≡ false
 
 -- none of these loads is searched, so `calling` is the step of a list of steps (request 11)
 abbrev pub SteppedAlike : Type 0

@@ -34,6 +34,11 @@ use Rattle.comparison.specs.Neighbours.{Clashing}
 use Rattle.comparison.specs.OfferOrder.{Offered}
 use Rattle.comparison.specs.Events.{Within}
 use Rattle.comparison.specs.Falls.{Falls, below}
+use Rattle.stops.specs.Sizes.{stop_room, name_bytes}
+use Rattle.texts.specs.Sizes.{id_bytes}
+use Rattle.calls.specs.Sizes.{no_trip}
+use Rattle.rules.specs.Sizes.{rule_room}
+use Rattle.week.specs.Sizes.{service_room}
 
 -- a cause, with its answer
 pub record Cause : Type 1 where
@@ -88,18 +93,18 @@ Orphan stops parent =
 
 -- a name is given, over 64 bytes
 abbrev pub TooLong : Option (List ℕ) → Type 0
-TooLong name = (t : List ℕ) × (name ≡ Some t) × (64 < length t)
+TooLong name = (t : List ℕ) × (name ≡ Some t) × (name_bytes < length t)
 
 abbrev pub stop_causes : State → List ℕ → Option (List ℕ) → Option (List ℕ) → StopInput → List Cause
 stop_causes t id name parent i =
     let stops = stops_in t.taken in
     cause (t.searched ≡ true) (Err AlreadySearched)
-    ∷ cause (length id ≡ 0 ⊎ 32 < length id) (Err IdLength)
+    ∷ cause (length id ≡ 0 ⊎ id_bytes < length id) (Err IdLength)
     ∷ cause ((g : StopGiven) × Memᴰ g stops × (g.id ≡ id)) (Err IdTaken)
     ∷ cause (1 < i.location_type ⊎ ((i.location_type ≡ 1) × (parent ≡ None → ⊥))) (Err LocationType)
     ∷ cause (Orphan stops parent) (Err ParentUnknown)
     ∷ cause (TooLong name ⊎ (Needed parent i × (unusable (unwrap_or name id) ≡ true))) (Err NameUnusable)
-    ∷ cause (128 ≤ length stops) (Err StopsFull)
+    ∷ cause (stop_room ≤ length stops) (Err StopsFull)
     ∷ []
 
 -- ---- search
@@ -187,7 +192,7 @@ window_causes true s t name i =
 -- what every call meets first: 9, 21, its service doesn't run, a time is lacking, 10
 abbrev pub call_front : State → List ℕ → CallInput → List Cause → List Cause
 call_front t name i rest =
-    cause (length (stops_in t.taken) ≤ i.stop ⊎ 65535 ≤ i.trip ⊎ 2 < i.day ⊎ 3 < i.pickup ⊎ 3 < i.drop_off) (Err FieldRange)
+    cause (length (stops_in t.taken) ≤ i.stop ⊎ no_trip ≤ i.trip ⊎ 2 < i.day ⊎ 3 < i.pickup ⊎ 3 < i.drop_off) (Err FieldRange)
     ∷ cause (Unknown t name) (Err ServiceUnknown)
     ∷ cause (Resting t name i.day) (Ok Outside)
     ∷ cause (i.arrival ≡ None ⊎ i.departure ≡ None) (Ok Outside)
@@ -206,7 +211,7 @@ left_causes true s t k = again_causes s (Withdrawn s t k)
 
 abbrev pub withdraw_causes : Settings → State → CallKey → List Cause
 withdraw_causes s t k =
-    cause (65535 ≤ k.trip ⊎ 2 < k.day) (Err FieldRange)
+    cause (no_trip ≤ k.trip ⊎ 2 < k.day) (Err FieldRange)
     ∷ cause (NoneSuch s t.horizon k (calls_in t.taken)) (Err CallUnknown)
     ∷ left_causes t.searched s t k
 
@@ -219,7 +224,7 @@ rule_causes t r =
     ∷ cause (stops ≤ r.from ⊎ stops ≤ r.to) (Err FieldRange)
     ∷ cause (3 < r.transfer_type ⊎ ((r.transfer_type ≡ 2) × (r.seconds ≡ None))) (Err RuleType)
     ∷ cause ((q : Rule) × Memᴰ q (rules_in t.taken) × (q.from ≡ r.from) × (q.to ≡ r.to)) (Err PairTaken)
-    ∷ cause (128 ≤ length (rules_in t.taken)) (Err NoRoom)
+    ∷ cause (rule_room ≤ length (rules_in t.taken)) (Err NoRoom)
     ∷ []
 
 -- ---- service and exception
@@ -231,10 +236,10 @@ Late t = t.searched ≡ true ⊎ t.closed ≡ true
 abbrev pub service_causes : State → List ℕ → ℕ → ℕ → List Cause
 service_causes t name start end =
     cause (Late t) (Err AlreadySearched)
-    ∷ cause (length name ≡ 0 ⊎ 32 < length name) (Err IdLength)
+    ∷ cause (length name ≡ 0 ⊎ id_bytes < length name) (Err IdLength)
     ∷ cause (Named t.taken name) (Err IdTaken)
     ∷ cause (NoDate start ⊎ NoDate end) (Err DateWrong)
-    ∷ cause (64 ≤ length (services_in t.taken)) (Err ServicesFull)
+    ∷ cause (service_room ≤ length (services_in t.taken)) (Err ServicesFull)
     ∷ []
 
 abbrev pub exception_causes : State → List ℕ → ℕ → ℕ → List Cause

@@ -5,6 +5,7 @@ use Rattle.stops.specs.declared.StopInput.{StopInput}
 use Rattle.calls.specs.declared.CallInput.{CallInput}
 use Rattle.rules.specs.declared.Rule.{Rule}
 use Rattle.load.specs.Filling.{Filling, stop, call, rule, service, exception}
+use Rattle.calls.specs.Sizes.{longest_horizon}
 
 -- a stop as it was handed in: its id, its name and its parent's id, where there are any, and the rest
 pub record StopGiven : Type 0 where
@@ -76,7 +77,8 @@ without (Some dates) = false
 
 -- after the opening (RULES 1.4)
 abbrev pub fresh : Option (List ℕ) → State
-fresh dates = record { taken = []; horizon = 21600; limits = 0; searched = false; stopped = None; dates = dates; closed = without dates }
+fresh dates =
+    record { taken = []; horizon = longest_horizon; limits = 0; searched = false; stopped = None; dates = dates; closed = without dates }
 
 -- with one more taken
 abbrev pub more : State → Filling → State

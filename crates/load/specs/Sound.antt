@@ -12,6 +12,7 @@ use Rattle.load.specs.declared.Load.{Load}
 use Rattle.load.specs.Load.{stopped, table_of}
 use Rattle.load.specs.Steps.{Opening, open_answer, opened}
 use Rattle.load.specs.Filling.{Filling, filled}
+use Rattle.profile.specs.Sizes.{kept_room}
 
 -- dates come by threes
 abbrev pub Three : Option (List ℕ) → Type 0
@@ -27,9 +28,9 @@ pub record Sound (l : Load) : Type 0 where
   pub table : TableSound (table_of l)
   pub calls_known : StopsKnown l.stop_count (table_of l)
   pub rules : RulesSound l.stop_count l.rules l.rule_count
-  pub few : l.journey_count ≤ 64
-  pub long : length l.journeys ≡ 64
-  pub blank : drop l.journey_count l.journeys ≡ replicate (64 - l.journey_count) no_journey
+  pub few : l.journey_count ≤ kept_room
+  pub long : length l.journeys ≡ kept_room
+  pub blank : drop l.journey_count l.journeys ≡ replicate (kept_room - l.journey_count) no_journey
   -- by arrival, rides and walk, least first, then latest leave
   pub in_order : Ordered journey_figures (take l.journey_count l.journeys)
   -- before the search

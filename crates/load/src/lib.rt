@@ -20,16 +20,16 @@ ghost use Rattle.load.specs.Steps.{
   exception_spec,
 };
 
-use calls::{Call, blank_call};
+use calls::{CALLS, Call, LONGEST_HORIZON, blank_call};
 use prefix::first;
-use profile::{Journey, no_journey};
+use profile::{Journey, KEPT, no_journey};
 use refusal::{Accepted, Answer, Refusal, is_refused, is_taken};
-use rules::{Rule, blank_rule, rule_answer};
+use rules::{RULES, Rule, blank_rule, rule_answer};
 use services::{ExceptionInput, ServiceInput, dates_wrong};
 use settings::{Settings, canonical, settings_answer};
 use stop_answer::{parent_of, stop_answer};
 use stops::taken::{blank_stop, stop_of};
-use stops::{NewStop, Stop};
+use stops::{NewStop, STOPS, Stop};
 use week::{Week, dated, undated};
 
 // Counts stand beside arrays, since the core has no heap and the kit's `ArrayVec` is not `Copy`, as a load is: a slot past its count holds
@@ -39,13 +39,13 @@ use week::{Week, dated, undated};
 #[derive(Clone, Copy, Debug, PartialEq)]
 pub struct Load {
     pub settings: Settings,
-    pub stops: [Stop; 128],
+    pub stops: [Stop; STOPS],
     pub stop_count: usize,
-    pub calls: [Call; 512],
+    pub calls: [Call; CALLS],
     pub call_count: usize,
-    pub rules: [Rule; 128],
+    pub rules: [Rule; RULES],
     pub rule_count: usize,
-    pub journeys: [Journey; 64],
+    pub journeys: [Journey; KEPT],
     pub journey_count: usize,
     pub table_horizon: u16,
     pub table_limits: u8,
@@ -70,17 +70,17 @@ fn empty(settings: Settings, week: Week) -> Load
 {
     Load {
         settings,
-        stops: [blank_stop(); 128],
+        stops: [blank_stop(); STOPS],
         stop_count: 0,
-        calls: [blank_call(); 512],
+        calls: [blank_call(); CALLS],
         call_count: 0,
-        rules: [blank_rule(); 128],
+        rules: [blank_rule(); RULES],
         rule_count: 0,
-        journeys: [no_journey(); 64],
+        journeys: [no_journey(); KEPT],
         journey_count: 0,
-        table_horizon: 21600,
+        table_horizon: LONGEST_HORIZON,
         table_limits: 0,
-        horizon: 21600,
+        horizon: LONGEST_HORIZON,
         limits: 0,
         searched: false,
         limit: None,

@@ -22,6 +22,7 @@ use Rattle.load.specs.Sound.{Sound}
 use Rattle.search.specs.declared.Limited.{Limited}
 use Rattle.search.specs.Timetable.{timetable_of}
 use Rattle.search.specs.Search.{with_found, with_journeys, is_never, search_spec}
+use Rattle.profile.specs.Sizes.{kept_room, least_horizon}
 
 -- the offers of the load before the first join past the limit, in order, from the table's horizon and mark
 unfoldable pub outcome_within : Load → ℕ → Outcome
@@ -78,7 +79,7 @@ step_of w = record { answer = w.answer; load = w.load }
 -- the horizon would fall below 3600, by those offers
 unfoldable pub would_fall_within : Load → ℕ → Bool
 would_fall_within l n =
-    is_never (fall (covᶠ journey_figures) (dueᶠ journey_figures) 64 3600 l.table_horizon l.table_limits []
+    is_never (fall (covᶠ journey_figures) (dueᶠ journey_figures) kept_room least_horizon l.table_horizon l.table_limits []
     (offers_within n (timetable_of l)))
 
 -- the tests in order, each with its answer; no test reads the answer. Those of the search itself: 14, 11

@@ -12,7 +12,7 @@ ghost use Rattle.search.specs.Timetable.{change_in};
 ghost use Rattle.search.specs.Offered.{offered_of, found_in};
 ghost use Rattle.search.specs.Within.{answered, step_of};
 
-use calls::Call;
+use calls::{CALLS, Call};
 use change_array::changes_of;
 use feed::layout::{Changes, Feed};
 use feed_array::feed_of;
@@ -77,7 +77,7 @@ fn changes_for(load: &Load, feed: &Feed) -> Changes
 }
 
 // The state of a search of the load over these calls, every offer made.
-fn offered(load: &Load, calls: &[Call; 512]) -> State
+fn offered(load: &Load, calls: &[Call; CALLS]) -> State
     ensures { view result ≡ offered_of load.now calls.now }
 {
     let settings = load.settings;
@@ -95,7 +95,7 @@ fn bytes_told(walks: [u8; 4])
 {}
 
 // The load is given what a search over these calls left in the state; with the limit at which it was stopped, if it was.
-fn keep(load: &mut Load, calls: &[Call; 512], st: &State, limit: Option<u64>)
+fn keep(load: &mut Load, calls: &[Call; CALLS], st: &State, limit: Option<u64>)
     ensures { load.new ≡ found_in load.old calls.now st.now limit }
 {
     load.calls = *calls;

@@ -5,6 +5,7 @@ ghost use Rattle.search.specs.Timetable.{timetable_of};
 ghost use Rattle.search.specs.Events.{place_events};
 ghost use Rattle.search.specs.Offered.{placed};
 ghost use Rattle.search.specs.Within.{answered, answered_by, within_spec};
+ghost use Rattle.calls.specs.Sizes.{call_room};
 
 use crate::{Limited, bytes_told, changes_for, keep};
 use calls::Call;
@@ -20,7 +21,8 @@ use state::{fresh, is_refused};
 
 // The offers before the first join past the limit, made to a state; how many joins were tested, and whether none is left.
 fn offered_within(load: &Load, calls: &[Call; 512], limit: u64, st: &mut State) -> Tested
-    ensures { Within st.old st.new limit (place_events (timetable_of load.now) (placed calls.now) (min load.now.call_count 512)) result }
+    ensures { Within st.old st.new limit
+        (place_events (timetable_of load.now) (placed calls.now) (min load.now.call_count call_room)) result }
 {
     let settings = load.settings;
     let feed = feed_of(calls, &load.stops, settings);
