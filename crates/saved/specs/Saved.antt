@@ -23,6 +23,7 @@ use Rattle.written.specs.Keeps.{AllGive}
 use Rattle.writer.specs.File.{write_spec_of}
 use Rattle.writer.specs.Wrote.{unwritable}
 use Rattle.week.specs.Weeks.{is_dated}
+use Rattle.calls.specs.Sizes.{longest_horizon}
 
 -- ---- the load that is read
 
@@ -56,7 +57,7 @@ pub record Writable (l : Load) : Type 0 where
   pub whole : Whole l
   pub dateless : is_dated l.week ≡ false
   pub unstopped : stopped l ≡ false
-  pub uncut : l.table_horizon ≡ 21600
+  pub uncut : l.table_horizon ≡ longest_horizon
 
 -- which 25 does not meet
 abbrev pub Passes : Load → Type 0
