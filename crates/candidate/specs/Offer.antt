@@ -9,6 +9,7 @@ use Rattle.profile.specs.Kept.{St, going, refused, searched, too_late}
 use Rattle.profile.specs.Walk.{walk, walk_reads}
 use Rattle.profile.specs.Journeys.{row_figures, row_of, cov, due}
 use Rattle.candidate.specs.Pieces.{passing}
+use Rattle.profile.specs.Sizes.{kept_room, least_horizon}
 
 -- a row with these figures
 abbrev pub with_figures : Figures → Row
@@ -16,7 +17,7 @@ with_figures f = row_of f.leave f.arrival f.rides f.walk 0 0 0 0 0 0 0 0
 
 -- the offer of a row by one walk over the kept ones, at 64 journeys and a least horizon of 3600
 unfoldable pub offer_to : St Row → Row → St Row
-offer_to s o = walk (covᶠ row_figures) (dueᶠ row_figures) 64 3600 s o
+offer_to s o = walk (covᶠ row_figures) (dueᶠ row_figures) kept_room least_horizon s o
 
 -- how many kept ones that walk reads
 unfoldable pub reads_to : St Row → Row → ℕ
@@ -24,7 +25,7 @@ reads_to s o = walk_reads (covᶠ row_figures) (dueᶠ row_figures) s o
 
 -- the offers `os` made to a fresh state, one after the other, are a search
 abbrev pub OffersSearch : Type 0
-OffersSearch = (h g : ℕ) (os : List Row) → foldl offer_to (going [] h g) os ≡ searched row_figures 64 3600 h g os
+OffersSearch = (h g : ℕ) (os : List Row) → foldl offer_to (going [] h g) os ≡ searched row_figures kept_room least_horizon h g os
 
 -- offers that are too late leave the state as it is, so that they need not be made
 abbrev pub OffersLate : Type 0

@@ -12,6 +12,7 @@ use Rattle.candidate.specs.declared.walk.Turn.{Turn}
 use Rattle.candidate.specs.declared.walk.Turn.TheVariants.{On, Covered, Stops}
 use Rattle.state.specs.Layout.{width, count_place, refused_place, size}
 use Rattle.state.specs.View.{rows, horizon_of, limits_of}
+use Rattle.profile.specs.Sizes.{kept_room, least_horizon}
 
 -- the row r stored in slot i
 abbrev pub stored : List ℕ → ℕ → Row → List ℕ
@@ -84,7 +85,7 @@ latest_due ks = latest due ks
 
 -- the rows ks are to be kept
 unfoldable pub settled : List ℕ → List Row → St Row
-settled l ks = settle due 64 3600 ks (horizon_of l) (limits_of l)
+settled l ks = settle due kept_room least_horizon ks (horizon_of l) (limits_of l)
 
 -- ---- from when on an offer is passed over
 

@@ -12,6 +12,7 @@ use Rattle.feed.specs.Feed.{call_at, same_run, target_walk_of, arrival_of}
 use Rattle.rides.specs.Rows.{first_of, network_of}
 use Rattle.rides.specs.Loops.{later_from}
 use Rattle.rides.specs.Sheets.{sheet_of, joins_of}
+use Rattle.feed.specs.Layout.{call_room}
 
 -- the place where the last of these rides alights
 abbrev pub end_of : ℕ → List (Leg ℕ) → ℕ
@@ -71,5 +72,5 @@ JoinsAt feed changes n boards m t = (call_at feed m).alight ≡ true → Least f
 
 -- an array of 512 numbers, of which each from i up to n is such
 pub record Each (P : ℕ → ℕ → Type 0) (i n : ℕ) (l : List ℕ) : Type 0 where
-  pub long : length l ≡ 512
+  pub long : length l ≡ call_room
   pub each : (k : ℕ) → i ≤ k → k < n → P k (get_or l k 0)

@@ -5,6 +5,7 @@ ghost use Rattle.std.specs.Prelude.{◌≡◌, ◌+◌, ◌≤◌, ◌<◌};
 ghost use Rattle.laws.specs.Bits.{bits_of};
 ghost use Rattle.feed.specs.Feed.{target_walk_of, arrival_of};
 ghost use Rattle.rides.specs.Bounds.{AtTargets, AtCall, AtBoard, bucket_of, Lowered, Filled, Suffix, Bounds};
+ghost use Rattle.feed.specs.Layout.{call_room};
 
 use crate::bits::Digits;
 use crate::calls::Calls;
@@ -31,7 +32,7 @@ fn target_bound(calls: &Calls, a: u16, targets: Digits) -> u16
 
 // The same of the targets of the stop at place m, if one can alight there.
 pub fn alight_bound(calls: &Calls, m: usize) -> u16
-    requires { m < 512 }
+    requires { m < call_room }
     ensures { AtCall calls.now.feed.now m result }
 {
     let c = calls.at(m);
@@ -62,7 +63,7 @@ pub fn bucket_of(t: u16) -> usize
 
 // The number for the time when j departs is no later than that for j, if one can board there.
 fn put_bucket(bounds: &mut [u16; 1024], calls: &Calls, j: usize)
-    requires { j < 512 }
+    requires { j < call_room }
     ensures { Lowered bounds.old bounds.new calls.now.feed.now j }
 {
     let c = calls.at(j);

@@ -3,6 +3,7 @@ ghost use Rattle.std.specs.Prelude.{◌≡◌, ◌+◌, ◌≤◌, ◌<◌, ◌&
 ghost use Rattle.feed.specs.Feed.{call_at, same_run, origin_mask, target_mask, origin_walk_of, target_walk_of};
 ghost use Rattle.rides.specs.Rows.{first_of};
 ghost use Rattle.rides.specs.Sheets.{sheet_of};
+ghost use Rattle.feed.specs.Layout.{call_room};
 
 use crate::bits::Digits;
 use feed::layout::Feed;
@@ -13,7 +14,7 @@ use feed::{FeedCall, FirstRide, at_most_512, leave_of, origins_of, same_run, tar
 pub struct Calls<'a> {
     pub feed: &'a Feed,
     pub n: usize,
-    ghost fits: { n ≤ 512 },
+    ghost fits: { n ≤ call_room },
 }
 
 // A ride, by the places of the calls where it boards and alights.
@@ -21,14 +22,14 @@ pub struct Calls<'a> {
 pub struct Ride {
     pub board: usize,
     pub alight: usize,
-    ghost placed: { (board < 512) × (alight < 512) },
+    ghost placed: { (board < call_room) × (alight < call_room) },
 }
 
 impl<'a> Calls<'a> {
     // No more than the 512 that there are.
     pub fn first(feed: &'a Feed, n: usize) -> Calls<'a>
         ensures same { result.feed.now ≡ feed.now }
-        ensures count { result.n ≡ min n 512 }
+        ensures count { result.n ≡ min n call_room }
     {
         Calls {
             feed,
@@ -39,7 +40,7 @@ impl<'a> Calls<'a> {
     // The call at place i.
     #[tactic(auto, unfolding(feed::specs::Feed::call_at))]
     pub fn at(&self, i: usize) -> FeedCall
-        requires { i < 512 }
+        requires { i < call_room }
         ensures { result ≡ call_at self.now.feed.now i }
     {
         let at = i * 6;
@@ -57,7 +58,7 @@ impl<'a> Calls<'a> {
 
     // Whether the next call is of the trip and day of the call at j.
     pub fn goes_on(&self, j: usize) -> bool
-        requires { j < 512 }
+        requires { j < call_room }
         ensures { result ≡ (ltb (j + 1) self.now.n && same_run (call_at self.now.feed.now j) (call_at self.now.feed.now (j + 1))) }
     {
         j + 1 < self.n && same_run(self.at(j), self.at(j + 1))

@@ -15,6 +15,7 @@ use crate::calls::{Calls, Ride};
 use crate::last::{LastRides, last_at};
 use crate::paths::direct_at;
 use crate::since::{Since, asked};
+use feed::layout::CALLS;
 use feed::{FirstRide, arrival_of};
 use state::layout::State;
 
@@ -133,7 +134,7 @@ fn least_joined(last: &LastRides, f: FirstRide) -> u16
 }
 
 // The same, from the number where f alights: it is put in the first time, which a 0 stands for.
-fn joined_time(joined: &mut [u16; 512], last: &LastRides, f: FirstRide) -> u16
+fn joined_time(joined: &mut [u16; CALLS], last: &LastRides, f: FirstRide) -> u16
     requires { Alights last.now.lent.calls.feed.now last.now.lent.calls.n f × Joined last.now joined.old }
     ensures array { Joined last.now joined.new }
     ensures time { Least last.now.lent.calls.feed.now last.now.lent.changes.now last.now.bounds.now f last.now.lent.calls.n result }
@@ -151,7 +152,7 @@ fn joined_time(joined: &mut [u16; 512], last: &LastRides, f: FirstRide) -> u16
 // joined where it alights, is not before `since.two`, or would be passed over: most often it would, by one of the first rows kept.
 fn change_rides(
     st: &mut State,
-    joined: &mut [u16; 512],
+    joined: &mut [u16; CALLS],
     last: &LastRides,
     f: FirstRide,
     since: Since,
@@ -205,7 +206,7 @@ pub fn directs_before(st: &mut State, calls: &Calls, f: FirstRide, over: u32) ->
 // The journeys of the first ride alone and then those with a change: a journey of one ride beats whatever is due no earlier by two.
 pub fn first_before(
     st: &mut State,
-    joined: &mut [u16; 512],
+    joined: &mut [u16; CALLS],
     last: &LastRides,
     f: FirstRide,
     since: Since,

@@ -1,5 +1,6 @@
 // The later calls of the trip and day of one call.
 ghost use Rattle.std.specs.Prelude.{◌≡◌, ◌+◌, ◌<◌, []};
+ghost use Rattle.feed.specs.Layout.{call_room};
 
 use crate::calls::Calls;
 use feed::{FeedCall, same_run};
@@ -30,7 +31,7 @@ impl<'a> Later<'a> {
 
     // Those after the call at j.
     pub fn than(calls: &Calls<'a>, j: usize) -> Later<'a>
-        requires { j < 512 }
+        requires { j < call_room }
         ensures { later_left result ≡ later_from (call_at calls.now.feed.now) calls.now.n j (j + 1) }
     {
         Later {

@@ -7,6 +7,7 @@ ghost use Rattle.rides.specs.Offered.{Offered};
 ghost use Rattle.rides.specs.Over.{Over, Walked};
 ghost use Rattle.rides.specs.Reach.{Onward, Onward-prop};
 ghost use Rattle.rides.specs.Sheets.{sheet_of};
+ghost use Rattle.feed.specs.Layout.{call_room};
 
 use crate::bits::Digits;
 use crate::calls::{Calls, Ride};
@@ -14,6 +15,7 @@ use crate::lent::Lent;
 use crate::offer::offer;
 use candidate::times::threshold;
 use candidate::{Offer, candidate, passes_over};
+use feed::layout::CALLS;
 use feed::{FirstRide, arrival_of};
 use state::layout::State;
 
@@ -82,8 +84,8 @@ fn ends_before(
 #[derive(Clone, Copy, Debug, PartialEq, Eq)]
 pub struct ThreeRides<'a> {
     pub lent: Lent<'a>,
-    pub times: &'a [[u16; 512]; 3],
-    pub boards: &'a [[u16; 512]; 2],
+    pub times: &'a [[u16; CALLS]; 3],
+    pub boards: &'a [[u16; CALLS]; 2],
     ghost on_time: { Onward times.now boards.now lent.calls.feed.now lent.changes.now lent.calls.n } by { Onward-prop times.now boards.now lent.calls.feed.now lent.changes.now lent.calls.n },
 }
 
@@ -92,7 +94,7 @@ impl<'a> ThreeRides<'a> {
 
     // A time before which nothing that leads on from m by so many changes is due.
     fn time_on(&self, left: u16, m: usize) -> u16
-        requires { (left ≤ 2) × (m < 512) }
+        requires { (left ≤ 2) × (m < call_room) }
         ensures { result ≡ get_or (get_or self.now.times.now left []) m 0 }
     {
         self.times[left as usize][m]
@@ -100,7 +102,7 @@ impl<'a> ThreeRides<'a> {
 
     // The same of the rides that board at c, with so many changes left after them.
     fn time_from(&self, left: u16, c: usize) -> u16
-        requires { (left ≤ 1) × (c < 512) }
+        requires { (left ≤ 1) × (c < call_room) }
         ensures { result ≡ get_or (get_or self.now.boards.now left []) c 0 }
     {
         self.boards[left as usize][c]

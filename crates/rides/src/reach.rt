@@ -3,25 +3,27 @@
 ghost use Rattle.std.specs.Prelude.{◌≡◌, ◌+◌, ◌≤◌, ◌<◌};
 ghost use Rattle.rides.specs.Bounds.{AtCall};
 ghost use Rattle.rides.specs.Reach.{Onward, BoardAt, Least, JoinsAt, Each};
+ghost use Rattle.feed.specs.Layout.{call_room};
 
 use crate::bounds::alight_bound;
 use crate::calls::{Calls, Ride};
 use crate::lent::Lent;
 use feed::FirstRide;
+use feed::layout::CALLS;
 
 // The numbers by place: from where a ride alights, with no change left, one and two; and of the rides that board there, with no change
 // left after them and one.
 #[derive(Clone, Copy, Debug, PartialEq, Eq)]
 pub struct Times {
-    pub on: [[u16; 512]; 3],
-    pub boards: [[u16; 512]; 2],
+    pub on: [[u16; CALLS]; 3],
+    pub boards: [[u16; CALLS]; 2],
 }
 
 // With no change left: the targets of the stop at each place.
-fn put_targets(calls: &Calls) -> [u16; 512]
+fn put_targets(calls: &Calls) -> [u16; CALLS]
     ensures { Each (AtCall calls.now.feed.now) 0 calls.now.n result }
 {
-    let mut at = [65535u16; 512];
+    let mut at = [65535u16; CALLS];
     for m in 0..calls.n {
         at[m] = alight_bound(calls, m);
     }
@@ -30,7 +32,7 @@ fn put_targets(calls: &Calls) -> [u16; 512]
 
 // The earliest for whoever boards at j: the number of the next call of its run, or of whoever boards there. Two arrays of one length, as
 // `boards` is being filled from what `at` holds.
-fn board_time(boards: &[u16; 512], calls: &Calls, at: &[u16; 512], j: usize) -> u16
+fn board_time(boards: &[u16; CALLS], calls: &Calls, at: &[u16; CALLS], j: usize) -> u16
     requires { (j < calls.now.n) × Each (BoardAt calls.now.feed.now calls.now.n at.now) (j + 1) calls.now.n boards.now }
     ensures { BoardAt calls.now.feed.now calls.now.n at.now j result }
 {
@@ -41,10 +43,10 @@ fn board_time(boards: &[u16; 512], calls: &Calls, at: &[u16; 512], j: usize) -> 
 }
 
 // The same of every place, from the right.
-fn put_boards(calls: &Calls, at: &[u16; 512]) -> [u16; 512]
+fn put_boards(calls: &Calls, at: &[u16; CALLS]) -> [u16; CALLS]
     ensures { Each (BoardAt calls.now.feed.now calls.now.n at.now) 0 calls.now.n result }
 {
-    let mut boards = [65535u16; 512];
+    let mut boards = [65535u16; CALLS];
     for j in (0..calls.n).rev() {
         let t = board_time(&boards, calls, at, j);
         boards[j] = t;
@@ -53,7 +55,7 @@ fn put_boards(calls: &Calls, at: &[u16; 512]) -> [u16; 512]
 }
 
 // The earliest of the rides that the ride joins.
-fn least_joined(lent: &Lent, boards: &[u16; 512], p: FirstRide) -> u16
+fn least_joined(lent: &Lent, boards: &[u16; CALLS], p: FirstRide) -> u16
     ensures { Least lent.now.calls.feed.now lent.now.changes.now boards.now p lent.now.calls.n result }
 {
     // By value, so that the loop doesn't read where the arrays stand.
@@ -68,8 +70,8 @@ fn least_joined(lent: &Lent, boards: &[u16; 512], p: FirstRide) -> u16
 }
 
 // The same of a ride that alights at m, if one can alight there.
-fn joined_time(lent: &Lent, boards: &[u16; 512], m: usize) -> u16
-    requires { m < 512 }
+fn joined_time(lent: &Lent, boards: &[u16; CALLS], m: usize) -> u16
+    requires { m < call_room }
     ensures { JoinsAt lent.now.calls.feed.now lent.now.changes.now lent.now.calls.n boards.now m result }
 {
     if lent.calls.at(m).alight {
@@ -82,10 +84,10 @@ fn joined_time(lent: &Lent, boards: &[u16; 512], m: usize) -> u16
     65535
 }
 
-fn put_joined(lent: &Lent, boards: &[u16; 512]) -> [u16; 512]
+fn put_joined(lent: &Lent, boards: &[u16; CALLS]) -> [u16; CALLS]
     ensures { Each (JoinsAt lent.now.calls.feed.now lent.now.changes.now lent.now.calls.n boards.now) 0 lent.now.calls.n result }
 {
-    let mut at = [65535u16; 512];
+    let mut at = [65535u16; CALLS];
     for m in 0..lent.calls.n {
         at[m] = joined_time(lent, boards, m);
     }

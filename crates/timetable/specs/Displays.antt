@@ -18,11 +18,12 @@ use Rattle.timetable.specs.declared.shown.TimetableDisplay.{TimetableDisplay}
 use Rattle.timetable.specs.Journeys.{journey_of, no_row}
 use Rattle.timetable.specs.List.{refused_list, list_of}
 use Rattle.timetable.specs.Queries.{first_leaving}
+use Rattle.profile.specs.Sizes.{kept_room}
 
 -- ---- the groups
 
 unfoldable pub journeys_of : List TimetableJourney → List Journey
-journeys_of rs = table 64 (λ i. journey_of (get_or rs i no_row))
+journeys_of rs = table kept_room (λ i. journey_of (get_or rs i no_row))
 
 -- a list, given for the group of a number
 unfoldable pub group_of : ℕ → TimetableList → Group

@@ -14,13 +14,14 @@ use Rattle.file.specs.declared.Took.{Took}
 use Rattle.timetable.specs.declared.journeys.TimetableJourney.{TimetableJourney}
 use Rattle.timetable.specs.declared.list.TimetableList.{TimetableList}
 use Rattle.timetable.specs.Journeys.{journey_row}
+use Rattle.profile.specs.Sizes.{kept_room}
 
 -- the rows of a list, and after them rows that are all 0, up to 64
 unfoldable pub row_at : List Journey → ℕ → TimetableJourney
 row_at ks i = journey_row (get_or ks i no_journey)
 
 unfoldable pub rows_of : List Journey → List TimetableJourney
-rows_of ks = table 64 (row_at ks)
+rows_of ks = table kept_room (row_at ks)
 
 -- not searched; stopped at its limit; finished
 unfoldable pub state_of : Bool → Option ℕ → ℕ

@@ -8,7 +8,7 @@ use crate::journeys::{TimetableJourney, journey_row};
 use load::Load;
 use margin::margin_of;
 use prefix::first;
-use profile::{Journey, no_journey};
+use profile::{Journey, KEPT, no_journey};
 use refusal::Answer;
 use std::array;
 
@@ -25,7 +25,7 @@ pub struct TimetableList {
     pub state: u8,
     pub limits: u8,
     pub count: u8,
-    pub journey: [TimetableJourney; 64],
+    pub journey: [TimetableJourney; KEPT],
 }
 
 // The number of an answer, 0 where it isn't a refusal.
@@ -51,7 +51,7 @@ fn row_at(kept: &[Journey], i: usize) -> TimetableJourney
     journey_row(journey_at(kept, i))
 }
 
-fn rows_of(kept: &[Journey]) -> [TimetableJourney; 64]
+fn rows_of(kept: &[Journey]) -> [TimetableJourney; KEPT]
     ensures { result ≡ rows_of kept.now }
 {
     array::from_fn(|i| row_at(kept, i))

@@ -22,7 +22,7 @@ use display::part::Part;
 use display::{Display, deal};
 use groups::Group;
 use prefix::first;
-use profile::{Journey, no_journey};
+use profile::{Journey, KEPT, no_journey};
 use refusal::Refusal;
 use std::array;
 
@@ -56,7 +56,7 @@ fn journey_in(rows: &[TimetableJourney], i: usize) -> Journey
     journey_of(&row_in(rows, i))
 }
 
-fn journeys_of(rows: &[TimetableJourney]) -> [Journey; 64]
+fn journeys_of(rows: &[TimetableJourney]) -> [Journey; KEPT]
     ensures { result ≡ journeys_of rows.now }
 {
     array::from_fn(|i| journey_in(rows, i))
