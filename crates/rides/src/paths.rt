@@ -20,7 +20,7 @@ use crate::since::{over_for, since_for, since_none};
 use candidate::candidate;
 use candidate::times::late;
 use feed::FirstRide;
-use feed::layout::{Changes, Feed};
+use feed::layout::{CALLS, Changes, Feed};
 use state::is_refused;
 use state::layout::State;
 
@@ -74,7 +74,7 @@ fn change_pass(st: &mut State, last: &LastRides)
     ensures { Offered st.old st.new (pass_rows (sheet_in last.now.lent) (joins_in last.now.lent) 1 last.now.lent.calls.n) }
 {
     let calls = &last.lent.calls;
-    let mut joined = [0u16; 512];
+    let mut joined = [0u16; CALLS];
     let mut before = any_ride(calls);
     let mut since = since_none(st);
     for l in FirstRides::of(calls) {

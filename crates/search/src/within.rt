@@ -8,7 +8,7 @@ ghost use Rattle.search.specs.Within.{answered, answered_by, within_spec};
 ghost use Rattle.calls.specs.Sizes.{call_room};
 
 use crate::{Limited, bytes_told, changes_for, keep};
-use calls::Call;
+use calls::{CALLS, Call};
 use feed_array::feed_of;
 use limited_rides::Tested;
 use limited_rides::within::paths_within;
@@ -20,7 +20,7 @@ use state::layout::State;
 use state::{fresh, is_refused};
 
 // The offers before the first join past the limit, made to a state; how many joins were tested, and whether none is left.
-fn offered_within(load: &Load, calls: &[Call; 512], limit: u64, st: &mut State) -> Tested
+fn offered_within(load: &Load, calls: &[Call; CALLS], limit: u64, st: &mut State) -> Tested
     ensures { Within st.old st.new limit
         (place_events (timetable_of load.now) (placed calls.now) (min load.now.call_count call_room)) result }
 {
