@@ -5,7 +5,7 @@ ghost use Rattle.limited_rides.specs.Counts.{alights_from, Counts};
 ghost use Rattle.calls.specs.Sizes.{call_room};
 
 use calls::CALLS;
-use rides::calls::Calls;
+use rides::call_list::Calls;
 
 #[derive(Clone, Copy, Debug, PartialEq, Eq)]
 pub struct RideCounts {

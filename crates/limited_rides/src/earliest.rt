@@ -7,7 +7,7 @@ ghost use Rattle.calls.specs.Sizes.{call_room};
 use feed::arrival_of;
 use feed::layout::Feed;
 use rides::bits::Digits;
-use rides::calls::Calls;
+use rides::call_list::Calls;
 
 // The sooner of two times, either of which may be missing. The loops are those of `rides: bounds`, but with a time past 65535 as it is.
 #[tactic(auto, unfolding(crate::specs::Earliest::sooner))]

@@ -12,7 +12,7 @@ use crate::tally::{Tally, is_over, spend};
 use candidate::passes_over;
 use feed::FirstRide;
 use rides::bounds::bucket_of;
-use rides::calls::{Calls, Ride};
+use rides::call_list::{Calls, Ride};
 use rides::last::{LastRides, last_targets};
 use rides::later::Later;
 use state::layout::State;

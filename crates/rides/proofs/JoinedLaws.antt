@@ -12,7 +12,7 @@ use borrow.Author.Tests.{eqb-true, eqb-false}
 use Rattle.laws.proofs.Bools.{and-true-left, and-true-right, test}
 use Rattle.feed.specs.declared.FirstRide.{FirstRide}
 use Rattle.feed.specs.Feed.{call_at, same_run, joined}
-use Rattle.rides.specs.declared.calls.Ride.{Ride}
+use Rattle.rides.specs.declared.call_list.Ride.{Ride}
 use Rattle.rides.specs.Rows.{first_of}
 use Rattle.rides.specs.Sheets.{joins_of, sheet_of}
 use Rattle.rides.specs.Bounds.{bucket_of, Bounds}

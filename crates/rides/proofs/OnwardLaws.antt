@@ -10,7 +10,7 @@ use lib.ListN.{get_or}
 use Rattle.laws.specs.Lists.{span}
 use Rattle.ways.specs.Rides.{Leg, leg, first_ride, first_rides}
 use Rattle.ways.proofs.RideLaws.{firsts-mem}
-use Rattle.rides.specs.declared.calls.Ride.{Ride}
+use Rattle.rides.specs.declared.call_list.Ride.{Ride}
 use Rattle.rides.specs.Places.{IsRide}
 use Rattle.rides.proofs.ReachLaws.{net, below, alighted, of-run, not-before-here, not-before-on}
 use Rattle.ways.specs.Routes.{Way, onward}

@@ -8,7 +8,7 @@ ghost use Rattle.rides.specs.Bounds.{AtTargets, AtCall, AtBoard, bucket_of, Lowe
 ghost use Rattle.feed.specs.Layout.{call_room};
 
 use crate::bits::Digits;
-use crate::calls::Calls;
+use crate::call_list::Calls;
 use feed::arrival_of;
 
 // When whoever alights at a is at target x, cut to 65535.

@@ -11,7 +11,7 @@ ghost use Rattle.rides.specs.Sheets.{sheet_of};
 
 use crate::bits::Digits;
 use crate::bounds::bucket_of;
-use crate::calls::{Calls, Ride};
+use crate::call_list::{Calls, Ride};
 use crate::last::{LastRides, last_at};
 use crate::paths::direct_at;
 use crate::since::{Since, asked};

@@ -3,7 +3,7 @@ ghost use Rattle.std.specs.Prelude.{◌≡◌, ◌≤◌, ◌<◌, ◌+◌, List
 ghost use Rattle.feed.specs.Layout.{call_room};
 
 use crate::bits::Digits;
-use crate::calls::{Calls, Ride};
+use crate::call_list::{Calls, Ride};
 use crate::later::Later;
 use feed::can_walk;
 

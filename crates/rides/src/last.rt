@@ -6,7 +6,7 @@ ghost use Rattle.rides.specs.Bounds.{Bounds, Bounds-prop};
 ghost use Rattle.rides.specs.Offered.{Offered};
 
 use crate::bits::Digits;
-use crate::calls::{Calls, Ride};
+use crate::call_list::{Calls, Ride};
 use crate::lent::Lent;
 use crate::offer::offer;
 use candidate::{Offer, candidate};

@@ -2,7 +2,7 @@
 ghost use Rattle.std.specs.Prelude.{◌≡◌, ◌+◌, ◌<◌, []};
 ghost use Rattle.feed.specs.Layout.{call_room};
 
-use crate::calls::Calls;
+use crate::call_list::Calls;
 use feed::{FeedCall, same_run};
 
 // The places from `next` on, as far as their calls are of the trip and day of `call`.

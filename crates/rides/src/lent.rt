@@ -4,7 +4,7 @@ ghost use Rattle.feed.specs.Feed.{call_at};
 ghost use Rattle.rides.specs.Sheets.{joins_of};
 ghost use Rattle.feed.specs.Layout.{call_room};
 
-use crate::calls::Calls;
+use crate::call_list::Calls;
 use feed::layout::{Changes, Feed};
 use feed::{FirstRide, change_at, join};
 

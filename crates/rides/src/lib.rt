@@ -11,7 +11,7 @@
 
 pub mod bits;
 pub mod bounds;
-pub mod calls;
+pub mod call_list;
 mod change;
 pub mod firsts;
 pub mod last;

@@ -3,7 +3,7 @@ ghost use Rattle.std.specs.Prelude.{◌≡◌, ◌<◌};
 ghost use Rattle.rides.specs.Rows.{offer_of};
 ghost use Rattle.rides.specs.Sheets.{sheet_of};
 
-use crate::calls::Calls;
+use crate::call_list::Calls;
 use candidate::Offer;
 use feed::{FirstRide, arrival_of};
 

@@ -10,7 +10,7 @@ ghost use Rattle.rides.specs.Sheets.{sheet_of};
 ghost use Rattle.feed.specs.Layout.{call_room};
 
 use crate::bits::Digits;
-use crate::calls::{Calls, Ride};
+use crate::call_list::{Calls, Ride};
 use crate::lent::Lent;
 use crate::offer::offer;
 use candidate::times::threshold;

@@ -8,7 +8,7 @@ ghost use Rattle.rides.specs.Routes.{rows_of};
 ghost use Rattle.rides.specs.Offered.{offer_all, Offered};
 
 use crate::bounds::bounds_of;
-use crate::calls::{Calls, Ride};
+use crate::call_list::{Calls, Ride};
 use crate::change::{directs_before, first_before};
 use crate::firsts::FirstRides;
 use crate::last::LastRides;

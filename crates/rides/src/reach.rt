@@ -6,7 +6,7 @@ ghost use Rattle.rides.specs.Reach.{Onward, BoardAt, Least, JoinsAt, Each};
 ghost use Rattle.feed.specs.Layout.{call_room};
 
 use crate::bounds::alight_bound;
-use crate::calls::{Calls, Ride};
+use crate::call_list::{Calls, Ride};
 use crate::lent::Lent;
 use feed::FirstRide;
 use feed::layout::CALLS;

@@ -1,7 +1,7 @@
 -- `first_ride` meets its contract.
 use Rattle.rides.specs.Rows.{first_of}
 use Rattle.rides.specs.Sheets.{sheet_of}
-use Rattle.rides.proofs.calls.Calls.first_ride.Goals as goal
+use Rattle.rides.proofs.call_list.Calls.first_ride.Goals as goal
 
 pub returns : goal.returns
 unfolding first_of sheet_of
