@@ -17,7 +17,7 @@ use Rattle.offers.specs.Offers.{sorted}
 use Rattle.calls.specs.declared.CallKey.{CallKey}
 use Rattle.withdrawal.specs.Removal.{has_key, key_known}
 use Rattle.load.specs.declared.Load.{Load}
-use Rattle.load.specs.declared.Stepped.{Stepped}
+use Rattle.load.specs.declared.StepResult.{StepResult}
 use Rattle.load.specs.Load.{table_of}
 use Rattle.load.specs.Steps.{running_tests, call_spec}
 use Rattle.week.specs.Weeks.{running}
@@ -70,7 +70,7 @@ withdraw_causes l k =
 
 -- ---- what is claimed: the answer is that of the first test that holds, a taken step has none, and a refused load comes back unchanged
 
-pub record Answered (r : Stepped) (l : Load) (ts : List (Bool × Answer)) : Type 0 where
+pub record Answered (r : StepResult) (l : Load) (ts : List (Bool × Answer)) : Type 0 where
   pub first : First r.answer ts
   pub taken : r.answer ≡ Ok Taken → AllFail ts
   pub unchanged : is_refused r.answer ≡ true → r.load ≡ l

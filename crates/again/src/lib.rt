@@ -10,7 +10,7 @@ ghost use Rattle.again.specs.Again.{unsearched_of, researched, again, added_to, 
 
 use calls::{CallInput, CallKey};
 use limited_rides::Tested;
-use load::{Load, Stepped};
+use load::{Load, StepResult};
 use prefix::first;
 use profile::{KEPT, no_journey};
 use refusal::{Accepted, Answer, Refusal, is_refused, is_taken};
@@ -91,12 +91,12 @@ fn added(load: &mut Load, before: &Load, answer: Answer) -> Answer
 }
 
 // A call on any load, with the name of its service. By value the step in place of a copy.
-pub fn add(load: Load, service: &[u8], input: CallInput) -> Stepped
+pub fn add(load: Load, service: &[u8], input: CallInput) -> StepResult
     ensures { result ≡ add_spec_of load service.now input }
 {
     let mut next = load;
     let answer = take_added(&mut next, service, input);
-    Stepped { answer, load: next }
+    StepResult { answer, load: next }
 }
 
 // The same in place.
@@ -131,12 +131,12 @@ fn take_out(load: &mut Load, key: CallKey) -> Answer
 }
 
 // A call withdrawn from any load: 9, 24; of a searched load then 14, 11 of its search. By value the step in place of a copy.
-pub fn withdraw(load: Load, key: CallKey) -> Stepped
+pub fn withdraw(load: Load, key: CallKey) -> StepResult
     ensures { result ≡ withdraw_spec load key }
 {
     let mut next = load;
     let answer = take_withdrawn(&mut next, key);
-    Stepped { answer, load: next }
+    StepResult { answer, load: next }
 }
 
 // The same in place.

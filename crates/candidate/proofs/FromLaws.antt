@@ -22,8 +22,8 @@ use Rattle.profile.specs.Journeys.{row_figures, row_of, cov, due, no_row}
 use Rattle.profile.proofs.CoverLaws.{cov-early}
 use Rattle.profile.proofs.FiguresLaws.{lexb-lt, lexb-eq, lexb-gt, lexb-same, covers-refl}
 use Rattle.profile.proofs.KeptLaws.{settle-elim}
-use Rattle.state.specs.View.{count_of, horizon_of, limits_of, kept_of, open_of, view}
-use Rattle.state.proofs.ViewLaws.{view-is-refused, length-kept}
+use Rattle.search_state.specs.View.{count_of, horizon_of, limits_of, kept_of, open_of, view}
+use Rattle.search_state.proofs.ViewLaws.{view-is-refused, length-kept}
 use Rattle.candidate.specs.Offer.{with_figures, offer_to, passed_over, PassedFrom, OfferedPassed}
 use Rattle.candidate.proofs.TurnLaws.{cov-total}
 use Rattle.candidate.specs.Pieces.{passing, covers_from, stays_from, row_from, rows_from}

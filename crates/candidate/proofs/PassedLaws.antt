@@ -13,19 +13,19 @@ use Rattle.laws.proofs.Bools.{and-true, or-true-cases, or-true-left, or_true_rig
 use Rattle.profile.specs.Found.{Row}
 use Rattle.profile.specs.declared.figures.Figures.{Figures}
 use Rattle.profile.specs.Figures.{lexb}
-use Rattle.profile.specs.Kept.{St, going, refused, too_late}
+use Rattle.profile.specs.Kept.{SearchState, going, refused, too_late}
 use Rattle.profile.specs.Journeys.{row_figures, cov, due}
 use Rattle.profile.proofs.FiguresLaws.{lexb-lt, lexb-eq, covers-arrival, figures-order}
 use Rattle.profile.specs.Walk.{passes}
 use Rattle.profile.proofs.WalkLaws.{passes-covered}
-use Rattle.state.specs.View.{rows, count_of, horizon_of, kept_of, view}
-use Rattle.state.proofs.ViewLaws.{view-open, in_time}
+use Rattle.search_state.specs.View.{rows, count_of, horizon_of, kept_of, view}
+use Rattle.search_state.proofs.ViewLaws.{view-open, in_time}
 use Rattle.candidate.specs.Offer.{with_figures, offer_to, passed_over, OffersCovered, CoveredPassed}
 use Rattle.candidate.specs.Pieces.{passing}
 
 -- ---- what `passes_over` finds
 
-pub passed-late : (s : St Row) (o : Row) (b : Bool) → b ≡ too_late s (due o) → b ≡ true → true ≡ passed_over s o
+pub passed-late : (s : SearchState Row) (o : Row) (b : Bool) → b ≡ too_late s (due o) → b ≡ true → true ≡ passed_over s o
 unfolding passed_over
 passed-late (going ks h l) o b e t =
     let y : ltb h (due o) ≡ true = sym e ∙ t in
@@ -43,7 +43,8 @@ passed-covered l o b r c e f ec er =
 -- ---- what follows from it
 
 -- what is said of figures is said of those they are equal to
-pub passed-at : (s : St Row) {r : Bool} {g h : Figures} → g ≡ h → r ≡ passed_over s (with_figures g) → r ≡ passed_over s (with_figures h)
+pub passed-at : (s : SearchState Row) {r : Bool} {g h : Figures} → g ≡ h → r ≡ passed_over s (with_figures g) → r
+    ≡ passed_over s (with_figures h)
 passed-at s e p = p ∙ ap (λ x. passed_over s (with_figures x)) e
 
 -- a row covers each one that has its leave, rides and walk and is due no earlier
@@ -71,7 +72,7 @@ covered-passed (going ks h l) b o p c = go (or-true-cases (ltb h b.arrival) (pas
     go (inr t) = or_true_right (ltb h o.arrival) _ (passes-covered (figures-order row_figures) b o ks c t)
 covered-passed refused b o p c = refl
 
-pub passed-stays : (s : St Row) (o : Row) → passed_over s o ≡ true → offer_to s o ≡ s
+pub passed-stays : (s : SearchState Row) (o : Row) → passed_over s o ≡ true → offer_to s o ≡ s
 unfolding passed_over offer_to passing cov due
 passed-stays (going ks h l) o p = go (test (ltb h o.arrival)) (or-true-cases (ltb h o.arrival) (passes cov o ks) p)
   where

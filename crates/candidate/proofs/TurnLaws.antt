@@ -13,9 +13,9 @@ use Rattle.profile.specs.Found.{Row}
 use Rattle.profile.specs.Journeys.{cov}
 use Rattle.profile.proofs.CoverLaws.{cov-early}
 use Rattle.profile.proofs.FiguresLaws.{lexb-total}
-use Rattle.state.specs.Layout.{width}
-use Rattle.state.specs.View.{row_at, rows}
-use Rattle.state.proofs.RowLaws.{rows_get}
+use Rattle.search_state.specs.Layout.{width}
+use Rattle.search_state.specs.View.{row_at, rows}
+use Rattle.search_state.proofs.RowLaws.{rows_get}
 use Rattle.candidate.specs.Pieces.{rank_by, turn_of, Ends, near_to, near_at, Skipped, passing, walk_end}
 use Rattle.candidate.specs.declared.walk.Turn.{Turn}
 use Rattle.candidate.specs.declared.walk.Turn.TheVariants.{On, Covered, Stops}

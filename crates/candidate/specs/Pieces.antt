@@ -5,13 +5,13 @@ use Rattle.laws.specs.Lists.{filterb}
 use Rattle.laws.specs.Arrays.{puts}
 use Rattle.profile.specs.Found.{Row}
 use Rattle.profile.specs.Figures.{lexb}
-use Rattle.profile.specs.Kept.{St, latest, settle}
+use Rattle.profile.specs.Kept.{SearchState, latest, settle}
 use Rattle.profile.specs.Walk.{place, near, passes}
 use Rattle.profile.specs.Journeys.{cov, due, no_row}
 use Rattle.candidate.specs.declared.walk.Turn.{Turn}
 use Rattle.candidate.specs.declared.walk.Turn.TheVariants.{On, Covered, Stops}
-use Rattle.state.specs.Layout.{width, count_place, refused_place, size}
-use Rattle.state.specs.View.{rows, horizon_of, limits_of}
+use Rattle.search_state.specs.Layout.{width, count_place, refused_place, size}
+use Rattle.search_state.specs.View.{rows, horizon_of, limits_of}
 use Rattle.profile.specs.Sizes.{kept_room, least_horizon}
 
 -- the row r stored in slot i
@@ -84,7 +84,7 @@ unfoldable pub latest_due : List Row → ℕ
 latest_due ks = latest due ks
 
 -- the rows ks are to be kept
-unfoldable pub settled : List ℕ → List Row → St Row
+unfoldable pub settled : List ℕ → List Row → SearchState Row
 settled l ks = settle due kept_room least_horizon ks (horizon_of l) (limits_of l)
 
 -- ---- from when on an offer is passed over

@@ -4,8 +4,8 @@
 ghost use Rattle.std.specs.Prelude.{◌≡◌, Bool, [], ◌∷◌, ◌++◌, ◌+◌, ◌*◌, ◌≤◌, ◌<◌, length, set, take};
 ghost use Rattle.profile.specs.Found.{Row};
 ghost use Rattle.profile.specs.Journeys.{due};
-ghost use Rattle.state.specs.Layout.{slots, width, size};
-ghost use Rattle.state.specs.View.{row_at, rows, count_of, horizon_of, view};
+ghost use Rattle.search_state.specs.Layout.{slots, width, size};
+ghost use Rattle.search_state.specs.View.{row_at, rows, count_of, horizon_of, view};
 ghost use Rattle.candidate.specs.Offer.{with_figures, offer_to, reads_to, passed_over};
 ghost use Rattle.candidate.specs.Pieces.{stored, put_row, Ends, Packed, Open, latest_due, settled};
 ghost use Rattle.profile.specs.Sizes.{kept_room, least_horizon};
@@ -16,11 +16,11 @@ mod walk;
 use crate::walk::first_near;
 use profile::figures::Figures;
 use profile::{Found, KEPT, LEAST_HORIZON, Row, no_row};
-use state::layout::{COUNT, HORIZON, LIMITS, REFUSED, SLOTS, State, WIDTH};
-use state::{count, row_at, too_late};
+use search_state::layout::{COUNT, HORIZON, LIMITS, REFUSED, SLOTS, State, WIDTH};
+use search_state::{count, row_at, too_late};
 
-// Stores a row in slot i. That there is such a slot is asked, here, in `store` and in `state: slot_at`: a place read from a type would be
-// opened at every use.
+// Stores a row in slot i. That there is such a slot is asked, here, in `store` and in `search_state: slot_at`: a place read from a type
+// would be opened at every use.
 fn put_row(st: &mut State, i: usize, r: Row)
     requires { i < slots }
     ensures { st.new ≡ stored st.old i r }

@@ -1,13 +1,13 @@
 // From when on offers that differ in arrival alone are passed over, row by row from the last.
 ghost use Rattle.std.specs.Prelude.{◌≡◌, true, ℕ, leb};
 ghost use Rattle.profile.specs.Figures.{lexb};
-ghost use Rattle.state.specs.View.{view};
+ghost use Rattle.search_state.specs.View.{view};
 ghost use Rattle.candidate.specs.Offer.{with_figures, passed_over, PassedFrom};
 ghost use Rattle.candidate.specs.Pieces.{covers_from, stays_from, row_from};
 
 use profile::Row;
-use state::layout::State;
-use state::{count, horizon, is_refused, kept};
+use search_state::layout::State;
+use search_state::{count, horizon, is_refused, kept};
 
 // Whether the one (rides, walk) is no larger than the other.
 #[tactic(auto, unfolding(laws::specs::Lex::lexb))]

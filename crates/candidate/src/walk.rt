@@ -1,12 +1,12 @@
 // The walk of an offer over the kept rows: to the first that covers it or that it covers.
 ghost use Rattle.std.specs.Prelude.{◌≡◌, ◌+◌, ◌*◌, ◌≤◌, ◌<◌, length, get_or, take};
-ghost use Rattle.state.specs.Layout.{width, count_place, size};
-ghost use Rattle.state.specs.View.{row_at, rows};
+ghost use Rattle.search_state.specs.Layout.{width, count_place, size};
+ghost use Rattle.search_state.specs.View.{row_at, rows};
 ghost use Rattle.candidate.specs.Pieces.{rank_by, turn_of, Ends, walk_end};
 ghost use Rattle.profile.specs.Sizes.{kept_room};
 
 use profile::Row;
-use state::layout::{State, WIDTH};
+use search_state::layout::{State, WIDTH};
 
 // Whether the row whose numbers start at `at` is no worse than o by arrival, rides and walk. Number by number, from state and place:
 // compared as tuples, or read as a row first, a walk takes a tenth to a quarter longer.

@@ -9,7 +9,7 @@ use Rattle.calls.specs.declared.CallInput.{CallInput}
 use Rattle.calls.specs.declared.CallKey.{CallKey}
 use Rattle.withdrawal.specs.Removal.{key_of}
 use Rattle.load.specs.Steps.{Opening}
-use Rattle.load.specs.Filling.{call}
+use Rattle.load.specs.FillStep.{call}
 use Rattle.load.specs.Sound.{Opens}
 use Rattle.search.specs.Search.{search_spec}
 use Rattle.again.specs.Again.{unsearched_of}

@@ -22,7 +22,7 @@ use Rattle.calls.specs.declared.CallKey.{CallKey}
 use Rattle.rules.specs.declared.Rule.{Rule}
 use Rattle.profile.specs.declared.Journey.{Journey}
 use Rattle.load.specs.Steps.{Opening}
-use Rattle.load.specs.Filling.{stop, call, rule, service, exception}
+use Rattle.load.specs.FillStep.{stop, call, rule, service, exception}
 use Rattle.steps.specs.Steps.{Step, filling, withdraw, search, limited}
 use Rattle.comparison.specs.Taken.{StopGiven, stops_in, calls_in, rules_in, services_in, State, more, up_to}
 use Rattle.comparison.specs.Services.{NoDate, Named, Unknown, Resting}

@@ -12,7 +12,7 @@ use Rattle.profile.specs.declared.Journey.{Journey}
 use Rattle.load.specs.declared.Load.{Load}
 use Rattle.load.specs.Load.{table_of}
 use Rattle.load.specs.Steps.{Opening, opened, open_spec_of}
-use Rattle.load.specs.Filling.{call}
+use Rattle.load.specs.FillStep.{call}
 use Rattle.load.specs.Sound.{Opens}
 use Rattle.best.specs.Best.{answer_of, kept_of, best_spec, next_spec}
 use Rattle.steps.specs.Steps.{Step, stepped, numbers}

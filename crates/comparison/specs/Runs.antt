@@ -12,7 +12,7 @@ use Rattle.calls.specs.declared.CallKey.{CallKey}
 use Rattle.rules.specs.declared.Rule.{Rule}
 use Rattle.profile.specs.declared.Journey.{Journey}
 use Rattle.load.specs.Steps.{Opening}
-use Rattle.load.specs.Filling.{stop, call, rule, service, exception}
+use Rattle.load.specs.FillStep.{stop, call, rule, service, exception}
 use Rattle.steps.specs.Steps.{Step, filling, withdraw, search, limited}
 use Rattle.comparison.specs.Taken.{calls_in, State, fresh, more, up_to, done, limited_to, shut}
 use Rattle.comparison.specs.Services.{Resting}

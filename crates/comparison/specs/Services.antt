@@ -4,7 +4,7 @@ use Rattle.std.specs.Prelude.{◌≡◌, ◌⊎◌, ℕ, ◌/◌, ◌%◌, ◌^�
 use mathlib.Core.List.{List, Memᴰ}
 use Rattle.calendar.specs.Dates.{weekday_of}
 use Rattle.calendar.specs.Promises.{Parts}
-use Rattle.load.specs.Filling.{Filling, exception}
+use Rattle.load.specs.FillStep.{FillStep, exception}
 use Rattle.comparison.specs.Taken.{ServiceGiven, services_in, State}
 
 -- the calendar doesn't have the date d: it is made of no year from 1 to 9999 with one of its months and days
@@ -19,12 +19,12 @@ pub record InWeek (g : ServiceGiven) (date : ℕ) : Type 0 where
   pub to : date ≤ g.end
 
 -- the service runs on the date: no exception taken removes (2) it, and one adds (1) it or the week has it, whichever came first
-pub record RunsOn (fs : List Filling) (g : ServiceGiven) (date : ℕ) : Type 0 where
+pub record RunsOn (fs : List FillStep) (g : ServiceGiven) (date : ℕ) : Type 0 where
   pub not_removed : Memᴰ (exception g.name date 2) fs → ⊥
   pub wanted : Memᴰ (exception g.name date 1) fs ⊎ InWeek g date
 
 -- a service with the name was taken
-abbrev pub Named : List Filling → List ℕ → Type 0
+abbrev pub Named : List FillStep → List ℕ → Type 0
 Named fs name = (g : ServiceGiven) × Memᴰ g (services_in fs) × (g.name ≡ name)
 
 -- with dates, no service with the name was taken

@@ -4,7 +4,7 @@ use Rattle.std.specs.Prelude.{Bool, true, false, List, [], ◌∷◌, ◌++◌, 
 use Rattle.stops.specs.declared.StopInput.{StopInput}
 use Rattle.calls.specs.declared.CallInput.{CallInput}
 use Rattle.rules.specs.declared.Rule.{Rule}
-use Rattle.load.specs.Filling.{Filling, stop, call, rule, service, exception}
+use Rattle.load.specs.FillStep.{FillStep, stop, call, rule, service, exception}
 use Rattle.calls.specs.Sizes.{longest_horizon}
 
 -- a stop as it was handed in: its id, its name and its parent's id, where there are any, and the rest
@@ -22,7 +22,7 @@ pub record ServiceGiven : Type 0 where
   pub end : ℕ
 
 -- of what was taken, the stops, the calls, the rules and the services
-abbrev pub stops_in : List Filling → List StopGiven
+abbrev pub stops_in : List FillStep → List StopGiven
 stops_in [] = []
 stops_in (stop id name parent i ∷ xs) = record { id = id; name = name; parent = parent; input = i } ∷ stops_in xs
 stops_in (call name i ∷ xs) = stops_in xs
@@ -30,7 +30,7 @@ stops_in (rule i ∷ xs) = stops_in xs
 stops_in (service name weekdays start end ∷ xs) = stops_in xs
 stops_in (exception name date kind ∷ xs) = stops_in xs
 
-abbrev pub calls_in : List Filling → List CallInput
+abbrev pub calls_in : List FillStep → List CallInput
 calls_in [] = []
 calls_in (stop id name parent i ∷ xs) = calls_in xs
 calls_in (call name i ∷ xs) = i ∷ calls_in xs
@@ -38,7 +38,7 @@ calls_in (rule i ∷ xs) = calls_in xs
 calls_in (service name weekdays start end ∷ xs) = calls_in xs
 calls_in (exception name date kind ∷ xs) = calls_in xs
 
-abbrev pub rules_in : List Filling → List Rule
+abbrev pub rules_in : List FillStep → List Rule
 rules_in [] = []
 rules_in (stop id name parent i ∷ xs) = rules_in xs
 rules_in (call name i ∷ xs) = rules_in xs
@@ -46,7 +46,7 @@ rules_in (rule r ∷ xs) = r ∷ rules_in xs
 rules_in (service name weekdays start end ∷ xs) = rules_in xs
 rules_in (exception name date kind ∷ xs) = rules_in xs
 
-abbrev pub services_in : List Filling → List ServiceGiven
+abbrev pub services_in : List FillStep → List ServiceGiven
 services_in [] = []
 services_in (stop id name parent i ∷ xs) = services_in xs
 services_in (call name i ∷ xs) = services_in xs
@@ -57,7 +57,7 @@ services_in (exception name date kind ∷ xs) = services_in xs
 -- what stands taken after some steps
 pub record State : Type 0 where
   -- what was answered taken and not withdrawn, in order
-  pub taken : List Filling
+  pub taken : List FillStep
   -- the table's horizon and mark, as its cuts leave them; what a search lowers further is not held here
   pub horizon : ℕ
   pub limits : ℕ
@@ -81,7 +81,7 @@ fresh dates =
     record { taken = []; horizon = longest_horizon; limits = 0; searched = false; stopped = None; dates = dates; closed = without dates }
 
 -- with one more taken
-abbrev pub more : State → Filling → State
+abbrev pub more : State → FillStep → State
 more t x = record {
   taken = t.taken ++ x ∷ [];
   horizon = t.horizon;
@@ -93,7 +93,7 @@ more t x = record {
 }
 
 -- with these taken instead
-abbrev pub keeping : State → List Filling → State
+abbrev pub keeping : State → List FillStep → State
 keeping t fs = record {
   taken = fs;
   horizon = t.horizon;

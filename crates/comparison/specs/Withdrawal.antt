@@ -5,7 +5,7 @@ use Rattle.settings.specs.declared.Settings.{Settings}
 use Rattle.calls.specs.declared.CallInput.{CallInput}
 use Rattle.calls.specs.declared.Call.{Call}
 use Rattle.calls.specs.declared.CallKey.{CallKey}
-use Rattle.load.specs.Filling.{Filling, call}
+use Rattle.load.specs.FillStep.{FillStep, call}
 use Rattle.comparison.specs.Taken.{calls_in, State, keeping}
 use Rattle.comparison.specs.Window.{Seen}
 
@@ -26,10 +26,10 @@ NoneSuch s h k is = (i : CallInput) → Memᴰ i is → HasKey k i → InTable s
 -- of the calls taken that have the key and are in the table the last goes, which leaves u: the others in their order, the table's horizon
 -- and mark as they were
 pub record Withdrawn (s : Settings) (t : State) (k : CallKey) (u : State) : Type 0 where
-  pub before : List Filling
+  pub before : List FillStep
   pub name : List ℕ
   pub gone : CallInput
-  pub behind : List Filling
+  pub behind : List FillStep
   pub whole : t.taken ≡ before ++ call name gone ∷ behind
   pub key : HasKey k gone
   pub there : InTable s t.horizon gone

@@ -23,7 +23,8 @@ struct Change {
 }
 
 impl Change {
-    // Whether it is to the trip and day that one comes by. Trip and day one by one: `feed` compares them for its own record of a call.
+    // Whether it is to the trip and day that one comes by. Trip and day one by one: `search_input` compares them for its own record of a
+    // call.
     fn is_within_a_run(&self) -> bool
         ensures { result ≡ same_run self.now.board self.now.next }
     {

@@ -4,7 +4,7 @@ use mathlib.Core.Bool.{Bool, true, false, true≢false}
 use mathlib.Core.List.{List, []}
 use Prim.Native.Nat.{ℕ}
 use Rattle.refusal.specs.First.{is_refused}
-use Rattle.load.specs.declared.Stepped.{Stepped}
+use Rattle.load.specs.declared.StepResult.{StepResult}
 use Rattle.fields.specs.declared.kind.Kind.{Kind}
 use Rattle.fields.specs.declared.kind.Kind.TheVariants.{Settings, Stop, Call, Rule, Search}
 use Rattle.fields.specs.Kind.{number_of}
@@ -52,6 +52,6 @@ stepped-closed Rule r b = refl
 stepped-closed Search r b = refl
 
 -- a call that the load answers itself came before its search
-pub stepped-before : (r : Reader) (b : List ℕ) {s : Stepped}
+pub stepped-before : (r : Reader) (b : List ℕ) {s : StepResult}
     → s ≡ call_spec r.load [] (call_in b) → is_refused s.answer ≡ false → s ≡ stepped_as Call r b
-stepped-before r b e f = e ∙ sym (call-before r.load [] (call_in b) (ap (λ (t : Stepped). is_refused t.answer) (sym e) ∙ f))
+stepped-before r b e f = e ∙ sym (call-before r.load [] (call_in b) (ap (λ (t : StepResult). is_refused t.answer) (sym e) ∙ f))

@@ -11,7 +11,7 @@ use Rattle.fields.specs.Layout.{stop_filled_of, call_filled_of, rule_filled_of, 
 use Rattle.fields.specs.Records.{stop_in, call_in, rule_in}
 use Rattle.fields.specs.Second.{settings_by, settings_filled_by}
 use Rattle.load.specs.declared.Load.{Load}
-use Rattle.load.specs.declared.Stepped.{Stepped}
+use Rattle.load.specs.declared.StepResult.{StepResult}
 use Rattle.load.specs.Steps.{undated, open_spec_of, stop_spec, rule_spec}
 use Rattle.again.specs.Again.{add_spec_of}
 use Rattle.search.specs.Search.{search_spec}
@@ -29,7 +29,7 @@ filled_as Search second b = search_filled_of b
 abbrev pub closed_reader : Bool → Load → Reader
 closed_reader second l = record { opened = false; second = second; load = l }
 
-abbrev pub stepped_as : Kind → Reader → List ℕ → Stepped
+abbrev pub stepped_as : Kind → Reader → List ℕ → StepResult
 stepped_as Settings r b = open_spec_of (undated (settings_by r.second b))
 stepped_as Stop r b = stop_spec r.load (text_at b 1) (option_text_at b (name_at b)) (option_text_at b (parent_at b)) (stop_in b)
 stepped_as Call r b = add_spec_of r.load [] (call_in b)

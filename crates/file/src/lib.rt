@@ -18,16 +18,17 @@ pub struct Reader {
 }
 
 // What a record is answered, and the reader after it: the reader given, where the record is refused.
-// As with `Stepped`, the load goes on beside its answer, also where that refuses.
+// As with `StepResult`, the load goes on beside its answer, also where that refuses.
 #[derive(Clone, Copy, Debug, PartialEq)]
-pub struct Took {
+pub struct RecordResult {
     pub answer: Answer,
     pub reader: Reader,
 }
 
-// What is answered to bytes, how many of them whole records took, and the reader after those: by value beside the answer, as in `Took`.
+// What is answered to bytes, how many of them whole records took, and the reader after those: by value beside the answer, as in
+// `RecordResult`.
 #[derive(Clone, Copy, Debug, PartialEq)]
-pub struct Fed {
+pub struct ReadResult {
     pub answer: Answer,
     pub used: usize,
     pub reader: Reader,

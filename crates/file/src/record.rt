@@ -6,7 +6,7 @@ ghost use Rattle.file.specs.Record.{kind_right, took, record_spec};
 ghost use Rattle.file.specs.Kinds.{filled_as, tested, closed_reader, stepped_as};
 
 use crate::stop_texts::new_stop;
-use crate::{Reader, Took};
+use crate::{Reader, RecordResult};
 use again::take_added;
 use fields::kind::Kind;
 use fields::layout::{
@@ -91,12 +91,12 @@ pub fn take_record(reader: &mut Reader, b: &[u8]) -> Answer
 }
 
 // The same by value.
-pub fn record(reader: Reader, b: &[u8]) -> Took
+pub fn record(reader: Reader, b: &[u8]) -> RecordResult
     ensures { result ≡ record_spec reader b.now }
 {
     let mut next = reader;
     let answer = take_record(&mut next, b);
-    Took {
+    RecordResult {
         answer,
         reader: next,
     }

@@ -4,8 +4,8 @@ use Rattle.std.specs.Prelude.{◌≡◌, cond, List, [], ◌∷◌, ◌++◌, ma
 use Rattle.laws.specs.Lists.{concat_map, span}
 use Rattle.ways.specs.Rides.{leg, First, first_ride, first_rides}
 use Rattle.profile.specs.Found.{Row}
-use Rattle.feed.specs.declared.FeedCall.{FeedCall}
-use Rattle.feed.specs.declared.FirstRide.{FirstRide}
+use Rattle.search_input.specs.declared.FeedCall.{FeedCall}
+use Rattle.search_input.specs.declared.FirstRide.{FirstRide}
 use Rattle.counted.specs.Events.{tested, offered, offers_of}
 use Rattle.counted.specs.Joins.{join_of, events}
 use Rattle.rides.specs.Rows.{Sheet, Joins, first_at, direct_by, change_by, network_of}

@@ -1,6 +1,6 @@
 // How many rides board at each place, and how many there are; made once.
 ghost use Rattle.std.specs.Prelude.{◌≡◌, cond, ◌+◌, ◌≤◌, ◌<◌};
-ghost use Rattle.feed.specs.Feed.{call_at};
+ghost use Rattle.search_input.specs.Feed.{call_at};
 ghost use Rattle.limited_rides.specs.Counts.{alights_from, Counts};
 ghost use Rattle.calls.specs.Sizes.{call_room};
 

@@ -1,13 +1,13 @@
 // The earliest that any ride brings one to a target, walk included: what the margin of a stopped search reads.
 ghost use Rattle.std.specs.Prelude.{◌≡◌, cond, ◌+◌, ◌≤◌, ◌<◌, min, None};
-ghost use Rattle.feed.specs.Feed.{call_at};
+ghost use Rattle.search_input.specs.Feed.{call_at};
 ghost use Rattle.limited_rides.specs.Earliest.{sooner, soonest, target_due, alight_due, later_due, ride_due};
 ghost use Rattle.calls.specs.Sizes.{call_room};
 
-use feed::arrival_of;
-use feed::layout::Feed;
 use rides::bits::Digits;
 use rides::call_list::Calls;
+use search_input::arrival_of;
+use search_input::layout::Feed;
 
 // The sooner of two times, either of which may be missing. The loops are those of `rides: bounds`, but with a time past 65535 as it is.
 #[tactic(auto, unfolding(crate::specs::Earliest::sooner))]

@@ -38,7 +38,7 @@ use Rattle.week.specs.declared.Running.{Running}
 use Rattle.week.specs.declared.Running.TheVariants.{Unknown, Rests, Runs}
 use Rattle.week.specs.Weeks.{is_dated, undated_week, closed_week, running}
 use Rattle.load.specs.declared.Load.{Load}
-use Rattle.load.specs.declared.Stepped.{Stepped}
+use Rattle.load.specs.declared.StepResult.{StepResult}
 use Rattle.load.specs.Load.{empty_with, empty_of, table_of, with_table, with_stops, with_rules, with_week}
 use Rattle.load.specs.Steps.{unless_refused, open_spec_of}
 use Rattle.load.specs.Steps.{stepped, undated, dated, open_answer, station_in, stop_answer, stop_load, stop_spec}
@@ -243,7 +243,8 @@ module _ (l : Load) (r : Running) (i : CallInput) (a : Answer) (h : a ≡ gate_a
       → stepped b m ≡ dated_call l r i
   plain-refused t b m q e =
       let same : m ≡ (closing l (stepped b m)).load =
-      ap (λ (x : Stepped). x.load) q ∙ plain-unchanged l i (ap (λ (x : Stepped). is_refused x.answer) (sym q) ∙ e) ∙ sym (cond-by _ _ e) in
+      ap (λ (x : StepResult). x.load) q ∙ plain-unchanged l i (ap (λ (x : StepResult). is_refused x.answer) (sym q) ∙ e)
+      ∙ sym (cond-by _ _ e) in
       (λ k. stepped b (same k)) ∙ ap (closing l) q ∙ passes t
 
   pub plain-answered : is_taken a ≡ true → (b : Answer) (m : Load) → stepped b m ≡ plain_call l i → is_refused b ≡ false → (w : Week)
@@ -262,7 +263,7 @@ module _ (l : Load) (name : List ℕ) (i : CallInput) where
   call-undated d = sym (cond-not _ _ d)
 
 -- what became of a call, by its week and its gate
-pub data Called (l : Load) (name : List ℕ) (i : CallInput) : Stepped → Type 0 where
+pub data Called (l : Load) (name : List ℕ) (i : CallInput) : StepResult → Type 0 where
   without : is_dated l.week ≡ false → Called l name i (plain_call l i)
   goes_on : is_dated l.week ≡ true → gate_answer l.searched l.stop_count (running l.week name i.day) i ≡ Ok Taken
       → Called l name i (closing l (plain_call l i))

@@ -11,7 +11,7 @@ use Rattle.week.specs.Sound.{WeekSound}
 use Rattle.load.specs.declared.Load.{Load}
 use Rattle.load.specs.Load.{stopped, table_of}
 use Rattle.load.specs.Steps.{Opening, open_answer, opened}
-use Rattle.load.specs.Filling.{Filling, filled}
+use Rattle.load.specs.FillStep.{FillStep, filled}
 use Rattle.profile.specs.Sizes.{kept_room}
 
 -- dates come by threes
@@ -46,4 +46,4 @@ abbrev pub OpenSound : Type 0
 OpenSound = (o : Opening) → Sound (opened o)
 
 abbrev pub FillKeepsSound : Type 0
-FillKeepsSound = (l : Load) (x : Filling) → Sound l → Sound (filled l x).load
+FillKeepsSound = (l : Load) (x : FillStep) → Sound l → Sound (filled l x).load

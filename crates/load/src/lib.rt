@@ -59,7 +59,7 @@ pub struct Load {
 // What a step answers, and the load that it returns: the load given, where the step is sent back. No `Result`: the load goes on after
 // either.
 #[derive(Clone, Copy, Debug, PartialEq)]
-pub struct Stepped {
+pub struct StepResult {
     pub answer: Answer,
     pub load: Load,
 }
@@ -108,7 +108,7 @@ fn dated_answer(settings: Settings, dates: [u32; 3]) -> Answer
 }
 
 // An opening by its answer: the empty load, or the one of blank settings where it is sent back.
-fn opening(answer: Answer, settings: Settings, week: Week) -> Stepped
+fn opening(answer: Answer, settings: Settings, week: Week) -> StepResult
     ensures { result ≡ open_by answer settings week }
 {
     let load = if is_refused(answer) {
@@ -116,21 +116,21 @@ fn opening(answer: Answer, settings: Settings, week: Week) -> Stepped
     } else {
         empty(canonical(settings), week)
     };
-    Stepped { answer, load }
+    StepResult { answer, load }
 }
 
 // A step by value is the step in place of a copy: three lines alike in each, as a function that took the step as a closure would state its
 // promise once more.
 impl Load {
     // An empty load, or why the settings are sent back: then the load is the empty one of blank settings.
-    pub fn open(settings: Settings) -> Stepped
+    pub fn open(settings: Settings) -> StepResult
         ensures { result ≡ open_spec_of (undated settings) }
     {
         opening(settings_answer(settings), settings, undated())
     }
 
     // The same with the dates of the three days: services may come, and calls name one.
-    pub fn open_dated(settings: Settings, dates: [u32; 3]) -> Stepped
+    pub fn open_dated(settings: Settings, dates: [u32; 3]) -> StepResult
         ensures { result ≡ open_spec_of (dated settings dates) }
     {
         opening(dated_answer(settings, dates), settings, dated(dates))
@@ -149,13 +149,13 @@ impl Load {
     }
 
     // A stop is taken or sent back.
-    pub fn stop(self, stop: NewStop<'_>) -> Stepped
+    pub fn stop(self, stop: NewStop<'_>) -> StepResult
         ensures { result
             ≡ stop_spec self stop.entry.id.now (option_copied stop.entry.name) (option_copied stop.entry.parent) stop.entry.input }
     {
         let mut next = self;
         let answer = next.take_stop(stop);
-        Stepped { answer, load: next }
+        StepResult { answer, load: next }
     }
 
     // The same in place.
@@ -175,12 +175,12 @@ impl Load {
     }
 
     // A rule is taken or sent back.
-    pub fn rule(self, rule: Rule) -> Stepped
+    pub fn rule(self, rule: Rule) -> StepResult
         ensures { result ≡ rule_spec self rule }
     {
         let mut next = self;
         let answer = next.take_rule(rule);
-        Stepped { answer, load: next }
+        StepResult { answer, load: next }
     }
 
     // The same in place.
@@ -198,12 +198,12 @@ impl Load {
     }
 
     // A service is taken or sent back.
-    pub fn service(self, name: &[u8], input: ServiceInput) -> Stepped
+    pub fn service(self, name: &[u8], input: ServiceInput) -> StepResult
         ensures { result ≡ service_spec self name.now input.weekdays input.start input.end }
     {
         let mut next = self;
         let answer = next.take_service(name, input);
-        Stepped { answer, load: next }
+        StepResult { answer, load: next }
     }
 
     // The same in place.
@@ -215,12 +215,12 @@ impl Load {
     }
 
     // An exception to a service is taken or sent back.
-    pub fn exception(self, name: &[u8], input: ExceptionInput) -> Stepped
+    pub fn exception(self, name: &[u8], input: ExceptionInput) -> StepResult
         ensures { result ≡ exception_spec self name.now input.date input.kind }
     {
         let mut next = self;
         let answer = next.take_exception(name, input);
-        Stepped { answer, load: next }
+        StepResult { answer, load: next }
     }
 
     // The same in place.

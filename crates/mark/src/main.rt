@@ -4,7 +4,7 @@
 // read that fails, which is told on standard error, as a write that fails is. Nothing is printed of a pair that was not read whole.
 #![tactic(auto)]
 
-use file::Took;
+use file::RecordResult;
 use load::Load;
 use reader::read;
 use stdio::out::Out;
@@ -31,7 +31,7 @@ fn verdicts(out: &mut Out, load: &Load, b: &[u8]) {
 }
 
 // What is said of a load file and its connections: the list, or the refusal, and the verdicts.
-fn item(out: &mut Out, file: Took, connections: &[u8]) {
+fn item(out: &mut Out, file: RecordResult, connections: &[u8]) {
     let load = &file.reader.load;
     let mut list = [0; LIST];
     let n = lines::lines(&mut list, file.answer, *load);

@@ -8,7 +8,7 @@ use Rattle.refusal.specs.declared.Refusal.TheVariants.{Neighbours, NoRoom}
 use Rattle.calls.specs.declared.Call.{Call}
 use Rattle.profile.specs.declared.Journey.{Journey}
 use Rattle.profile.specs.Figures.{covᶠ, dueᶠ}
-use Rattle.profile.specs.Kept.{St, going, refused, searched}
+use Rattle.profile.specs.Kept.{SearchState, going, refused, searched}
 use Rattle.profile.specs.Front.{front}
 use Rattle.profile.specs.Fall.{Ends, up_to, never, fall}
 use Rattle.profile.specs.Best.{ordered}
@@ -31,7 +31,7 @@ answer_of falling = Err NoRoom
 answer_of (found ks h l) = Ok Taken
 
 -- what is kept, by arrival, rides and walk, least first, then latest leave
-abbrev pub found_by : St Journey → Outcome
+abbrev pub found_by : SearchState Journey → Outcome
 found_by refused = falling
 found_by (going ks h l) = found (ordered journey_figures ks) h l
 

@@ -3,7 +3,7 @@ use Rattle.std.specs.Prelude.{◌≡◌, ◌↔◌, true, false, cond, ℕ, suc,
 use mathlib.Core.List.{List, [], map, Memᴰ, Permᴰ}
 use Rattle.laws.specs.Lists.{filterb, anyb, foldl}
 use Rattle.profile.specs.Figures.{Figures, covers, covᶠ, dueᶠ}
-use Rattle.profile.specs.Kept.{St, going, offer, searched, too_late, map_st}
+use Rattle.profile.specs.Kept.{SearchState, going, offer, searched, too_late, map_st}
 use Rattle.profile.specs.Walk.{place, Antichain, reads, walk}
 use Rattle.profile.specs.Front.{beats, front}
 use Rattle.profile.specs.Fall.{fall, keeping, Marked}
@@ -72,7 +72,7 @@ module _ {A : Type 0} (fig : A → Figures) where
 
   -- an offer that is too late leaves the state as it is; so do any number of them
   abbrev pub LatePassedOver : Type 0
-  LatePassedOver = (s : St A) (os : List A) → ((o : A) → Memᴰ o os → too_late s (fig o).arrival ≡ true)
+  LatePassedOver = (s : SearchState A) (os : List A) → ((o : A) → Memᴰ o os → too_late s (fig o).arrival ≡ true)
       → foldl (offer (covᶠ fig) (dueᶠ fig) kept_room least_horizon) s os ≡ s
 
   -- what a search keeps stands for its offers up to its horizon, if none leaves after it arrives

@@ -10,8 +10,8 @@ use borrow.Author.Rules.{part_to_end}
 use lib.ListN.{length, take, drop, length-drop}
 use Rattle.refusal.specs.First.{is_refused, Answer}
 use Rattle.file.specs.declared.Reader.{Reader}
-use Rattle.file.specs.declared.Took.{Took}
-use Rattle.file.specs.declared.Fed.{Fed}
+use Rattle.file.specs.declared.RecordResult.{RecordResult}
+use Rattle.file.specs.declared.ReadResult.{ReadResult}
 use Rattle.file.specs.declared.Used.{Used}
 use Rattle.file.specs.Record.{fresh_reader, took, record_spec}
 use Rattle.file.specs.File.{version_answer, is_second, fed_as, later, fed_spec, end_answer, ended_by, read_to_of, read_spec_of}
@@ -41,14 +41,14 @@ module _ {r₀ r : Reader} {bytes : List ℕ} {at : ℕ} {rest : List (List ℕ)
   module _ {b : List ℕ} {bs : List (List ℕ)} (first : rest ≡ b ∷ bs) {a : Answer} {s : Reader} (made : took a s ≡ record_spec r b) {u : Bool}
       (u-is : u ≡ is_refused a) where
     refused-as : {c : Bool} → u ≡ c → is_refused (record_spec r b).answer ≡ c
-    refused-as f = sym (ap (λ (t : Took). is_refused t.answer) made) ∙ sym u-is ∙ f
+    refused-as f = sym (ap (λ (t : RecordResult). is_refused t.answer) made) ∙ sym u-is ∙ f
 
     -- where it is sent back, no more is fed
     pub sent-back : u ≡ true → record { answer = a; used = at; reader = s } ≡ fed_spec r₀ bytes
     unfolding fed_each
     sent-back f =
         let here : fed_each r (b ∷ bs) ≡ record { answer = (record_spec r b).answer; used = 0; reader = r } = rw (refused-as f) refl in
-        let same : s ≡ r = ap (λ (t : Took). t.reader) made ∙ (record-answered r b).unchanged (refused-as f) in
+        let same : s ≡ r = ap (λ (t : RecordResult). t.reader) made ∙ (record-answered r b).unchanged (refused-as f) in
         (λ k. record { answer = (made k).answer; used = plus-none at k; reader = same k }) ∙ ap (later at) (sym here)
         ∙ ap (λ (x : List (List ℕ)). later at (fed_each r x)) (sym first) ∙ l.is
 
@@ -58,7 +58,7 @@ module _ {r₀ r : Reader} {bytes : List ℕ} {at : ℕ} {rest : List (List ℕ)
     goes-on f = record {
       is =
           let here : fed_each r (b ∷ bs) ≡ later (2 + length b) (fed_each s bs) =
-          rw (refused-as f) (ap (λ (t : Took). later (2 + length b) (fed_each t.reader bs)) (sym made)) in
+          rw (refused-as f) (ap (λ (t : RecordResult). later (2 + length b) (fed_each t.reader bs)) (sym made)) in
           sym (later-later at (2 + length b) (fed_each s bs)) ∙ ap (later at) (sym here)
           ∙ ap (λ (x : List (List ℕ)). later at (fed_each r x)) (sym first) ∙ l.is;
     }
@@ -66,7 +66,7 @@ module _ {r₀ r : Reader} {bytes : List ℕ} {at : ℕ} {rest : List (List ℕ)
 -- no more than all bytes are used
 pub rest-room : {r₀ r : Reader} {bytes : List ℕ} {at : ℕ} {bs : List (List ℕ)} → Rest r₀ bytes r at bs → at ≤ length bytes
 rest-room {r₀} {r} {bytes} {at} {bs} l =
-    let used : at + (fed_each r bs).used ≡ (fed_spec r₀ bytes).used = ap (λ (f : Fed). f.used) l.is in
+    let used : at + (fed_each r bs).used ≡ (fed_spec r₀ bytes).used = ap (λ (f : ReadResult). f.used) l.is in
     omega (arith, used, fed-room r₀ bytes)
 
 -- ---- the whole file
@@ -89,7 +89,8 @@ module _ (r : Reader) (xs : List ℕ) {a : Answer} {t : Bool} {w : Used} {s : Re
   fed-is = w-is ∙ (λ k. fed_spec r (part_to_end xs 1 k))
 
   pub used-room : w.used ≤ length xs - 1
-  used-room = subst (λ (f : Fed). f.used ≤ length xs - 1) (sym fed-is) (let h = fed-room r (drop 1 xs) in omega (arith, h, length-drop 1 xs))
+  used-room = subst (λ (f : ReadResult). f.used ≤ length xs - 1) (sym fed-is)
+      (let h = fed-room r (drop 1 xs) in omega (arith, h, length-drop 1 xs))
 
   read-on : ended_by (drop 1 xs) (fed_as w s) ≡ read_to_of r xs
   unfolding read_to_of

@@ -8,7 +8,7 @@ ghost use Rattle.file.specs.File.{version_answer, is_second, fed_as, fed_spec, e
 use fields::layout::kind_of;
 use file::framed::Records;
 use file::record::take_record;
-use file::{Fed, Reader, Took, Used};
+use file::{ReadResult, Reader, RecordResult, Used};
 use refusal::{Accepted, Answer, Refusal, is_refused};
 
 // Before the first record of a file, by whether that is of version 2. No `Default`: a load has none.
@@ -59,12 +59,12 @@ pub fn take_records(reader: &mut Reader, bytes: &[u8]) -> Used
 }
 
 // The same by value.
-pub fn fed(reader: Reader, bytes: &[u8]) -> Fed
+pub fn fed(reader: Reader, bytes: &[u8]) -> ReadResult
     ensures { result ≡ fed_spec reader bytes.now }
 {
     let mut next = reader;
     let Used { answer, used } = take_records(&mut next, bytes);
-    Fed {
+    ReadResult {
         answer,
         used,
         reader: next,
@@ -102,10 +102,10 @@ pub fn read_to(reader: &mut Reader, bytes: &[u8]) -> Answer
 }
 
 // The same to a fresh one.
-pub fn read(bytes: &[u8]) -> Took
+pub fn read(bytes: &[u8]) -> RecordResult
     ensures { result ≡ read_spec_of bytes.now }
 {
     let mut reader = fresh(is_second(bytes));
     let answer = read_to(&mut reader, bytes);
-    Took { answer, reader }
+    RecordResult { answer, reader }
 }

@@ -10,8 +10,8 @@ use lib.ListN.{get_or, set, length-set, replicate, get_or-replicate}
 use lib.Seq.{get_or-set_same, get_or-set_other}
 use borrow.Author.Tests.{eqb-true, eqb-false}
 use Rattle.laws.proofs.Bools.{and-true-left, and-true-right, test}
-use Rattle.feed.specs.declared.FirstRide.{FirstRide}
-use Rattle.feed.specs.Feed.{call_at, same_run, joined}
+use Rattle.search_input.specs.declared.FirstRide.{FirstRide}
+use Rattle.search_input.specs.Feed.{call_at, same_run, joined}
 use Rattle.rides.specs.declared.call_list.Ride.{Ride}
 use Rattle.rides.specs.Rows.{first_of}
 use Rattle.rides.specs.Sheets.{joins_of, sheet_of}

@@ -17,9 +17,9 @@ use Rattle.ways.specs.Routes.{Way, onward}
 use Rattle.profile.specs.Found.{Row}
 use Rattle.profile.specs.Journeys.{row_of}
 use Rattle.candidate.proofs.PassedLaws.{cov-no-later}
-use Rattle.feed.specs.declared.FeedCall.{FeedCall}
-use Rattle.feed.specs.declared.FirstRide.{FirstRide}
-use Rattle.feed.specs.Feed.{call_at, same_run, target_walk_of, arrival_of}
+use Rattle.search_input.specs.declared.FeedCall.{FeedCall}
+use Rattle.search_input.specs.declared.FirstRide.{FirstRide}
+use Rattle.search_input.specs.Feed.{call_at, same_run, target_walk_of, arrival_of}
 use Rattle.rides.specs.Rows.{Sheet, Joins, first_of, three_row, network_of}
 use Rattle.rides.specs.Loops.{over_calls, over_run, later_from, end_at, onward_rows, alight_on, board_on}
 use Rattle.rides.specs.Sheets.{sheet_of, joins_of}

@@ -19,14 +19,14 @@ use Rattle.profile.specs.declared.figures.Figures.{Figures}
 use Rattle.profile.specs.Journeys.{cov, row_of}
 use Rattle.profile.proofs.CoverLaws.{cov-sooner, cov-tie}
 use Rattle.profile.proofs.FiguresLaws.{lexb-lt}
-use Rattle.state.specs.View.{view}
+use Rattle.search_state.specs.View.{view}
 use Rattle.candidate.specs.Offer.{with_figures, offer_to, passed_over, PassedFrom}
 use Rattle.candidate.proofs.FromLaws.{offered-passed-over}
 use Rattle.candidate.proofs.PassedLaws.{cov-no-later, covered-passed, passed-stays, offers-covered}
 use Rattle.candidate.proofs.TurnLaws.{cov-total}
-use Rattle.profile.specs.Kept.{St}
-use Rattle.feed.specs.declared.FirstRide.{FirstRide}
-use Rattle.feed.specs.Feed.{call_at, figures_of, target_mask, target_walk_of, arrival_of}
+use Rattle.profile.specs.Kept.{SearchState}
+use Rattle.search_input.specs.declared.FirstRide.{FirstRide}
+use Rattle.search_input.specs.Feed.{call_at, figures_of, target_mask, target_walk_of, arrival_of}
 use Rattle.rides.specs.Rows.{direct_row, change_row}
 use Rattle.rides.specs.Loops.{over_run, later_from, last_at, last_alight_rows, last_board_rows, change_rows, over_bits, over_calls, direct_at, direct_rows}
 use Rattle.rides.specs.Sheets.{joins_of, sheet_of}
@@ -206,14 +206,14 @@ over-min {l} {f} {k} {s} {t} {m} e v w = go (test (leb s t))
 pub record Alike (f : FirstRide) (os : List Row) : Type 0 where
   pub leaves : (o : Row) → Memᴰ o os → o.leave ≡ f.leave
 
-keeps-one : (s : St Row) (b o : Row) → o.leave ≡ b.leave → passed_over s b ≡ true → passed_over (offer_to s o) b ≡ true
+keeps-one : (s : SearchState Row) (b o : Row) → o.leave ≡ b.leave → passed_over s b ≡ true → passed_over (offer_to s o) b ≡ true
 keeps-one s b o e w = go (test (cov o b))
   where
     go : (cov o b ≡ true) ⊎ (cov o b ≡ false) → passed_over (offer_to s o) b ≡ true
     go (inl y) = covered-passed (offer_to s o) o b (offered-passed-over s o) y
     go (inr y) = ap (λ x. passed_over x b) (passed-stays s o (covered-passed s b o w (cov-total o b e y))) ∙ w
 
-keeps-all : (s : St Row) (b : Row) (os : List Row) → ((o : Row) → Memᴰ o os → o.leave ≡ b.leave) → passed_over s b ≡ true
+keeps-all : (s : SearchState Row) (b : Row) (os : List Row) → ((o : Row) → Memᴰ o os → o.leave ≡ b.leave) → passed_over s b ≡ true
     → passed_over (foldl offer_to s os) b ≡ true
 keeps-all s b [] g w = w
 keeps-all s b (o ∷ os) g w =

@@ -14,10 +14,10 @@ use Rattle.laws.proofs.Folds.{concat_map-mem}
 use Rattle.profile.specs.Found.{Row}
 use Rattle.profile.specs.Journeys.{cov, row_of}
 use Rattle.candidate.proofs.PassedLaws.{cov-no-later}
-use Rattle.feed.specs.declared.FirstRide.{FirstRide}
+use Rattle.search_input.specs.declared.FirstRide.{FirstRide}
 use Rattle.rides.specs.Rows.{change_row}
 use Rattle.rides.specs.Loops.{over_bits, over_run, later_from, last_at, last_alight_rows, last_board_rows}
-use Rattle.feed.specs.Feed.{call_at, change_at, target_mask, joined}
+use Rattle.search_input.specs.Feed.{call_at, change_at, target_mask, joined}
 use Rattle.rides.specs.Sheets.{joins_of, sheet_of}
 use Rattle.rides.specs.Bounds.{AtTargets, AtCall, AtBoard, bucket_of, Bounds}
 

@@ -4,9 +4,9 @@ use Rattle.std.specs.Prelude.{◌≡◌, true, ℕ, ◌+◌, ◌/◌, ◌≤◌,
 use Rattle.std.specs.Coded.{le_prop}
 use mathlib.Core.List.{List, Memᴰ}
 use Rattle.laws.specs.Bits.{bits_of}
-use Rattle.feed.specs.Feed.{call_at, target_mask, target_walk_of, arrival_of}
+use Rattle.search_input.specs.Feed.{call_at, target_mask, target_walk_of, arrival_of}
 use Rattle.rides.specs.Loops.{later_from}
-use Rattle.feed.specs.Layout.{call_room}
+use Rattle.search_input.specs.Layout.{call_room}
 
 -- who alights at the time a is at no target of the mask before t
 unfoldable pub AtTargets : List ℕ → ℕ → ℕ → ℕ → Type 0

@@ -2,10 +2,10 @@
 -- one that would be passed over would be passed over too (`CoveredPassed`).
 use Rattle.std.specs.Prelude.{◌≡◌, true, List, ℕ, ◌<◌}
 use Rattle.profile.specs.Found.{Row}
-use Rattle.state.specs.View.{view}
+use Rattle.search_state.specs.View.{view}
 use Rattle.candidate.specs.Offer.{with_figures, passed_over}
-use Rattle.feed.specs.declared.FirstRide.{FirstRide}
-use Rattle.feed.specs.Feed.{call_at, figures_of}
+use Rattle.search_input.specs.declared.FirstRide.{FirstRide}
+use Rattle.search_input.specs.Feed.{call_at, figures_of}
 use Rattle.rides.specs.declared.since.Since.{Since}
 use Rattle.rides.specs.declared.last.LastRides.{LastRides}
 use Rattle.rides.specs.Offered.{Offered}

@@ -7,12 +7,12 @@ use mathlib.Core.List.{List, [], ◌∷◌, Memᴰ}
 use Rattle.laws.specs.Lists.{span}
 use Rattle.ways.specs.Rides.{Leg}
 use Rattle.ways.specs.Routes.{Way, onward}
-use Rattle.feed.specs.declared.FirstRide.{FirstRide}
-use Rattle.feed.specs.Feed.{call_at, same_run, target_walk_of, arrival_of}
+use Rattle.search_input.specs.declared.FirstRide.{FirstRide}
+use Rattle.search_input.specs.Feed.{call_at, same_run, target_walk_of, arrival_of}
 use Rattle.rides.specs.Rows.{first_of, network_of}
 use Rattle.rides.specs.Loops.{later_from}
 use Rattle.rides.specs.Sheets.{sheet_of, joins_of}
-use Rattle.feed.specs.Layout.{call_room}
+use Rattle.search_input.specs.Layout.{call_room}
 
 -- the place where the last of these rides alights
 abbrev pub end_of : ℕ → List (Leg ℕ) → ℕ

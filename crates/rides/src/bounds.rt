@@ -3,13 +3,13 @@
 // ride: the latest time is what a minimum begins with, so it needs no option.
 ghost use Rattle.std.specs.Prelude.{◌≡◌, ◌+◌, ◌≤◌, ◌<◌};
 ghost use Rattle.laws.specs.Bits.{bits_of};
-ghost use Rattle.feed.specs.Feed.{target_walk_of, arrival_of};
+ghost use Rattle.search_input.specs.Feed.{target_walk_of, arrival_of};
 ghost use Rattle.rides.specs.Bounds.{AtTargets, AtCall, AtBoard, bucket_of, Lowered, Filled, Suffix, Bounds};
-ghost use Rattle.feed.specs.Layout.{call_room};
+ghost use Rattle.search_input.specs.Layout.{call_room};
 
 use crate::bits::Digits;
 use crate::call_list::Calls;
-use feed::arrival_of;
+use search_input::arrival_of;
 
 // When whoever alights at a is at target x, cut to 65535.
 fn due_at(calls: &Calls, a: u16, x: u8) -> u16

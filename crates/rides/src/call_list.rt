@@ -1,13 +1,13 @@
 // The calls of a feed that a search reads, and its walks.
 ghost use Rattle.std.specs.Prelude.{◌≡◌, ◌+◌, ◌≤◌, ◌<◌, ◌&&◌, ltb, min};
-ghost use Rattle.feed.specs.Feed.{call_at, same_run, origin_mask, target_mask, origin_walk_of, target_walk_of};
+ghost use Rattle.search_input.specs.Feed.{call_at, same_run, origin_mask, target_mask, origin_walk_of, target_walk_of};
 ghost use Rattle.rides.specs.Rows.{first_of};
 ghost use Rattle.rides.specs.Sheets.{sheet_of};
-ghost use Rattle.feed.specs.Layout.{call_room};
+ghost use Rattle.search_input.specs.Layout.{call_room};
 
 use crate::bits::Digits;
-use feed::layout::Feed;
-use feed::{FeedCall, FirstRide, at_most_512, leave_of, origins_of, same_run, targets_of};
+use search_input::layout::Feed;
+use search_input::{FeedCall, FirstRide, at_most_512, leave_of, origins_of, same_run, targets_of};
 
 // The first n calls of the feed. The array whole beside the count: members and walks stand behind the calls.
 #[derive(Clone, Copy, Debug, PartialEq, Eq)]
@@ -38,7 +38,7 @@ impl<'a> Calls<'a> {
     }
 
     // The call at place i.
-    #[tactic(auto, unfolding(feed::specs::Feed::call_at))]
+    #[tactic(auto, unfolding(search_input::specs::Feed::call_at))]
     pub fn at(&self, i: usize) -> FeedCall
         requires { i < call_room }
         ensures { result ≡ call_at self.now.feed.now i }
@@ -76,7 +76,7 @@ impl<'a> Calls<'a> {
         Digits::of(targets_of(self.feed, stop))
     }
 
-    #[tactic(auto, unfolding(feed::specs::Feed::origin_walk_of))]
+    #[tactic(auto, unfolding(search_input::specs::Feed::origin_walk_of))]
     pub fn origin_walk(&self, o: u8) -> u16
         requires { o < 4 }
         ensures { result ≡ origin_walk_of self.now.feed.now o }
@@ -84,7 +84,7 @@ impl<'a> Calls<'a> {
         self.feed[3200 + o as usize]
     }
 
-    #[tactic(auto, unfolding(feed::specs::Feed::target_walk_of))]
+    #[tactic(auto, unfolding(search_input::specs::Feed::target_walk_of))]
     pub fn target_walk(&self, x: u8) -> u16
         requires { x < 4 }
         ensures { result ≡ target_walk_of self.now.feed.now x }

@@ -1,7 +1,7 @@
 // Journeys with a change: what is offered after a first ride. They differ in arrival, target and last ride alone, so from some arrival on
 // they are passed over: `over`, which each offer lowers to its own. Last rides that are at no target before are not walked.
 ghost use Rattle.std.specs.Prelude.{◌≡◌, ◌++◌, ◌+◌, ◌≤◌, ◌<◌};
-ghost use Rattle.feed.specs.Feed.{call_at};
+ghost use Rattle.search_input.specs.Feed.{call_at};
 ghost use Rattle.rides.specs.Loops.{over_bits, over_calls, over_run, last_at, last_alight_rows, last_board_rows, change_rows, direct_at, direct_rows};
 ghost use Rattle.rides.specs.Offered.{Offered};
 ghost use Rattle.rides.specs.Over.{Over, Holds, Walked, Joined, Alights};
@@ -15,9 +15,9 @@ use crate::call_list::{Calls, Ride};
 use crate::last::{LastRides, last_at};
 use crate::paths::direct_at;
 use crate::since::{Since, asked};
-use feed::layout::CALLS;
-use feed::{FirstRide, arrival_of};
-use state::layout::State;
+use search_input::layout::CALLS;
+use search_input::{FirstRide, arrival_of};
+use search_state::layout::State;
 
 // To target x with the ride r.
 fn target_before(st: &mut State, calls: &Calls, f: FirstRide, r: Ride, x: u8, over: u32) -> u32

@@ -1,11 +1,11 @@
 // The first rides, in order: by boarding call, then origin, then alighting call.
 ghost use Rattle.std.specs.Prelude.{◌≡◌, ◌≤◌, ◌<◌, ◌+◌, List, ℕ, length};
-ghost use Rattle.feed.specs.Layout.{call_room};
+ghost use Rattle.search_input.specs.Layout.{call_room};
 
 use crate::bits::Digits;
 use crate::call_list::{Calls, Ride};
 use crate::later::Later;
-use feed::can_walk;
+use search_input::can_walk;
 
 // A first ride by its places, and the origin that one walks from.
 #[derive(Clone, Copy, Debug, PartialEq, Eq)]

@@ -10,8 +10,8 @@ use crate::call_list::{Calls, Ride};
 use crate::lent::Lent;
 use crate::offer::offer;
 use candidate::{Offer, candidate};
-use feed::FirstRide;
-use state::layout::State;
+use search_input::FirstRide;
+use search_state::layout::State;
 
 // Offers the first ride and then the ride r, to target x.
 pub(crate) fn last_at(st: &mut State, calls: &Calls, f: FirstRide, r: Ride, x: u8)

@@ -1,12 +1,12 @@
 // The lent arrays of a search.
 ghost use Rattle.std.specs.Prelude.{◌≡◌, ◌<◌, ◌&&◌, min};
-ghost use Rattle.feed.specs.Feed.{call_at};
+ghost use Rattle.search_input.specs.Feed.{call_at};
 ghost use Rattle.rides.specs.Sheets.{joins_of};
-ghost use Rattle.feed.specs.Layout.{call_room};
+ghost use Rattle.search_input.specs.Layout.{call_room};
 
 use crate::call_list::Calls;
-use feed::layout::{Changes, Feed};
-use feed::{FirstRide, change_at, join};
+use search_input::layout::{Changes, Feed};
+use search_input::{FirstRide, change_at, join};
 
 // The calls, and the changes between stops.
 #[derive(Clone, Copy, Debug, PartialEq, Eq)]

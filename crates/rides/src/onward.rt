@@ -1,13 +1,13 @@
 // Journeys of three rides: what leads on from a ride. With no change left that is the targets where it ends, else every ride that it
 // joins, with the number of changes left falling by one at each. What leads on at no target before `over` is not walked (`change`).
 ghost use Rattle.std.specs.Prelude.{◌≡◌, [], ◌+◌, ◌≤◌, ◌<◌, get_or};
-ghost use Rattle.feed.specs.Feed.{call_at};
+ghost use Rattle.search_input.specs.Feed.{call_at};
 ghost use Rattle.rides.specs.Loops.{over_bits, over_calls, over_run, end_at, onward_rows, alight_on, board_on};
 ghost use Rattle.rides.specs.Offered.{Offered};
 ghost use Rattle.rides.specs.Over.{Over, Walked};
 ghost use Rattle.rides.specs.Reach.{Onward, Onward-prop};
 ghost use Rattle.rides.specs.Sheets.{sheet_of};
-ghost use Rattle.feed.specs.Layout.{call_room};
+ghost use Rattle.search_input.specs.Layout.{call_room};
 
 use crate::bits::Digits;
 use crate::call_list::{Calls, Ride};
@@ -15,9 +15,9 @@ use crate::lent::Lent;
 use crate::offer::offer;
 use candidate::times::threshold;
 use candidate::{Offer, candidate, passes_over};
-use feed::layout::CALLS;
-use feed::{FirstRide, arrival_of};
-use state::layout::State;
+use search_input::layout::CALLS;
+use search_input::{FirstRide, arrival_of};
+use search_state::layout::State;
 
 // Offers the first ride, then the rides p and r, to target x.
 fn end_at(st: &mut State, calls: &Calls, f: FirstRide, p: Ride, r: Ride, x: u8)

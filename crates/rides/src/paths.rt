@@ -1,6 +1,6 @@
 // The whole search: a pass over the first rides for the journeys of one ride and two, and one for those of three.
 ghost use Rattle.std.specs.Prelude.{◌≡◌, ◌≤◌, ◌<◌};
-ghost use Rattle.state.specs.View.{view};
+ghost use Rattle.search_state.specs.View.{view};
 ghost use Rattle.rides.specs.Loops.{direct_at, direct_rows, pass_rows};
 ghost use Rattle.rides.specs.Places.{sheet_in, joins_in};
 ghost use Rattle.rides.specs.Sheets.{sheet_of};
@@ -19,10 +19,10 @@ use crate::reach::onward_times;
 use crate::since::{over_for, since_for, since_none};
 use candidate::candidate;
 use candidate::times::late;
-use feed::FirstRide;
-use feed::layout::{CALLS, Changes, Feed};
-use state::is_refused;
-use state::layout::State;
+use search_input::FirstRide;
+use search_input::layout::{CALLS, Changes, Feed};
+use search_state::is_refused;
+use search_state::layout::State;
 
 // Offers the ride alone, to target x.
 pub(crate) fn direct_at(st: &mut State, calls: &Calls, f: FirstRide, x: u8)

@@ -3,13 +3,13 @@
 ghost use Rattle.std.specs.Prelude.{◌≡◌, ◌+◌, ◌≤◌, ◌<◌};
 ghost use Rattle.rides.specs.Bounds.{AtCall};
 ghost use Rattle.rides.specs.Reach.{Onward, BoardAt, Least, JoinsAt, Each};
-ghost use Rattle.feed.specs.Layout.{call_room};
+ghost use Rattle.search_input.specs.Layout.{call_room};
 
 use crate::bounds::alight_bound;
 use crate::call_list::{Calls, Ride};
 use crate::lent::Lent;
-use feed::FirstRide;
-use feed::layout::CALLS;
+use search_input::FirstRide;
+use search_input::layout::CALLS;
 
 // The numbers by place: from where a ride alights, with no change left, one and two; and of the rides that board there, with no change
 // left after them and one.

@@ -1,13 +1,13 @@
 // What a first ride leaves to the next: from when on journeys are passed over, of which of its figures leave and walk alone count.
 ghost use Rattle.std.specs.Prelude.{◌≡◌, ℕ, ◌&&◌, eqb};
-ghost use Rattle.feed.specs.declared.FirstRide.{FirstRide};
-ghost use Rattle.state.specs.View.{view};
+ghost use Rattle.search_input.specs.declared.FirstRide.{FirstRide};
+ghost use Rattle.search_state.specs.View.{view};
 ghost use Rattle.rides.specs.Over.{Over, Holds};
 
 use candidate::passes_over;
 use candidate::times::{late, threshold};
-use feed::FirstRide;
-use state::layout::State;
+use search_input::FirstRide;
+use search_state::layout::State;
 
 // From when on journeys of one leave and walk are passed over, by one ride and by two; and whether the kept rows were read for the latter,
 // so that none is passed over before.

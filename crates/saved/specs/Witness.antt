@@ -4,7 +4,7 @@ use Rattle.std.specs.Prelude.{◌≡◌, true, List, [], ◌∷◌, ℕ, ◌+◌
 use Rattle.load.specs.declared.Load.{Load}
 use Rattle.load.specs.Sound.{Opens}
 use Rattle.load.specs.Steps.{Opening, undated}
-use Rattle.load.specs.Filling.{stop, call, rule}
+use Rattle.load.specs.FillStep.{stop, call, rule}
 use Rattle.steps.specs.Steps.{Step, filling, search}
 use Rattle.steps.specs.Lists.{end_of}
 use Rattle.file.specs.File.{read_spec_of}

@@ -16,7 +16,7 @@ use Rattle.stops.specs.Sound.{stop_at}
 use Rattle.rules.specs.declared.Rule.{Rule}
 use Rattle.calls.specs.declared.Call.{Call}
 use Rattle.profile.specs.Kept.{going}
-use Rattle.state.specs.View.{view}
+use Rattle.search_state.specs.View.{view}
 use Rattle.candidate.specs.Offer.{offer_to}
 use Rattle.candidate.proofs.OfferLaws.{offers-search}
 use Rattle.places.specs.Places.{places_of}
@@ -25,7 +25,7 @@ use Rattle.transfer.specs.Copied.{parents_of}
 use Rattle.transfer.specs.Rows.{entry_of}
 use Rattle.offers.specs.Offers.{ride_of}
 use Rattle.offers.specs.Places as by
-use Rattle.feed.specs.Feed.{call_at, member_at, origin_mask, target_mask, origin_walk_of, target_walk_of, change_at, joined}
+use Rattle.search_input.specs.Feed.{call_at, member_at, origin_mask, target_mask, origin_walk_of, target_walk_of, change_at, joined}
 use Rattle.rides.specs.Sheets.{joins_of, sheet_of}
 use Rattle.rides.specs.Routes.{route_rows, rows_of}
 use Rattle.rides.specs.Offered.{offer_all}
@@ -34,8 +34,8 @@ use Rattle.rides.specs.Agree.{Agree}
 use Rattle.limited_rides.specs.declared.Tested.{Tested}
 use Rattle.limited_rides.specs.RowEvents.{events_at}
 use Rattle.limited_rides.specs.Within.{Within}
-use Rattle.feed_array.specs.Feeds.{Feeds}
-use Rattle.change_array.specs.Named.{stop_in, HoldsChanges}
+use Rattle.search_input_array.specs.Feeds.{Feeds}
+use Rattle.transfer_array.specs.Named.{stop_in, HoldsChanges}
 use Rattle.load.specs.declared.Load.{Load}
 use Rattle.search.specs.Timetable.{change_in, joins_in, timetable_of}
 use Rattle.search.specs.Offered.{placed, offered_of}

@@ -6,9 +6,9 @@ use Rattle.calls.specs.Tables.{blank_call}
 use Rattle.profile.specs.Found.{Row}
 use Rattle.profile.specs.Best.{ordered}
 use Rattle.profile.specs.Journeys.{no_journey, row_figures}
-use Rattle.profile.specs.Kept.{St, searched}
-use Rattle.state.specs.View.{count_of, kept_of, horizon_of, limits_of}
-use Rattle.read_back.specs.Kept.{journey_of}
+use Rattle.profile.specs.Kept.{SearchState, searched}
+use Rattle.search_state.specs.View.{count_of, kept_of, horizon_of, limits_of}
+use Rattle.kept_journeys.specs.Kept.{journey_of}
 use Rattle.load.specs.declared.Load.{Load}
 use Rattle.load.specs.Load.{with_seen}
 use Rattle.search.specs.Timetable.{timetable_of}
@@ -20,7 +20,7 @@ use Rattle.profile.specs.Sizes.{kept_room, least_horizon}
 abbrev pub placed : List Call → ℕ → Call
 placed calls i = get_or calls i blank_call
 
-unfoldable pub offered_of : Load → List Call → St Row
+unfoldable pub offered_of : Load → List Call → SearchState Row
 offered_of l calls = searched row_figures kept_room least_horizon l.table_horizon l.table_limits
     (row_offers (timetable_of l) (placed calls) (min l.call_count call_room))
 

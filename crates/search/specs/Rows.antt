@@ -6,8 +6,8 @@ use Rattle.profile.specs.Journeys.{journey_figures, row_figures}
 use Rattle.profile.specs.Kept.{searched, map_st}
 use Rattle.offers.specs.Offers.{Timetable, ride_of, offers}
 use Rattle.offers.specs.Places.{origin_mask, target_mask, journey_at, InPlaces}
-use Rattle.feed.specs.declared.FeedCall.{FeedCall}
-use Rattle.feed.specs.declared.FirstRide.{FirstRide}
+use Rattle.search_input.specs.declared.FeedCall.{FeedCall}
+use Rattle.search_input.specs.declared.FirstRide.{FirstRide}
 use Rattle.rides.specs.Rows.{Sheet, Joins}
 use Rattle.rides.specs.Routes.{route_rows}
 use Rattle.rides.specs.Agree.{Agree}

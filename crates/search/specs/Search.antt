@@ -13,7 +13,7 @@ use Rattle.offers.specs.Order.{sort_first, clashes}
 use Rattle.offers.specs.Offers.{sorted, offers}
 use Rattle.offers.specs.Search.{Outcome, clashing, falling, found, answer_of, search_of}
 use Rattle.load.specs.declared.Load.{Load}
-use Rattle.load.specs.declared.Stepped.{Stepped}
+use Rattle.load.specs.declared.StepResult.{StepResult}
 use Rattle.load.specs.Load.{with_seen}
 use Rattle.search.specs.Timetable.{timetable_of}
 use Rattle.profile.specs.Sizes.{kept_room, least_horizon}
@@ -47,7 +47,7 @@ settled l clashing = l
 settled l falling = l
 settled l (found ks h m) = with_journeys l ks h m
 
-unfoldable pub search_spec : Load → Stepped
+unfoldable pub search_spec : Load → StepResult
 search_spec l =
     cond l.searched (record { answer = Err AlreadySearched; load = l })
     (record { answer = answer_of (outcome_of l); load = settled l (outcome_of l) })

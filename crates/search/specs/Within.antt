@@ -16,7 +16,7 @@ use Rattle.offers.specs.Search.{Outcome, clashing, falling, found}
 use Rattle.limited.specs.Limited.{offers_within, joins_within, finished_within, search_within}
 use Rattle.limited_rides.specs.declared.Tested.{Tested}
 use Rattle.load.specs.declared.Load.{Load}
-use Rattle.load.specs.declared.Stepped.{Stepped}
+use Rattle.load.specs.declared.StepResult.{StepResult}
 use Rattle.load.specs.Load.{stopped}
 use Rattle.load.specs.Sound.{Sound}
 use Rattle.search.specs.declared.Limited.{Limited}
@@ -73,7 +73,7 @@ within_spec l n =
     (cond (ltb 1 l.settings.max_transfers) (sent_back_of l (Err SettingsRange)) (ran_within l n (outcome_within l n)))
 
 -- its answer and its load
-abbrev pub step_of : Answered → Stepped
+abbrev pub step_of : Answered → StepResult
 step_of w = record { answer = w.answer; load = w.load }
 
 -- the horizon would fall below 3600, by those offers

@@ -4,10 +4,10 @@ ghost use Rattle.limited.specs.Margin.{target_arrivals};
 ghost use Rattle.limited_rides.specs.Earliest.{soonest};
 ghost use Rattle.search.specs.Timetable.{timetable_of};
 
-use feed_array::feed_of;
+use call_order::sorted;
 use limited_rides::earliest::earliest_of;
 use load::Load;
-use order::sorted;
+use search_input_array::feed_of;
 
 // The earliest, walk included, of any ride that alights at a target, whether or not it boards at an origin.
 pub fn earliest_arrival(load: &Load) -> Option<u32>

@@ -2,33 +2,33 @@
 #![tactic(auto)]
 
 ghost use Rattle.std.specs.Prelude.{◌≡◌, ◌<◌, ℕ, get_or, take};
-ghost use Rattle.state.specs.View.{view};
+ghost use Rattle.search_state.specs.View.{view};
 ghost use Rattle.places.specs.Places.{places_of};
 ghost use Rattle.load.specs.Steps.{stepped};
 ghost use Rattle.search.specs.Search.{search_spec};
 ghost use Rattle.transfer.specs.Changes.{change_number};
-ghost use Rattle.change_array.specs.Named.{HoldsChanges};
+ghost use Rattle.transfer_array.specs.Named.{HoldsChanges};
 ghost use Rattle.search.specs.Timetable.{change_in};
 ghost use Rattle.search.specs.Offered.{offered_of, found_in};
 ghost use Rattle.search.specs.Within.{answered, step_of};
 
+use call_order::{neighbours_clash, sorted};
 use calls::{CALLS, Call};
-use change_array::changes_of;
-use feed::layout::{Changes, Feed};
-use feed_array::feed_of;
+use kept_journeys::journeys_of;
 use limited_rides::Tested;
-use load::{Load, Stepped};
-use order::{neighbours_clash, sorted};
+use load::{Load, StepResult};
 use places::group::group_places;
 use prefix::first;
-use read_back::journeys_of;
 use refusal::{Accepted, Answer, Refusal};
 use rides::paths::endpoint_paths;
-use state::layout::State;
-use state::{count, fresh, horizon, is_refused, limits};
+use search_input::layout::{Changes, Feed};
+use search_input_array::feed_of;
+use search_state::layout::State;
+use search_state::{count, fresh, horizon, is_refused, limits};
 use stops::Stop;
 use transfer::Transfers;
 use transfer::copied::parents_of;
+use transfer_array::changes_of;
 
 pub mod earliest;
 mod within;
@@ -44,10 +44,10 @@ pub struct Limited {
 
 impl Limited {
     // As any step: taken where it was not sent back.
-    pub fn stepped(self) -> Stepped
+    pub fn stepped(self) -> StepResult
         ensures { result ≡ step_of (answered self) }
     {
-        Stepped {
+        StepResult {
             answer: self.tested.map(|_| Accepted::Taken),
             load: self.load,
         }
@@ -108,12 +108,12 @@ fn keep(load: &mut Load, calls: &[Call; CALLS], st: &State, limit: Option<u64>)
 }
 
 // The load searched, or why it is sent back: 15, 14, 11. By value the search in place of a copy.
-pub fn search(load: Load) -> Stepped
+pub fn search(load: Load) -> StepResult
     ensures { result ≡ search_spec load }
 {
     let mut next = load;
     let answer = take_search(&mut next);
-    Stepped { answer, load: next }
+    StepResult { answer, load: next }
 }
 
 // The same in place.

@@ -8,16 +8,16 @@ ghost use Rattle.search.specs.Within.{answered, answered_by, within_spec};
 ghost use Rattle.calls.specs.Sizes.{call_room};
 
 use crate::{Limited, bytes_told, changes_for, keep};
+use call_order::{neighbours_clash, sorted};
 use calls::{CALLS, Call};
-use feed_array::feed_of;
 use limited_rides::Tested;
 use limited_rides::within::paths_within;
 use load::Load;
-use order::{neighbours_clash, sorted};
 use prefix::first;
 use refusal::Refusal;
-use state::layout::State;
-use state::{fresh, is_refused};
+use search_input_array::feed_of;
+use search_state::layout::State;
+use search_state::{fresh, is_refused};
 
 // The offers before the first join past the limit, made to a state; how many joins were tested, and whether none is left.
 fn offered_within(load: &Load, calls: &[Call; CALLS], limit: u64, st: &mut State) -> Tested

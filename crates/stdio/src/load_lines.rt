@@ -1,8 +1,8 @@
 // The lines of a load: table, journeys, horizon and limits; and that of a refusal. `lines` prints some of them too, as bytes of a proved
 // length; here they are printed among others by `write!`.
 use crate::out::Out;
+use call_order::sorted;
 use calls::{CALLS, Call};
-use order::sorted;
 use prefix::first;
 use profile::{Journey, Ride};
 use refusal::Refusal;

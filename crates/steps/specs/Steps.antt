@@ -3,9 +3,9 @@ use Rattle.refusal.specs.First.{Answer}
 use Rattle.std.specs.Prelude.{Bool, cond, List, [], ◌∷◌, ℕ}
 use Rattle.calls.specs.declared.CallKey.{CallKey}
 use Rattle.load.specs.declared.Load.{Load}
-use Rattle.load.specs.declared.Stepped.{Stepped}
-use Rattle.load.specs.Filling as fill
-use Rattle.load.specs.Filling.{Filling, stop, call, rule, service, exception, filled}
+use Rattle.load.specs.declared.StepResult.{StepResult}
+use Rattle.load.specs.FillStep as fill
+use Rattle.load.specs.FillStep.{FillStep, stop, call, rule, service, exception, filled}
 use Rattle.search.specs.Search.{search_spec, search_causes}
 use Rattle.search.specs.Within.{within_spec, step_of, within_causes}
 use Rattle.again.specs.Again.{add_spec_of, withdraw_spec}
@@ -14,13 +14,13 @@ use Rattle.again.specs.Causes.{add_causes, withdraw_causes}
 -- a stop, a call, a rule, a service or an exception is handed in; a call is withdrawn; or the load is searched, in full or within a limit
 -- on joins
 pub data Step : Type 0 where
-  filling : Filling → Step
+  filling : FillStep → Step
   withdraw : CallKey → Step
   search : Step
   limited : ℕ → Step
 
 -- the answer, and the load that is returned; a call may come before the search or after it
-abbrev pub stepped : Load → Step → Stepped
+abbrev pub stepped : Load → Step → StepResult
 stepped l (filling (stop id name parent i)) = filled l (stop id name parent i)
 stepped l (filling (call name i)) = add_spec_of l name i
 stepped l (filling (rule i)) = filled l (rule i)

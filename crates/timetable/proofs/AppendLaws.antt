@@ -14,8 +14,8 @@ use Rattle.std.proofs.lemmas.List.{drop_all, nil_from_length}
 use Rattle.refusal.specs.First.{first_answer, is_refused, Answer}
 use Rattle.codec.specs.Shapes.{framed}
 use Rattle.file.specs.declared.Reader.{Reader}
-use Rattle.file.specs.declared.Took.{Took}
-use Rattle.file.specs.declared.Fed.{Fed}
+use Rattle.file.specs.declared.RecordResult.{RecordResult}
+use Rattle.file.specs.declared.ReadResult.{ReadResult}
 use Rattle.file.specs.Record.{fresh_reader, record_spec}
 use Rattle.file.specs.File.{body_of, version_answer, is_second, later, fed_spec, end_answer, ended_by, read_spec_of}
 use Rattle.file.proofs.FedLaws.{none-whole, fed-stops, fed-goes-on, fed-in-parts}
@@ -25,7 +25,7 @@ use Rattle.saved.proofs.FeedLaws.{size_is, long, is_whole, body_is, rest_is}
 use Rattle.timetable.specs.Append.{so_far, step_of, ReadAppended}
 
 -- what was fed of a file
-abbrev fed_of : List ℕ → Fed
+abbrev fed_of : List ℕ → ReadResult
 fed_of xs = fed_spec (fresh_reader (is_second xs)) (drop 1 xs)
 
 -- a file whose records are all of it, and the reader after them
@@ -45,21 +45,21 @@ module _ (xs : List ℕ) where
   far-begun one a-is t-is r-is =
       (λ i. record { answer = a-is i; reader = (r-is ∙ ap fresh_reader t-is) i }) ∙ sym (rw (eq-eqb (length xs) 1 one) refl)
 
-  pub far-read : {t : Took} → (length xs ≡ 1 → ⊥) → t ≡ read_spec_of xs → t ≡ so_far xs
+  pub far-read : {t : RecordResult} → (length xs ≡ 1 → ⊥) → t ≡ read_spec_of xs → t ≡ so_far xs
   unfolding so_far
   far-read more e = e ∙ sym (rw (ne_eqb (length xs) 1 more) refl)
 
-  module _ (b : List ℕ) {t : Took} {c : Bool} (e : t ≡ so_far xs) (c-is : c ≡ is_refused t.answer) where
+  module _ (b : List ℕ) {t : RecordResult} {c : Bool} (e : t ≡ so_far xs) (c-is : c ≡ is_refused t.answer) where
     refused-is : {d : Bool} → c ≡ d → is_refused (so_far xs).answer ≡ d
-    refused-is h = ap (λ (t : Took). is_refused t.answer) (sym e) ∙ sym c-is ∙ h
+    refused-is h = ap (λ (t : RecordResult). is_refused t.answer) (sym e) ∙ sym c-is ∙ h
 
     pub step-refused : c ≡ true → t ≡ step_of xs b
     unfolding step_of
     step-refused h = e ∙ sym (rw (refused-is h) refl)
 
-    pub step-taken : {u : Took} → c ≡ false → u ≡ record_spec t.reader b → u ≡ step_of xs b
+    pub step-taken : {u : RecordResult} → c ≡ false → u ≡ record_spec t.reader b → u ≡ step_of xs b
     unfolding step_of
-    step-taken h u-is = u-is ∙ ap (λ (t : Took). record_spec t.reader b) e ∙ sym (rw (refused-is h) refl)
+    step-taken h u-is = u-is ∙ ap (λ (t : RecordResult). record_spec t.reader b) e ∙ sym (rw (refused-is h) refl)
 
 -- ---- so far
 
@@ -70,9 +70,9 @@ begun-one xs one e =
     let f : fed_of xs ≡ record { answer = Ok Taken; used = 0; reader = r } = ap (fed_spec r) none ∙ fed-stops r [] none-whole in
     record {
       version = ap is_refused e;
-      fed = ap (λ (f : Fed). is_refused f.answer) f;
+      fed = ap (λ (f : ReadResult). is_refused f.answer) f;
       whole = λ i. drop (f i).used (none i);
-      reader = ap (λ (f : Fed). f.reader) f;
+      reader = ap (λ (f : ReadResult). f.reader) f;
       some = omega (arith, one);
     }
 
@@ -84,7 +84,7 @@ none-left o n e = go (eqb n 0) refl e
     go true q k = eqb-true n 0 q
     go false q k = absurd (true≢false (ap is_refused k))
 
-ended : (ys : List ℕ) (f : Fed) → (ended_by ys f).answer ≡ Ok Taken → (is_refused f.answer ≡ false) × (drop f.used ys ≡ [])
+ended : (ys : List ℕ) (f : ReadResult) → (ended_by ys f).answer ≡ Ok Taken → (is_refused f.answer ≡ false) × (drop f.used ys ≡ [])
 ended ys f e = go (is_refused f.answer) refl e
   where
     go : (c : Bool) → is_refused f.answer ≡ c → cond c f.answer (end_answer f.reader.opened (length (drop f.used ys))) ≡ Ok Taken
@@ -96,7 +96,7 @@ begun-read : (xs : List ℕ) → (read_spec_of xs).answer ≡ Ok Taken → Begun
 unfolding read_spec_of
 begun-read xs e = go (is_refused (version_answer xs)) refl e
   where
-    by : Bool → Took
+    by : Bool → RecordResult
     by b = cond b (record { answer = version_answer xs; reader = fresh_reader (is_second xs) }) (ended_by (drop 1 xs) (fed_of xs))
 
     go : (b : Bool) → is_refused (version_answer xs) ≡ b → (by b).answer ≡ Ok Taken → Begun xs (by b).reader
@@ -109,7 +109,7 @@ begun : (xs : List ℕ) → (so_far xs).answer ≡ Ok Taken → Begun xs (so_far
 unfolding so_far
 begun xs e = go (eqb (length xs) 1) refl e
   where
-    by : Bool → Took
+    by : Bool → RecordResult
     by b = cond b (record { answer = version_answer xs; reader = fresh_reader (is_second xs) }) (read_spec_of xs)
 
     go : (b : Bool) → eqb (length xs) 1 ≡ b → (by b).answer ≡ Ok Taken → Begun xs (by b).reader
@@ -123,7 +123,7 @@ fed-behind : (r : Reader) (b : List ℕ) → is_refused (record_spec r b).answer
 fed-behind r b e =
     let body : record_spec r (body_of (framed b ++ [])) ≡ record_spec r b = ap (record_spec r) (body_is b []) in
     ap (fed_spec r) (sym (append-nil (framed b)))
-    ∙ fed-goes-on r (framed b ++ []) (is_whole b []) (ap (λ (t : Took). is_refused t.answer) body ∙ e)
+    ∙ fed-goes-on r (framed b ++ []) (is_whole b []) (ap (λ (t : RecordResult). is_refused t.answer) body ∙ e)
     ∙ (λ i. later (2 + size_is b [] i) (fed_spec (body i).reader (rest_is b [] i)))
     ∙ ap (later (2 + length b)) (fed-stops (record_spec r b).reader [] none-whole)
 
@@ -150,7 +150,7 @@ appended-to : (xs b : List ℕ) {r : Reader} → Begun xs r → is_refused (reco
     → read_spec_of (xs ++ framed b) ≡ record { answer = Ok Taken; reader = (record_spec r b).reader }
 appended-to [] b w t = let some = w.some in absurd (omega (arith, some))
 appended-to (x ∷ zs) b {r} w t =
-    let f : Fed = fed_of (x ∷ zs) in
+    let f : ReadResult = fed_of (x ∷ zs) in
     let new : Reader = (record_spec r b).reader in
     let parts : fed_of (x ∷ (zs ++ framed b)) ≡ later f.used (fed_spec f.reader (drop f.used zs ++ framed b)) =
     fed-in-parts (fresh_reader (is_second (x ∷ zs))) zs (framed b) ∙ rw w.fed refl in

@@ -5,16 +5,16 @@ use Rattle.std.specs.Prelude.{Some}
 use Rattle.refusal.specs.Causes.{number_of}
 use Rattle.refusal.specs.First.{Answer, is_refused}
 use Rattle.codec.specs.Shapes.{framed}
-use Rattle.file.specs.declared.Took.{Took}
+use Rattle.file.specs.declared.RecordResult.{RecordResult}
 use Rattle.file.specs.Record.{fresh_reader, record_spec}
 use Rattle.file.specs.File.{version_answer, is_second, read_spec_of}
 
 -- a file is begun by its version byte alone; any other can be read
-unfoldable pub so_far : List ℕ → Took
+unfoldable pub so_far : List ℕ → RecordResult
 so_far xs = cond (eqb (length xs) 1) (record { answer = version_answer xs; reader = fresh_reader (is_second xs) }) (read_spec_of xs)
 
 -- what its load answers to the record; a refused file has its own answer
-unfoldable pub step_of : List ℕ → List ℕ → Took
+unfoldable pub step_of : List ℕ → List ℕ → RecordResult
 step_of xs b = cond (is_refused (so_far xs).answer) (so_far xs) (record_spec (so_far xs).reader b)
 
 -- whether a record of that size can stand behind n bytes, after its length of two

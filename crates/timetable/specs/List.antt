@@ -10,7 +10,7 @@ use Rattle.load.specs.declared.Load.{Load}
 use Rattle.search.specs.Within.{Answered, sent_back_of, within_spec}
 use Rattle.best.specs.Best.{kept_of}
 use Rattle.margin.specs.Stopped.{margin_spec}
-use Rattle.file.specs.declared.Took.{Took}
+use Rattle.file.specs.declared.RecordResult.{RecordResult}
 use Rattle.timetable.specs.declared.journeys.TimetableJourney.{TimetableJourney}
 use Rattle.timetable.specs.declared.list.TimetableList.{TimetableList}
 use Rattle.timetable.specs.Journeys.{journey_row}
@@ -61,11 +61,11 @@ list_by (Ok a) n l = load_list n l
 list_by (Err r) n l = refused_list (number_of r)
 
 -- of a file
-abbrev pub list_of : Took → TimetableList
+abbrev pub list_of : RecordResult → TimetableList
 list_of t = list_by t.answer 0 t.reader.load
 
 -- a file's load searched within a limit; a refused file isn't searched
-unfoldable pub within_of : Took → ℕ → Answered
+unfoldable pub within_of : RecordResult → ℕ → Answered
 within_of t limit = cond (is_refused t.answer) (sent_back_of t.reader.load t.answer) (within_spec t.reader.load limit)
 
 abbrev pub list_within : Answered → TimetableList

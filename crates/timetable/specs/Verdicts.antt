@@ -10,7 +10,7 @@ use Rattle.connection.specs.declared.Cause.TheVariants.{TooEarly, TooManyChanges
 use Rattle.listing.specs.declared.Verdict.{Verdict}
 use Rattle.listing.specs.declared.Verdict.TheVariants.{NotFinished, Late, Listed, AsGood, Beaten, Uncovered, Impossible}
 use Rattle.verdict.specs.Verdicts.{verdict_of}
-use Rattle.file.specs.declared.Took.{Took}
+use Rattle.file.specs.declared.RecordResult.{RecordResult}
 use Rattle.timetable.specs.declared.judged.TimetableLeg.{TimetableLeg}
 use Rattle.timetable.specs.declared.judged.TimetableConnection.{TimetableConnection}
 use Rattle.timetable.specs.declared.judged.TimetableVerdict.{TimetableVerdict}
@@ -65,5 +65,5 @@ unfoldable pub judged_by : Answer → Load → TimetableConnection → Timetable
 judged_by (Ok a) l c = verdict_row (verdict_of l (connection_of c))
 judged_by (Err r) l c = said 0 0 0 0 0 0
 
-abbrev pub judged_of : Took → TimetableConnection → TimetableVerdict
+abbrev pub judged_of : RecordResult → TimetableConnection → TimetableVerdict
 judged_of t c = judged_by t.answer t.reader.load c

@@ -2,18 +2,18 @@
 ghost use Rattle.std.specs.Prelude.{◌≡◌, ◌+◌, ◌≤◌, length, take};
 ghost use Rattle.timetable.specs.Append.{so_far, step_of, has_room, put_behind, size_behind, buffer_behind, append_number};
 
-use file::Took;
+use file::RecordResult;
 use file::record::record;
 use prefix::first;
 use reader::{fresh, is_second, read, version};
 use refusal::{Accepted, Answer, is_refused};
 
 // The version byte alone begins a file, and so isn't refused with 19 as a file without a record.
-fn so_far(file: &[u8]) -> Took
+fn so_far(file: &[u8]) -> RecordResult
     ensures { result ≡ so_far file.now }
 {
     if file.len() == 1 {
-        return Took {
+        return RecordResult {
             answer: version(file),
             reader: fresh(is_second(file)),
         };
@@ -22,7 +22,7 @@ fn so_far(file: &[u8]) -> Took
 }
 
 // A refused file takes no record.
-fn step(file: &[u8], b: &[u8]) -> Took
+fn step(file: &[u8], b: &[u8]) -> RecordResult
     ensures { result ≡ step_of file.now b.now }
 {
     let t = so_far(file);

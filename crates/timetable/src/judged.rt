@@ -3,7 +3,7 @@ ghost use Rattle.std.specs.Prelude.{◌≡◌, min};
 ghost use Rattle.timetable.specs.Verdicts.{leg_of, connection_of, said, cause_row, verdict_row, judged_of};
 
 use connection::{Cause, Connection, Leg};
-use file::Took;
+use file::RecordResult;
 use listing::Verdict;
 use verdict::verdict;
 
@@ -130,7 +130,7 @@ fn verdict_row(verdict: Verdict) -> TimetableVerdict
 }
 
 // Nothing is said by a refused file.
-pub fn judged(t: &Took, c: &TimetableConnection) -> TimetableVerdict
+pub fn judged(t: &RecordResult, c: &TimetableConnection) -> TimetableVerdict
     ensures { result ≡ judged_of t.now c.now }
 {
     match t.answer {

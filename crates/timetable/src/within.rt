@@ -3,12 +3,12 @@ ghost use Rattle.std.specs.Prelude.{◌≡◌};
 ghost use Rattle.search.specs.Within.{answered};
 ghost use Rattle.timetable.specs.List.{within_of};
 
-use file::Took;
+use file::RecordResult;
 use refusal::{Accepted, Answer};
 use search::{Limited, search_within};
 
 // A refused file isn't searched.
-pub fn found_within(t: Took, limit: u64) -> Limited
+pub fn found_within(t: RecordResult, limit: u64) -> Limited
     ensures { answered result ≡ within_of t limit }
 {
     let load = t.reader.load;

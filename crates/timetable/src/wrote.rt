@@ -2,12 +2,12 @@
 ghost use Rattle.std.specs.Prelude.{◌≡◌, length};
 ghost use Rattle.timetable.specs.Written.{wrote_of, buffer_of, length_of, wrote_number};
 
-use file::Took;
+use file::RecordResult;
 use refusal::Refusal;
 use writer::write;
 
 // The refusal of the reading comes first.
-pub fn write_file(t: Took, out: &mut [u8]) -> Result<usize, Refusal>
+pub fn write_file(t: RecordResult, out: &mut [u8]) -> Result<usize, Refusal>
     ensures value { result ≡ wrote_of t (length out.old) }
     ensures out_after { out.new ≡ buffer_of t out.old }
 {

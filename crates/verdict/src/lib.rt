@@ -14,12 +14,12 @@ use causes::cause_of;
 use connection::ends::walk_at;
 use connection::find::way_of;
 use connection::{Connection, Way};
-use feed::{arrival_of, leave_of};
 use figures::{last_leg, last_ride, middle_ride, ride_of};
 use listing::{Verdict, listed};
 use load::Load;
 use prefix::first;
 use profile::Journey;
+use search_input::{arrival_of, leave_of};
 
 // By the list, of a connection that can be made.
 fn by_list(load: &Load, connection: &Connection, way: &Way) -> Verdict

@@ -1,6 +1,6 @@
 -- The file read to a fresh reader: refused, or best.
 use mathlib.Core.Path.{sym, ap, ◌∙◌}
-use Rattle.file.specs.declared.Took.{Took}
+use Rattle.file.specs.declared.RecordResult.{RecordResult}
 use Rattle.load_c.specs.Best.{times_in}
 use Rattle.load_c.proofs.BestLaws.{none-in, found-in}
 use Rattle.reader.proofs.ReadLaws.{read-all}

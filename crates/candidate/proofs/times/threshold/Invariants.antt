@@ -1,6 +1,6 @@
 -- `threshold` meets its contract: a loop over the kept rows from the last. The invariant: what counts for the rows from i on.
 use mathlib.Core.Path.{◌≡◌}
-use Rattle.state.specs.View.{kept_of}
+use Rattle.search_state.specs.View.{kept_of}
 use lib.ListN.{drop}
 use Rattle.candidate.specs.Pieces.{rows_from}
 use Rattle.candidate.proofs.times.threshold.Given as goal

@@ -5,8 +5,8 @@ use mathlib.Core.List.{List, []}
 use Prim.Native.Nat.{ℕ}
 use Rattle.fields.specs.declared.kind.Kind.{Kind}
 use Rattle.load.specs.declared.Load.{Load}
-use Rattle.load.specs.declared.Stepped.{Stepped}
-use Rattle.load.specs.Filling.{stop, call, rule}
+use Rattle.load.specs.declared.StepResult.{StepResult}
+use Rattle.load.specs.FillStep.{stop, call, rule}
 use Rattle.load.specs.Steps.{undated, open_spec_of, stop_spec, rule_spec, unless_refused}
 use Rattle.again.specs.Again.{add_spec_of}
 use Rattle.steps.specs.Steps.{filling, search}
@@ -15,7 +15,7 @@ use Rattle.file.proofs.RecordLaws.{stays}
 use Rattle.file.proofs.record.take.Goals as goal
 
 -- what the step of the one kind is, that of the other is
-of-kind : (second : Bool) (l : Load) (b : List ℕ) {k n : Kind} {s : Stepped} → k ≡ n
+of-kind : (second : Bool) (l : Load) (b : List ℕ) {k n : Kind} {s : StepResult} → k ≡ n
     → s ≡ unless_refused l (stepped_as n (closed_reader second l) b) → s ≡ unless_refused l (stepped_as k (closed_reader second l) b)
 of-kind second l b e s-is = s-is ∙ ap (λ (k : Kind). unless_refused l (stepped_as k (closed_reader second l) b)) (sym e)
 

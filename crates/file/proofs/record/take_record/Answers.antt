@@ -1,6 +1,6 @@
 -- The record's tests, then the load's answer.
 use mathlib.Core.Path.{refl, sym, ap, ◌∙◌}
-use Rattle.load.specs.declared.Stepped.{Stepped}
+use Rattle.load.specs.declared.StepResult.{StepResult}
 use Rattle.load.specs.Steps.{unless_refused}
 use Rattle.file.proofs.RecordLaws.{turned-away, sent_back, taken}
 use Rattle.file.proofs.KindLaws.{stepped-as, stepped-closed}

@@ -1,6 +1,6 @@
 -- `run_before` meets its contract: a loop over the later calls of the run.
 use Rattle.std.proofs.Common.{refl, arith}
-use Rattle.feed.specs.Feed.{call_at}
+use Rattle.search_input.specs.Feed.{call_at}
 use Rattle.rides.specs.Loops.{over_run}
 use Rattle.rides.proofs.LoopLaws.{run-end, run-next, run-on}
 use Rattle.rides.proofs.OverLaws.{run-out, rest-out}

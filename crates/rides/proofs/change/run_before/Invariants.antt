@@ -1,6 +1,6 @@
 -- `run_before` meets its contract: a loop over the later calls of the run. The invariant: what is left are those behind m.
 use Rattle.std.proofs.Common.{◌+◌, ◌-◌, ◌<◌}
-use Rattle.feed.specs.Feed.{call_at}
+use Rattle.search_input.specs.Feed.{call_at}
 use Rattle.rides.specs.Loops.{last_alight_rows, later_from}
 use Rattle.rides.specs.Over.{Over}
 use Rattle.rides.specs.Places.{sheet_in}

@@ -1,5 +1,5 @@
 -- `origins` meets its contract: the mask has four digits.
-use Rattle.feed.proofs.FeedLaws.{origins-small}
+use Rattle.search_input.proofs.FeedLaws.{origins-small}
 use Rattle.rides.proofs.call_list.Calls.origins.Goals as goal
 
 pub of-requires : goal.of-requires

@@ -1,5 +1,5 @@
 -- `targets` meets its contract: the mask has four digits.
-use Rattle.feed.proofs.FeedLaws.{targets-small}
+use Rattle.search_input.proofs.FeedLaws.{targets-small}
 use Rattle.rides.proofs.call_list.Calls.targets.Goals as goal
 
 pub of-requires : goal.of-requires

@@ -1,6 +1,6 @@
 -- The functions of the cycle meet their contracts.
 use Rattle.std.proofs.Common.{refl, arith}
-use Rattle.feed.specs.Feed.{call_at}
+use Rattle.search_input.specs.Feed.{call_at}
 use Rattle.rides.specs.Sheets.{sheet_of}
 use Rattle.rides.specs.Loops.{over_calls, over_run, onward_rows, alight_on, board_on}
 use Rattle.rides.proofs.LoopLaws.{unalighted, on-board, off-board, run-end, run-next, run-on, later-has}

@@ -2,7 +2,7 @@
 -- below the one before it, and `rides_on` with one change fewer below `onward`.
 use Rattle.std.proofs.Common.{◌≡◌, true, ◌+◌, ◌-◌, ◌*◌, ◌<◌}
 use Rattle.laws.specs.Lists.{span}
-use Rattle.feed.specs.Feed.{call_at, same_run}
+use Rattle.search_input.specs.Feed.{call_at, same_run}
 use Rattle.rides.specs.Loops.{later_from, alight_on, board_on}
 use Rattle.rides.specs.Over.{Over}
 use Rattle.rides.specs.Places.{sheet_in, joins_in}
