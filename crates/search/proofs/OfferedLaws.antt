@@ -242,3 +242,19 @@ module _ (l : Load) (calls : List Call) (f g : List ℕ) (depth : ℕ) (w : Feed
   pub within-is : {st st' : List ℕ} {limit : ℕ} {r : Tested} → Within st st' limit (events_at f g l.call_count depth) r
       → Within st st' limit (place_events (timetable_of l) (placed calls) first) r
   within-is w = rw (← events-are) w
+
+-- ---- without changes
+
+none-read : (l : Load) (f g : List ℕ) → l.settings.max_transfers ≡ 0
+    → HoldsChanges g f l.call_count l.settings.max_transfers (λ p q. change_number (change_in l p q))
+none-read l f g e = λ one k q hk few near hq. absurd (omega (arith, one, e))
+
+module _ (l : Load) (calls : List Call) (f g : List ℕ) (w : Feeds f calls l.stops l.settings) (small : (i : ℕ) → get_or f i 0 < 65536)
+    (e : l.settings.max_transfers ≡ 0) where
+  pub direct-is : (st st' : List ℕ) → view st ≡ going [] l.table_horizon l.table_limits
+      → view st' ≡ offer_all (view st) (rows_of f g l.call_count 0) → view st' ≡ offered_of l calls
+  direct-is st st' e0 e1 = offered-is l calls f g 0 w small (none-read l f g e) (sym e) st st' e0 e1
+
+  pub direct-within : {st st' : List ℕ} {limit : ℕ} {r : Tested} → Within st st' limit (events_at f g l.call_count 0) r
+      → Within st st' limit (place_events (timetable_of l) (placed calls) (min l.call_count 512)) r
+  direct-within u = within-is l calls f g 0 w small (none-read l f g e) (sym e) u

@@ -21,14 +21,14 @@ use places::group::group_places;
 use prefix::first;
 use refusal::{Accepted, Answer, Refusal};
 use rides::paths::endpoint_paths;
-use search_input::layout::{Changes, Feed};
-use search_input_array::feed_of;
+use search_input::layout::{CHANGES_SIZE, Changes, FEED_SIZE, Feed};
+use search_input_array::fill_feed;
 use search_state::layout::State;
 use search_state::{count, fresh, horizon, is_refused, limits};
 use stops::Stop;
 use transfer::Transfers;
 use transfer::copied::parents_of;
-use transfer_array::changes_of;
+use transfer_array::fill_changes;
 
 pub mod earliest;
 mod within;
@@ -54,9 +54,12 @@ impl Limited {
     }
 }
 
+// What is lent where no change is allowed: none is read of it.
+pub(crate) static NO_CHANGES: Changes = [0; CHANGES_SIZE];
+
 // The changes that a search of the load reads, from the stops that the feed names.
-fn changes_for(load: &Load, feed: &Feed) -> Changes
-    ensures { HoldsChanges result feed.now load.now.call_count load.now.settings.max_transfers
+fn fill_changes_for(changes: &mut Changes, load: &Load, feed: &Feed)
+    ensures { HoldsChanges changes.new feed.now load.now.call_count load.now.settings.max_transfers
         (λ p q. change_number (change_in load.now p q)) }
 {
     let settings = load.settings;
@@ -68,7 +71,8 @@ fn changes_for(load: &Load, feed: &Feed) -> Changes
         places: &places,
         change: settings.transfer_seconds,
     };
-    changes_of(
+    fill_changes(
+        changes,
         feed,
         load.call_count,
         settings.max_transfers as u16,
@@ -76,15 +80,28 @@ fn changes_for(load: &Load, feed: &Feed) -> Changes
     )
 }
 
+// The numbers of a feed fit in two bytes. Nothing is computed, and the copy goes: of an array that is lent a proof knows only what a call
+// tells it.
+fn numbers_told(feed: Feed)
+    ensures { (i : ℕ) → get_or feed i 0 < 65536 }
+{}
+
 // The state of a search of the load over these calls, every offer made.
 fn offered(load: &Load, calls: &[Call; CALLS]) -> State
     ensures { view result ≡ offered_of load.now calls.now }
 {
     let settings = load.settings;
-    let feed = feed_of(calls, &load.stops, settings);
-    let changes = changes_for(load, &feed);
-    let depth = settings.max_transfers as u16;
+    let mut feed = [0; FEED_SIZE];
+    fill_feed(&mut feed, calls, &load.stops, settings);
+    numbers_told(feed);
     let mut st = fresh(load.table_horizon, load.table_limits);
+    if settings.max_transfers == 0 {
+        endpoint_paths(&mut st, &feed, &NO_CHANGES, load.call_count, 0);
+        return st;
+    }
+    let mut changes = [0; CHANGES_SIZE];
+    fill_changes_for(&mut changes, load, &feed);
+    let depth = settings.max_transfers as u16;
     endpoint_paths(&mut st, &feed, &changes, load.call_count, depth);
     st
 }

@@ -7,7 +7,7 @@ ghost use Rattle.search.specs.Offered.{placed};
 ghost use Rattle.search.specs.Within.{answered, answered_by, within_spec};
 ghost use Rattle.calls.specs.Sizes.{call_room};
 
-use crate::{Limited, bytes_told, changes_for, keep};
+use crate::{Limited, NO_CHANGES, bytes_told, fill_changes_for, keep, numbers_told};
 use call_order::{neighbours_clash, sorted};
 use calls::{CALLS, Call};
 use limited_rides::Tested;
@@ -15,7 +15,8 @@ use limited_rides::within::paths_within;
 use load::Load;
 use prefix::first;
 use refusal::Refusal;
-use search_input_array::feed_of;
+use search_input::layout::{CHANGES_SIZE, FEED_SIZE};
+use search_input_array::fill_feed;
 use search_state::layout::State;
 use search_state::{fresh, is_refused};
 
@@ -25,8 +26,14 @@ fn offered_within(load: &Load, calls: &[Call; CALLS], limit: u64, st: &mut State
         (place_events (timetable_of load.now) (placed calls.now) (min load.now.call_count call_room)) result }
 {
     let settings = load.settings;
-    let feed = feed_of(calls, &load.stops, settings);
-    let changes = changes_for(load, &feed);
+    let mut feed = [0; FEED_SIZE];
+    fill_feed(&mut feed, calls, &load.stops, settings);
+    numbers_told(feed);
+    if settings.max_transfers == 0 {
+        return paths_within(st, &feed, &NO_CHANGES, load.call_count, 0, limit);
+    }
+    let mut changes = [0; CHANGES_SIZE];
+    fill_changes_for(&mut changes, load, &feed);
     let depth = settings.max_transfers as u16;
     paths_within(st, &feed, &changes, load.call_count, depth, limit)
 }

@@ -11,9 +11,7 @@ ghost use Rattle.stops.specs.Sizes.{stop_room};
 ghost use Rattle.calls.specs.Sizes.{call_room};
 
 use calls::Call;
-use search_input::layout::{
-    CALL_WIDTH, CALLS, FEED_SIZE, Feed, MEMBERS, ORIGIN_WALKS, STOPS, TARGET_WALKS,
-};
+use search_input::layout::{CALL_WIDTH, CALLS, Feed, MEMBERS, ORIGIN_WALKS, STOPS, TARGET_WALKS};
 use settings::Settings;
 use stops::{NO_STOP, Stop};
 
@@ -103,14 +101,12 @@ fn put_walks(feed: &mut Feed, at: usize, walks: [u8; 4])
     }
 }
 
-// What a search reads of a load.
-pub fn feed_of(calls: &[Call; CALLS], stops: &[Stop; STOPS], settings: Settings) -> Feed
-    ensures { Feeds result calls.now stops.now settings }
+// What a search reads of a load, put into an array that is lent.
+pub fn fill_feed(feed: &mut Feed, calls: &[Call; CALLS], stops: &[Stop; STOPS], settings: Settings)
+    ensures { Feeds feed.new calls.now stops.now settings }
 {
-    let mut feed = [0; FEED_SIZE];
-    put_calls(&mut feed, calls);
-    put_members(&mut feed, stops, settings.origins, settings.targets);
-    put_walks(&mut feed, ORIGIN_WALKS, settings.origin_walks);
-    put_walks(&mut feed, TARGET_WALKS, settings.target_walks);
-    feed
+    put_calls(feed, calls);
+    put_members(feed, stops, settings.origins, settings.targets);
+    put_walks(feed, ORIGIN_WALKS, settings.origin_walks);
+    put_walks(feed, TARGET_WALKS, settings.target_walks);
 }

@@ -8,7 +8,7 @@ ghost use Rattle.transfer_array.specs.Named.{Marks, Marked, HoldsChanges};
 ghost use Rattle.stops.specs.Sizes.{stop_room};
 
 use search_input::at_most_512;
-use search_input::layout::{CALL_WIDTH, CHANGES_SIZE, Changes, Feed, STOPS};
+use search_input::layout::{CALL_WIDTH, Changes, Feed, STOPS};
 use transfer::Transfers;
 use transfer_row::change_row;
 
@@ -64,25 +64,28 @@ fn named_stops(feed: &Feed, calls: usize) -> [bool; STOPS]
 
 // The rows of the marked stops. By number, and not over the array's chunks: once a loop over `chunks_exact_mut` or `as_chunks_mut` ends, a
 // proof knows the array's length and none of its elements (tried).
-fn marked_rows(marks: &[bool; STOPS], transfers: &Transfers) -> Changes
+fn marked_rows(changes: &mut Changes, marks: &[bool; STOPS], transfers: &Transfers)
     ensures { (from to : ℕ) → from < stop_room → get_or marks.now from false ≡ true → to < stop_room
-        → get_or result (from * stop_room + to) 0 ≡ entry_in transfers.now from to }
+        → get_or changes.new (from * stop_room + to) 0 ≡ entry_in transfers.now from to }
 {
-    let mut changes = [0; CHANGES_SIZE];
     for from in 0..STOPS as u16 {
-        put_marked(&mut changes, marks[from as usize], transfers, from);
+        put_marked(changes, marks[from as usize], transfers, from);
     }
-    changes
 }
 
-// The seconds of a change at from * 128 + to, 65536 where there is none, from each stop that one of the first `calls` calls of the feed
-// names; with depth 0 there are no changes to read.
-pub fn changes_of(feed: &Feed, calls: usize, depth: u16, transfers: &Transfers) -> Changes
-    ensures { HoldsChanges result feed.now calls depth (entry_in transfers.now) }
+// Puts in the seconds of a change at from * 128 + to, 65536 where there is none, from each stop that one of the first `calls` calls of the
+// feed names; with depth 0 there are no changes to read. The array is lent: by value it would be blanked and copied where it goes.
+pub fn fill_changes(
+    changes: &mut Changes,
+    feed: &Feed,
+    calls: usize,
+    depth: u16,
+    transfers: &Transfers,
+)
+    ensures { HoldsChanges changes.new feed.now calls depth (entry_in transfers.now) }
 {
     if 1 <= depth {
         let marks = named_stops(feed, calls);
-        return marked_rows(&marks, transfers);
+        marked_rows(changes, &marks, transfers);
     }
-    [0; CHANGES_SIZE]
 }

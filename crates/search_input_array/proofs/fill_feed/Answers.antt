@@ -1,6 +1,6 @@
 -- The four parts, one after the other.
 use Rattle.search_input_array.proofs.FeedLaws.{feeds}
-use Rattle.search_input_array.proofs.feed_of.Goals as goal
+use Rattle.search_input_array.proofs.fill_feed.Goals as goal
 
 pub returns : goal.returns
 returns c =

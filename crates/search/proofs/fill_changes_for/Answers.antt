@@ -7,12 +7,12 @@ use Rattle.laws.proofs.Prefixes.{few-taken}
 use Rattle.stops.specs.declared.Stop.{Stop}
 use Rattle.places.specs.Places.{places_of}
 use Rattle.search.proofs.OfferedLaws.{changes-are}
-use Rattle.search.proofs.changes_for.Goals as goal
+use Rattle.search.proofs.fill_changes_for.Goals as goal
 
 pub returns : goal.returns
 returns c =
     let l = c.args.load.now in
     let places = c.group_places-places.ensures ∙ ap (λ (s : List Stop). places_of (take 128 s)) c.first.ensures
     ∙ ap places_of (few-taken l.stop_count l.stops 128 (omega arith)) in
-    changes-are l c.args.feed.now c.changes_of.result _ _ _ _ _ c.first-2.ensures c.parents_of-parents.ensures places refl refl
-    c.changes_of.ensures
+    changes-are l c.args.feed.now c.fill_changes.new.changes _ _ _ _ _ c.first-2.ensures c.parents_of-parents.ensures places refl refl
+    c.fill_changes.ensures
