@@ -90,7 +90,7 @@ fn added(load: &mut Load, before: &Load, answer: Answer) -> Answer
     searched_again(load, before, answer)
 }
 
-// A call on any load, with the name of its service. By value the step in place of a copy.
+// A call on any load, with the name of its service. By value it is the step in place, made on a copy.
 pub fn add(load: Load, service: &[u8], input: CallInput) -> StepResult
     ensures { result ≡ add_spec_of load service.now input }
 {
@@ -130,7 +130,7 @@ fn take_out(load: &mut Load, key: CallKey) -> Answer
     Err(Refusal::FieldRange)
 }
 
-// A call withdrawn from any load: 9, 24; of a searched load then 14, 11 of its search. By value the step in place of a copy.
+// A call withdrawn from any load: 9, 24; of a searched load then 14, 11 of its search. By value it is the step in place, made on a copy.
 pub fn withdraw(load: Load, key: CallKey) -> StepResult
     ensures { result ≡ withdraw_spec load key }
 {

@@ -59,13 +59,6 @@ lex-below a b false = go (test (ltb a b))
 abbrev pub due_by : ℕ → ℕ → ℕ → ℕ → Row
 due_by leave r w a = row_of leave a r w 0 0 0 0 0 0 0 0
 
-leb-ltb : (a b : ℕ) → leb b a ≡ not (ltb a b)
-leb-ltb a b = go (test (ltb a b))
-  where
-    go : (ltb a b ≡ true) ⊎ (ltb a b ≡ false) → leb b a ≡ not (ltb a b)
-    go (inl t) = lt-leb b a (ltb-true a b t) ∙ sym (ap not t)
-    go (inr t) = le-leb b a (ltb-false a b t) ∙ sym (ap not t)
-
 module _ (leave r w a : ℕ) (k : Row) where
   -- the row covers it from `covers_from` on, if it leaves no earlier
   row-covers : leave ≤ k.leave → cov k (due_by leave r w a) ≡ leb (covers_from k r w) a

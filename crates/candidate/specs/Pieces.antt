@@ -1,5 +1,6 @@
 -- What the private functions of an offer do to the array, piece by piece.
-use Rattle.std.specs.Prelude.{Result, Ok, Err, ◌≡◌, Bool, not, cond, List, [], ◌∷◌, ℕ, ◌+◌, ◌*◌, ◌≤◌, min, max, eqb, leb, ltb, get_or, length, set, take}
+use Rattle.std.specs.Prelude.{Result, Ok, Err, ◌≡◌, Bool, not, cond, List, [], ◌∷◌, ℕ}
+use Rattle.std.specs.Prelude.{◌+◌, ◌*◌, ◌≤◌, min, max, eqb, leb, ltb, get_or, length, set, take}
 use Rattle.std.specs.Prelude.{drop}
 use Rattle.laws.specs.Lists.{filterb}
 use Rattle.laws.specs.Arrays.{puts}

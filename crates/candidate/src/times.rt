@@ -40,7 +40,7 @@ fn stays_from(k: Row, rides: u16, walk: u16) -> u32
 }
 
 // From when on a walk that begins at k passes over, if one that begins behind it does so from t on. A row that leaves earlier would stop
-// the walk until then; of the rows that a search keeps none beats another, so there it is never the later.
+// the walk until then; of the rows that a search keeps none beats another, so there `stays_from` is never past t.
 #[tactic(auto, unfolding(crate::specs::Pieces::row_from))]
 fn row_from(k: Row, leave: u16, rides: u16, walk: u16, t: u32) -> u32
     ensures { result ≡ row_from leave rides walk k t }

@@ -1,7 +1,7 @@
 // Reads step files (docs/STEPS.md) from standard input and prints a line for each record, then the last load. Input that begins
 // with byte 83 is one step file; other input is a batch, with a line `.` after each file. A file of a batch that is longer than
-// the buffer, or is not there whole, ends the run; one step file that fills the buffer is malformed. A read that fails ends the run too, and
-// is told on standard error, as a write that fails is.
+// the buffer, or is not there whole, ends the run; one step file that fills the buffer is malformed. A read that fails ends the run too,
+// and is told on standard error, as a write that fails is.
 #![tactic(auto)]
 
 mod call_records;

@@ -50,8 +50,3 @@ stepped-closed Stop r b = refl
 stepped-closed Call r b = refl
 stepped-closed Rule r b = refl
 stepped-closed Search r b = refl
-
--- a call that the load answers itself came before its search
-pub stepped-before : (r : Reader) (b : List ℕ) {s : StepResult}
-    → s ≡ call_spec r.load [] (call_in b) → is_refused s.answer ≡ false → s ≡ stepped_as Call r b
-stepped-before r b e f = e ∙ sym (call-before r.load [] (call_in b) (ap (λ (t : StepResult). is_refused t.answer) (sym e) ∙ f))

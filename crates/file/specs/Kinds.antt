@@ -25,7 +25,7 @@ filled_as Call second b = call_filled_of b
 filled_as Rule second b = rule_filled_of b
 filled_as Search second b = search_filled_of b
 
--- a reader of this load, of which a record reads no more
+-- a reader of this version and load: the step of a record reads no more of it
 abbrev pub closed_reader : Bool → Load → Reader
 closed_reader second l = record { opened = false; second = second; load = l }
 

@@ -38,7 +38,7 @@ fn answer_lines(out: &mut Buffer<'_>, rides: bool, answer: Answer, load: &Load)
 }
 
 // Puts the lines at the start of the buffer, and answers how many bytes they are: a length, as C reads it, which lends the buffer. One
-// function over any size, for these and the next two, would be as long as the two.
+// function over any size, for this and `ride_lines_of`, would be as long as the two.
 pub fn lines_of(out: &mut [u8; 4096], answer: Answer, load: &Load) -> usize
     ensures out_after { take result out.new ≡ lines_of answer load.now }
     ensures counts { Counts result out.new }

@@ -1,4 +1,4 @@
-// The load: settings, stops, calls, rules, services and journeys, passed by value. It is opened and filled here; crates above search and
+// The load: settings, stops, calls, rules, services and journeys, by value or lent. It is opened and filled here; crates above search and
 // query it, and add and withdraw calls.
 #![tactic(auto)]
 

@@ -10,6 +10,7 @@ ghost use Rattle.search_input.specs.Layout.{call_room};
 use crate::bits::Digits;
 use crate::call_list::Calls;
 use search_input::arrival_of;
+use search_input::layout::CALLS;
 
 // When whoever alights at a is at target x, cut to 65535.
 fn due_at(calls: &Calls, a: u16, x: u8) -> u16
@@ -56,9 +57,9 @@ fn board_bound(bounds: &[u16; 1024], calls: &Calls, j: usize) -> u16
 // The place of the number for rides that depart at t or later.
 #[tactic(auto, unfolding(crate::specs::Bounds::bucket_of))]
 pub fn bucket_of(t: u16) -> usize
-    ensures { (result ≡ bucket_of t) × (result < 1024) × (512 ≤ result) }
+    ensures { (result ≡ bucket_of t) × (result < 1024) × (call_room ≤ result) }
 {
-    512 + t as usize / 128
+    CALLS + t as usize / 128
 }
 
 // The number for the time when j departs is no later than that for j, if one can board there.
@@ -95,7 +96,7 @@ fn put_calls(bounds: &mut [u16; 1024], calls: &Calls)
 fn put_later(bounds: &mut [u16; 1024])
     ensures { Suffix bounds.old bounds.new }
 {
-    for q in (512..1023).rev() {
+    for q in (CALLS..1023).rev() {
         bounds[q] = bounds[q].min(bounds[q + 1]);
     }
 }

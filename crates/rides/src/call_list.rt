@@ -7,7 +7,9 @@ ghost use Rattle.search_input.specs.Layout.{call_room};
 
 use crate::bits::Digits;
 use search_input::layout::Feed;
-use search_input::{FeedCall, FirstRide, at_most_512, leave_of, origins_of, same_run, targets_of};
+use search_input::{
+    FeedCall, FirstRide, at_most_calls, leave_of, origins_of, same_run, targets_of,
+};
 
 // The first n calls of the feed. The array whole beside the count: members and walks stand behind the calls.
 #[derive(Clone, Copy, Debug, PartialEq, Eq)]
@@ -33,7 +35,7 @@ impl<'a> Calls<'a> {
     {
         Calls {
             feed,
-            n: at_most_512(n),
+            n: at_most_calls(n),
         }
     }
 

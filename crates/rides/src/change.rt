@@ -1,8 +1,9 @@
 // Journeys with a change: what is offered after a first ride. They differ in arrival, target and last ride alone, so from some arrival on
-// they are passed over: `over`, which each offer lowers to its own. Last rides that are at no target before are not walked.
+// they are passed over: `over`, which each offer lowers to its own. Last rides that are at no target before it are not walked.
 ghost use Rattle.std.specs.Prelude.{◌≡◌, ◌++◌, ◌+◌, ◌≤◌, ◌<◌};
 ghost use Rattle.search_input.specs.Feed.{call_at};
-ghost use Rattle.rides.specs.Loops.{over_bits, over_calls, over_run, last_at, last_alight_rows, last_board_rows, change_rows, direct_at, direct_rows};
+ghost use Rattle.rides.specs.Loops.{over_bits, over_calls, over_run, last_at};
+ghost use Rattle.rides.specs.Loops.{last_alight_rows, last_board_rows, change_rows, direct_at, direct_rows};
 ghost use Rattle.rides.specs.Offered.{Offered};
 ghost use Rattle.rides.specs.Over.{Over, Holds, Walked, Joined, Alights};
 ghost use Rattle.rides.specs.Places.{sheet_in, joins_in};
@@ -71,6 +72,7 @@ fn run_before(st: &mut State, last: &LastRides, f: FirstRide, j: usize, over: u3
     let calls = &last.lent.calls;
     let mut over = over;
     let mut m = j;
+    // No iterator: what is still to come is asked before each step.
     while (last.bound(m) as u32) < over {
         if calls.goes_on(m) {
             m += 1;
@@ -148,8 +150,8 @@ fn joined_time(joined: &mut [u16; CALLS], last: &LastRides, f: FirstRide) -> u16
     t
 }
 
-// The journeys with a change after f. None is looked for where the earliest that it could be, by what departs after f arrives and by what is
-// joined where it alights, is not before `since.two`, or would be passed over: most often it would, by one of the first rows kept.
+// The journeys with a change after f. None is looked for where the earliest that it could be, by what departs after f arrives and by what
+// is joined where it alights, is not before `since.two`, or would be passed over: most often it would, by one of the first rows kept.
 fn change_rides(
     st: &mut State,
     joined: &mut [u16; CALLS],

@@ -135,6 +135,7 @@ impl<'a> ThreeRides<'a> {
     {
         let mut over = over;
         let mut d = c;
+        // No iterator: what is still to come is asked before each step.
         while (self.time_from(left, d) as u32) < over {
             if self.lent.calls.goes_on(d) {
                 d += 1;

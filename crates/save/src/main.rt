@@ -1,6 +1,6 @@
 // Reads a load file of either version from standard input and writes its load as a file of version 2 to standard output. A file that is
-// refused, and a load that is not written, are told on standard error; then nothing is written. So are a read or a write that fails; after a
-// failed read nothing is written.
+// refused, and a load that is not written, are told on standard error; then nothing is written. So are a read or a write that fails; after
+// a failed read nothing is written.
 #![tactic(auto)]
 
 use load::Load;

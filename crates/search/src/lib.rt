@@ -124,7 +124,7 @@ fn keep(load: &mut Load, calls: &[Call; CALLS], st: &State, limit: Option<u64>)
     load.limit = limit;
 }
 
-// The load searched, or why it is sent back: 15, 14, 11. By value the search in place of a copy.
+// The load searched, or why it is sent back: 15, 14, 11. By value it is the search in place, made on a copy.
 pub fn search(load: Load) -> StepResult
     ensures { result ≡ search_spec load }
 {

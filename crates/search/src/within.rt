@@ -38,8 +38,8 @@ fn offered_within(load: &Load, calls: &[Call; CALLS], limit: u64, st: &mut State
     paths_within(st, &feed, &changes, load.call_count, depth, limit)
 }
 
-// The load searched within a limit on joins, or why it is sent back: 15, 1, 14, 11. A stopped search holds its limit. By value the search
-// in place of a copy.
+// The load searched within a limit on joins, or why it is sent back: 15, 1, 14, 11. A stopped search holds its limit. By value it is the
+// search in place, made on a copy.
 pub fn search_within(load: Load, limit: u64) -> Limited
     ensures { answered result ≡ within_spec load limit }
 {

@@ -138,7 +138,7 @@ pub fn join(f: FirstRide, b: FeedCall, seconds: u32) -> bool
 }
 
 // How many calls are read.
-pub fn at_most_512(n: usize) -> usize
+pub fn at_most_calls(n: usize) -> usize
     ensures { result ≡ min n call_room }
 {
     n.min(CALLS)

@@ -6,7 +6,7 @@ use crate::told::unwritten;
 use std::fmt;
 use std::io::{Stderr, Stdout};
 
-// The first `len` bytes are gathered; `failed` once a write failed. An array and not std's BufWriter, since that allocates, and so can fail.
+// The first `len` bytes are gathered; `failed` once a write failed. An array and not std's BufWriter, as that allocates, and so can fail.
 // No Debug and no equality: std's Stdout has neither.
 #[derive(Drop)]
 pub struct Out {

@@ -1,6 +1,7 @@
 -- One step over a file: the file's load so far takes a record, which is then put behind the file.
 use Rattle.refusal.specs.declared.Accepted.TheVariants.{Taken, Outside}
-use Rattle.std.specs.Prelude.{◌≡◌, Bool, false, cond, ◌&&◌, List, ◌++◌, ℕ, ◌+◌, ◌-◌, eqb, leb, min, length, take, drop, Err, Ok, None, Option}
+use Rattle.std.specs.Prelude.{◌≡◌, Bool, false, cond, ◌&&◌, List, ◌++◌, ℕ, ◌+◌, ◌-◌}
+use Rattle.std.specs.Prelude.{eqb, leb, min, length, take, drop, Err, Ok, None, Option}
 use Rattle.std.specs.Prelude.{Some}
 use Rattle.refusal.specs.Causes.{number_of}
 use Rattle.refusal.specs.First.{Answer, is_refused}

@@ -1,5 +1,6 @@
 -- A display of lists, and what is asked of what it shows.
-use Rattle.std.specs.Prelude.{◌≡◌, Bool, true, false, cond, ◌&&◌, List, [], ◌∷◌, ℕ, ℤ, eqb, leb, ltb, min, length, take, get_or, None, Option}
+use Rattle.std.specs.Prelude.{◌≡◌, Bool, true, false, cond, ◌&&◌, List, [], ◌∷◌, ℕ}
+use Rattle.std.specs.Prelude.{ℤ, eqb, leb, ltb, min, length, take, get_or, None, Option}
 use Rattle.std.specs.Prelude.{Some, Err, Ok}
 use Rattle.laws.specs.Tables.{table}
 use Rattle.refusal.specs.Causes.{number_of}

@@ -7,7 +7,7 @@ ghost use Rattle.laws.specs.Regions.{Region};
 ghost use Rattle.transfer_array.specs.Named.{Marks, Marked, HoldsChanges};
 ghost use Rattle.stops.specs.Sizes.{stop_room};
 
-use search_input::at_most_512;
+use search_input::at_most_calls;
 use search_input::layout::{CALL_WIDTH, Changes, Feed, STOPS};
 use transfer::Transfers;
 use transfer_row::change_row;
@@ -56,7 +56,7 @@ fn named_stops(feed: &Feed, calls: usize) -> [bool; STOPS]
     ensures { Marks result feed.now calls }
 {
     let mut marks = [false; STOPS];
-    for i in 0..at_most_512(calls) {
+    for i in 0..at_most_calls(calls) {
         mark_stop(&mut marks, feed[i * CALL_WIDTH + 2]);
     }
     marks
