@@ -16,7 +16,7 @@ use Rattle.codec.specs.Shapes.{framed}
 use Rattle.file.specs.declared.Reader.{Reader}
 use Rattle.file.specs.declared.RecordResult.{RecordResult}
 use Rattle.file.specs.declared.ReadResult.{ReadResult}
-use Rattle.file.specs.Record.{fresh_reader, record_spec}
+use Rattle.file.specs.Record.{fresh_reader, took, record_spec}
 use Rattle.file.specs.File.{body_of, version_answer, is_second, later, fed_spec, end_answer, ended_by, read_spec_of}
 use Rattle.file.proofs.FedLaws.{none-whole, fed-stops, fed-goes-on, fed-in-parts}
 use Rattle.file.proofs.RecordLaws.{taken-settled}
@@ -39,11 +39,10 @@ record Begun (xs : List ℕ) (r : Reader) : Type 0 where
 -- ---- by the code
 
 module _ (xs : List ℕ) where
-  pub far-begun : {a : Answer} {t : Bool} {r : Reader} → length xs ≡ 1 → a ≡ version_answer xs → t ≡ is_second xs → r ≡ fresh_reader t
-      → record { answer = a; reader = r } ≡ so_far xs
+  pub far-begun : {a : Answer} {r : Reader} → length xs ≡ 1 → a ≡ version_answer xs → r ≡ fresh_reader (is_second xs)
+      → took a r ≡ so_far xs
   unfolding so_far
-  far-begun one a-is t-is r-is =
-      (λ i. record { answer = a-is i; reader = (r-is ∙ ap fresh_reader t-is) i }) ∙ sym (rw (eq-eqb (length xs) 1 one) refl)
+  far-begun one a-is r-is = (λ i. took (a-is i) (r-is i)) ∙ sym (rw (eq-eqb (length xs) 1 one) refl)
 
   pub far-read : {t : RecordResult} → (length xs ≡ 1 → ⊥) → t ≡ read_spec_of xs → t ≡ so_far xs
   unfolding so_far
@@ -53,13 +52,19 @@ module _ (xs : List ℕ) where
     refused-is : {d : Bool} → c ≡ d → is_refused (so_far xs).answer ≡ d
     refused-is h = ap (λ (t : RecordResult). is_refused t.answer) (sym e) ∙ sym c-is ∙ h
 
-    pub step-refused : c ≡ true → t ≡ step_of xs b
+    refused-as : c ≡ true → t ≡ step_of xs b
     unfolding step_of
-    step-refused h = e ∙ sym (rw (refused-is h) refl)
+    refused-as h = e ∙ sym (rw (refused-is h) refl)
 
-    pub step-taken : {u : RecordResult} → c ≡ false → u ≡ record_spec t.reader b → u ≡ step_of xs b
+    taken-as : {u : RecordResult} → c ≡ false → u ≡ record_spec t.reader b → u ≡ step_of xs b
     unfolding step_of
-    step-taken h u-is = u-is ∙ ap (λ (t : RecordResult). record_spec t.reader b) e ∙ sym (rw (refused-is h) refl)
+    taken-as h u-is = u-is ∙ ap (λ (t : RecordResult). record_spec t.reader b) e ∙ sym (rw (refused-is h) refl)
+
+    pub step-refused : c ≡ true → t.answer ≡ (step_of xs b).answer
+    step-refused h = ap (λ (t : RecordResult). t.answer) (refused-as h)
+
+    pub step-taken : {u : RecordResult} → c ≡ false → u ≡ record_spec t.reader b → u.answer ≡ (step_of xs b).answer
+    step-taken h u-is = ap (λ (t : RecordResult). t.answer) (taken-as h u-is)
 
 -- ---- so far
 

@@ -1,42 +1,43 @@
 // One step over a file: its load so far takes a record, which is then put behind the file.
 ghost use Rattle.std.specs.Prelude.{◌≡◌, ◌+◌, ◌≤◌, length, take};
+ghost use Rattle.file.specs.Record.{fresh_reader, took};
+ghost use Rattle.file.specs.File.{is_second};
 ghost use Rattle.timetable.specs.Append.{so_far, step_of, has_room, put_behind, size_behind, buffer_behind, append_number};
 
-use file::RecordResult;
-use file::record::record;
+use file::Reader;
+use file::record::take_record;
 use prefix::first;
-use reader::{fresh, is_second, read, version};
+use reader::{fresh, is_second, read_to, version};
 use refusal::{Accepted, Answer, is_refused};
 
 // The version byte alone begins a file, and so isn't refused with 19 as a file without a record.
-fn so_far(file: &[u8]) -> RecordResult
-    ensures { result ≡ so_far file.now }
+fn so_far(reader: &mut Reader, file: &[u8]) -> Answer
+    requires fresh { reader.old ≡ fresh_reader (is_second file.now) }
+    ensures { took result reader.new ≡ so_far file.now }
 {
     if file.len() == 1 {
-        return RecordResult {
-            answer: version(file),
-            reader: fresh(is_second(file)),
-        };
+        return version(file);
     }
-    read(file)
+    read_to(reader, file)
 }
 
 // A refused file takes no record.
-fn step(file: &[u8], b: &[u8]) -> RecordResult
-    ensures { result ≡ step_of file.now b.now }
+fn step(file: &[u8], b: &[u8]) -> Answer
+    ensures { result ≡ (step_of file.now b.now).answer }
 {
-    let t = so_far(file);
-    if is_refused(t.answer) {
-        return t;
+    let mut reader = fresh(is_second(file));
+    let answer = so_far(&mut reader, file);
+    if is_refused(answer) {
+        return answer;
     }
-    record(t.reader, b)
+    take_record(&mut reader, b)
 }
 
 // What is answered to a record, behind the first n bytes.
 pub fn answer_at(file: &[u8], n: usize, b: &[u8]) -> Answer
     ensures { result ≡ (step_of (take n file.now) b.now).answer }
 {
-    step(first(file, n), b).answer
+    step(first(file, n), b)
 }
 
 #[tactic(auto, unfolding(crate::specs::Append::append_number))]

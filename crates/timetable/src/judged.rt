@@ -1,10 +1,11 @@
 // What is said of a connection, as plain numbers.
 ghost use Rattle.std.specs.Prelude.{◌≡◌, min};
-ghost use Rattle.timetable.specs.Verdicts.{leg_of, connection_of, said, cause_row, verdict_row, judged_of};
+ghost use Rattle.timetable.specs.Verdicts.{leg_of, connection_of, said, cause_row, verdict_row, judged_by};
 
 use connection::{Cause, Connection, Leg};
-use file::RecordResult;
 use listing::Verdict;
+use load::Load;
+use refusal::Answer;
 use verdict::verdict;
 
 // Of a connection that someone names, the first `rides` legs count.
@@ -130,11 +131,11 @@ fn verdict_row(verdict: Verdict) -> TimetableVerdict
 }
 
 // Nothing is said by a refused file.
-pub fn judged(t: &RecordResult, c: &TimetableConnection) -> TimetableVerdict
-    ensures { result ≡ judged_of t.now c.now }
+pub fn judged(answer: Answer, load: &Load, c: &TimetableConnection) -> TimetableVerdict
+    ensures { result ≡ judged_by answer load.now c.now }
 {
-    match t.answer {
-        Ok(_) => verdict_row(verdict(&t.reader.load, &connection_of(c))),
+    match answer {
+        Ok(_) => verdict_row(verdict(load, &connection_of(c))),
         Err(_) => said(0, 0),
     }
 }

@@ -25,10 +25,10 @@ use crate::journeys::TimetableJourney;
 use crate::judged::{TimetableConnection, TimetableVerdict, judged};
 use crate::list::{TimetableList, list_by, number_of};
 use crate::shown::{TimetableDisplay, TimetablePart, dealt, display_row, shown_best};
-use crate::within::{answer_of, found_within, joins_of};
+use crate::within::{answer_of, joins_of, search_read};
 use crate::wrote::{length_of, write_file, wrote_number};
 use best::after;
-use reader::read;
+use reader::{fresh, is_second, read_to};
 use refusal::is_refused;
 
 // Of these functions and structs.
@@ -47,9 +47,10 @@ pub extern "C" fn timetable_read(file: &[u8], list: &mut TimetableList) -> u8
     ensures number { result ≡ answer_number (read_spec_of file.now).answer }
     ensures list_after { list.new ≡ list_of (read_spec_of file.now) }
 {
-    let t = read(file);
-    *list = list_by(t.answer, 0, &t.reader.load);
-    number_of(t.answer)
+    let mut reader = fresh(is_second(file));
+    let answer = read_to(&mut reader, file);
+    *list = list_by(answer, 0, &reader.load);
+    number_of(answer)
 }
 
 // A load file without a search, searched within a limit on joins.
@@ -58,9 +59,11 @@ pub extern "C" fn timetable_read_within(file: &[u8], limit: u64, list: &mut Time
     ensures number { result ≡ answer_number (within_of (read_spec_of file.now) limit).answer }
     ensures list_after { list.new ≡ list_within (within_of (read_spec_of file.now) limit) }
 {
-    let found = found_within(read(file), limit);
-    let answer = answer_of(&found);
-    *list = list_by(answer, joins_of(&found), &found.load);
+    let mut reader = fresh(is_second(file));
+    let read = read_to(&mut reader, file);
+    let tested = search_read(read, &mut reader, limit);
+    let answer = answer_of(tested);
+    *list = list_by(answer, joins_of(tested), &reader.load);
     number_of(answer)
 }
 
@@ -102,9 +105,10 @@ pub extern "C" fn timetable_judge(
     ensures number { result ≡ answer_number (read_spec_of file.now).answer }
     ensures verdict_after { verdict.new ≡ judged_of (read_spec_of file.now) connection.now }
 {
-    let t = read(file);
-    *verdict = judged(&t, connection);
-    number_of(t.answer)
+    let mut reader = fresh(is_second(file));
+    let answer = read_to(&mut reader, file);
+    *verdict = judged(answer, &reader.load, connection);
+    number_of(answer)
 }
 
 // The load of a file written as a file of version 2.
@@ -114,7 +118,9 @@ pub extern "C" fn timetable_write(file: &[u8], out: &mut [u8], written: &mut usi
     ensures out_after { out.new ≡ buffer_of (read_spec_of file.now) out.old }
     ensures length { written.new ≡ length_of (wrote_of (read_spec_of file.now) (length out.old)) }
 {
-    let wrote = write_file(read(file), out);
+    let mut reader = fresh(is_second(file));
+    let answer = read_to(&mut reader, file);
+    let wrote = write_file(answer, &reader.load, out);
     *written = length_of(wrote);
     wrote_number(wrote)
 }

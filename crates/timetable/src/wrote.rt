@@ -1,18 +1,18 @@
 // A file's load written as a file.
 ghost use Rattle.std.specs.Prelude.{◌≡◌, length};
-ghost use Rattle.timetable.specs.Written.{wrote_of, buffer_of, length_of, wrote_number};
+ghost use Rattle.timetable.specs.Written.{wrote_by, buffer_by, length_of, wrote_number};
 
-use file::RecordResult;
-use refusal::Refusal;
+use load::Load;
+use refusal::{Answer, Refusal};
 use writer::write;
 
 // The refusal of the reading comes first.
-pub fn write_file(t: RecordResult, out: &mut [u8]) -> Result<usize, Refusal>
-    ensures value { result ≡ wrote_of t (length out.old) }
-    ensures out_after { out.new ≡ buffer_of t out.old }
+pub fn write_file(answer: Answer, load: &Load, out: &mut [u8]) -> Result<usize, Refusal>
+    ensures value { result ≡ wrote_by answer load.now (length out.old) }
+    ensures out_after { out.new ≡ buffer_by answer load.now out.old }
 {
-    match t.answer {
-        Ok(_) => write(t.reader.load, out),
+    match answer {
+        Ok(_) => write(*load, out),
         Err(refusal) => Err(refusal),
     }
 }

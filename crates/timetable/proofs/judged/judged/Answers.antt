@@ -10,9 +10,9 @@ pub returns-in-Ok : goal.returns-in-Ok
 unfolding judged_by
 returns-in-Ok c =
     c.verdict_row.ensures
-    ∙ ap verdict_row (c.verdict.ensures ∙ ap (λ (x : Connection). verdict_of c.args.t.now.reader.load x) c.connection_of.ensures)
-    ∙ ap (λ (a : Answer). judged_by a c.args.t.now.reader.load c.args.c.now) (sym c.in-Ok.is)
+    ∙ ap verdict_row (c.verdict.ensures ∙ ap (λ (x : Connection). verdict_of c.args.load.now x) c.connection_of.ensures)
+    ∙ ap (λ (a : Answer). judged_by a c.args.load.now c.args.c.now) (sym c.in-Ok.is)
 
 pub returns-in-Err : goal.returns-in-Err
 unfolding judged_by
-returns-in-Err c = c.said.ensures ∙ ap (λ (a : Answer). judged_by a c.args.t.now.reader.load c.args.c.now) (sym c.in-Err.is)
+returns-in-Err c = c.said.ensures ∙ ap (λ (a : Answer). judged_by a c.args.load.now c.args.c.now) (sym c.in-Err.is)
