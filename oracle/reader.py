@@ -8,6 +8,7 @@ It prints what the oracle prints, with `refused N` for every refusal.
 """
 import struct, sys
 from fields import Refused
+from helping import helped
 from reading import Reading
 
 
@@ -87,6 +88,7 @@ def chosen(words):
 
 
 def main():
+    helped(__doc__)
     words = sys.argv[1:]
     if "--list" in words:
         import wrong

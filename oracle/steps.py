@@ -9,6 +9,7 @@ A kind of record is one method of Steps and one line of KINDS.
 import copy, io, sys
 from displays import Dealing
 from fields import Fields, Refused
+from helping import helped
 from reader import batch, figures, spaced
 from reading import Journey, Reading
 from weeks import Service, ServiceDate
@@ -232,6 +233,7 @@ def answer(data):
 
 
 def main():
+    helped(__doc__)
     data = sys.stdin.buffer.read()
     if data[:1] == bytes([FIRST]):
         return print(answer(data), end="")

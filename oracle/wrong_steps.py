@@ -10,6 +10,7 @@ sys.dont_write_bytecode = True
 from fields import first_cause
 from displays import Dealing
 from fields import Refused
+from helping import helped
 from reader import batch
 from reading import Reading
 from step_files import made, made_display
@@ -209,6 +210,7 @@ def read(files):
 
 
 def main():
+    helped(__doc__)
     count = int(sys.argv[1]) if len(sys.argv) > 1 else 1500
     with FIXED.open("rb") as stream:
         fixed = read(batch(stream))

@@ -25,10 +25,10 @@ use Rattle.calls.specs.Shown.{table_calls}
 use Rattle.calls.proofs.SoundLaws.{call-tests-fail}
 use Rattle.calls.proofs.ReachedLaws.{fitted-reached}
 use Rattle.load.specs.declared.Load.{Load}
-use Rattle.load.specs.declared.Stepped.{Stepped}
+use Rattle.load.specs.declared.StepResult.{StepResult}
 use Rattle.load.specs.Load.{table_of, with_table, with_week}
 use Rattle.load.specs.Steps.{call_fitted, call_load, plain_call, is_unknown, is_resting, running_tests, gate_answer, closing, call_spec}
-use Rattle.load.specs.Filling.{call}
+use Rattle.load.specs.FillStep.{call}
 use Rattle.load.proofs.AnswerLaws.{step-answered, insert-two}
 use Rattle.calls.proofs.FallLaws.{never-rises}
 use Rattle.load.proofs.StepLaws.{Called, without, goes_on, stays_out, sent_back, called, gate-passed}
@@ -66,19 +66,19 @@ searched-first l m new a more f = go (is_taken (researched l.limit m).answer) re
     first = research-first l.limit m new
 
     go : (b : Bool) → is_taken (researched l.limit m).answer ≡ b
-        → First (cond {A = Stepped} b (record { answer = a; load = (researched l.limit m).load })
+        → First (cond {A = StepResult} b (record { answer = a; load = (researched l.limit m).load })
         (record { answer = (researched l.limit m).answer; load = l })).answer (search_tests l m ++ more)
     go true e = first_past a (search_tests l m) more (first_taken _ (search_tests l m) refl first (taken_is _ e)) f
     go false e = first-append _ (search_tests l m) more first (λ q. false≢true (sym e ∙ ap is_taken q))
 
 -- refused, the searched load stays
-again-same : (l : Load) (r : Stepped) → is_refused (again l r).answer ≡ true → (again l r).load ≡ l
+again-same : (l : Load) (r : StepResult) → is_refused (again l r).answer ≡ true → (again l r).load ≡ l
 unfolding again
 again-same l r q = go (is_refused r.answer) (is_taken (researched l.limit r.load).answer) refl q
   where
     go : (b c : Bool) → is_refused r.answer ≡ b
-        → (let x = cond {A = Stepped} b (record { answer = r.answer; load = l })
-        (cond {A = Stepped} c (record { answer = r.answer; load = (researched l.limit r.load).load })
+        → (let x = cond {A = StepResult} b (record { answer = r.answer; load = l })
+        (cond {A = StepResult} c (record { answer = r.answer; load = (researched l.limit r.load).load })
         (record { answer = (researched l.limit r.load).answer; load = l })) in
         is_refused x.answer ≡ true → x.load ≡ l)
     go true c e q = refl
@@ -115,7 +115,7 @@ again-first : (l u : Load) (k : CallKey) → u.searched ≡ false
 unfolding again
 again-first l u k new = go (is_refused (taken_out u k).answer) refl
   where
-    r : Stepped
+    r : StepResult
     r = taken_out u k
 
     ts : List (Bool × Answer)
@@ -125,7 +125,7 @@ again-first l u k new = go (is_refused (taken_out u k).answer) refl
     first = subst (λ (a : Answer). First a (withdraw_tests u k)) (sym (out-answer u k)) (answer-is-first (withdraw_tests u k))
 
     go : (b : Bool) → is_refused r.answer ≡ b → First
-        (cond {A = Stepped} b (record { answer = r.answer; load = l }) (searched_as l r.answer (researched l.limit r.load))).answer
+        (cond {A = StepResult} b (record { answer = r.answer; load = l }) (searched_as l r.answer (researched l.limit r.load))).answer
         (ts ++ search_tests l r.load)
     go true e = first-append r.answer ts (search_tests l r.load) first (λ q. true≢false (sym e ∙ ap is_refused q))
     go false e =
@@ -153,7 +153,7 @@ withdraw-answered l k = go l.searched
 -- ---- call, on a searched load
 
 -- what the call step makes of its answer and table
-abbrev made : Load → Tried → Stepped
+abbrev made : Load → Tried → StepResult
 made u f = record { answer = f.answer; load = call_load u f }
 
 -- what it comes to on the table r that the cuts of t reach, by whether the call is outside there and r has no room
@@ -219,12 +219,12 @@ module _ (l : Load) (i : CallInput) where
   unfolding added_to unsearched_of
   stands x e = rw (e, same_horizon) refl
 
-  abbrev Goal : Stepped → Type 0
+  abbrev Goal : StepResult → Type 0
   Goal x = First (added_to l x).answer (tests ++ again_tests l a d r x.load)
 
   sent-first : (x : Answer) → first_answer tests ≡ x → is_taken x ≡ false → Goal (record { answer = x; load = u })
   sent-first x e n =
-      subst (λ (y : Answer). First y (tests ++ again_tests l a d r u)) (sym (ap (λ (s : Stepped). s.answer) (stands x n)))
+      subst (λ (y : Answer). First y (tests ++ again_tests l a d r u)) (sym (ap (λ (s : StepResult). s.answer) (stands x n)))
       (first-append x tests (again_tests l a d r u) (subst (λ (y : Answer). First y tests) e (answer-is-first tests))
       (λ q. false≢true (sym n ∙ ap is_taken q)))
 
@@ -238,7 +238,7 @@ module _ (l : Load) (i : CallInput) where
       m = with_table u r
 
       go : (b : Bool) → eqb r.horizon l.table_horizon ≡ b
-          → First (cond {A = Stepped} b (record { answer = Ok Outside; load = with_week l (with_table u r).week })
+          → First (cond {A = StepResult} b (record { answer = Ok Outside; load = with_week l (with_table u r).week })
           (searched_as l (Ok Outside) (researched l.limit (with_table u r)))).answer (tests ++ again_tests l a d r (with_table u r))
       go true e =
           let h : ltb r.horizon l.table_horizon ≡ false =
@@ -254,11 +254,11 @@ module _ (l : Load) (i : CallInput) where
   -- the horizon of the table reached, where the call is outside there
   reached-low : plain_call u i ≡ record { answer = Ok Outside; load = with_table u r } → r.horizon ≤ l.table_horizon
   unfolding unsearched_of
-  reached-low e = omega (arith, plain-low u i, ap (λ (x : Stepped). x.load.table_horizon) e)
+  reached-low e = omega (arith, plain-low u i, ap (λ (x : StepResult). x.load.table_horizon) e)
 
   full-first : AllFail tests → outside r.horizon a d ≡ false → no_room_of r ≡ true → Goal (record { answer = Err NoRoom; load = u })
   full-first p o f =
-      subst (λ (y : Answer). First y (tests ++ again_tests l a d r u)) (sym (ap (λ (s : Stepped). s.answer) (stands (Err NoRoom) refl)))
+      subst (λ (y : Answer). First y (tests ++ again_tests l a d r u)) (sym (ap (λ (s : StepResult). s.answer) (stands (Err NoRoom) refl)))
       (first_past (Err NoRoom) tests (again_tests l a d r u) p (miss (rw o refl) (hit (rw (o, f) refl))))
 
   taken-first : AllFail tests → outside r.horizon a d ≡ false → no_room_of r ≡ false
@@ -293,13 +293,13 @@ module _ (l : Load) (i : CallInput) where
 -- ---- and of any service
 
 -- the week doesn't matter to what is answered
-searched-week : (l : Load) (a : Answer) (q : Stepped) (w : Week)
+searched-week : (l : Load) (a : Answer) (q : StepResult) (w : Week)
     → (searched_as l a (record { answer = q.answer; load = with_week q.load w })).answer ≡ (searched_as l a q).answer
 searched-week l a q w = go (is_taken q.answer)
   where
-    go : (b : Bool) → (cond {A = Stepped} b (record { answer = a; load = with_week q.load w })
+    go : (b : Bool) → (cond {A = StepResult} b (record { answer = a; load = with_week q.load w })
         (record { answer = q.answer; load = l })).answer
-        ≡ (cond {A = Stepped} b (record { answer = a; load = q.load }) (record { answer = q.answer; load = l })).answer
+        ≡ (cond {A = StepResult} b (record { answer = a; load = q.load }) (record { answer = q.answer; load = l })).answer
     go true = refl
     go false = refl
 
@@ -309,13 +309,13 @@ unfolding added_to again
 week-answer l a m w = go (leaves_table_of l (record { answer = a; load = m })) (is_refused a)
   where
     go : (b c : Bool)
-        → (cond {A = Stepped} b (record { answer = a; load = with_week l w })
-        (cond {A = Stepped} c (record { answer = a; load = l }) (searched_as l a (researched l.limit (with_week m w))))).answer
-        ≡ (cond {A = Stepped} b (record { answer = a; load = with_week l m.week })
-        (cond {A = Stepped} c (record { answer = a; load = l }) (searched_as l a (researched l.limit m)))).answer
+        → (cond {A = StepResult} b (record { answer = a; load = with_week l w })
+        (cond {A = StepResult} c (record { answer = a; load = l }) (searched_as l a (researched l.limit (with_week m w))))).answer
+        ≡ (cond {A = StepResult} b (record { answer = a; load = with_week l m.week })
+        (cond {A = StepResult} c (record { answer = a; load = l }) (searched_as l a (researched l.limit m)))).answer
     go true c = refl
     go false true = refl
-    go false false = ap (λ (q : Stepped). (searched_as l a q).answer) (research-week l.limit m w)
+    go false false = ap (λ (q : StepResult). (searched_as l a q).answer) (research-week l.limit m w)
         ∙ searched-week l a (researched l.limit m) w
 
 search-tests-week : (l m : Load) (w : Week) → search_tests l (with_week m w) ≡ search_tests l m
@@ -333,7 +333,7 @@ module _ (l : Load) (name : List ℕ) (i : CallInput) where
   abbrev rest : Load → List (Bool × Answer)
   rest m = again_tests l (a l i) (d l i) (r l i) m
 
-  abbrev Answers : Stepped → Type 0
+  abbrev Answers : StepResult → Type 0
   Answers x = First (added_to l x).answer (field_tests false l.stop_count i ++ running_tests runs ++ time_tests i ++ rest x.load)
 
   plain-answers : runs ≡ Runs → Answers (plain_call (u l i) i)
@@ -347,7 +347,7 @@ module _ (l : Load) (name : List ℕ) (i : CallInput) where
   closing-answers : runs ≡ Runs → Answers (closing (u l i) (plain_call (u l i) i))
   closing-answers e = go (is_refused (plain_call (u l i) i).answer) refl
     where
-      x : Stepped
+      x : StepResult
       x = plain_call (u l i) i
 
       w : Week
@@ -381,7 +381,7 @@ module _ (l : Load) (name : List ℕ) (i : CallInput) where
   unfolding gate_answer
   gate-answers y w e n =
       subst (λ (z : Answer). First z (field_tests false l.stop_count i ++ running_tests runs ++ time_tests i ++ rest (with_week (u l i) w)))
-      (sym (week-answer l y (u l i) w ∙ ap (λ (s : Stepped). s.answer) (stands l i y n)))
+      (sym (week-answer l y (u l i) w ∙ ap (λ (s : StepResult). s.answer) (stands l i y n)))
       (first-append y (field_tests false l.stop_count i ++ running_tests runs) (time_tests i ++ rest (with_week (u l i) w))
       (subst (λ (z : Answer). First z (field_tests false l.stop_count i ++ running_tests runs)) e
       (answer-is-first (field_tests false l.stop_count i ++ running_tests runs)))
@@ -394,7 +394,7 @@ module _ (l : Load) (name : List ℕ) (i : CallInput) where
   unfolding unsearched_of
   call-answers = go _ (called (u l i) name i)
     where
-      go : (x : Stepped) → Called (u l i) name i x → Answers x
+      go : (x : StepResult) → Called (u l i) name i x → Answers x
       go _ (without e) = plain-answers (undated-runs e)
       go _ (goes_on e f) = closing-answers (gate-passed false l.stop_count i _ f).1.1
       go _ (stays_out e f) = gate-answers (Ok Outside) (closed_week l.week) f refl
@@ -405,12 +405,12 @@ module _ (l : Load) (name : List ℕ) (i : CallInput) where
   unfolding unsearched_of
   refused-week e = ap (λ (m : Load). m.week) ((step-answered (u l i) (call name i)).unchanged e)
 
-added-same : (l : Load) (r : Stepped) → (is_refused r.answer ≡ true → r.load.week ≡ l.week) → is_refused (added_to l r).answer ≡ true
+added-same : (l : Load) (r : StepResult) → (is_refused r.answer ≡ true → r.load.week ≡ l.week) → is_refused (added_to l r).answer ≡ true
     → (added_to l r).load ≡ l
 unfolding added_to
 added-same l r h q = go (leaves_table_of l r) q
   where
-    go : (b : Bool) → (let x = cond {A = Stepped} b (record { answer = r.answer; load = with_week l r.load.week }) (again l r) in
+    go : (b : Bool) → (let x = cond {A = StepResult} b (record { answer = r.answer; load = with_week l r.load.week }) (again l r) in
         is_refused x.answer ≡ true → x.load ≡ l)
     go true q = ap (with_week l) (h q)
     go false q = again-same l r q

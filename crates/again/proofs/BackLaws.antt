@@ -17,7 +17,7 @@ use Rattle.calls.specs.declared.CallKey.{CallKey}
 use Rattle.withdrawal.specs.Removal.{key_of, has_key, key_known}
 use Rattle.withdrawal.proofs.BackLaws.{put-there, put_back, call-entered}
 use Rattle.load.specs.declared.Load.{Load}
-use Rattle.load.specs.declared.Stepped.{Stepped}
+use Rattle.load.specs.declared.StepResult.{StepResult}
 use Rattle.load.specs.Load.{table_of, with_seen, with_table}
 use Rattle.load.specs.Steps.{call_fitted, plain_call, closed_load, call_spec}
 use Rattle.load.specs.Sound.{Sound}
@@ -52,10 +52,10 @@ pub call-put : (l : Load) (name : List ℕ) (i : CallInput) → Sound l → (cal
 unfolding plain_call
 call-put l name i s q h =
     let plain = taken-is-plain l name i s q in
-    let t : (call_fitted l i).answer ≡ (Ok Taken) = sym (ap (λ (r : Stepped). r.answer) plain) ∙ q in
+    let t : (call_fitted l i).answer ≡ (Ok Taken) = sym (ap (λ (r : StepResult). r.answer) plain) ∙ q in
     let in_table : (plain_call l i).load ≡ with_table l (call_fitted l i).table = cond-not _ _ (ap is_refused t) in
     let is : (call_spec l name i).load ≡ closed_load (with_table l (call_fitted l i).table) =
-    ap (λ (r : Stepped). r.load) plain ∙ ap closed_load in_table in
+    ap (λ (r : StepResult). r.load) plain ∙ ap closed_load in_table in
     let w = call-entered l.settings l.searched l.stop_count (table_of l) i t (sym (ap (λ (m : Load). m.table_horizon) is) ∙ h) in
     record {
       call = w.call;
@@ -81,8 +81,8 @@ unfolding add_spec_of withdraw_spec
 taken-back-new l name i kept u q h =
     let s = kept.sound in
     let as_call : add_spec_of l name i ≡ call_spec l name i = cond-not _ _ u in
-    let w = call-put l name i s (sym (ap (λ (r : Stepped). r.answer) as_call) ∙ q)
-    (sym (ap (λ (r : Stepped). r.load.table_horizon) as_call) ∙ h) in
-    ap (λ (m : Load). withdraw_spec m (key_of i)) (ap (λ (r : Stepped). r.load) as_call ∙ w.is)
+    let w = call-put l name i s (sym (ap (λ (r : StepResult). r.answer) as_call) ∙ q)
+    (sym (ap (λ (r : StepResult). r.load.table_horizon) as_call) ∙ h) in
+    ap (λ (m : Load). withdraw_spec m (key_of i)) (ap (λ (r : StepResult). r.load) as_call ∙ w.is)
     ∙ cond-not _ _ u
     ∙ put-goes (closed_load l) w.call (key_of i) (closed-kept l kept).sound u w.room w.known-key w.key w.sound

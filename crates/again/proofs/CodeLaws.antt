@@ -20,7 +20,7 @@ use Rattle.withdrawal.specs.Removal.{last_of, closed_up, has_key, key_known, wit
 use Rattle.withdrawal.proofs.RemovalLaws.{last-counted}
 use Rattle.withdrawal.proofs.LeftLaws.{place-tells}
 use Rattle.load.specs.declared.Load.{Load}
-use Rattle.load.specs.declared.Stepped.{Stepped}
+use Rattle.load.specs.declared.StepResult.{StepResult}
 use Rattle.load.specs.Load.{table_of, with_table, with_week}
 use Rattle.load.specs.Steps.{call_spec}
 use Rattle.again.specs.Again.{unsearched_of, researched, searched_as, again, leaves_table_of, added_to, add_spec_of, taken_out}
@@ -28,57 +28,57 @@ use Rattle.again.specs.Again.{withdraw_spec}
 
 -- ---- searched again
 
-module _ (l : Load) (r : Stepped) where
-  pub again-refused : is_refused r.answer ≡ true → ◌≡◌ {A = Stepped} (record { answer = r.answer; load = l }) (again l r)
+module _ (l : Load) (r : StepResult) where
+  pub again-refused : is_refused r.answer ≡ true → ◌≡◌ {A = StepResult} (record { answer = r.answer; load = l }) (again l r)
   unfolding again
   again-refused e = sym (cond-by _ _ e)
 
-  module _ (q : Stepped) (is : q ≡ researched l.limit r.load) (e : is_refused r.answer ≡ false) where
+  module _ (q : StepResult) (is : q ≡ researched l.limit r.load) (e : is_refused r.answer ≡ false) where
     went : searched_as l r.answer q ≡ again l r
     unfolding again
     went = ap (searched_as l r.answer) is ∙ sym (cond-not _ _ e)
 
-    pub again-found : is_taken q.answer ≡ true → ◌≡◌ {A = Stepped} (record { answer = r.answer; load = q.load }) (again l r)
+    pub again-found : is_taken q.answer ≡ true → ◌≡◌ {A = StepResult} (record { answer = r.answer; load = q.load }) (again l r)
     again-found t = sym (cond-by _ _ t) ∙ went
 
-    pub again-turned : is_taken q.answer ≡ false → ◌≡◌ {A = Stepped} (record { answer = q.answer; load = l }) (again l r)
+    pub again-turned : is_taken q.answer ≡ false → ◌≡◌ {A = StepResult} (record { answer = q.answer; load = l }) (again l r)
     again-turned t = sym (cond-not _ _ t) ∙ went
 
   -- ---- a call
 
-  pub added-taken : (q : Stepped) → q ≡ again l r → is_taken r.answer ≡ true → q ≡ added_to l r
+  pub added-taken : (q : StepResult) → q ≡ again l r → is_taken r.answer ≡ true → q ≡ added_to l r
   unfolding added_to
   added-taken q is t = is ∙ sym (cond-not {p = leaves_table_of l r} _ _ (rw t refl))
 
   pub added-stays : is_taken r.answer ≡ false → r.load.table_horizon ≡ l.table_horizon
-      → ◌≡◌ {A = Stepped} (record { answer = r.answer; load = with_week l r.load.week }) (added_to l r)
+      → ◌≡◌ {A = StepResult} (record { answer = r.answer; load = with_week l r.load.week }) (added_to l r)
   unfolding added_to
   added-stays t h = sym (cond-by {p = leaves_table_of l r} _ _ (rw (t, eq-eqb _ _ h) refl))
 
-  pub added-cut : (q : Stepped) → q ≡ again l r → is_taken r.answer ≡ false → (r.load.table_horizon ≡ l.table_horizon → ⊥)
+  pub added-cut : (q : StepResult) → q ≡ again l r → is_taken r.answer ≡ false → (r.load.table_horizon ≡ l.table_horizon → ⊥)
       → q ≡ added_to l r
   unfolding added_to
   added-cut q is t h = is ∙ sym (cond-not {p = leaves_table_of l r} _ _ (rw (t, ne_eqb _ _ h) refl))
 
 module _ (l : Load) (name : List ℕ) (i : CallInput) where
-  pub add-searched : (u : Load) (r q : Stepped) → u ≡ unsearched_of l → r ≡ call_spec u name i → q ≡ added_to l r → l.searched ≡ true
+  pub add-searched : (u : Load) (r q : StepResult) → u ≡ unsearched_of l → r ≡ call_spec u name i → q ≡ added_to l r → l.searched ≡ true
       → q ≡ add_spec_of l name i
   unfolding add_spec_of
   add-searched u r q eu er eq e = eq ∙ ap (added_to l) (er ∙ ap (λ (m : Load). call_spec m name i) eu) ∙ sym (cond-by _ _ e)
 
-  pub add-unsearched : (q : Stepped) → q ≡ call_spec l name i → l.searched ≡ false → q ≡ add_spec_of l name i
+  pub add-unsearched : (q : StepResult) → q ≡ call_spec l name i → l.searched ≡ false → q ≡ add_spec_of l name i
   unfolding add_spec_of
   add-unsearched q eq e = eq ∙ sym (cond-not _ _ e)
 
 -- ---- a withdrawal
 
 module _ (l : Load) (k : CallKey) where
-  pub out-unknown : key_known k ≡ false → ◌≡◌ {A = Stepped} (record { answer = Err FieldRange; load = l }) (taken_out l k)
+  pub out-unknown : key_known k ≡ false → ◌≡◌ {A = StepResult} (record { answer = Err FieldRange; load = l }) (taken_out l k)
   unfolding taken_out first_answer
   out-unknown e = rw e refl
 
   pub out_none : (n : ℕ) → n ≡ last_of (has_key k) (table_calls (table_of l)) → key_known k ≡ true → n ≡ 0
-      → ◌≡◌ {A = Stepped} (record { answer = Err CallUnknown; load = l }) (taken_out l k)
+      → ◌≡◌ {A = StepResult} (record { answer = Err CallUnknown; load = l }) (taken_out l k)
   unfolding taken_out first_answer
   out_none n is e z =
       let none : not (anyb (has_key k) (table_calls (table_of l))) ≡ true =
@@ -87,7 +87,7 @@ module _ (l : Load) (k : CallKey) where
 
   pub out-there : (n : ℕ) (cs : List Call) → n ≡ last_of (has_key k) (table_calls (table_of l)) → key_known k ≡ true → (n ≡ 0 → ⊥)
       → cs ≡ closed_up blank_call (n - 1) l.calls
-      → ◌≡◌ {A = Stepped} (record {
+      → ◌≡◌ {A = StepResult} (record {
         answer = Ok Taken;
         load = with_table l (record { calls = cs; count = l.call_count - 1; horizon = l.table_horizon; limits = l.table_limits });
       })
@@ -108,11 +108,11 @@ module _ (l : Load) (k : CallKey) where
   pub counted : (n : ℕ) → n ≡ last_of (has_key k) (table_calls (table_of l)) → (n ≡ 0 → ⊥) → 1 ≤ l.call_count
   counted n is z = omega (arith, last-counted (has_key k) l.calls l.call_count, is, z)
 
-  pub withdraw-searched : (u : Load) (r q : Stepped) → u ≡ unsearched_of l → r ≡ taken_out u k → q ≡ again l r → l.searched ≡ true
+  pub withdraw-searched : (u : Load) (r q : StepResult) → u ≡ unsearched_of l → r ≡ taken_out u k → q ≡ again l r → l.searched ≡ true
       → q ≡ withdraw_spec l k
   unfolding withdraw_spec
   withdraw-searched u r q eu er eq e = eq ∙ ap (again l) (er ∙ ap (λ (m : Load). taken_out m k) eu) ∙ sym (cond-by _ _ e)
 
-  pub withdraw-unsearched : (q : Stepped) → q ≡ taken_out l k → l.searched ≡ false → q ≡ withdraw_spec l k
+  pub withdraw-unsearched : (q : StepResult) → q ≡ taken_out l k → l.searched ≡ false → q ≡ withdraw_spec l k
   unfolding withdraw_spec
   withdraw-unsearched q eq e = eq ∙ sym (cond-not _ _ e)

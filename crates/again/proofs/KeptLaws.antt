@@ -15,10 +15,10 @@ use Rattle.calls.specs.Shown.{table_calls}
 use Rattle.calls.specs.declared.CallKey.{CallKey}
 use Rattle.withdrawal.specs.Removal.{key_of, has_key, key_known, withdrawn}
 use Rattle.load.specs.declared.Load.{Load}
-use Rattle.load.specs.declared.Stepped.{Stepped}
+use Rattle.load.specs.declared.StepResult.{StepResult}
 use Rattle.load.specs.Load.{table_of, with_table, with_week}
 use Rattle.load.specs.Steps.{call_fitted, plain_call, closed_load, call_spec}
-use Rattle.load.specs.Filling.{call}
+use Rattle.load.specs.FillStep.{call}
 use Rattle.load.specs.Sound.{Sound}
 use Rattle.load.proofs.SoundLaws.{fill-keeps-sound}
 use Rattle.load.proofs.TableLaws.{call-keeps, never-rises}
@@ -62,12 +62,12 @@ pub new-kept : (l : Load) → Sound l → l.searched ≡ false → Kept l
 new-kept l s n = record { sound = s; own = λ e. absurd (true≢false (sym e ∙ n)) }
 
 -- of any step on the unsearched load
-pub again_kept : (l : Load) (r : Stepped) → Kept l → Kept r.load → Kept (again l r).load
+pub again_kept : (l : Load) (r : StepResult) → Kept l → Kept r.load → Kept (again l r).load
 unfolding again
 again_kept l r w n = go (is_refused r.answer) (is_taken (researched l.limit r.load).answer)
   where
-    go : (b c : Bool) → Kept (cond {A = Stepped} b (record { answer = r.answer; load = l })
-        (cond {A = Stepped} c (record { answer = r.answer; load = (researched l.limit r.load).load })
+    go : (b c : Bool) → Kept (cond {A = StepResult} b (record { answer = r.answer; load = l })
+        (cond {A = StepResult} c (record { answer = r.answer; load = (researched l.limit r.load).load })
         (record { answer = (researched l.limit r.load).answer; load = l }))).load
     go true c = w
     go false true = research-kept l.limit r.load n
@@ -90,11 +90,11 @@ call_kept l name i s n = new-kept (call_spec l name i).load (fill-keeps-sound l 
 out-kept : (l : Load) (k : CallKey) → Sound l → l.searched ≡ false → Kept (taken_out l k).load
 out-kept l k s n = new-kept (taken_out l k).load (taken-out-sound l k s) (taken-out-searched l k ∙ n)
 
-added-kept : (l : Load) (r : Stepped) → Kept l → Kept r.load → Kept (added_to l r).load
+added-kept : (l : Load) (r : StepResult) → Kept l → Kept r.load → Kept (added_to l r).load
 unfolding added_to
 added-kept l r w n = go (leaves_table_of l r)
   where
-    go : (b : Bool) → Kept (cond {A = Stepped} b (record { answer = r.answer; load = with_week l r.load.week }) (again l r)).load
+    go : (b : Bool) → Kept (cond {A = StepResult} b (record { answer = r.answer; load = with_week l r.load.week }) (again l r)).load
     go true = week-kept l r.load.week n.sound.week w
     go false = again_kept l r w n
 
@@ -132,12 +132,12 @@ back-horizon l = refl
 
 -- of what a search leaves as it was: that of the load itself, or of what the step made of its unsearched load
 pub again-keeps : {A : Type 0} (f : Load → A) → ((limit : Option ℕ) (m : Load) → f (researched limit m).load ≡ f m)
-    → (P : A → Type 0) (l : Load) (r : Stepped) → P (f l) → P (f r.load) → P (f (again l r).load)
+    → (P : A → Type 0) (l : Load) (r : StepResult) → P (f l) → P (f r.load) → P (f (again l r).load)
 unfolding again
 again-keeps f same P l r p q = go (is_refused r.answer) (is_taken (researched l.limit r.load).answer)
   where
-    go : (b c : Bool) → P (f (cond {A = Stepped} b (record { answer = r.answer; load = l })
-        (cond {A = Stepped} c (record { answer = r.answer; load = (researched l.limit r.load).load })
+    go : (b c : Bool) → P (f (cond {A = StepResult} b (record { answer = r.answer; load = l })
+        (cond {A = StepResult} c (record { answer = r.answer; load = (researched l.limit r.load).load })
         (record { answer = (researched l.limit r.load).answer; load = l }))).load)
     go true c = p
     go false true = subst P (sym (same l.limit r.load)) q
@@ -151,7 +151,7 @@ add-lower l name i = go l.searched (leaves_table_of l (call_spec (unsearched_of 
     made = omega (arith, never-rises (unsearched_of l) (call name i), back-horizon l)
 
     go : (b c : Bool)
-        → (cond b (cond {A = Stepped} c (record {
+        → (cond b (cond {A = StepResult} c (record {
           answer = (call_spec (unsearched_of l) name i).answer;
           load = with_week l (call_spec (unsearched_of l) name i).load.week;
         }) (again l (call_spec (unsearched_of l) name i)))
@@ -189,7 +189,7 @@ again-number : (l m : Load) → m.searched ≡ false → (again l (record { answ
 unfolding again
 again-number l m n q = go (is_taken (researched l.limit m).answer) q
   where
-    go : (c : Bool) → (cond {A = Stepped} c (record { answer = Ok Taken; load = (researched l.limit m).load })
+    go : (c : Bool) → (cond {A = StepResult} c (record { answer = Ok Taken; load = (researched l.limit m).load })
         (record { answer = (researched l.limit m).answer; load = l })).answer ≡ Err CallUnknown → ⊥
     go true e = let z = ap answer_number e in omega (arith, z)
     go false e = search-number l.limit m n e
@@ -204,8 +204,8 @@ module _ (l : Load) (k : CallKey) (known : key_known k ≡ true) where
   to e = go l.searched
     where
       go : (b : Bool) → (cond b (again l (taken_out (unsearched_of l) k)) (taken_out l k)).answer ≡ Err CallUnknown
-      go true = ap (λ (r : Stepped). (again l r).answer) (none_stays (unsearched_of l) k known (ap (anyb (has_key k)) same-calls ∙ e))
-      go false = ap (λ (r : Stepped). r.answer) (none_stays l k known e)
+      go true = ap (λ (r : StepResult). (again l r).answer) (none_stays (unsearched_of l) k known (ap (anyb (has_key k)) same-calls ∙ e))
+      go false = ap (λ (r : StepResult). r.answer) (none_stays l k known e)
 
   there : anyb (has_key k) (table_calls (table_of l)) ≡ true → (withdraw_spec l k).answer ≡ Err CallUnknown → ⊥
   unfolding withdraw_spec withdrawn
@@ -215,8 +215,8 @@ module _ (l : Load) (k : CallKey) (known : key_known k ≡ true) where
       go true q =
           let is = there-goes (unsearched_of l) k known (ap (anyb (has_key k)) same-calls ∙ e) in
           again-number l (with_table (unsearched_of l) (withdrawn (table_of (unsearched_of l)) k)) (unsearched-new l)
-          (sym (ap (λ (r : Stepped). (again l r).answer) is) ∙ q)
-      go false q = let z = ap answer_number (sym (ap (λ (r : Stepped). r.answer) (there-goes l k known e)) ∙ q) in omega (arith, z)
+          (sym (ap (λ (r : StepResult). (again l r).answer) is) ∙ q)
+      go false q = let z = ap answer_number (sym (ap (λ (r : StepResult). r.answer) (there-goes l k known e)) ∙ q) in omega (arith, z)
 
 pub unknown-exactly : UnknownExactly
 unknown-exactly l k known = (λ q. not-true (anyb (has_key k) (table_calls (table_of l))) (λ e. there l k known e q), to l k known)

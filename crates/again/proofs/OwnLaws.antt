@@ -23,7 +23,7 @@ use Rattle.offers.proofs.AnyOrder.{search-in-any-order}
 use Rattle.limited.specs.Limited.{joins_within, finished_within, search_within}
 use Rattle.limited.proofs.LimitLaws.{within-in-any-order}
 use Rattle.load.specs.declared.Load.{Load}
-use Rattle.load.specs.declared.Stepped.{Stepped}
+use Rattle.load.specs.declared.StepResult.{StepResult}
 use Rattle.load.specs.Load.{Seen, with_seen}
 use Rattle.load.specs.Sound.{Sound}
 use Rattle.search.specs.Timetable.{timetable_of}
@@ -115,7 +115,7 @@ pub found-own : (m : Load) → Sound m → is_taken (search_spec m).answer ≡ t
 found-own m s t d =
     let w = taken-found m t in
     subst (λ (l : Load). researched l.limit (unsearched_of l) ≡ record { answer = Ok Taken; load = l })
-    (sym (ap (λ (r : Stepped). r.load) w.is))
+    (sym (ap (λ (r : StepResult). r.load) w.is))
     (own-full m w.kept w.to w.mark s w.outcome)
 
 stopped-own : (m : Load) (n : ℕ) → Sound m → finishes_in m n ≡ false → is_taken (within_spec m n).answer ≡ true → Own (within_spec m n).load
@@ -131,7 +131,7 @@ within-own m n s t = go (finishes_in m n) refl
     go : (c : Bool) → finishes_in m n ≡ c → Own (within_spec m n).load
     go true e =
         let q = finished-is-search m n (taken-within m n t).one e in
-        subst Own (sym (ap (λ (r : Stepped). r.load) q)) (found-own m s (sym (ap (λ (r : Stepped). is_taken r.answer) q) ∙ t))
+        subst Own (sym (ap (λ (r : StepResult). r.load) q)) (found-own m s (sym (ap (λ (r : StepResult). is_taken r.answer) q) ∙ t))
     go false e = stopped-own m n s e t
 
 pub researched-own : (limit : Option ℕ) (m : Load) → Sound m → is_taken (researched limit m).answer ≡ true → Own (researched limit m).load
@@ -150,10 +150,10 @@ module _ (l : Load) (s : Sound l) (o : Is l) (n : ℕ) (e : l.limit ≡ Some n) 
       sym (researched-within n (unsearched_of l) few) ∙ ap (λ (x : Option ℕ). researched x (unsearched_of l)) (sym e) ∙ o
 
   own-leaves : WithinLeaves (unsearched_of l) n
-  own-leaves = within-taken (unsearched_of l) n (ap (λ (r : Stepped). r.answer) own-within)
+  own-leaves = within-taken (unsearched_of l) n (ap (λ (r : StepResult). r.answer) own-within)
 
   pub own-unfinished : finishes_in (unsearched_of l) n ≡ false
-  own-unfinished = go (finishes_in (unsearched_of l) n) refl (sym own-leaves.holds ∙ ap (λ (r : Stepped). r.load.limit) own-within ∙ e)
+  own-unfinished = go (finishes_in (unsearched_of l) n) refl (sym own-leaves.holds ∙ ap (λ (r : StepResult). r.load.limit) own-within ∙ e)
     where
       go : (b : Bool) → finishes_in (unsearched_of l) n ≡ b → cond b None (Some n) ≡ Some n → finishes_in (unsearched_of l) n ≡ false
       go true q z = absurd (none-ne-some n z)

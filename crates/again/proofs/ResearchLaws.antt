@@ -16,7 +16,7 @@ use Rattle.offers.specs.Offers.{sorted}
 use Rattle.offers.specs.Search.{found}
 use Rattle.offers.proofs.SearchLaws.{search-found}
 use Rattle.load.specs.declared.Load.{Load}
-use Rattle.load.specs.declared.Stepped.{Stepped}
+use Rattle.load.specs.declared.StepResult.{StepResult}
 use Rattle.load.specs.Sound.{Sound}
 use Rattle.search.specs.Timetable.{timetable_of}
 use Rattle.search.specs.Search.{outcome_of, with_found, would_fall, search_spec}
@@ -35,7 +35,7 @@ pub record Limits (limit : Option ℕ) (m : Load) (n : ℕ) : Type 0 where
   pub one : m.settings.max_transfers ≤ 1
 
 -- of any property of the search, by which of the two it is
-pub research-cases : (limit : Option ℕ) (m : Load) (P : Stepped → Type 0) → ((n : ℕ) → Limits limit m n → P (step_of (within_spec m n)))
+pub research-cases : (limit : Option ℕ) (m : Load) (P : StepResult → Type 0) → ((n : ℕ) → Limits limit m n → P (step_of (within_spec m n)))
     → P (search_spec m)
     → P (researched limit m)
 unfolding researched
@@ -76,7 +76,7 @@ research-first (Some n) m new = go (leb m.settings.max_transfers 1) refl
     go true e =
         let q = within-runs m n new (leb-true m.settings.max_transfers 1 e) in
         subst (λ (a : Answer). First a ((clashes (sorted (timetable_of m)), Err Neighbours) ∷ (would_fall_within m n, Err NoRoom) ∷ []))
-        (sym (ap (λ (w : Stepped). w.answer) (ap step_of q) ∙ ran-answer m n (outcome_within m n))) (within_first m n)
+        (sym (ap (λ (w : StepResult). w.answer) (ap step_of q) ∙ ran-answer m n (outcome_within m n))) (within_first m n)
     go false e = past_one (search-answered m).first new
 
 -- ---- what is found
@@ -146,8 +146,8 @@ module _ (limit : Option ℕ) (m : Load) where
   taken-researched t = go (ran limit m)
     where
       go : Ran limit m → Researched limit m
-      go (full q) = found-full limit m q (sym (ap (λ (r : Stepped). is_taken r.answer) q) ∙ t)
-      go (stopped n q e) = found-stopped limit m n q e (sym (ap (λ (r : Stepped). is_taken r.answer) q) ∙ t)
+      go (full q) = found-full limit m q (sym (ap (λ (r : StepResult). is_taken r.answer) q) ∙ t)
+      go (stopped n q e) = found-stopped limit m n q e (sym (ap (λ (r : StepResult). is_taken r.answer) q) ∙ t)
 
   -- and one that is not leaves the load
   pub untaken-researched : is_taken (researched limit m).answer ≡ false → (researched limit m).load ≡ m
@@ -162,7 +162,7 @@ module _ (limit : Option ℕ) (m : Load) where
   researched-keeps f same = go (is_taken (researched limit m).answer) refl
     where
       go : (c : Bool) → is_taken (researched limit m).answer ≡ c → f (researched limit m).load ≡ f m
-      go true t = let w = taken-researched t in ap (λ (r : Stepped). f r.load) w.is ∙ same w.kept w.to w.mark w.limit
+      go true t = let w = taken-researched t in ap (λ (r : StepResult). f r.load) w.is ∙ same w.kept w.to w.mark w.limit
       go false t = ap f (untaken-researched t)
 
   pub researched-horizon : (researched limit m).load.table_horizon ≡ m.table_horizon

@@ -22,10 +22,10 @@ use Rattle.offers.specs.Offers.{with_calls, sorted}
 use Rattle.offers.proofs.OrderLaws.{sorted_front}
 use Rattle.limited.specs.Limited.{finished_within}
 use Rattle.load.specs.declared.Load.{Load}
-use Rattle.load.specs.declared.Stepped.{Stepped}
+use Rattle.load.specs.declared.StepResult.{StepResult}
 use Rattle.load.specs.Load.{stopped, table_of, with_table, with_week}
 use Rattle.load.specs.Steps.{closed_load, call_spec}
-use Rattle.load.specs.Filling.{call}
+use Rattle.load.specs.FillStep.{call}
 use Rattle.load.specs.Sound.{Sound}
 use Rattle.load.proofs.SoundLaws.{fill-keeps-sound}
 use Rattle.search.specs.Timetable.{timetable_of}
@@ -49,7 +49,7 @@ use Rattle.again.proofs.BackLaws.{call-put}
 
 -- ---- a call that a searched load takes is taken by the unsearched one, and the search of that is accepted
 
-record Adds (l : Load) (r : Stepped) (n : Load) : Type 0 where
+record Adds (l : Load) (r : StepResult) (n : Load) : Type 0 where
   answer : r.answer ≡ Ok Taken
   accepted : is_taken (researched l.limit r.load).answer ≡ true
   is : n ≡ (researched l.limit r.load).load
@@ -59,12 +59,12 @@ not-both true b e q = false≢true q
 not-both false b e q = false≢true e
 
 -- the same, by its three tests
-abbrev pub added_by : Load → Stepped → Bool → Bool → Bool → Stepped
+abbrev pub added_by : Load → StepResult → Bool → Bool → Bool → StepResult
 added_by l r b c d = cond b (record { answer = r.answer; load = with_week l r.load.week }) (cond c (record { answer = r.answer; load = l })
     (cond d (record { answer = r.answer; load = (researched l.limit r.load).load })
     (record { answer = (researched l.limit r.load).answer; load = l })))
 
-added : (l : Load) (r : Stepped) → (added_to l r).answer ≡ Ok Taken → Adds l r (added_to l r).load
+added : (l : Load) (r : StepResult) → (added_to l r).answer ≡ Ok Taken → Adds l r (added_to l r).load
 unfolding added_to again
 added l r q = go (leaves_table_of l r) (is_refused r.answer) (is_taken (researched l.limit r.load).answer) refl refl refl q
   where
@@ -81,16 +81,16 @@ pub own-sorted : (l : Load) → researched l.limit (unsearched_of l) ≡ record 
     → table_calls (table_of l) ≡ in_order_of (table_calls (table_of l))
 unfolding unsearched_of
 own-sorted l e =
-    let w = taken-researched l.limit (unsearched_of l) (ap (λ (r : Stepped). is_taken r.answer) e) in
+    let w = taken-researched l.limit (unsearched_of l) (ap (λ (r : StepResult). is_taken r.answer) e) in
     let same : l.calls ≡ sort_first l.call_count l.calls =
-    sym (ap (λ (r : Stepped). r.load.calls) e) ∙ ap (λ (r : Stepped). r.load.calls) w.is in
+    sym (ap (λ (r : StepResult). r.load.calls) e) ∙ ap (λ (r : StepResult). r.load.calls) w.is in
     ap (take l.call_count) same ∙ sorted_front l.call_count l.calls
 
 -- and none clash
 pub own-clear : (l : Load) → researched l.limit (unsearched_of l) ≡ record { answer = Ok Taken; load = l }
     → clashes (in_order_of (table_calls (table_of l))) ≡ false
 unfolding timetable_of unsearched_of
-own-clear l e = (taken-researched l.limit (unsearched_of l) (ap (λ (r : Stepped). is_taken r.answer) e)).clear
+own-clear l e = (taken-researched l.limit (unsearched_of l) (ap (λ (r : StepResult). is_taken r.answer) e)).clear
 
 kept-horizon : (l : Load) → l.table_horizon ≡ (unsearched_of l).table_horizon
 unfolding unsearched_of
@@ -176,7 +176,7 @@ stopped-same : (limit : Option ℕ) (m : Load) → (is_some limit ≡ true → m
     → is_taken (researched limit m).answer ≡ true → Same limit m
 stopped-same None m one stays t =
     let q = researched-full m in
-    let w = taken-found m (sym (ap (λ (r : Stepped). is_taken r.answer) q) ∙ t) in
+    let w = taken-found m (sym (ap (λ (r : StepResult). is_taken r.answer) q) ∙ t) in
     record {
       kept = w.kept;
       to = w.to;
@@ -186,7 +186,7 @@ stopped-same None m one stays t =
     }
 stopped-same (Some n) m one stays t =
     let q = researched-within n m (one refl) in
-    let w = taken-within m n (sym (ap (λ (r : Stepped). is_taken r.answer) q) ∙ t) in
+    let w = taken-within m n (sym (ap (λ (r : StepResult). is_taken r.answer) q) ∙ t) in
     let clear = (taken-researched (Some n) m t).clear in
     record {
       kept = w.kept;
@@ -205,9 +205,9 @@ searched-taken-back l name i kept d q h =
     let big : Load = closed_load l in
     let su = unsearched-sound l kept.sound in
     let as_added : add_spec_of l name i ≡ added_to l (call_spec u name i) = cond-by _ _ d in
-    let a = added l (call_spec u name i) (sym (ap (λ (r : Stepped). r.answer) as_added) ∙ q) in
+    let a = added l (call_spec u name i) (sym (ap (λ (r : StepResult). r.answer) as_added) ∙ q) in
     let is : (add_spec_of l name i).load ≡ (researched l.limit (call_spec u name i).load).load =
-    ap (λ (r : Stepped). r.load) as_added ∙ a.is in
+    ap (λ (r : StepResult). r.load) as_added ∙ a.is in
     let same : (call_spec u name i).load.table_horizon ≡ u.table_horizon =
     sym (researched-horizon l.limit (call_spec u name i).load) ∙ sym (ap (λ (m : Load). m.table_horizon) is) ∙ h ∙ kept-horizon l in
     let w = call-put u name i su a.answer same in
@@ -220,7 +220,7 @@ searched-taken-back l name i kept d q h =
     (ap (λ (x : Load). is_taken (researched l.limit x).answer) (sym made) ∙ a.accepted) in
     let n : Load = with_found m g.kept g.to g.mark l.limit in
     let to-n : (researched l.limit (call_spec u name i).load).load ≡ n =
-    ap (λ (x : Load). (researched l.limit x).load) made ∙ ap (λ (r : Stepped). r.load) g.is in
+    ap (λ (x : Load). (researched l.limit x).load) made ∙ ap (λ (r : StepResult). r.load) g.is in
     let sn : Sound n = subst Sound to-n (researched-sound l.limit (call_spec u name i).load (fill-keeps-sound u (call name i) su)) in
     ap (λ (x : Load). withdraw_spec x (key_of i)) (is ∙ to-n)
     ∙ back big k.sound w.call (key_of i) (kept-count l w.room) w.known-key w.key (k.own d) g.kept g.to g.mark sn g.clear

@@ -12,7 +12,7 @@ use Rattle.calls.specs.declared.CallKey.{CallKey}
 use Rattle.withdrawal.specs.Removal.{has_key, key_known, withdrawn}
 use Rattle.withdrawal.proofs.LeftLaws.{withdrawn-leaves}
 use Rattle.load.specs.declared.Load.{Load}
-use Rattle.load.specs.declared.Stepped.{Stepped}
+use Rattle.load.specs.declared.StepResult.{StepResult}
 use Rattle.load.specs.Load.{table_of, with_table}
 use Rattle.load.specs.Sound.{Sound}
 use Rattle.load.proofs.SoundLaws.{with-table-sound}
@@ -66,7 +66,7 @@ module _ (l : Load) (k : CallKey) where
   none_stays e f = rw (e, f) refl
 
   -- of any property of what is returned, by the three cases
-  pub out_cases : (P : Stepped → Type 0)
+  pub out_cases : (P : StepResult → Type 0)
       → (key_known k ≡ false → P (record { answer = Err FieldRange; load = l }))
       → (key_known k ≡ true → anyb (has_key k) (table_calls (table_of l)) ≡ false → P (record { answer = Err CallUnknown; load = l }))
       → (Goes l k → P (record { answer = Ok Taken; load = with_table l (withdrawn (table_of l) k) }))

@@ -18,7 +18,7 @@ use Rattle.week.specs.Sound.{WeekSound}
 use Rattle.week.proofs.SoundLaws.{closed-sound}
 use Rattle.offers.specs.Search.{Outcome, clashing, falling, found, answer_of}
 use Rattle.load.specs.declared.Load.{Load}
-use Rattle.load.specs.declared.Stepped.{Stepped}
+use Rattle.load.specs.declared.StepResult.{StepResult}
 use Rattle.load.specs.Load.{with_table, with_week}
 use Rattle.load.specs.Steps.{call_fitted, plain_call, closed_load, closing, call_spec}
 use Rattle.load.specs.Sound.{Sound}
@@ -30,7 +30,7 @@ use Rattle.search.specs.Within.{outcome_within, finishes_in, sent_back_of, ran_w
 use Rattle.again.specs.Again.{unsearched_of, researched}
 use Rattle.again.specs.Claims.{Own, Kept, ClosedSame}
 
-abbrev with_week_of : Week → Stepped → Stepped
+abbrev with_week_of : Week → StepResult → StepResult
 with_week_of w r = record { answer = r.answer; load = with_week r.load w }
 
 -- ---- the search
@@ -40,9 +40,9 @@ pub search-week : (m : Load) (w : Week) → search_spec (with_week m w)
 unfolding search_spec outcome_of timetable_of
 search-week m w = go m.searched (outcome_of m)
   where
-    go : (b : Bool) (o : Outcome) → cond {A = Stepped} b (record { answer = Err AlreadySearched; load = with_week m w })
+    go : (b : Bool) (o : Outcome) → cond {A = StepResult} b (record { answer = Err AlreadySearched; load = with_week m w })
         (record { answer = answer_of o; load = settled (with_week m w) o })
-        ≡ with_week_of w (cond {A = Stepped} b (record { answer = Err AlreadySearched; load = m })
+        ≡ with_week_of w (cond {A = StepResult} b (record { answer = Err AlreadySearched; load = m })
         (record { answer = answer_of o; load = settled m o }))
     go true o = refl
     go false clashing = refl
@@ -132,7 +132,7 @@ pub taken-is-plain : (l : Load) (name : List ℕ) (i : CallInput) → Sound l �
     → call_spec l name i ≡ record { answer = (plain_call l i).answer; load = closed_load (plain_call l i).load }
 taken-is-plain l name i s q = go _ (called l name i) q
   where
-    go : (r : Stepped) → Called l name i r → r.answer ≡ Ok Taken
+    go : (r : StepResult) → Called l name i r → r.answer ≡ Ok Taken
         → r ≡ record { answer = (plain_call l i).answer; load = closed_load (plain_call l i).load }
     go _ (without d) q = without_is l i s d
     go _ (goes_on d e) q = closing-is l i (ap is_refused q)

@@ -17,7 +17,7 @@ use Rattle.offers.specs.Offers.{sorted}
 use Rattle.calls.specs.declared.CallKey.{CallKey}
 use Rattle.withdrawal.specs.Removal.{has_key, key_known}
 use Rattle.load.specs.declared.Load.{Load}
-use Rattle.load.specs.declared.Stepped.{Stepped}
+use Rattle.load.specs.declared.StepResult.{StepResult}
 use Rattle.load.specs.Load.{table_of}
 use Rattle.load.specs.Steps.{running_tests, call_spec}
 use Rattle.week.specs.Weeks.{running}
@@ -25,6 +25,7 @@ use Rattle.search.specs.Timetable.{timetable_of}
 use Rattle.search.specs.Search.{would_fall}
 use Rattle.search.specs.Within.{would_fall_within}
 use Rattle.again.specs.Again.{unsearched_of, add_spec_of, withdraw_tests, taken_out, withdraw_spec}
+use Rattle.profile.specs.Sizes.{least_horizon}
 
 -- the horizon would fall below 3600 in the search again, by the offers before the stop or by all of them
 abbrev pub falls_again : Option ℕ → Load → Bool
@@ -37,7 +38,7 @@ search_tests l m = (clashes (sorted (timetable_of m)), Err Neighbours) ∷ (fall
 
 -- a full table whose horizon would fall below 3600
 abbrev pub no_room_of : Table → Bool
-no_room_of r = is_full r && ltb (less r.horizon) 3600
+no_room_of r = is_full r && ltb (less r.horizon) least_horizon
 
 -- of a call with arrival a and departure d on a searched load l: r is the table that the cuts reach, m what the call leaves of the
 -- unsearched load. A call that is outside only after a cut has the load searched again, so 14 and 11 of that search
@@ -69,7 +70,7 @@ withdraw_causes l k =
 
 -- ---- what is claimed: the answer is that of the first test that holds, a taken step has none, and a refused load comes back unchanged
 
-pub record Answered (r : Stepped) (l : Load) (ts : List (Bool × Answer)) : Type 0 where
+pub record Answered (r : StepResult) (l : Load) (ts : List (Bool × Answer)) : Type 0 where
   pub first : First r.answer ts
   pub taken : r.answer ≡ Ok Taken → AllFail ts
   pub unchanged : is_refused r.answer ≡ true → r.load ≡ l

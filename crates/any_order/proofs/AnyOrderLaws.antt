@@ -13,7 +13,7 @@ use Rattle.refusal.specs.First.{is_refused}
 use Rattle.calls.specs.declared.Call.{Call}
 use Rattle.load.specs.declared.Load.{Load}
 use Rattle.load.specs.Steps.{Opening, opened}
-use Rattle.load.specs.Filling.{Filling, filled, filled_by}
+use Rattle.load.specs.FillStep.{FillStep, filled, filled_by}
 use Rattle.load.specs.Sound.{Sound}
 use Rattle.load.proofs.SoundLaws.{open-sound, fill-keeps-sound}
 use Rattle.any_order.specs.Calls.{Named, called, answers, answer_first, cramped}
@@ -78,11 +78,11 @@ module _ (l : Load) (s : Sound l) (xs ys : List Named) (p : Permᴰ xs ys) where
 
 -- ---- of every load that an opening and steps make
 
-filled-sound : (fs : List Filling) (l : Load) → Sound l → Sound (filled_by l fs)
+filled-sound : (fs : List FillStep) (l : Load) → Sound l → Sound (filled_by l fs)
 filled-sound [] l s = s
 filled-sound (x ∷ fs) l s = filled-sound fs (filled l x).load (fill-keeps-sound l x s)
 
-pub made-sound : (o : Opening) (fs : List Filling) → Sound (filled_by (opened o) fs)
+pub made-sound : (o : Opening) (fs : List FillStep) → Sound (filled_by (opened o) fs)
 made-sound o fs = filled-sound fs (opened o) (open-sound o)
 
 pub proviso-alike : ProvisoAlike

@@ -31,7 +31,7 @@ use Rattle.calls.proofs.SoundLaws.{passed}
 use Rattle.calls.proofs.ShownLaws.{refused-same}
 use Rattle.week.specs.Weeks.{is_dated, undated_week, closed_week, running}
 use Rattle.load.specs.declared.Load.{Load}
-use Rattle.load.specs.declared.Stepped.{Stepped}
+use Rattle.load.specs.declared.StepResult.{StepResult}
 use Rattle.load.specs.Load.{table_of, seen_of, with_seen, with_table, with_week}
 use Rattle.load.specs.Steps.{call_fitted, plain_call, running_tests, gate_answer, closed_load, closing}
 use Rattle.load.specs.Sound.{Sound}
@@ -137,11 +137,11 @@ plain_left l out = l
 plain_left l (goes k) = stored l k
 
 -- where there is room the step is the fate's; where there is none it meets 11 or cuts
-record Comes (l : Load) (r : Stepped) (f : Fate) (m : Load) : Type 0 where
+record Comes (l : Load) (r : StepResult) (f : Fate) (m : Load) : Type 0 where
   room : fits l.call_count f ≡ true → r ≡ record { answer = said f; load = m }
   full : fits l.call_count f ≡ false → cramps l r ≡ true
 
-roomy : (l : Load) (r : Stepped) (f : Fate) (m : Load) → fits l.call_count f ≡ true → r ≡ record { answer = said f; load = m }
+roomy : (l : Load) (r : StepResult) (f : Fate) (m : Load) → fits l.call_count f ≡ true → r ≡ record { answer = said f; load = m }
     → Comes l r f m
 roomy l r f m t e = record { room = λ q. e; full = λ q. absurd (true≢false (sym t ∙ q)) }
 
@@ -251,10 +251,10 @@ closing-cramps l i = λ k. eqb (answer_number (plain_call l i).answer) 11 || ltb
     (closing_same (λ (m : Load). m.table_horizon) l i (λ m w. refl) k) l.table_horizon
 
 module _ (l : Load) (name : List ℕ) (i : CallInput) (s : Sound l) where
-  abbrev Comes-to : Stepped → Fate → Type 0
+  abbrev Comes-to : StepResult → Fate → Type 0
   Comes-to r f = Comes l r f (left l f)
 
-  by-service : (r : Stepped) → Called l name i r → Comes-to r (fate l (name, i))
+  by-service : (r : StepResult) → Called l name i r → Comes-to r (fate l (name, i))
   unfolding fate
   by-service _ (without d) =
       subst (Comes-to (plain_call l i)) (sym (cond-not _ _ d))

@@ -15,10 +15,10 @@ use Rattle.refusal.specs.First.{is_refused, Answer}
 use Rattle.calls.specs.declared.Call.{Call}
 use Rattle.week.specs.Weeks.{closed_week}
 use Rattle.load.specs.declared.Load.{Load}
-use Rattle.load.specs.declared.Stepped.{Stepped}
+use Rattle.load.specs.declared.StepResult.{StepResult}
 use Rattle.load.specs.Load.{seen_of, remade}
 use Rattle.load.specs.Steps.{closed_load}
-use Rattle.load.specs.Filling.{call}
+use Rattle.load.specs.FillStep.{call}
 use Rattle.load.specs.Sound.{Sound}
 use Rattle.load.proofs.SoundLaws.{fill-keeps-sound}
 use Rattle.any_order.specs.Calls.{Named, calling, called, answers, answer_first, cramps, cramped}
@@ -67,7 +67,7 @@ record Steps (l : Load) (c : Named) : Type 0 where
 steps : (l : Load) (c : Named) → Sound l → fits l.call_count (fate l c) ≡ true → Steps l c
 steps l c s h =
     let e = step_is l c s h in
-    let n : (calling l c).load ≡ left l (fate l c) = ap (λ (r : Stepped). r.load) e in
+    let n : (calling l c).load ≡ left l (fate l c) = ap (λ (r : StepResult). r.load) e in
     record { is = e; next = n; sound = subst Sound n (fill-keeps-sound l (call c.0 c.1) s) }
 
 -- a call that met neither 11 nor a cut found room

@@ -18,7 +18,7 @@ use Rattle.offers.proofs.SearchLaws.{search-found}
 use Rattle.offers.proofs.AnyOrder.{search-in-any-order}
 use Rattle.limited.proofs.LimitLaws.{within-in-any-order}
 use Rattle.load.specs.declared.Load.{Load}
-use Rattle.load.specs.declared.Stepped.{Stepped}
+use Rattle.load.specs.declared.StepResult.{StepResult}
 use Rattle.load.specs.Load.{with_seen}
 use Rattle.search.specs.Timetable.{timetable_of}
 use Rattle.search.specs.Search.{outcome_of, with_found, with_journeys, settled, search_spec}
@@ -51,7 +51,7 @@ module _ (a : Load) (cs : List Call) where
     same-sorted ks h m e = accepted-any-order (take n a.calls) (take n cs) p
         (search-found (timetable_of a) a.table_horizon a.table_limits h m ks e).0
 
-    abbrev ran : Load → Outcome → Stepped
+    abbrev ran : Load → Outcome → StepResult
     ran l o = record { answer = answer_of o; load = settled l o }
 
     -- the loads with what both found, their calls in one order
@@ -85,18 +85,19 @@ module _ (a : Load) (cs : List Call) where
     }
       where
         answer : (b : Bool) → a.searched ≡ b → (search_spec a).answer ≡ (search_spec other).answer
-        answer true e = ap (λ (r : Stepped). r.answer) (search-again a e) ∙ sym (ap (λ (r : Stepped). r.answer) (search-again other e))
+        answer true e = ap (λ (r : StepResult). r.answer) (search-again a e)
+            ∙ sym (ap (λ (r : StepResult). r.answer) (search-again other e))
         answer false e =
-            ap (λ (r : Stepped). r.answer) (search-runs a e) ∙ ap answer_of same_outcome
-            ∙ sym (ap (λ (r : Stepped). r.answer) (search-runs other e))
+            ap (λ (r : StepResult). r.answer) (search-runs a e) ∙ ap answer_of same_outcome
+            ∙ sym (ap (λ (r : StepResult). r.answer) (search-runs other e))
 
         accepted : (b : Bool) → a.searched ≡ b → is_refused (search_spec a).answer ≡ false → (search_spec a).load ≡ (search_spec other).load
-        accepted true e q = absurd (true≢false (sym (ap (λ (r : Stepped). is_refused r.answer) (search-again a e)) ∙ q))
+        accepted true e q = absurd (true≢false (sym (ap (λ (r : StepResult). is_refused r.answer) (search-again a e)) ∙ q))
         accepted false e q =
-            ap (λ (r : Stepped). r.load) (search-runs a e)
-            ∙ same_load (outcome_of a) refl (sym (ap (λ (r : Stepped). is_refused r.answer) (search-runs a e)) ∙ q)
+            ap (λ (r : StepResult). r.load) (search-runs a e)
+            ∙ same_load (outcome_of a) refl (sym (ap (λ (r : StepResult). is_refused r.answer) (search-runs a e)) ∙ q)
             ∙ ap (settled other) same_outcome
-            ∙ sym (ap (λ (r : Stepped). r.load) (search-runs other e))
+            ∙ sym (ap (λ (r : StepResult). r.load) (search-runs other e))
 
     -- ---- within the limit j
 

@@ -5,14 +5,14 @@ use mathlib.Core.List.{List, [], ◌∷◌}
 use Rattle.laws.proofs.Bools.{cond-not}
 use Rattle.load.specs.declared.Load.{Load}
 use Rattle.load.specs.Steps.{opened}
-use Rattle.load.specs.Filling.{Filling, call, filled, filled_by}
+use Rattle.load.specs.FillStep.{FillStep, call, filled, filled_by}
 use Rattle.again.specs.Again.{add_spec_of}
 use Rattle.steps.proofs.StepLaws.{filled-searched}
 use Rattle.steps.proofs.HeldLaws.{opened_new}
 use Rattle.any_order.specs.Calls.{Named, calling, called}
 use Rattle.any_order.specs.AnyOrder.{SteppedAlike}
 
-filled-unsearched : (l : Load) (fs : List Filling) → l.searched ≡ false → (filled_by l fs).searched ≡ false
+filled-unsearched : (l : Load) (fs : List FillStep) → l.searched ≡ false → (filled_by l fs).searched ≡ false
 filled-unsearched l [] e = e
 filled-unsearched l (x ∷ xs) e = filled-unsearched (filled l x).load xs (filled-searched l x ∙ e)
 

@@ -4,7 +4,7 @@ use mathlib.Core.List.{List, Permᴰ}
 use Rattle.refusal.specs.First.{is_refused}
 use Rattle.calls.specs.declared.Call.{Call}
 use Rattle.load.specs.declared.Load.{Load}
-use Rattle.load.specs.declared.Stepped.{Stepped}
+use Rattle.load.specs.declared.StepResult.{StepResult}
 use Rattle.load.specs.Load.{seen_of, with_seen}
 use Rattle.search.specs.Search.{search_spec}
 use Rattle.search.specs.Within.{within_spec, step_of}
@@ -20,13 +20,13 @@ pub record OnlyOrder (a b : Load) : Type 0 where
   pub unused : drop a.call_count a.calls ≡ drop a.call_count b.calls
 
 -- a step of a and of b: one answer; sent back, each load is as it was; otherwise the loads are equal, every field
-pub record Alike (step : Load → Stepped) (a b : Load) : Type 0 where
+pub record Alike (step : Load → StepResult) (a b : Load) : Type 0 where
   pub answer : (step a).answer ≡ (step b).answer
   pub refused : is_refused (step a).answer ≡ true → ((step a).load ≡ a) × ((step b).load ≡ b)
   pub accepted : is_refused (step a).answer ≡ false → (step a).load ≡ (step b).load
 
 -- the step takes no notice of the stored order
-abbrev pub OrderUnread : (Load → Stepped) → Type 0
+abbrev pub OrderUnread : (Load → StepResult) → Type 0
 OrderUnread step = (a b : Load) → OnlyOrder a b → Alike step a b
 
 -- the search is such a step, in full or within any limit on joins

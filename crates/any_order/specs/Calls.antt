@@ -3,15 +3,15 @@ use Rattle.std.specs.Prelude.{ℕ, Bool, false, ◌||◌, List, [], ◌∷◌, e
 use Rattle.refusal.specs.First.{answer_number, Answer}
 use Rattle.calls.specs.declared.CallInput.{CallInput}
 use Rattle.load.specs.declared.Load.{Load}
-use Rattle.load.specs.declared.Stepped.{Stepped}
-use Rattle.load.specs.Filling.{call, filled}
+use Rattle.load.specs.declared.StepResult.{StepResult}
+use Rattle.load.specs.FillStep.{call, filled}
 
 -- the name of a call's service, empty where none is named, and the call
 abbrev pub Named : Type 0
 Named = List ℕ × CallInput
 
 -- the call is handed in
-abbrev pub calling : Load → Named → Stepped
+abbrev pub calling : Load → Named → StepResult
 calling l c = filled l (call c.0 c.1)
 
 -- the load after these calls: each gets the load that the one before it returned
@@ -29,7 +29,7 @@ abbrev pub answer_first : Load → Named → Named × Answer
 answer_first l c = (c, (calling l c).answer)
 
 -- a step met 11, or shrank the table's horizon
-abbrev pub cramps : Load → Stepped → Bool
+abbrev pub cramps : Load → StepResult → Bool
 cramps l r = eqb (answer_number r.answer) 11 || ltb r.load.table_horizon l.table_horizon
 
 -- one of the calls did

@@ -4,11 +4,11 @@ use Rattle.std.specs.Prelude.{ℕ, ◌≡◌, List, [], ◌∷◌, replicate, No
 use Rattle.load.specs.declared.Load.{Load}
 use Rattle.load.specs.Load.{blank_settings}
 use Rattle.load.specs.Steps.{undated, opened}
-use Rattle.load.specs.Filling.{Filling, stop, filled_by}
+use Rattle.load.specs.FillStep.{FillStep, stop, filled_by}
 use Rattle.any_order.specs.Calls.{Named, calling, called, answers}
 
 -- one stop
-abbrev pub stop_alone : List Filling
+abbrev pub stop_alone : List FillStep
 stop_alone = stop (65 ∷ []) None None (record { location_type = 0; degrees = None; members = 0 }) ∷ []
 
 -- a load with it, whose start and epochs are 0

@@ -1,5 +1,5 @@
--- `Cache::best` and `next_after`: none before 0 or after the horizon; else, of kept journeys leaving at or after the second, least
--- arrival, then rides, then walk, then latest leave. A load's list stands in that order, so its best is the first that leaves in time.
+-- Best and next after (RULES 9): none before 0 or after the horizon; else, of kept journeys leaving at or after the second, least arrival,
+-- then rides, then walk, then latest leave. A load's list stands in that order, so its best is the first that leaves in time.
 use Rattle.std.specs.Prelude.{◌≡◌, true, cond, List, ℕ, ◌+◌, take, ℤ, pos, None, Some, Option}
 use Rattle.std.specs.Int.Signed.{lt_z}
 use Rattle.profile.specs.declared.Journey.{Journey}
@@ -7,7 +7,8 @@ use Rattle.profile.specs.Journeys.{journey_figures}
 use Rattle.profile.specs.Best.{bestℤ, firstℤ, Ordered}
 use Rattle.load.specs.declared.Load.{Load}
 
--- the scope's value of each case: a journey, or none
+-- the value of each case of the answer. The answer is an `Option` itself, so each case is its own value and nothing changes; it stands here
+-- as every answer that is an enum has such a definition, of which the demands speak
 abbrev pub answer_of : Option Journey → Option Journey
 answer_of (Some j) = Some j
 answer_of None = None

@@ -28,7 +28,7 @@ fn better(found: Option<Journey>, j: Journey, second: u64) -> Option<Journey>
 }
 
 // The second, where a query at it is answered: none before 0 and after the horizon.
-fn asked(horizon: u16, second: i64) -> Option<u64>
+pub fn asked(horizon: u16, second: i64) -> Option<u64>
     ensures { result ≡ asked horizon second }
 {
     if second < 0 || second as u64 > horizon as u64 {
@@ -62,8 +62,8 @@ pub fn first_leaving(journeys: &[Journey], horizon: u16, second: i64) -> Option<
 
 // The best journey that leaves at or after the second; none of an unsearched load.
 #[tactic(auto, unfolding(crate::specs::Best::best_spec))]
-pub fn best(load: Load, second: i64) -> Option<Journey>
-    ensures { result ≡ best_spec load second }
+pub fn best_of(load: &Load, second: i64) -> Option<Journey>
+    ensures { result ≡ best_spec load.now second }
 {
     if load.searched {
         let kept = first(&load.journeys, load.journey_count);
@@ -71,6 +71,13 @@ pub fn best(load: Load, second: i64) -> Option<Journey>
     } else {
         None
     }
+}
+
+// The same of a load by value.
+pub fn best(load: Load, second: i64) -> Option<Journey>
+    ensures { result ≡ best_spec load second }
+{
+    best_of(&load, second)
 }
 
 // The larger of the second and the one after a leave.

@@ -1,5 +1,5 @@
-// Bytes put one after the other into a lent buffer. A byte past its end is left out and counted all the same, so that nothing is asked of
-// the room, and a buffer without room tells how long a text is.
+// Bytes put one after the other into a lent buffer. A byte past its end is left out but counted, so no function asks that there be room,
+// and a buffer without room tells how long a text is.
 #![tactic(auto)]
 
 ghost use Rattle.std.specs.Prelude.{◌≤◌, length};

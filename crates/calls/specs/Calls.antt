@@ -12,10 +12,11 @@ use Rattle.calls.specs.declared.window.Timed.{Timed}
 use Rattle.calls.specs.Tried.{Tried}
 use Rattle.calls.specs.Windows.{time_after, seen}
 use Rattle.calls.specs.Tables.{fitted}
+use Rattle.calls.specs.Sizes.{no_trip}
 
 -- the stop is known, the trip not 65535, day at most 2, pickup and drop-off at most 3
 unfoldable pub known : ℕ → CallInput → Bool
-known stops i = ltb i.stop stops && ltb i.trip 65535 && leb i.day 2 && leb i.pickup 3 && leb i.drop_off 3
+known stops i = ltb i.stop stops && ltb i.trip no_trip && leb i.day 2 && leb i.pickup 3 && leb i.drop_off 3
 
 -- a time is absent
 abbrev pub un_timed : CallInput → Bool

@@ -1,3 +1,4 @@
+pub mod Sizes
 pub mod Windows
 pub mod Tried
 pub mod Tables

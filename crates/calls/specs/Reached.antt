@@ -10,10 +10,12 @@ use Rattle.calls.specs.Tried.{Tried}
 use Rattle.calls.specs.Windows.{outside, seen_call}
 use Rattle.calls.specs.Tables.{cut, less, put, fitted}
 use Rattle.calls.specs.Calls.{call_tests, call_time, call_on}
+use Rattle.calls.specs.Sizes.{call_room}
+use Rattle.profile.specs.Sizes.{least_horizon}
 
 -- the table is full
 abbrev pub is_full : Table → Bool
-is_full t = leb 512 t.count
+is_full t = leb call_room t.count
 
 -- a call with arrival a and departure d, inside the window, meets it full
 abbrev pub meets_full : Table → Option ℕ → Option ℕ → Bool
@@ -22,7 +24,7 @@ meets_full t a d = not (outside t.horizon a d) && is_full t
 -- the table after at most n cuts: it is cut while the call meets it full and the next horizon is 3600 or more
 abbrev pub reached_in : ℕ → Table → Option ℕ → Option ℕ → Table
 reached_in zero t a d = t
-reached_in (suc n) t a d = cond (meets_full t a d && leb 3600 (less t.horizon)) (reached_in n (cut (less t.horizon) t) a d) t
+reached_in (suc n) t a d = cond (meets_full t a d && leb least_horizon (less t.horizon)) (reached_in n (cut (less t.horizon) t) a d) t
 
 -- each cut takes a second or more off the horizon, so there are no more than it has
 unfoldable pub reached : Table → Option ℕ → Option ℕ → Table
@@ -30,11 +32,11 @@ reached t a d = reached_in t.horizon t a d
 
 -- a call that still meets it full: the horizon would fall below 3600
 abbrev pub ReachedFull : Type 0
-ReachedFull = (t : Table) (a d : Option ℕ) → meets_full (reached t a d) a d ≡ true → less (reached t a d).horizon < 3600
+ReachedFull = (t : Table) (a d : Option ℕ) → meets_full (reached t a d) a d ≡ true → less (reached t a d).horizon < least_horizon
 
 -- what is asked of the table reached: is the call outside; is the table full, and would its horizon fall below 3600
 abbrev pub reached_tests : Table → Option ℕ → Option ℕ → List (Bool × Answer)
-reached_tests r a d = (outside r.horizon a d, Ok Outside) ∷ (is_full r && ltb (less r.horizon) 3600, Err NoRoom) ∷ []
+reached_tests r a d = (outside r.horizon a d, Ok Outside) ∷ (is_full r && ltb (less r.horizon) least_horizon, Err NoRoom) ∷ []
 
 -- if neither, the call goes in as it is seen up to that table's horizon
 abbrev pub reached_fit : Table → Option ℕ → Option ℕ → CallInput → Tried

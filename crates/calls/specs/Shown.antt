@@ -8,6 +8,7 @@ use Rattle.calls.specs.declared.CallInput.{CallInput}
 use Rattle.calls.specs.declared.Table.{Table}
 use Rattle.calls.specs.Calls.{call_on, window}
 use Rattle.calls.specs.Sound.{TableSound}
+use Rattle.calls.specs.Sizes.{call_room}
 
 -- a call that is seen; nothing where it is outside
 abbrev pub shown : Option Call → List Call
@@ -40,7 +41,7 @@ StepShows = (s : Settings) (b : Bool) (n : ℕ) (t : Table) (i : CallInput) (is 
 pub record Meets (s : Settings) (t : Table) (i : CallInput) : Type 0 where
   pub call : Call
   pub inside : window s t.horizon i ≡ Some call
-  pub full : 512 ≤ t.count
+  pub full : call_room ≤ t.count
 
 -- the horizon falls only then
 abbrev pub FallsOnlyFull : Type 0
@@ -49,7 +50,7 @@ FallsOnlyFull = (s : Settings) (b : Bool) (n : ℕ) (t : Table) (i : CallInput) 
 abbrev pub NeverRises : Type 0
 NeverRises = (s : Settings) (b : Bool) (n : ℕ) (t : Table) (i : CallInput) → (call_on s b n t i).table.horizon ≤ t.horizon
 
--- and so does 11
+-- a call is refused with 11 only then, too
 abbrev pub FullOnlyFull : Type 0
 FullOnlyFull = (s : Settings) (b : Bool) (n : ℕ) (t : Table) (i : CallInput) → (call_on s b n t i).answer ≡ Err NoRoom → Meets s t i
 

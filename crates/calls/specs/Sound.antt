@@ -8,10 +8,11 @@ use Rattle.calls.specs.declared.CallInput.{CallInput}
 use Rattle.calls.specs.declared.Table.{Table}
 use Rattle.calls.specs.Tables.{blank_call}
 use Rattle.calls.specs.Calls.{call_on}
+use Rattle.calls.specs.Sizes.{call_room, longest_horizon}
 
 -- the horizons that a table has, from its opening to its last cut
 abbrev pub horizons : List ℕ
-horizons = 21600 ∷ 16200 ∷ 12150 ∷ 9113 ∷ 6835 ∷ 5127 ∷ 3846 ∷ []
+horizons = longest_horizon ∷ 16200 ∷ 12150 ∷ 9113 ∷ 6835 ∷ 5127 ∷ 3846 ∷ []
 
 pub record CallSound (h : ℕ) (c : Call) : Type 0 where
   pub ordered : c.arrival ≤ c.departure
@@ -20,13 +21,13 @@ pub record CallSound (h : ℕ) (c : Call) : Type 0 where
   pub alight_marked : c.alight_request ≡ true → c.alight ≡ true
 
 pub record TableSound (t : Table) : Type 0 where
-  pub few : t.count ≤ 512
-  pub long : length t.calls ≡ 512
-  pub blank : drop t.count t.calls ≡ replicate (512 - t.count) blank_call
+  pub few : t.count ≤ call_room
+  pub long : length t.calls ≡ call_room
+  pub blank : drop t.count t.calls ≡ replicate (call_room - t.count) blank_call
   pub each : All (CallSound t.horizon) (take t.count t.calls)
   pub known : one_of t.horizon horizons ≡ true
   -- limits is 1 exactly where the horizon fell
-  pub limited : t.limits ≡ cond (eqb t.horizon 21600) 0 1
+  pub limited : t.limits ≡ cond (eqb t.horizon longest_horizon) 0 1
 
 -- every call of the table is at one of the first n stops
 abbrev pub AtStop : ℕ → Call → Type 0
@@ -37,7 +38,7 @@ StopsKnown n t = All (AtStop n) (take t.count t.calls)
 
 -- nothing taken yet
 abbrev pub empty_table : Table
-empty_table = record { calls = replicate 512 blank_call; count = 0; horizon = 21600; limits = 0 }
+empty_table = record { calls = replicate call_room blank_call; count = 0; horizon = longest_horizon; limits = 0 }
 
 -- the empty table is sound, and the call step keeps a table sound
 abbrev pub EmptySound : Type 0

@@ -10,6 +10,8 @@ use Rattle.calls.specs.Tried.{Tried}
 use Rattle.refusal.specs.declared.Refusal.TheVariants.{NoRoom}
 use Rattle.laws.specs.Lists.{gather, padded}
 use Rattle.calls.specs.Windows.{seen}
+use Rattle.calls.specs.Sizes.{call_room}
+use Rattle.profile.specs.Sizes.{least_horizon}
 
 -- what an unused slot holds
 abbrev pub blank_call : Call
@@ -56,7 +58,7 @@ trim_all h l = gather (due_by h) (trim h) l
 -- the horizon falls to h: limits is 1, calls arriving later go, later departures are held
 unfoldable pub cut : ℕ → Table → Table
 cut h t = record {
-  calls = padded blank_call 512 (trim_all h (take t.count t.calls));
+  calls = padded blank_call call_room (trim_all h (take t.count t.calls));
   count = length (trim_all h (take t.count t.calls));
   horizon = h;
   limits = 1;
@@ -73,14 +75,14 @@ put t c = record { calls = set t.calls t.count c; count = t.count + 1; horizon =
 -- a call that is seen so goes in where there is room; what else happens is handed in
 abbrev pub entered : Table → Option Call → Tried → Tried
 entered t None full = record { answer = Ok Outside; table = t }
-entered t (Some c) full = cond (ltb t.count 512) (record { answer = Ok Taken; table = put t c }) full
+entered t (Some c) full = cond (ltb t.count call_room) (record { answer = Ok Taken; table = put t c }) full
 
 -- a call put in, after at most n cuts: a full table is cut and the call tried anew, unless the horizon would fall below 3600
 abbrev pub fitted_in : ℕ → Table → Option ℕ → Option ℕ → CallInput → Tried
 fitted_in zero t a d i = entered t (seen t.horizon a d i) (record { answer = Err NoRoom; table = t })
 fitted_in (suc n) t a d i =
     entered t (seen t.horizon a d i)
-    (cond (ltb (less t.horizon) 3600) (record { answer = Err NoRoom; table = t }) (fitted_in n (cut (less t.horizon) t) a d i))
+    (cond (ltb (less t.horizon) least_horizon) (record { answer = Err NoRoom; table = t }) (fitted_in n (cut (less t.horizon) t) a d i))
 
 -- each cut takes a second or more off the horizon, so there are no more than it has
 unfoldable pub fitted : Table → Option ℕ → Option ℕ → CallInput → Tried

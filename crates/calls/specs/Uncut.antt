@@ -10,11 +10,12 @@ use Rattle.calls.specs.declared.Uncut.{Uncut}
 use Rattle.calls.specs.declared.Uncut.TheVariants.{In, Outside as Beyond, Other}
 use Rattle.calls.specs.Calls.{call_tests, call_seen, call_on}
 use Rattle.calls.specs.Tables.{put}
+use Rattle.calls.specs.Sizes.{call_room}
 
 -- a call that is seen so, with so many in the table
 abbrev pub uncut_view : ℕ → Option Call → Uncut
 uncut_view count None = Beyond
-uncut_view count (Some c) = cond (ltb count 512) (In c) Other
+uncut_view count (Some c) = cond (ltb count call_room) (In c) Other
 
 abbrev pub uncut_by : Answer → Uncut → Uncut
 uncut_by (Ok Taken) u = u
@@ -26,7 +27,7 @@ uncut_on s searched stops count h i = uncut_by (first_answer (call_tests searche
 
 -- what it tells of the call step
 pub record Told (s : Settings) (searched : Bool) (stops : ℕ) (t : Table) (i : CallInput) (u : Uncut) : Type 0 where
-  pub room : (c : Call) → u ≡ In c → t.count < 512
+  pub room : (c : Call) → u ≡ In c → t.count < call_room
   pub goes_in : (c : Call) → u ≡ In c → call_on s searched stops t i ≡ record { answer = Ok Taken; table = put t c }
   pub outside : u ≡ Beyond → call_on s searched stops t i ≡ record { answer = Ok Outside; table = t }
 

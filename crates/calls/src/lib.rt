@@ -1,5 +1,5 @@
-// The calls of a load: what is handed in, what the window shows of it, and the table that it goes into. The steps on that stand
-// in `table`.
+// The calls of a load: what is handed in, what the window shows of it, and the table that it goes into. The steps on that table stand in
+// crate `table`.
 #![tactic(auto)]
 
 pub mod window;
@@ -8,6 +8,15 @@ ghost use Rattle.std.specs.Prelude.{◌≡◌};
 ghost use Rattle.calls.specs.Tables.{blank_call, held_key};
 
 use refusal::Accepted;
+
+// How many calls a table holds.
+pub const CALLS: usize = 512;
+
+// The horizon before any cut: six hours, in seconds.
+pub const LONGEST_HORIZON: u16 = 21600;
+
+// Trips are below it.
+pub const NO_TRIP: u16 = 65535;
 
 // What is handed in. `pickup` and `drop_off` are bytes, as any may be handed in: 9 tells of those above 3.
 #[derive(Clone, Copy, Debug, PartialEq, Eq)]
@@ -70,7 +79,7 @@ pub enum Uncut {
 // An array with its count, as in `load: Load`. `limits` is a number, 1 or 0, as the scope has it and C lends it.
 #[derive(Clone, Copy, Debug, PartialEq, Eq)]
 pub struct Table {
-    pub calls: [Call; 512],
+    pub calls: [Call; CALLS],
     pub count: usize,
     pub horizon: u16,
     pub limits: u8,

@@ -3,3 +3,4 @@ pub mod StepLaws
 pub mod TurnLaws
 pub mod OfferLaws
 pub mod PassedLaws
+pub mod FromLaws

@@ -17,16 +17,16 @@ use Rattle.profile.specs.Figures.{covᶠ, dueᶠ}
 use Rattle.profile.specs.Kept.{going, refused, latest, too_late}
 use Rattle.profile.specs.Walk.{passes}
 use Rattle.profile.specs.Journeys.{row_figures, cov, due, no_row}
-use Rattle.state.specs.Layout.{slots, width, count_place, horizon_place, limits_place, refused_place, size}
-use Rattle.state.specs.View.{row_at, rows, count_of, horizon_of, limits_of, kept_of, open_of, view}
+use Rattle.search_state.specs.Layout.{slots, width, count_place, horizon_place, limits_place, refused_place, size}
+use Rattle.search_state.specs.View.{row_at, rows, count_of, horizon_of, limits_of, kept_of, open_of, view}
 use Rattle.candidate.specs.Offer.{offer_to, reads_to, OffersSearch, OffersLate}
 use Rattle.candidate.specs.Pieces.{put_row, Tail, Ends, near_at, passing, uncovered, in_time, Packed, Open, latest_due, settled}
 use Rattle.profile.proofs.KeptLaws.{latest-mem}
 use Rattle.profile.proofs.WalkLaws.{walk-late, reads-late, walks-late}
 use Rattle.profile.proofs.ClaimLaws.{walks-search}
 use Rattle.candidate.proofs.PutLaws.{seen, put-long, put-tail, rows-put, rows-set}
-use Rattle.state.proofs.RowLaws.{rows-length, rows_get}
-use Rattle.state.proofs.ViewLaws.{count-is, few, length-kept, view-open, view-refused, view-is}
+use Rattle.search_state.proofs.RowLaws.{rows-length, rows_get}
+use Rattle.search_state.proofs.ViewLaws.{count-is, few, length-kept, view-open, view-refused, view-is}
 
 -- ---- what is to be settled
 

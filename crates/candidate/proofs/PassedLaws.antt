@@ -1,7 +1,7 @@
 -- Offers that need not be made, since a row that covers them would be passed over.
 use mathlib.Core.Path.{◌≡◌, refl, sym, ap, ◌∙◌}
 use mathlib.Core.Logic.{◌⊎◌, inl, inr}
-use mathlib.Core.Bool.{Bool, true, false}
+use mathlib.Core.Bool.{Bool, true, false, true≢false, ◌||◌}
 use mathlib.Core.List.Memᴰ
 use mathlib.Core.List.{List, [], ◌∷◌}
 use Prim.Native.Nat.{ℕ, ◌≤◌}
@@ -9,23 +9,23 @@ use native.Mathlib.Omega.{arith}
 use lib.Dec.{leb, ltb}
 use lib.ListN.{take}
 use borrow.Author.Tests.{le-leb, le-ltb, lt-ltb, ltb-true, ltb-false}
-use Rattle.laws.proofs.Bools.{and-true, or-true-cases, test}
+use Rattle.laws.proofs.Bools.{and-true, or-true-cases, or-true-left, or_true_right, test}
 use Rattle.profile.specs.Found.{Row}
 use Rattle.profile.specs.declared.figures.Figures.{Figures}
 use Rattle.profile.specs.Figures.{lexb}
-use Rattle.profile.specs.Kept.{St, going, refused, too_late}
+use Rattle.profile.specs.Kept.{SearchState, going, refused, too_late}
 use Rattle.profile.specs.Journeys.{row_figures, cov, due}
 use Rattle.profile.proofs.FiguresLaws.{lexb-lt, lexb-eq, covers-arrival, figures-order}
 use Rattle.profile.specs.Walk.{passes}
 use Rattle.profile.proofs.WalkLaws.{passes-covered}
-use Rattle.state.specs.View.{rows, count_of, horizon_of, kept_of, view}
-use Rattle.state.proofs.ViewLaws.{view-open, in_time}
-use Rattle.candidate.specs.Offer.{with_figures, offer_to, passed_over, OffersCovered}
+use Rattle.search_state.specs.View.{rows, count_of, horizon_of, kept_of, view}
+use Rattle.search_state.proofs.ViewLaws.{view-open, in_time}
+use Rattle.candidate.specs.Offer.{with_figures, offer_to, passed_over, OffersCovered, CoveredPassed}
 use Rattle.candidate.specs.Pieces.{passing}
 
 -- ---- what `passes_over` finds
 
-pub passed-late : (s : St Row) (o : Row) (b : Bool) → b ≡ too_late s (due o) → b ≡ true → true ≡ passed_over s o
+pub passed-late : (s : SearchState Row) (o : Row) (b : Bool) → b ≡ too_late s (due o) → b ≡ true → true ≡ passed_over s o
 unfolding passed_over
 passed-late (going ks h l) o b e t =
     let y : ltb h (due o) ≡ true = sym e ∙ t in
@@ -43,7 +43,8 @@ passed-covered l o b r c e f ec er =
 -- ---- what follows from it
 
 -- what is said of figures is said of those they are equal to
-pub passed-at : (s : St Row) {r : Bool} {g h : Figures} → g ≡ h → r ≡ passed_over s (with_figures g) → r ≡ passed_over s (with_figures h)
+pub passed-at : (s : SearchState Row) {r : Bool} {g h : Figures} → g ≡ h → r ≡ passed_over s (with_figures g) → r
+    ≡ passed_over s (with_figures h)
 passed-at s e p = p ∙ ap (λ x. passed_over s (with_figures x)) e
 
 -- a row covers each one that has its leave, rides and walk and is due no earlier
@@ -61,23 +62,28 @@ cov-no-later b o el ea er ew =
         lexb-eq b.arrival o.arrival rest (omega (arith, ltb-false b.arrival o.arrival t))
         (lexb-eq b.rides o.rides _ er (le-leb b.walk o.walk (omega arith)))
 
-covered-passes : (s : St Row) (b o : Row) → passed_over s b ≡ true → cov b o ≡ true → offer_to s o ≡ s
-unfolding passed_over offer_to passing cov due
-covered-passes (going ks h l) b o p c = go (or-true-cases (ltb h b.arrival) (passes cov b ks) p)
+pub covered-passed : CoveredPassed
+unfolding passed_over passing cov due
+covered-passed (going ks h l) b o p c = go (or-true-cases (ltb h b.arrival) (passes cov b ks) p)
   where
-    late : ltb h o.arrival ≡ true → offer_to (going ks h l) o ≡ going ks h l
-    late t = rw t refl
+    go : (ltb h b.arrival ≡ true) ⊎ (passes cov b ks ≡ true) → (ltb h o.arrival || passes cov o ks) ≡ true
+    go (inl t) =
+        or-true-left _ _ (lt-ltb h o.arrival (omega (arith, ltb-true h b.arrival t, covers-arrival (row_figures b) (row_figures o) c)))
+    go (inr t) = or_true_right (ltb h o.arrival) _ (passes-covered (figures-order row_figures) b o ks c t)
+covered-passed refused b o p c = refl
 
-    kept : (ltb h o.arrival ≡ true) ⊎ (ltb h o.arrival ≡ false) → passes cov o ks ≡ true → offer_to (going ks h l) o ≡ going ks h l
-    kept (inl t) y = late t
-    kept (inr t) y = rw (t, y) refl
-
-    go : (ltb h b.arrival ≡ true) ⊎ (passes cov b ks ≡ true) → offer_to (going ks h l) o ≡ going ks h l
-    go (inl t) = late (lt-ltb h o.arrival (omega (arith, ltb-true h b.arrival t, covers-arrival (row_figures b) (row_figures o) c)))
-    go (inr t) = kept (test (ltb h o.arrival)) (passes-covered (figures-order row_figures) b o ks c t)
-covered-passes refused b o p c = refl
+pub passed-stays : (s : SearchState Row) (o : Row) → passed_over s o ≡ true → offer_to s o ≡ s
+unfolding passed_over offer_to passing cov due
+passed-stays (going ks h l) o p = go (test (ltb h o.arrival)) (or-true-cases (ltb h o.arrival) (passes cov o ks) p)
+  where
+    go : (ltb h o.arrival ≡ true) ⊎ (ltb h o.arrival ≡ false) → (ltb h o.arrival ≡ true) ⊎ (passes cov o ks ≡ true)
+        → offer_to (going ks h l) o ≡ going ks h l
+    go (inl t) y = rw t refl
+    go (inr t) (inl y) = absurd (true≢false (sym y ∙ t))
+    go (inr t) (inr y) = rw (t, y) refl
+passed-stays refused o p = refl
 
 pub offers-covered : OffersCovered
 offers-covered s b [] p f = refl
 offers-covered s b (o ∷ os) p f =
-    rw (covered-passes s b o p (f o (Memᴰ.head refl))) (offers-covered s b os p (λ x m. f x (Memᴰ.tail m)))
+    rw (passed-stays s o (covered-passed s b o p (f o (Memᴰ.head refl)))) (offers-covered s b os p (λ x m. f x (Memᴰ.tail m)))

@@ -13,9 +13,9 @@ use Rattle.laws.proofs.Bools.{test}
 use Rattle.laws.proofs.Arrays.{length-puts, puts_low, puts-high, puts-in}
 use Rattle.profile.specs.Found.{Row}
 use Rattle.profile.specs.Journeys.{row, no_row}
-use Rattle.state.specs.Layout.{slots, width, count_place, size}
-use Rattle.state.specs.View.{row_at, rows}
-use Rattle.state.proofs.RowLaws.{rows-length, rows_get}
+use Rattle.search_state.specs.Layout.{slots, width, count_place, size}
+use Rattle.search_state.specs.View.{row_at, rows}
+use Rattle.search_state.proofs.RowLaws.{rows-length, rows_get}
 use Rattle.candidate.specs.Pieces.{put_row, Tail}
 
 -- ---- a row is seen by its numbers

@@ -16,12 +16,12 @@ use Rattle.profile.specs.Kept.{latest}
 use Rattle.profile.specs.Walk.{place, near}
 use Rattle.profile.proofs.WalkLaws.{place-le, place-before, passes-found, passes_none}
 use Rattle.profile.specs.Found.{Row}
-use Rattle.state.specs.Layout.{slots, size}
-use Rattle.state.specs.View.{row_at, rows, count_of}
+use Rattle.search_state.specs.Layout.{slots, size}
+use Rattle.search_state.specs.View.{row_at, rows, count_of}
 use Rattle.candidate.specs.Pieces.{put_row, near_to, near_at, Skipped, passing, uncovered, Packed, latest_due}
 use Rattle.candidate.proofs.PutLaws.{put-long, put-tail, rows-put}
-use Rattle.state.proofs.RowLaws.{rows-length, rows_get, row-got}
-use Rattle.state.proofs.ViewLaws.{few}
+use Rattle.search_state.proofs.RowLaws.{rows-length, rows_get, row-got}
+use Rattle.search_state.proofs.ViewLaws.{few}
 
 -- ---- the first that is near
 

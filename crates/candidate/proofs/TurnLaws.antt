@@ -13,9 +13,9 @@ use Rattle.profile.specs.Found.{Row}
 use Rattle.profile.specs.Journeys.{cov}
 use Rattle.profile.proofs.CoverLaws.{cov-early}
 use Rattle.profile.proofs.FiguresLaws.{lexb-total}
-use Rattle.state.specs.Layout.{width}
-use Rattle.state.specs.View.{row_at, rows}
-use Rattle.state.proofs.RowLaws.{rows_get}
+use Rattle.search_state.specs.Layout.{width}
+use Rattle.search_state.specs.View.{row_at, rows}
+use Rattle.search_state.proofs.RowLaws.{rows_get}
 use Rattle.candidate.specs.Pieces.{rank_by, turn_of, Ends, near_to, near_at, Skipped, passing, walk_end}
 use Rattle.candidate.specs.declared.walk.Turn.{Turn}
 use Rattle.candidate.specs.declared.walk.Turn.TheVariants.{On, Covered, Stops}
@@ -35,7 +35,7 @@ cov-rank : (a b : Row) → b.leave ≤ a.leave → cov a b ≡ rank_by a.arrival
 unfolding cov rank_by
 cov-rank a b h = rw (le-leb b.leave a.leave h) refl
 
-cov-total : (a b : Row) → a.leave ≡ b.leave → cov a b ≡ false → cov b a ≡ true
+pub cov-total : (a b : Row) → a.leave ≡ b.leave → cov a b ≡ false → cov b a ≡ true
 cov-total a b e h =
     let f = sym (cov-rank a b (omega arith)) ∙ h in
     cov-rank b a (omega arith) ∙ rank-total a.arrival a.rides a.walk b.arrival b.rides b.walk f

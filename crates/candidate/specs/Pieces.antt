@@ -1,17 +1,19 @@
 -- What the private functions of an offer do to the array, piece by piece.
-use Rattle.std.specs.Prelude.{Result, Ok, Err, ◌≡◌, Bool, not, cond, List, [], ◌∷◌, ℕ, ◌+◌, ◌*◌, ◌≤◌, leb, ltb, get_or, length, set, take}
+use Rattle.std.specs.Prelude.{Result, Ok, Err, ◌≡◌, Bool, not, cond, List, [], ◌∷◌, ℕ}
+use Rattle.std.specs.Prelude.{◌+◌, ◌*◌, ◌≤◌, min, max, eqb, leb, ltb, get_or, length, set, take}
 use Rattle.std.specs.Prelude.{drop}
 use Rattle.laws.specs.Lists.{filterb}
 use Rattle.laws.specs.Arrays.{puts}
 use Rattle.profile.specs.Found.{Row}
 use Rattle.profile.specs.Figures.{lexb}
-use Rattle.profile.specs.Kept.{St, latest, settle}
+use Rattle.profile.specs.Kept.{SearchState, latest, settle}
 use Rattle.profile.specs.Walk.{place, near, passes}
 use Rattle.profile.specs.Journeys.{cov, due, no_row}
 use Rattle.candidate.specs.declared.walk.Turn.{Turn}
 use Rattle.candidate.specs.declared.walk.Turn.TheVariants.{On, Covered, Stops}
-use Rattle.state.specs.Layout.{width, count_place, refused_place, size}
-use Rattle.state.specs.View.{rows, horizon_of, limits_of}
+use Rattle.search_state.specs.Layout.{width, count_place, refused_place, size}
+use Rattle.search_state.specs.View.{rows, horizon_of, limits_of}
+use Rattle.profile.specs.Sizes.{kept_room, least_horizon}
 
 -- the row r stored in slot i
 abbrev pub stored : List ℕ → ℕ → Row → List ℕ
@@ -83,5 +85,25 @@ unfoldable pub latest_due : List Row → ℕ
 latest_due ks = latest due ks
 
 -- the rows ks are to be kept
-unfoldable pub settled : List ℕ → List Row → St Row
-settled l ks = settle due 64 3600 ks (horizon_of l) (limits_of l)
+unfoldable pub settled : List ℕ → List Row → SearchState Row
+settled l ks = settle due kept_room least_horizon ks (horizon_of l) (limits_of l)
+
+-- ---- from when on an offer is passed over
+
+-- from when on the row k equals or beats what has so many rides and such a walk and leaves no later
+unfoldable pub covers_from : Row → ℕ → ℕ → ℕ
+covers_from k r w = cond (lexb k.rides r (leb k.walk w)) k.arrival (k.arrival + 1)
+
+-- from when on k is not equalled or beaten by what has so many rides and such a walk and leaves no earlier
+unfoldable pub stays_from : Row → ℕ → ℕ → ℕ
+stays_from k r w = cond (lexb r k.rides (leb w k.walk)) (k.arrival + 1) k.arrival
+
+-- from when on a walk that begins at k passes over what leaves so; t: from when on one that begins behind k does
+unfoldable pub row_from : ℕ → ℕ → ℕ → Row → ℕ → ℕ
+row_from leave r w k t =
+    cond (ltb k.leave leave) (max t (stays_from k r w)) (cond (eqb k.leave leave) (covers_from k r w) (min t (covers_from k r w)))
+
+-- the same of a walk over these rows; t: what counts where none decides
+unfoldable pub rows_from : ℕ → ℕ → ℕ → ℕ → List Row → ℕ
+rows_from leave r w t [] = t
+rows_from leave r w t (k ∷ ks) = row_from leave r w k (rows_from leave r w t ks)

@@ -4,21 +4,23 @@
 ghost use Rattle.std.specs.Prelude.{◌≡◌, Bool, [], ◌∷◌, ◌++◌, ◌+◌, ◌*◌, ◌≤◌, ◌<◌, length, set, take};
 ghost use Rattle.profile.specs.Found.{Row};
 ghost use Rattle.profile.specs.Journeys.{due};
-ghost use Rattle.state.specs.Layout.{slots, width, size};
-ghost use Rattle.state.specs.View.{row_at, rows, count_of, horizon_of, view};
+ghost use Rattle.search_state.specs.Layout.{slots, width, size};
+ghost use Rattle.search_state.specs.View.{row_at, rows, count_of, horizon_of, view};
 ghost use Rattle.candidate.specs.Offer.{with_figures, offer_to, reads_to, passed_over};
 ghost use Rattle.candidate.specs.Pieces.{stored, put_row, Ends, Packed, Open, latest_due, settled};
+ghost use Rattle.profile.specs.Sizes.{kept_room, least_horizon};
 
+pub mod times;
 mod walk;
 
 use crate::walk::first_near;
 use profile::figures::Figures;
-use profile::{Found, Row, no_row};
-use state::layout::{COUNT, HORIZON, LIMITS, REFUSED, SLOTS, State, WIDTH};
-use state::{count, row_at, too_late};
+use profile::{Found, KEPT, LEAST_HORIZON, Row, no_row};
+use search_state::layout::{COUNT, HORIZON, LIMITS, REFUSED, SLOTS, State, WIDTH};
+use search_state::{count, row_at, too_late};
 
-// Stores a row in slot i. That there is such a slot is asked, here, in `store` and in `state: slot_at`: a place read from a type would be
-// opened at every use.
+// Stores a row in slot i. That there is such a slot is asked, here, in `store` and in `search_state: slot_at`: a place read from a type
+// would be opened at every use.
 fn put_row(st: &mut State, i: usize, r: Row)
     requires { i < slots }
     ensures { st.new ≡ stored st.old i r }
@@ -79,7 +81,7 @@ fn latest(st: &State) -> u16
 // The horizon falls to h, and of the 65 rows those due later go. That the search is open each function asks for itself: no type holds it,
 // since `overflow` may refuse the search in the midst.
 fn fall(st: &mut State, h: u16)
-    requires { Open st.old × (3600 ≤ h) × (latest_due (rows st.old) ≡ h + 1) }
+    requires { Open st.old × (least_horizon ≤ h) × (latest_due (rows st.old) ≡ h + 1) }
     ensures { view st.new ≡ settled st.old (rows st.old) }
 {
     let n = pack(st, 0, 0, SLOTS, |k| k.arrival <= h);
@@ -94,7 +96,7 @@ fn overflow(st: &mut State)
     ensures { view st.new ≡ settled st.old (rows st.old) }
 {
     let late = latest(st);
-    if late < 3601 {
+    if late <= LEAST_HORIZON {
         st[REFUSED] = 1;
         return;
     }
@@ -103,11 +105,11 @@ fn overflow(st: &mut State)
 
 // The first n rows are to be kept, and o after them.
 fn added(st: &mut State, n: usize, o: Row)
-    requires { Open st.old × (n ≤ 64) }
+    requires { Open st.old × (n ≤ kept_room) }
     ensures { view st.new ≡ settled st.old (take n (rows st.old) ++ o ∷ []) }
 {
     put_row(st, n, o);
-    if n < 64 {
+    if n < KEPT {
         st[COUNT] = n as u16 + 1;
         return;
     }
@@ -133,7 +135,7 @@ fn walked(st: &mut State, c: usize, o: Row) -> usize
 // Marks the end of the c kept rows for a walk: the slot behind them leaves when o does. `count` is read once for an offer; that c is at
 // most 64 each function asks, as a type would be opened at every use.
 fn mark(st: &mut State, c: usize, leave: u16)
-    requires { c ≤ 64 }
+    requires { c ≤ kept_room }
     ensures { st.new ≡ set st.old (c * width) leave }
 {
     st[c * WIDTH] = leave;

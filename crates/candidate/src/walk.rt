@@ -1,11 +1,12 @@
 // The walk of an offer over the kept rows: to the first that covers it or that it covers.
 ghost use Rattle.std.specs.Prelude.{◌≡◌, ◌+◌, ◌*◌, ◌≤◌, ◌<◌, length, get_or, take};
-ghost use Rattle.state.specs.Layout.{width, count_place, size};
-ghost use Rattle.state.specs.View.{row_at, rows};
+ghost use Rattle.search_state.specs.Layout.{width, count_place, size};
+ghost use Rattle.search_state.specs.View.{row_at, rows};
 ghost use Rattle.candidate.specs.Pieces.{rank_by, turn_of, Ends, walk_end};
+ghost use Rattle.profile.specs.Sizes.{kept_room};
 
 use profile::Row;
-use state::layout::{State, WIDTH};
+use search_state::layout::{State, WIDTH};
 
 // Whether the row whose numbers start at `at` is no worse than o by arrival, rides and walk. Number by number, from state and place:
 // compared as tuples, or read as a row first, a walk takes a tenth to a quarter longer.
@@ -44,7 +45,7 @@ enum Turn {
 
 // What the walk of o does at row i of the c kept ones, whose numbers start at `at`. A figure is read only where it decides.
 fn turn_at(st: &State, at: usize, i: usize, c: usize, o: Row) -> Turn
-    requires { (c ≤ 64) × (i ≤ c) × (at ≡ i * width) × Ends st.now c o }
+    requires { (c ≤ kept_room) × (i ≤ c) × (at ≡ i * width) × Ends st.now c o }
     ensures { result ≡ turn_of i c o (row_at st.now i) }
 {
     if st[at] < o.leave {
@@ -70,7 +71,7 @@ fn turn_at(st: &State, at: usize, i: usize, c: usize, o: Row) -> Turn
 // finds a walk that needs no register that must be saved first. `count` is read once for an offer; that c is at most 64 each function
 // asks, as a type would be opened at every use.
 pub fn first_near(st: &State, c: usize, o: Row) -> Result<u16, u16>
-    requires { (c ≤ 64) × Ends st.now c o }
+    requires { (c ≤ kept_room) × Ends st.now c o }
     ensures { result ≡ walk_end o (take c (rows st.now)) }
 {
     let mut i = 0;

@@ -30,11 +30,11 @@ use Rattle.calls.proofs.ReachedLaws.{fitted-reached}
 use Rattle.calls.proofs.FitLaws.{shrinks}
 use Rattle.week.specs.Weeks.{running}
 use Rattle.load.specs.declared.Load.{Load}
-use Rattle.load.specs.declared.Stepped.{Stepped}
+use Rattle.load.specs.declared.StepResult.{StepResult}
 use Rattle.load.specs.Load.{table_of, stopped}
 use Rattle.load.specs.Steps.{is_unknown, is_resting, running_tests, call_spec}
-use Rattle.load.specs.Filling as fill
-use Rattle.load.specs.Filling.{Filling, call}
+use Rattle.load.specs.FillStep as fill
+use Rattle.load.specs.FillStep.{FillStep, call}
 use Rattle.load.proofs.AnswerLaws.{step-answered}
 use Rattle.again.specs.Again.{unsearched_of}
 use Rattle.again.specs.Causes.{no_room_of, search_tests, again_tests, later_tests, add_causes}
@@ -95,7 +95,7 @@ unfolding first_answer
 past-six b1 b2 b3 b4 b5 b6 p q c1 c2 c3 c4 c5 c6 e1 e2 e3 e4 e5 e6 = rw (e1, e2, e3, e4, e5, e6) refl
 
 -- l is the searched load
-module _ (s : Settings) (o : Opened s) (l u : Load) (gs fs : List Filling) (w : Start s u gs) (like : Like gs fs)
+module _ (s : Settings) (o : Opened s) (l u : Load) (gs fs : List FillStep) (w : Start s u gs) (like : Like gs fs)
     (few : stopped l ≡ true → s.max_transfers ≤ 1)
     (name : List ℕ) (i : CallInput) where
   -- its state
@@ -132,7 +132,7 @@ module _ (s : Settings) (o : Opened s) (l u : Load) (gs fs : List Filling) (w : 
   start-made : Start s (call_spec u name i).load (gs ++ given u (call name i))
   start-made = fill_start s u (call name i) gs w
 
-  abbrev StartAt : Stepped → Type 0
+  abbrev StartAt : StepResult → Type 0
   StartAt x = Start s x.load (gs ++ cond (is_taken x.answer) (call name i ∷ []) [])
 
   -- the tests of a call, past those that every call meets
@@ -229,10 +229,10 @@ module _ (s : Settings) (o : Opened s) (l u : Load) (gs fs : List Filling) (w : 
         went (Ok Outside) n c v = only-cut n c (subst (Start s n) (append-nil gs) v)
         went (Err q) n c v = absurd (true≢false c.answered)
 
-        by : (x : Stepped) → call_spec u name i ≡ x → Comes s u gs name i x → Again x.load
+        by : (x : StepResult) → call_spec u name i ≡ x → Comes s u gs name i x → Again x.load
         by _ e (came {a = x} {n = n} c) = went x n c (subst StartAt e start-made)
         by _ e (rested v h) = absurd (true≢false (sym (ap is_resting v) ∙ p.awake))
-        by _ e back = absurd (true≢false (sym (ap (λ (x : Stepped). is_refused x.answer) e) ∙ ap is_refused answer-is
+        by _ e back = absurd (true≢false (sym (ap (λ (x : StepResult). is_refused x.answer) e) ∙ ap is_refused answer-is
             ∙ two-answered outs fulls f))
 
     window-again : Matches later (window_causes true s T name i)
@@ -247,7 +247,7 @@ module _ (s : Settings) (o : Opened s) (l u : Load) (gs fs : List Filling) (w : 
       later (window_causes true s T name i) window-again
 
 -- of the searched load itself
-module _ (s : Settings) (o : Opened s) (l : Load) (fs : List Filling) (e : l.searched ≡ true)
+module _ (s : Settings) (o : Opened s) (l : Load) (fs : List FillStep) (e : l.searched ≡ true)
     (w : Start s (unsearched_of l) (apart fs)) where
   -- what it was given is what its unsearched load was, and that a search was taken
   pub state-done : state_at l fs ≡ done l.limit (state_at (unsearched_of l) fs)

@@ -19,10 +19,10 @@ use Rattle.week.specs.Sound.{WeekSound}
 use Rattle.week.proofs.SoundLaws.{closed-sound}
 use Rattle.offers.specs.Order.{in_order_of}
 use Rattle.load.specs.declared.Load.{Load}
-use Rattle.load.specs.declared.Stepped.{Stepped}
+use Rattle.load.specs.declared.StepResult.{StepResult}
 use Rattle.load.specs.Load.{with_week, stopped}
 use Rattle.load.specs.Steps.{closed_load, call_spec}
-use Rattle.load.specs.Filling.{Filling, call}
+use Rattle.load.specs.FillStep.{FillStep, call}
 use Rattle.load.proofs.SoundLaws.{with-week-sound}
 use Rattle.again.specs.Again.{unsearched_of, researched, again, added_to, add_spec_of}
 use Rattle.again.specs.Claims.{Kept}
@@ -46,24 +46,24 @@ use Rattle.comparison.proofs.SearchingLaws.{untaken-refused, found-searched, fou
 use Rattle.comparison.proofs.SearchedLaws.{apart-again, searched-start, Leaves, stays-so, same-leaves}
 use Rattle.comparison.proofs.AddedLaws.{fits-unseen, state-done}
 
-module _ (s : Settings) (o : Opened s) (l : Load) (fs : List Filling) (d : l.searched ≡ true) (kept : Kept l)
+module _ (s : Settings) (o : Opened s) (l : Load) (fs : List FillStep) (d : l.searched ≡ true) (kept : Kept l)
     (w : Start s (unsearched_of l) (apart fs))
     (days : (j : CallInput) → Memᴰ j (calls_in fs) → j.day ≤ 2) (few : stopped l ≡ true → s.max_transfers ≤ 1) (name : List ℕ)
     (i : CallInput) where
   abbrev u : Load
   u = unsearched_of l
 
-  abbrev gs : List Filling
+  abbrev gs : List FillStep
   gs = apart fs
 
-  abbrev x : Filling
+  abbrev x : FillStep
   x = call name i
 
   abbrev T : State
   T = done l.limit (state_at u fs)
 
   -- searched again
-  abbrev once : Load → Stepped
+  abbrev once : Load → StepResult
   once n = researched l.limit n
 
   -- the week holds what was taken, in the order taken too
@@ -91,7 +91,7 @@ module _ (s : Settings) (o : Opened s) (l : Load) (fs : List Filling) (d : l.sea
     fresh = refl;
   }
 
-  abbrev LeftBy : Stepped → Type 0
+  abbrev LeftBy : StepResult → Type 0
   LeftBy r = Leaves s l fs (filling x) r.answer r.load (fs ++ cond (is_taken r.answer) (x ∷ []) [])
 
   stays : (r : Refusal) → LeftBy (record { answer = Err r; load = l })
@@ -102,7 +102,7 @@ module _ (s : Settings) (o : Opened s) (l : Load) (fs : List Filling) (d : l.sea
 
   -- n is searched again
   module _ (n : Load) (t : is_taken (once n).answer ≡ true) where
-    found_at : (hs : List Filling) → n.week.dates ≡ u.week.dates → n.week.closed ≡ true
+    found_at : (hs : List FillStep) → n.week.dates ≡ u.week.dates → n.week.closed ≡ true
         → state_at (once n).load hs ≡ shut (done ((once n).load.limit) (up_to (keeping T hs) n.table_horizon n.table_limits))
     found_at hs e c =
         found-state l.limit n t hs
@@ -168,8 +168,8 @@ module _ (s : Settings) (o : Opened s) (l : Load) (fs : List Filling) (d : l.sea
   own-again : Again s T T
   own-again =
       let q = kept.own d in
-      let t : is_taken (once u).answer ≡ true = ap (λ (r : Stepped). is_taken r.answer) q in
-      subst (λ (r : Stepped). Again s T (done (r.load.limit) T)) q (again-so s u gs fs w o (apart-like fs) (state_at u fs) l.limit few t)
+      let t : is_taken (once u).answer ≡ true = ap (λ (r : StepResult). is_taken r.answer) q in
+      subst (λ (r : StepResult). Again s T (done (r.load.limit) T)) q (again-so s u gs fs w o (apart-like fs) (state_at u fs) l.limit few t)
 
   uncut-so : (n : Load) → Came s u gs name i (Ok Outside) n → Start s n gs → n.table_horizon ≡ l.table_horizon
       → LeftBy (record { answer = Ok Outside; load = with_week l n.week })
@@ -194,7 +194,7 @@ module _ (s : Settings) (o : Opened s) (l : Load) (fs : List Filling) (d : l.sea
   unfolding unsearched_of
   back-so r = stays r
 
-  abbrev StartAt : Stepped → Type 0
+  abbrev StartAt : StepResult → Type 0
   StartAt r = Start s r.load (gs ++ cond (is_taken r.answer) (x ∷ []) [])
 
   went : (a : Answer) (n : Load) → Came s u gs name i a n → StartAt (record { answer = a; load = n })
@@ -203,7 +203,7 @@ module _ (s : Settings) (o : Opened s) (l : Load) (fs : List Filling) (d : l.sea
   went (Ok Taken) n c v = go (is_taken (once n).answer) refl
     where
       go : (b : Bool) → is_taken (once n).answer ≡ b
-          → LeftBy (cond {A = Stepped} b (record { answer = Ok Taken; load = (once n).load })
+          → LeftBy (cond {A = StepResult} b (record { answer = Ok Taken; load = (once n).load })
           (record { answer = (once n).answer; load = l }))
       go true t = entered n c v t
       go false t = refused-so n v.fresh t
@@ -213,8 +213,8 @@ module _ (s : Settings) (o : Opened s) (l : Load) (fs : List Filling) (d : l.sea
       at = subst (Start s n) (append-nil gs) v
 
       go : (b : Bool) → eqb n.table_horizon l.table_horizon ≡ b → (e : Bool) → is_taken (once n).answer ≡ e
-          → LeftBy (cond {A = Stepped} b (record { answer = Ok Outside; load = with_week l n.week })
-          (cond {A = Stepped} e (record { answer = Ok Outside; load = (once n).load }) (record { answer = (once n).answer; load = l })))
+          → LeftBy (cond {A = StepResult} b (record { answer = Ok Outside; load = with_week l n.week })
+          (cond {A = StepResult} e (record { answer = Ok Outside; load = (once n).load }) (record { answer = (once n).answer; load = l })))
       go true q e t = uncut-so n c at (eqb-true n.table_horizon l.table_horizon q)
       go false q true t = cut-so n c at t
       go false q false t = refused-so n at.fresh t
@@ -228,14 +228,14 @@ module _ (s : Settings) (o : Opened s) (l : Load) (fs : List Filling) (d : l.sea
       leaves_table : eqb u.table_horizon l.table_horizon ≡ true
       leaves_table = eq-eqb u.table_horizon l.table_horizon same-height
 
-      by : (r : Stepped) → call_spec u name i ≡ r → Comes s u gs name i r → LeftBy (added_to l r)
+      by : (r : StepResult) → call_spec u name i ≡ r → Comes s u gs name i r → LeftBy (added_to l r)
       by _ e (came {a = a} {n = n} c) = went a n c (subst StartAt e (fill_start s u x gs w))
       by _ e (rested v h) =
-          subst (λ (b : Bool). LeftBy (cond {A = Stepped} b (record { answer = Ok Outside; load = with_week l (closed_load u).week })
+          subst (λ (b : Bool). LeftBy (cond {A = StepResult} b (record { answer = Ok Outside; load = with_week l (closed_load u).week })
           (again l (record { answer = Ok Outside; load = closed_load u })))) (sym leaves_table)
           (rested-so (rests-so u.week fs week-so T refl refl name i v h))
       by _ e (back {r = r}) =
-          subst (λ (b : Bool). LeftBy (cond {A = Stepped} b (record { answer = Err r; load = with_week l u.week })
+          subst (λ (b : Bool). LeftBy (cond {A = StepResult} b (record { answer = Err r; load = with_week l u.week })
           (again l (record { answer = Err r; load = u })))) (sym leaves_table) (back-so r)
 
   pub added-leaves : Leaves s l fs (filling (call name i)) (add_spec_of l name i).answer (add_spec_of l name i).load

@@ -21,7 +21,7 @@ use Rattle.profile.specs.declared.Ride.{Ride}
 use Rattle.profile.specs.declared.Journey.{Journey}
 use Rattle.profile.specs.Journeys.{no_ride}
 use Rattle.load.specs.declared.Load.{Load}
-use Rattle.load.specs.Filling.{Filling}
+use Rattle.load.specs.FillStep.{FillStep}
 use Rattle.offers.specs.Offers.{Timetable, ride_of, direct_of, change_of, three_of, journey_of}
 use Rattle.offers.specs.Admitted as by-load
 use Rattle.search.specs.Timetable.{timetable_of}
@@ -77,7 +77,7 @@ ride-is b a r w = λ k. record {
 pub is-ride : (b a : Call) → IsRide b a (ride_of b a)
 is-ride b a = record { trip = refl; day = refl; from = refl; to = refl; departure = refl; arrival = refl; board = refl; alight = refl }
 
-module _ (s : Settings) (p : Load) (fs : List Filling) (w : Start s p fs) (o : Opened s) where
+module _ (s : Settings) (p : Load) (fs : List FillStep) (w : Start s p fs) (o : Opened s) where
   abbrev F : Feed
   F = feed_from s p fs
 

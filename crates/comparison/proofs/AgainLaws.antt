@@ -19,10 +19,10 @@ use Rattle.calls.specs.declared.CallInput.{CallInput}
 use Rattle.calls.specs.declared.CallKey.{CallKey}
 use Rattle.withdrawal.specs.Removal.{key_of}
 use Rattle.load.specs.declared.Load.{Load}
-use Rattle.load.specs.declared.Stepped.{Stepped}
+use Rattle.load.specs.declared.StepResult.{StepResult}
 use Rattle.load.specs.Steps.{Opening, closed_load}
 use Rattle.load.specs.Sound.{Opens}
-use Rattle.load.specs.Filling.{call}
+use Rattle.load.specs.FillStep.{call}
 use Rattle.again.specs.Again.{unsearched_of, withdraw_tests, taken_out, withdraw_spec}
 use Rattle.again.specs.Causes.{search_tests}
 use Rattle.again.proofs.WeekLaws.{closed_same}
@@ -119,7 +119,7 @@ there_and_back o xs rs t v name i w r q e = kept ∙ (λ k. keeping (shut t) (ta
     stays = sym (never_wider m name i (key_of i)).1 ∙ ap (λ (x : State). x.horizon) same.1 ∙ e ∙ ap (λ (x : State). x.horizon) (sym is)
 
     back : n ≡ closed_load l
-    back = ap (λ (x : Stepped). x.load) (end-taken-back o xs name i (ap (head_of (Ok Taken)) same.0) stays)
+    back = ap (λ (x : StepResult). x.load) (end-taken-back o xs name i (ap (head_of (Ok Taken)) same.0) stays)
 
     kept : v ≡ keeping (shut t) v.taken
     kept =

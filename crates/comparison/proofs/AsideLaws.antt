@@ -15,7 +15,7 @@ use Rattle.settings.specs.declared.Settings.{Settings}
 use Rattle.calls.specs.declared.CallInput.{CallInput}
 use Rattle.rules.specs.declared.Rule.{Rule}
 use Rattle.profile.specs.declared.Journey.{Journey}
-use Rattle.load.specs.Filling.{Filling, stop, call, rule, service, exception}
+use Rattle.load.specs.FillStep.{FillStep, stop, call, rule, service, exception}
 use Rattle.steps.proofs.ShownLaws.{raw_earlier, raw_order}
 use Rattle.comparison.specs.Taken.{StopGiven, ServiceGiven, stops_in, calls_in, rules_in, services_in, State, keeping}
 use Rattle.comparison.specs.Places.{OnePlace}
@@ -27,24 +27,24 @@ use Rattle.comparison.proofs.RunsOnLaws.{exceptions_of, exceptions-append, held_
 use Rattle.comparison.proofs.WeekLaws.{Apart, WeekHeld}
 use Rattle.comparison.proofs.BagLaws.{handing, admits-perm, offered-perm}
 
-pub record Beside (gs fs : List Filling) : Type 0 where
+pub record Beside (gs fs : List FillStep) : Type 0 where
   pub stops : stops_in gs ≡ stops_in fs
   pub rules : rules_in gs ≡ rules_in fs
   pub services : services_in gs ≡ services_in fs
   pub exceptions : (n : List ℕ) → exceptions_of n gs ≡ exceptions_of n fs
 
 -- and the same calls, in any order
-pub record Like (gs fs : List Filling) : Type 0 where
+pub record Like (gs fs : List FillStep) : Type 0 where
   pub beside : Beside gs fs
   pub calls : Permᴰ (calls_in gs) (calls_in fs)
 
-pub beside_same : (fs : List Filling) → Beside fs fs
+pub beside_same : (fs : List FillStep) → Beside fs fs
 beside_same fs = record { stops = refl; rules = refl; services = refl; exceptions = λ n. refl }
 
-pub beside_back : {gs fs : List Filling} → Beside gs fs → Beside fs gs
+pub beside_back : {gs fs : List FillStep} → Beside gs fs → Beside fs gs
 beside_back b = record { stops = sym b.stops; rules = sym b.rules; services = sym b.services; exceptions = λ n. sym (b.exceptions n) }
 
-pub beside-on : {hs gs fs : List Filling} → Beside hs gs → Beside gs fs → Beside hs fs
+pub beside-on : {hs gs fs : List FillStep} → Beside hs gs → Beside gs fs → Beside hs fs
 beside-on a b = record {
   stops = a.stops ∙ b.stops;
   rules = a.rules ∙ b.rules;
@@ -52,11 +52,11 @@ beside-on a b = record {
   exceptions = λ n. a.exceptions n ∙ b.exceptions n;
 }
 
-pub like-back : {gs fs : List Filling} → Like gs fs → Like fs gs
+pub like-back : {gs fs : List FillStep} → Like gs fs → Like fs gs
 like-back w = record { beside = beside_back w.beside; calls = Permᴰ.symm w.calls }
 
 -- with the same behind both
-pub beside-more : (gs fs xs : List Filling) → Beside gs fs → Beside (gs ++ xs) (fs ++ xs)
+pub beside-more : (gs fs xs : List FillStep) → Beside gs fs → Beside (gs ++ xs) (fs ++ xs)
 beside-more gs fs xs b = record {
   stops = stops-append gs xs ∙ ap (λ (r : List StopGiven). r ++ stops_in xs) b.stops ∙ sym (stops-append fs xs);
   rules = rules-append gs xs ∙ ap (λ (r : List Rule). r ++ rules_in xs) b.rules ∙ sym (rules-append fs xs);
@@ -65,7 +65,7 @@ beside-more gs fs xs b = record {
       ∙ sym (exceptions-append n fs xs);
 }
 
-pub like-more : (gs fs xs : List Filling) → Like gs fs → Like (gs ++ xs) (fs ++ xs)
+pub like-more : (gs fs xs : List FillStep) → Like gs fs → Like (gs ++ xs) (fs ++ xs)
 like-more gs fs xs w = record {
   beside = beside-more gs fs xs w.beside;
   calls = subst (λ (r : List CallInput). Permᴰ r (calls_in (fs ++ xs))) (sym (calls-append gs xs))
@@ -74,7 +74,7 @@ like-more gs fs xs w = record {
 }
 
 -- a call less
-pub beside-less : (before behind : List Filling) (name : List ℕ) (i : CallInput)
+pub beside-less : (before behind : List FillStep) (name : List ℕ) (i : CallInput)
     → Beside (before ++ behind) (before ++ call name i ∷ behind)
 beside-less before behind name i = record {
   stops = stops-append before behind ∙ sym (stops-append before (call name i ∷ behind));
@@ -85,7 +85,7 @@ beside-less before behind name i = record {
 
 -- ---- the calls apart, and in order
 
-abbrev others : List Filling → List Filling
+abbrev others : List FillStep → List FillStep
 others [] = []
 others (stop id name parent i ∷ fs) = stop id name parent i ∷ others fs
 others (call name i ∷ fs) = others fs
@@ -93,11 +93,11 @@ others (rule i ∷ fs) = rule i ∷ others fs
 others (service name weekdays start end ∷ fs) = service name weekdays start end ∷ others fs
 others (exception name date kind ∷ fs) = exception name date kind ∷ others fs
 
-abbrev unnamed : List CallInput → List Filling
+abbrev unnamed : List CallInput → List FillStep
 unnamed [] = []
 unnamed (i ∷ is) = call [] i ∷ unnamed is
 
-abbrev pub apart : List Filling → List Filling
+abbrev pub apart : List FillStep → List FillStep
 apart fs = others fs ++ unnamed (raw_order (calls_in fs))
 
 module _ (is : List CallInput) where
@@ -121,7 +121,7 @@ module _ (is : List CallInput) where
   only_calls [] = refl
   only_calls (j ∷ js) = ap {B = List CallInput} (λ r. j ∷ r) (only_calls js)
 
-  stops-of : (fs : List Filling) → stops_in (others fs ++ unnamed is) ≡ stops_in fs
+  stops-of : (fs : List FillStep) → stops_in (others fs ++ unnamed is) ≡ stops_in fs
   stops-of [] = no-stops is
   stops-of (stop id name parent i ∷ fs) = ap {B = List StopGiven} (λ r. record { id = id; name = name; parent = parent; input = i } ∷ r)
       (stops-of fs)
@@ -130,7 +130,7 @@ module _ (is : List CallInput) where
   stops-of (service name weekdays start end ∷ fs) = stops-of fs
   stops-of (exception name date kind ∷ fs) = stops-of fs
 
-  rules-of : (fs : List Filling) → rules_in (others fs ++ unnamed is) ≡ rules_in fs
+  rules-of : (fs : List FillStep) → rules_in (others fs ++ unnamed is) ≡ rules_in fs
   rules-of [] = no-rules is
   rules-of (stop id name parent i ∷ fs) = rules-of fs
   rules-of (call name i ∷ fs) = rules-of fs
@@ -138,7 +138,7 @@ module _ (is : List CallInput) where
   rules-of (service name weekdays start end ∷ fs) = rules-of fs
   rules-of (exception name date kind ∷ fs) = rules-of fs
 
-  services-of : (fs : List Filling) → services_in (others fs ++ unnamed is) ≡ services_in fs
+  services-of : (fs : List FillStep) → services_in (others fs ++ unnamed is) ≡ services_in fs
   services-of [] = no-services is
   services-of (stop id name parent i ∷ fs) = services-of fs
   services-of (call name i ∷ fs) = services-of fs
@@ -147,7 +147,7 @@ module _ (is : List CallInput) where
       ap {B = List ServiceGiven} (λ r. record { name = name; weekdays = weekdays; start = start; end = end } ∷ r) (services-of fs)
   services-of (exception name date kind ∷ fs) = services-of fs
 
-  exceptions-of : (n : List ℕ) (fs : List Filling) → exceptions_of n (others fs ++ unnamed is) ≡ exceptions_of n fs
+  exceptions-of : (n : List ℕ) (fs : List FillStep) → exceptions_of n (others fs ++ unnamed is) ≡ exceptions_of n fs
   exceptions-of n [] = no-exceptions n is
   exceptions-of n (stop id name parent i ∷ fs) = exceptions-of n fs
   exceptions-of n (call name i ∷ fs) = exceptions-of n fs
@@ -156,7 +156,7 @@ module _ (is : List CallInput) where
   exceptions-of n (exception name date kind ∷ fs) =
       ap (λ (r : List Exception). cond (same_bytes_of n name) (record { date = date; kind = kind } ∷ r) r) (exceptions-of n fs)
 
-  calls-of : (fs : List Filling) → calls_in (others fs ++ unnamed is) ≡ is
+  calls-of : (fs : List FillStep) → calls_in (others fs ++ unnamed is) ≡ is
   calls-of [] = only_calls is
   calls-of (stop id name parent i ∷ fs) = calls-of fs
   calls-of (call name i ∷ fs) = calls-of fs
@@ -164,10 +164,10 @@ module _ (is : List CallInput) where
   calls-of (service name weekdays start end ∷ fs) = calls-of fs
   calls-of (exception name date kind ∷ fs) = calls-of fs
 
-pub apart-calls : (fs : List Filling) → calls_in (apart fs) ≡ raw_order (calls_in fs)
+pub apart-calls : (fs : List FillStep) → calls_in (apart fs) ≡ raw_order (calls_in fs)
 apart-calls fs = calls-of (raw_order (calls_in fs)) fs
 
-pub apart-like : (fs : List Filling) → Like (apart fs) fs
+pub apart-like : (fs : List FillStep) → Like (apart fs) fs
 apart-like fs =
     let is = raw_order (calls_in fs) in
     record {
@@ -182,7 +182,7 @@ apart-like fs =
 
 -- ---- what hangs on what stands beside the calls
 
-pub week-beside : (w : Week) (gs fs : List Filling) → Beside gs fs → WeekHeld w fs → WeekHeld w gs
+pub week-beside : (w : Week) (gs fs : List FillStep) → Beside gs fs → WeekHeld w fs → WeekHeld w gs
 unfolding held_service
 week-beside w gs fs b v = record {
   services = v.services ∙ sym (λ k. map (λ (g : ServiceGiven).
@@ -194,7 +194,7 @@ week-beside w gs fs b v = record {
 }
 
 -- what is given to a search by gs is what fs gives, with the calls of gs
-pub feed-beside : (s : Settings) (t : State) (gs fs : List Filling) → Beside gs fs
+pub feed-beside : (s : Settings) (t : State) (gs fs : List FillStep) → Beside gs fs
     → feed_of s (keeping t gs) ≡ handing (feed_of s (keeping t fs)) (calls_in gs)
 feed-beside s t gs fs b = λ k. record {
   settings = s;
@@ -205,13 +205,13 @@ feed-beside s t gs fs b = λ k. record {
   Place = OnePlace (b.stops k);
 }
 
-pub admits-like : (s : Settings) (t : State) (gs fs : List Filling) → Like gs fs → (j : Journey) → Admits (feed_of s (keeping t gs)) j
+pub admits-like : (s : Settings) (t : State) (gs fs : List FillStep) → Like gs fs → (j : Journey) → Admits (feed_of s (keeping t gs)) j
     → Admits (feed_of s (keeping t fs)) j
 admits-like s t gs fs w j a =
     admits-perm (feed_of s (keeping t fs)) (calls_in gs) (calls_in fs) w.calls j
     (subst (λ (F : Feed). Admits F j) (feed-beside s t gs fs w.beside) a)
 
-pub offered-like : (s : Settings) (t : State) (gs fs : List Filling) (os : List Journey) → Like gs fs
+pub offered-like : (s : Settings) (t : State) (gs fs : List FillStep) (os : List Journey) → Like gs fs
     → Offered (feed_of s (keeping t gs)) os → Offered (feed_of s (keeping t fs)) os
 offered-like s t gs fs os w a =
     offered-perm (feed_of s (keeping t fs)) (calls_in gs) (calls_in fs) os w.calls

@@ -31,7 +31,7 @@ use Rattle.load.specs.Load.{table_of}
 use Rattle.week.specs.Weeks.{running}
 use Rattle.week.specs.declared.Week.{Week}
 use Rattle.load.specs.Steps.{is_unknown, is_resting, running_tests, call_spec}
-use Rattle.load.specs.Filling.{Filling}
+use Rattle.load.specs.FillStep.{FillStep}
 use Rattle.again.specs.Again.{unsearched_of}
 use Rattle.again.specs.Causes.{again_tests, add_causes}
 use Rattle.comparison.specs.Taken.{stops_in, calls_in, State}
@@ -153,7 +153,7 @@ module _ (t : State) (week : Week) (n : ℕ) (v : WeekHeld week t.taken) (dates 
 
 -- ---- by the window
 
-module _ (s : Settings) (l : Load) (fs : List Filling) (w : Start s l fs) (o : Opened s) (i : CallInput) where
+module _ (s : Settings) (l : Load) (fs : List FillStep) (w : Start s l fs) (o : Opened s) (i : CallInput) where
   abbrev z : Settings
   z = canonical_of s
 

@@ -34,7 +34,7 @@ use Rattle.calendar.specs.Dates.{is_date}
 use Rattle.calendar.proofs.Dates.{dated}
 use Rattle.services.specs.Wrong.{no_date, dates_wrong}
 use Rattle.load.specs.Steps.{Opening, date_tests, open_tests, station_in}
-use Rattle.load.specs.Filling.{Filling}
+use Rattle.load.specs.FillStep.{FillStep}
 use Rattle.comparison.specs.Taken.{StopGiven, stops_in, rules_in}
 use Rattle.comparison.specs.Admitted.{Nth}
 use Rattle.comparison.specs.Services.{NoDate}
@@ -137,7 +137,7 @@ at-found : (f : Option ℕ) → is_some f ≡ true → (m : ℕ) × (f ≡ Some 
 at-found (Some m) e = (m, refl)
 at-found None e = absurd (false≢true e)
 
-module _ (s : Settings) (l : Load) (fs : List Filling) (w : Start s l fs) where
+module _ (s : Settings) (l : Load) (fs : List FillStep) (w : Start s l fs) where
   abbrev n : ℕ
   n = l.stop_count
 

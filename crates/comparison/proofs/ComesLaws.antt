@@ -17,10 +17,10 @@ use Rattle.week.specs.Weeks.{is_dated, closed_week, running}
 use Rattle.week.proofs.SoundLaws.{undated-closed}
 use Rattle.week.proofs.StepLaws.{runs-undated}
 use Rattle.load.specs.declared.Load.{Load}
-use Rattle.load.specs.declared.Stepped.{Stepped}
+use Rattle.load.specs.declared.StepResult.{StepResult}
 use Rattle.load.specs.Load.{table_of, with_table, with_week}
 use Rattle.load.specs.Steps.{call_fitted, plain_call, is_unknown, is_resting, closed_load, call_spec}
-use Rattle.load.specs.Filling.{Filling, filled}
+use Rattle.load.specs.FillStep.{FillStep, filled}
 use Rattle.load.proofs.SoundLaws.{fill-keeps-sound}
 use Rattle.load.proofs.TableLaws.{fill-settings}
 use Rattle.load.proofs.StepLaws as calls
@@ -37,7 +37,7 @@ use Rattle.comparison.proofs.CallLaws.{day_known}
 
 -- ---- whether its service rests, by what was taken
 
-module _ (w : Week) (fs : List Filling) (v : WeekHeld w fs) (t : State) (taken : t.taken ≡ fs) (dates : t.dates ≡ w.dates) (name : List ℕ)
+module _ (w : Week) (fs : List FillStep) (v : WeekHeld w fs) (t : State) (taken : t.taken ≡ fs) (dates : t.dates ≡ w.dates) (name : List ℕ)
     (i : CallInput) where
   pub awake-so : running w name i.day ≡ Runs· → (is_dated w ≡ true → i.day ≤ 2) → Resting t name i.day → ⊥
   awake-so r f ((ds, e), g) = go (is_dated w) refl
@@ -52,7 +52,7 @@ module _ (w : Week) (fs : List Filling) (v : WeekHeld w fs) (t : State) (taken :
 -- ---- by its answer
 
 -- it was answered by the window, which left n
-pub record Came (s : Settings) (l : Load) (fs : List Filling) (name : List ℕ) (i : CallInput) (a : Answer) (n : Load) : Type 0 where
+pub record Came (s : Settings) (l : Load) (fs : List FillStep) (name : List ℕ) (i : CallInput) (a : Answer) (n : Load) : Type 0 where
   pub answered : is_refused a ≡ false
   pub runs : running l.week name i.day ≡ Runs·
   pub day : is_dated l.week ≡ true → i.day ≤ 2
@@ -62,13 +62,13 @@ pub record Came (s : Settings) (l : Load) (fs : List Filling) (name : List ℕ) 
   pub searched : n.searched ≡ l.searched
   pub limit : n.limit ≡ l.limit
 
-pub data Comes (s : Settings) (l : Load) (fs : List Filling) (name : List ℕ) (i : CallInput) : Stepped → Type 0 where
+pub data Comes (s : Settings) (l : Load) (fs : List FillStep) (name : List ℕ) (i : CallInput) : StepResult → Type 0 where
   came : {a : Answer} {n : Load} → Came s l fs name i a n → Comes s l fs name i (record { answer = a; load = n })
   -- its service doesn't run
   rested : running l.week name i.day ≡ Rests· → i.day ≤ 2 → Comes s l fs name i (record { answer = Ok Outside; load = closed_load l })
   back : {r : Refusal} → Comes s l fs name i (record { answer = Err r; load = l })
 
-module _ (s : Settings) (o : Opened s) (l : Load) (fs : List Filling) (w : Start s l fs) (name : List ℕ) (i : CallInput) where
+module _ (s : Settings) (o : Opened s) (l : Load) (fs : List FillStep) (w : Start s l fs) (name : List ℕ) (i : CallInput) where
   fits-so : is_refused (call_fitted l i).answer ≡ false
       → Fits s (calls_in fs) i l.table_horizon l.table_limits (call_fitted l i).answer (call_fitted l i).table.horizon
       (call_fitted l i).table.limits
@@ -145,7 +145,7 @@ module _ (s : Settings) (o : Opened s) (l : Load) (fs : List Filling) (w : Start
   unfolding plain_call
   comes = by _ (calls.called l name i)
     where
-      by : (r : Stepped) → calls.Called l name i r → Comes s l fs name i r
+      by : (r : StepResult) → calls.Called l name i r → Comes s l fs name i r
       by _ (calls.without d) = plain d (call_fitted l i).answer refl
       by _ (calls.goes_on d g) = passes (calls.gate-passed l.searched l.stop_count i _ g).1 (call_fitted l i).answer refl
       by _ (calls.stays_out d g) = let v = calls.gate-rests l.searched l.stop_count i _ g in
@@ -153,7 +153,7 @@ module _ (s : Settings) (o : Opened s) (l : Load) (fs : List Filling) (w : Start
       by _ (calls.sent_back d r g) = back
 
 -- a load that is not searched goes on holding what was taken, whatever fills it
-pub fill_start : (s : Settings) (l : Load) (x : Filling) (fs : List Filling) → Start s l fs → Start s (filled l x).load (fs ++ given l x)
+pub fill_start : (s : Settings) (l : Load) (x : FillStep) (fs : List FillStep) → Start s l fs → Start s (filled l x).load (fs ++ given l x)
 fill_start s l x fs w = record {
   sound = fill-keeps-sound l x w.sound;
   settings = fill-settings l x ∙ w.settings;

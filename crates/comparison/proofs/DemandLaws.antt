@@ -25,7 +25,7 @@ use Rattle.offers.proofs.OrderLaws.{put-in-order}
 use Rattle.load.specs.declared.Load.{Load}
 use Rattle.load.specs.Load.{table_of, stopped}
 use Rattle.load.specs.Steps.{Opening, open_tests, open_answer, opened, open_spec_of}
-use Rattle.load.specs.Filling.{Filling, stop, call, rule, service, exception}
+use Rattle.load.specs.FillStep.{FillStep, stop, call, rule, service, exception}
 use Rattle.load.specs.Sound.{Opens, Sound}
 use Rattle.best.specs.Best.{kept_of, after_of, next_spec}
 use Rattle.search.specs.Timetable.{timetable_of}
@@ -169,7 +169,7 @@ module _ (s : Opening) (o : Opens s) (xs : List Step) (d : (end_of s xs).searche
   abbrev u : Load
   u = unsearched_of l
 
-  abbrev gs : List Filling
+  abbrev gs : List FillStep
   gs = (whole s o xs).taken
 
   start : Start s.settings (unsearched_of (end_of s xs)) (apart (whole s o xs).taken)

@@ -18,7 +18,7 @@ use Rattle.calls.specs.Calls.{window}
 use Rattle.calls.specs.declared.CallKey.{CallKey}
 use Rattle.withdrawal.specs.Removal.{without_last, has_key, key_known, shown_key, named_in, LastGoes}
 use Rattle.withdrawal.proofs.LeftLaws.{goes, none-gone}
-use Rattle.load.specs.Filling.{Filling, stop, call, rule, service, exception}
+use Rattle.load.specs.FillStep.{FillStep, stop, call, rule, service, exception}
 use Rattle.comparison.specs.Taken.{calls_in, State, keeping}
 use Rattle.comparison.specs.Withdrawal.{HasKey, InTable, NoneSuch, Withdrawn}
 use Rattle.comparison.proofs.NthLaws.{calls-append}
@@ -50,10 +50,10 @@ key-out k c a b d = and-true _ _ (eq-eqb c.trip k.trip a) (and-true _ _ (eq-eqb 
 -- ---- of the steps that were taken
 
 module _ (z : Settings) (h : ℕ) (k : CallKey) where
-  abbrev p : Filling → Bool
+  abbrev p : FillStep → Bool
   p = named_filling z h k
 
-  pub any-calls : (fs : List Filling) → anyb p fs ≡ anyb (named_in z h k) (calls_in fs)
+  pub any-calls : (fs : List FillStep) → anyb p fs ≡ anyb (named_in z h k) (calls_in fs)
   any-calls [] = refl
   any-calls (stop id name parent i ∷ fs) = any-calls fs
   any-calls (call name i ∷ fs) = ap (λ (b : Bool). named_in z h k i || b) (any-calls fs)
@@ -62,13 +62,13 @@ module _ (z : Settings) (h : ℕ) (k : CallKey) where
   any-calls (exception name date kind ∷ fs) = any-calls fs
 
   -- what is no call stays
-  other-stays : (x : Filling) (fs : List Filling) → calls_in (x ∷ []) ≡ [] → ((gs : List Filling) → calls_in (x ∷ gs) ≡ calls_in gs)
+  other-stays : (x : FillStep) (fs : List FillStep) → calls_in (x ∷ []) ≡ [] → ((gs : List FillStep) → calls_in (x ∷ gs) ≡ calls_in gs)
       → calls_in (without_last p fs) ≡ without_last (named_in z h k) (calls_in fs) → (b : Bool) → anyb p fs ≡ b
       → calls_in (cond b (x ∷ without_last p fs) (x ∷ fs)) ≡ without_last (named_in z h k) (calls_in fs)
   other-stays x fs n f ih true e = f (without_last p fs) ∙ ih
   other-stays x fs n f ih false e = f fs ∙ sym (none-gone (named_in z h k) (calls_in fs) (sym (any-calls fs) ∙ e))
 
-  pub calls-without : (fs : List Filling) → calls_in (without_last p fs) ≡ without_last (named_in z h k) (calls_in fs)
+  pub calls-without : (fs : List FillStep) → calls_in (without_last p fs) ≡ without_last (named_in z h k) (calls_in fs)
   calls-without [] = refl
   calls-without (stop id name parent i ∷ fs) = other-stays (stop id name parent i) fs refl (λ gs. refl) (calls-without fs) (anyb p fs) refl
   calls-without (rule i ∷ fs) = other-stays (rule i) fs refl (λ gs. refl) (calls-without fs) (anyb p fs) refl
@@ -128,14 +128,14 @@ module _ (s : Settings) (o : Opened s) (h : ℕ) (k : CallKey) where
       w : LastGoes (named_filling z h k) t.taken
       w = goes (named_filling z h k) t.taken e
 
-      by : (g : Filling) → w.gone ≡ g → named_filling z h k g ≡ true
+      by : (g : FillStep) → w.gone ≡ g → named_filling z h k g ≡ true
           → Withdrawn s t k (keeping t (without_last (named_filling z h k) t.taken))
       by (stop id name parent i) q x = absurd (false≢true x)
       by (rule i) q x = absurd (false≢true x)
       by (service name weekdays start end) q x = absurd (false≢true x)
       by (exception name date kind) q x = absurd (false≢true x)
       by (call name i) q x =
-          let whole : t.taken ≡ w.before ++ call name i ∷ w.behind = w.whole ∙ ap (λ (g : Filling). w.before ++ g ∷ w.behind) q in
+          let whole : t.taken ≡ w.before ++ call name i ∷ w.behind = w.whole ∙ ap (λ (g : FillStep). w.before ++ g ∷ w.behind) q in
           let split : calls_in t.taken ≡ calls_in w.before ++ i ∷ calls_in w.behind =
           ap calls_in whole ∙ calls-append w.before (call name i ∷ w.behind) in
           let here : Memᴰ i (calls_in t.taken) = subst (Memᴰ i) (sym split)
@@ -159,18 +159,18 @@ module _ (s : Settings) (o : Opened s) (h : ℕ) (k : CallKey) where
 
 -- ---- one call goes
 
-abbrev behind_of : List Filling → List Filling
+abbrev behind_of : List FillStep → List FillStep
 behind_of [] = []
 behind_of (x ∷ xs) = xs
 
-abbrev front_of : Filling → List Filling → Filling
+abbrev front_of : FillStep → List FillStep → FillStep
 front_of d [] = d
 front_of d (x ∷ xs) = x
 
 -- a list is split at the last that has the property in one way
-module _ (P : Filling → Type 0) where
-  one_last : (b b' : List Filling) (x x' : Filling) (c c' : List Filling) → b ++ x ∷ c ≡ b' ++ x' ∷ c' → P x → P x'
-      → ((y : Filling) → Memᴰ y c → P y → ⊥) → ((y : Filling) → Memᴰ y c' → P y → ⊥) → b ++ c ≡ b' ++ c'
+module _ (P : FillStep → Type 0) where
+  one_last : (b b' : List FillStep) (x x' : FillStep) (c c' : List FillStep) → b ++ x ∷ c ≡ b' ++ x' ∷ c' → P x → P x'
+      → ((y : FillStep) → Memᴰ y c → P y → ⊥) → ((y : FillStep) → Memᴰ y c' → P y → ⊥) → b ++ c ≡ b' ++ c'
   one_last [] [] x x' c c' e v v' n n' = ap behind_of e
   one_last [] (y ∷ b') x x' c c' e v v' n n' = absurd
       (n x' (subst (Memᴰ x') (sym (ap behind_of e)) (mathlib.Core.List.Memᴰ.append_right b' (mathlib.Core.List.Memᴰ.head refl))) v')
@@ -181,14 +181,14 @@ module _ (P : Filling → Type 0) where
       let g = one_last b b' x x' c c' (ap behind_of e) v v' n n' in
       λ j. f j ∷ g j
 
-abbrev SuchFilling : Settings → ℕ → CallKey → Filling → Type 0
+abbrev SuchFilling : Settings → ℕ → CallKey → FillStep → Type 0
 SuchFilling s h k (stop id name parent i) = ⊥
 SuchFilling s h k (call name i) = HasKey k i × InTable s h i
 SuchFilling s h k (rule i) = ⊥
 SuchFilling s h k (service name weekdays start end) = ⊥
 SuchFilling s h k (exception name date kind) = ⊥
 
-none-behind : (s : Settings) (h : ℕ) (k : CallKey) (fs : List Filling) → NoneSuch s h k (calls_in fs) → (y : Filling) → Memᴰ y fs
+none-behind : (s : Settings) (h : ℕ) (k : CallKey) (fs : List FillStep) → NoneSuch s h k (calls_in fs) → (y : FillStep) → Memᴰ y fs
     → SuchFilling s h k y → ⊥
 none-behind s h k fs n (stop id name parent i) m v = v
 none-behind s h k fs n (call name i) m (q, t) = n i (call-in fs name i m) q t

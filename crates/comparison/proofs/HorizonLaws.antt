@@ -25,7 +25,7 @@ use Rattle.calls.proofs.ShownLaws as shows
 use Rattle.calls.proofs.ShownLaws.{Showing, showing-keeps}
 use Rattle.load.specs.declared.Load.{Load}
 use Rattle.load.specs.Load.{table_of}
-use Rattle.load.specs.Filling.{Filling}
+use Rattle.load.specs.FillStep.{FillStep}
 use Rattle.comparison.specs.Window.{Seen, Shown, empty, one, pass}
 use Rattle.comparison.specs.Taken.{calls_in}
 use Rattle.comparison.specs.Horizon as cuts
@@ -127,7 +127,7 @@ module _ (s : Settings) (o : Opened s) (is : List CallInput) (days : (j : CallIn
             (fits (passed b n i e).present (tests-day b n i e) t w)
 
 -- the table of a load shows what was taken
-pub showing : (s : Settings) (l : Load) (fs : List Filling) → Start s l fs → Showing (canonical_of s) (calls_in fs) (table_of l)
+pub showing : (s : Settings) (l : Load) (fs : List FillStep) → Start s l fs → Showing (canonical_of s) (calls_in fs) (table_of l)
 showing s l fs w = record {
   sound = w.sound.table;
   shows = w.held.calls ∙ ap (λ (x : Settings). windowed x l.table_horizon (calls_in fs)) w.settings;

@@ -25,7 +25,7 @@ use Rattle.transfer.specs.Copied.{parents_of}
 use Rattle.transfer.proofs.Claims.{parent-read, pair-once}
 use Rattle.transfer.proofs.AnyOrder.{place_of}
 use Rattle.load.specs.declared.Load.{Load}
-use Rattle.load.specs.Filling.{Filling}
+use Rattle.load.specs.FillStep.{FillStep}
 use Rattle.offers.specs.Offers.{ride_of}
 use Rattle.search.specs.Timetable.{change_in, one_run, joins_in}
 use Rattle.comparison.specs.Taken.{StopGiven, stops_in, rules_in}
@@ -36,7 +36,7 @@ use Rattle.comparison.proofs.StartLaws.{Start, feed_from}
 use Rattle.comparison.proofs.PlaceLaws.{place_in, one-id, given_below, place-in, place_out}
 use Rattle.comparison.proofs.RuleLaws.{Taken, Near, change-in, change-out}
 
-module _ (s : Settings) (p : Load) (fs : List Filling) (w : Start s p fs) where
+module _ (s : Settings) (p : Load) (fs : List FillStep) (w : Start s p fs) where
   abbrev F : Feed
   F = feed_from s p fs
 

@@ -7,7 +7,7 @@ use Rattle.settings.specs.declared.Settings.{Settings}
 use Rattle.calls.specs.declared.CallInput.{CallInput}
 use Rattle.calls.specs.declared.Call.{Call}
 use Rattle.load.specs.declared.Load.{Load}
-use Rattle.load.specs.Filling.{Filling}
+use Rattle.load.specs.FillStep.{FillStep}
 use Rattle.offers.specs.Offers.{Timetable, arrival_of}
 use Rattle.offers.specs.Admitted.{Rides, Ends}
 use Rattle.limited.specs.Margin as limited
@@ -22,7 +22,7 @@ use Rattle.comparison.proofs.BagLaws.{handing, leg-perm}
 use Rattle.comparison.proofs.AsideLaws.{Like, feed-beside}
 use Rattle.comparison.proofs.AdmittedLaws.{known, leg-in, leg-out, ends-in, ends-out, target_walk}
 
-module _ (s : Settings) (l : Load) (fs : List Filling) (w : Start s l fs) (o : Opened s) where
+module _ (s : Settings) (l : Load) (fs : List FillStep) (w : Start s l fs) (o : Opened s) where
   abbrev F : Feed
   F = feed_from s l fs
 
@@ -73,7 +73,7 @@ earliest-perm F is js q m w = record {
   least = λ n r. w.least n (reaches-perm F js is (Permᴰ.symm q) n r);
 }
 
-pub earliest-like : (s : Settings) (t : State) (gs fs : List Filling) (m : ℕ) → Like gs fs → Earliest (feed_of s (keeping t gs)) m
+pub earliest-like : (s : Settings) (t : State) (gs fs : List FillStep) (m : ℕ) → Like gs fs → Earliest (feed_of s (keeping t gs)) m
     → Earliest (feed_of s (keeping t fs)) m
 earliest-like s t gs fs m w a =
     earliest-perm (feed_of s (keeping t fs)) (calls_in gs) (calls_in fs) w.calls m

@@ -15,7 +15,7 @@ use Rattle.calls.specs.Marked.{started, marked_call}
 use Rattle.profile.specs.declared.Journey.{Journey}
 use Rattle.profile.specs.Figures.{covᶠ, dueᶠ, lexb}
 use Rattle.profile.specs.Journeys.{journey_figures}
-use Rattle.profile.specs.Kept.{St, going, refused, searched}
+use Rattle.profile.specs.Kept.{SearchState, going, refused, searched}
 use Rattle.profile.specs.Fall.{Ends, up_to, never, fall, keeping}
 use Rattle.profile.specs.Instances.{figures_of, a_second_apart}
 use Rattle.profile.proofs.ClaimLaws.{search-is-fall}
@@ -81,7 +81,7 @@ early = record {
     neither (inr z) = absurd (omega arith)
 
 -- how many a search keeps, its horizon and its mark; nothing where it is refused
-abbrev ends : St Journey → List ℕ
+abbrev ends : SearchState Journey → List ℕ
 ends (going ks h m) = length ks ∷ h ∷ m ∷ []
 ends refused = []
 

@@ -11,7 +11,7 @@ use Rattle.laws.proofs.Bools.{and-true, and-true-left, and-true-right}
 use Rattle.stops.specs.Texts.{same_bytes_of}
 use Rattle.calls.specs.declared.CallInput.{CallInput}
 use Rattle.rules.specs.declared.Rule.{Rule}
-use Rattle.load.specs.Filling.{Filling, stop, call, rule, service, exception}
+use Rattle.load.specs.FillStep.{FillStep, stop, call, rule, service, exception}
 use Rattle.comparison.specs.Taken.{StopGiven, ServiceGiven, stops_in, calls_in, rules_in, services_in}
 use Rattle.comparison.specs.Admitted.{Nth}
 
@@ -50,7 +50,7 @@ same_bytes (x ∷ a) = and-true _ _ (eq-eqb x x refl) (same_bytes a)
 
 -- ---- what is given, part by part
 
-pub calls-append : (fs gs : List Filling) → calls_in (fs ++ gs) ≡ calls_in fs ++ calls_in gs
+pub calls-append : (fs gs : List FillStep) → calls_in (fs ++ gs) ≡ calls_in fs ++ calls_in gs
 calls-append [] gs = refl
 calls-append (stop id name parent i ∷ fs) gs = calls-append fs gs
 calls-append (call name i ∷ fs) gs = ap {B = List CallInput} (λ r. i ∷ r) (calls-append fs gs)
@@ -58,7 +58,7 @@ calls-append (rule i ∷ fs) gs = calls-append fs gs
 calls-append (service name weekdays start end ∷ fs) gs = calls-append fs gs
 calls-append (exception name date kind ∷ fs) gs = calls-append fs gs
 
-pub rules-append : (fs gs : List Filling) → rules_in (fs ++ gs) ≡ rules_in fs ++ rules_in gs
+pub rules-append : (fs gs : List FillStep) → rules_in (fs ++ gs) ≡ rules_in fs ++ rules_in gs
 rules-append [] gs = refl
 rules-append (stop id name parent i ∷ fs) gs = rules-append fs gs
 rules-append (call name i ∷ fs) gs = rules-append fs gs
@@ -66,7 +66,7 @@ rules-append (rule i ∷ fs) gs = ap {B = List Rule} (λ r. i ∷ r) (rules-appe
 rules-append (service name weekdays start end ∷ fs) gs = rules-append fs gs
 rules-append (exception name date kind ∷ fs) gs = rules-append fs gs
 
-pub stops-append : (fs gs : List Filling) → stops_in (fs ++ gs) ≡ stops_in fs ++ stops_in gs
+pub stops-append : (fs gs : List FillStep) → stops_in (fs ++ gs) ≡ stops_in fs ++ stops_in gs
 stops-append [] gs = refl
 stops-append (stop id name parent i ∷ fs) gs = ap {B = List StopGiven}
     (λ r. record { id = id; name = name; parent = parent; input = i } ∷ r) (stops-append fs gs)
@@ -75,7 +75,7 @@ stops-append (rule i ∷ fs) gs = stops-append fs gs
 stops-append (service name weekdays start end ∷ fs) gs = stops-append fs gs
 stops-append (exception name date kind ∷ fs) gs = stops-append fs gs
 
-pub services-append : (fs gs : List Filling) → services_in (fs ++ gs) ≡ services_in fs ++ services_in gs
+pub services-append : (fs gs : List FillStep) → services_in (fs ++ gs) ≡ services_in fs ++ services_in gs
 services-append [] gs = refl
 services-append (stop id name parent i ∷ fs) gs = services-append fs gs
 services-append (call name i ∷ fs) gs = services-append fs gs

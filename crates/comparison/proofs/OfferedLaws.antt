@@ -12,7 +12,7 @@ use Rattle.calls.specs.declared.Call.{Call}
 use Rattle.profile.specs.declared.Ride.{Ride}
 use Rattle.profile.specs.declared.Journey.{Journey}
 use Rattle.load.specs.declared.Load.{Load}
-use Rattle.load.specs.Filling.{Filling}
+use Rattle.load.specs.FillStep.{FillStep}
 use Rattle.ways.specs.Rides.{leg, first_ride}
 use Rattle.ways.specs.Routes.{Way, Route, here, ride_then, route_of}
 use Rattle.offers.specs.Offers.{Timetable, ride_of, routes_of, sorted, offers}
@@ -82,7 +82,7 @@ module _ (t : Timetable) (clear : Clear t) where
 
 -- ---- what was taken gives these offers
 
-module _ (s : Settings) (l : Load) (fs : List Filling) (w : Start s l fs) (o : Opened s) (clear : Clear (timetable_of l)) where
+module _ (s : Settings) (l : Load) (fs : List FillStep) (w : Start s l fs) (o : Opened s) (clear : Clear (timetable_of l)) where
   abbrev F : Feed
   F = feed_from s l fs
 

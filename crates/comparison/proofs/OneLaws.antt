@@ -11,7 +11,7 @@ use lib.ListN.{length}
 use Rattle.settings.specs.declared.Settings.{Settings}
 use Rattle.calls.specs.declared.CallInput.{CallInput}
 use Rattle.calls.specs.declared.Call.{Call}
-use Rattle.load.specs.Filling.{call}
+use Rattle.load.specs.FillStep.{call}
 use Rattle.steps.specs.Steps.{Step}
 use Rattle.comparison.specs.Window.{Shown}
 use Rattle.comparison.specs.Taken.{calls_in, State, more, up_to, limited_to, shut}

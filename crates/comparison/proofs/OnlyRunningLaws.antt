@@ -12,7 +12,7 @@ use Rattle.calls.specs.declared.CallInput.{CallInput}
 use Rattle.week.specs.declared.Week.{Week}
 use Rattle.load.specs.declared.Load.{Load}
 use Rattle.load.specs.Steps.{opened}
-use Rattle.load.specs.Filling.{Filling, call}
+use Rattle.load.specs.FillStep.{FillStep, call}
 use Rattle.again.specs.Again.{unsearched_of}
 use Rattle.steps.specs.Steps.{Step}
 use Rattle.steps.specs.Lists.{end_of}
@@ -67,7 +67,7 @@ stands-runs q v w days r d dates e name i m =
     runs_by w v refl d name i.day dt (days i (call-in v.taken name i m)) (r dt name i m).1
 
 -- of a searched load, by its unsearched one
-apart-week : (s : Settings) (l : Load) (fs : List Filling) → Start s (unsearched_of l) (apart fs)
+apart-week : (s : Settings) (l : Load) (fs : List FillStep) → Start s (unsearched_of l) (apart fs)
     → WeekHeld l.week fs × ((j : CallInput) → Memᴰ j (calls_in fs) → j.day ≤ 2)
 unfolding unsearched_of
 apart-week s l fs w = (

@@ -25,7 +25,7 @@ use Rattle.offers.proofs.AnyOrder.{admitted-in-any-order}
 use Rattle.offers.proofs.OfferLaws.{offers-ahead}
 use Rattle.offers.proofs.RouteLaws.{offers-up-to-one}
 use Rattle.load.specs.declared.Load.{Load}
-use Rattle.load.specs.declared.Stepped.{Stepped}
+use Rattle.load.specs.declared.StepResult.{StepResult}
 use Rattle.load.specs.Steps.{Opening}
 use Rattle.best.specs.Best.{kept_of}
 use Rattle.search.specs.Timetable.{timetable_of}
@@ -86,8 +86,8 @@ pub own-found : (l : Load) → Kept l → l.searched ≡ true → l.limit ≡ No
 unfolding unsearched_of
 own-found l k d b =
     let own = own-finished l k d b in
-    let t : is_taken (search_spec (unsearched_of l)).answer ≡ true = ap (λ (r : Stepped). is_taken r.answer) own in
-    let f = subst (Finds (unsearched_of l)) (ap (λ (r : Stepped). r.load) own) (taken-searches (unsearched_of l) t).finds in
+    let t : is_taken (search_spec (unsearched_of l)).answer ≡ true = ap (λ (r : StepResult). is_taken r.answer) own in
+    let f = subst (Finds (unsearched_of l)) (ap (λ (r : StepResult). r.load) own) (taken-searches (unsearched_of l) t).finds in
     let clear = (search-found (timetable_of (unsearched_of l)) _ _ _ _ _ f.is).0 in
     led-found l (own_offers l) clear (sym (cond-not _ _ clear)
     ∙ sym (search-by-offers (timetable_of (unsearched_of l)) l.table_horizon l.table_limits) ∙ f.is)

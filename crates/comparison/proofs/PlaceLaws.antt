@@ -25,7 +25,7 @@ use Rattle.places.specs.Promises.{place_at, PlaceRight, PlacesRight, Distinct}
 use Rattle.places.proofs.Claims.{strict-ids, same_self, every-place, no-key-no-place}
 use Rattle.places.proofs.Determined.{one-stop, only-places}
 use Rattle.load.specs.declared.Load.{Load}
-use Rattle.load.specs.Filling.{Filling}
+use Rattle.load.specs.FillStep.{FillStep}
 use Rattle.comparison.specs.Taken.{StopGiven, stops_in}
 use Rattle.comparison.specs.Admitted.{Nth}
 use Rattle.comparison.specs.Places.{Key, Keyed, Matches, BytesBefore, IdBefore, Found, Placed, joins, alone, OnePlace}
@@ -59,7 +59,7 @@ less-before (x ∷ a) (y ∷ b) e = go (tri x y) (less-before a b)
     go (inr (inl h)) ih = inr (h, ih (sym (by_first-same x y _ (omega arith) (omega arith)) ∙ e))
     go (inr (inr h)) ih = absurd (true≢false (sym e ∙ by_first-more x y _ h))
 
-module _ (s : Settings) (p : Load) (fs : List Filling) (w : Start s p fs) where
+module _ (s : Settings) (p : Load) (fs : List FillStep) (w : Start s p fs) where
   abbrev n : ℕ
   n = p.stop_count
 

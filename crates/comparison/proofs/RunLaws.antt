@@ -23,11 +23,11 @@ use Rattle.rules.specs.Rules.{rule_tests}
 use Rattle.calls.specs.declared.CallKey.{CallKey}
 use Rattle.withdrawal.specs.Removal.{without_last}
 use Rattle.load.specs.declared.Load.{Load}
-use Rattle.load.specs.declared.Stepped.{Stepped}
+use Rattle.load.specs.declared.StepResult.{StepResult}
 use Rattle.load.specs.Load.{empty_of, with_stops, with_rules, with_week, stopped}
 use Rattle.load.specs.Steps.{Opening, opened, station_in, stop_answer, stop_spec, closed_load, call_spec, rule_answer, rule_spec}
 use Rattle.load.specs.Steps.{service_spec, exception_spec}
-use Rattle.load.specs.Filling.{Filling, stop, call, rule, service, exception, filled}
+use Rattle.load.specs.FillStep.{FillStep, stop, call, rule, service, exception, filled}
 use Rattle.load.specs.Sound.{Opens}
 use Rattle.laws.proofs.Bools.{cond-not, or-true-left}
 use Rattle.laws.proofs.Sort.{perm-mem}
@@ -101,7 +101,7 @@ exception-outside l name date kind e = never-outside _ (refl, (refl, (refl, tt))
 
 -- ---- what holds of a load between two steps
 
-pub record Stands (s : Settings) (l : Load) (fs : List Filling) : Type 0 where
+pub record Stands (s : Settings) (l : Load) (fs : List FillStep) : Type 0 where
   pub kept : Kept l
   pub runs : CallsRun l fs
   -- not searched, it holds what was taken; searched, its unsearched load does, with the calls in order
@@ -109,20 +109,20 @@ pub record Stands (s : Settings) (l : Load) (fs : List Filling) : Type 0 where
   pub done : l.searched ≡ true → Start s (unsearched_of l) (apart fs)
 
 -- what one more step gives: it is answered for the first of its causes, and leaves what is taken
-pub record Stepping (s : Settings) (l : Load) (fs : List Filling) (x : Step) : Type 0 where
+pub record Stepping (s : Settings) (l : Load) (fs : List FillStep) (x : Step) : Type 0 where
   pub first : First (stepped l x).answer (causes_of s (state_at l fs) x)
   pub after : After s (state_at l fs) x (stepped l x).answer (state_at (next l x) (taken_after l x fs))
   pub new : (next l x).searched ≡ false → Start s (next l x) (taken_after l x fs)
   pub done : (next l x).searched ≡ true → Start s (unsearched_of (next l x)) (apart (taken_after l x fs))
 
-by-matches : (s : Settings) (l : Load) (fs : List Filling) (x : Step) → Matches (causes l x) (causes_of s (state_at l fs) x)
+by-matches : (s : Settings) (l : Load) (fs : List FillStep) (x : Step) → Matches (causes l x) (causes_of s (state_at l fs) x)
     → First (stepped l x).answer (causes_of s (state_at l fs) x)
 by-matches s l fs x m = subst (λ (a : Answer). First a (causes_of s (state_at l fs) x))
     (sym (first-is-answer _ _ (step-answered l x).first)) (first_matches (causes l x) (causes_of s (state_at l fs) x) m)
 
 -- ---- a load that is not searched
 
-module _ (s : Settings) (o : Opened s) (l : Load) (fs : List Filling) (w : Start s l fs) where
+module _ (s : Settings) (o : Opened s) (l : Load) (fs : List FillStep) (w : Start s l fs) where
   abbrev t : State
   t = state_at l fs
 
@@ -138,18 +138,18 @@ module _ (s : Settings) (o : Opened s) (l : Load) (fs : List Filling) (w : Start
 
   -- nothing more is taken
   same : (x : Step) (a : Answer) (m : Load) → After s t x a (state_at m fs) → After s t x a (state_at m (fs ++ []))
-  same x a m v = subst (λ (gs : List Filling). After s t x a (state_at m gs)) (sym (append-nil fs)) v
+  same x a m v = subst (λ (gs : List FillStep). After s t x a (state_at m gs)) (sym (append-nil fs)) v
 
   -- an unsearched load has no limit
   unlimited : l.limit ≡ None
   unlimited = no_limit l w.sound w.fresh
 
-  call-after : (name : List ℕ) (i : CallInput) (r : Stepped) → Comes s l fs name i r
+  call-after : (name : List ℕ) (i : CallInput) (r : StepResult) → Comes s l fs name i r
       → After s t (filling (call name i)) r.answer (state_at r.load (fs ++ cond (is_taken r.answer) (call name i ∷ []) []))
   call-after name i _ (came {a = a} {n = n} c) = go a c
     where
       -- an answered call closes the services
-      at : (a : Answer) (gs : List Filling) → Came s l fs name i a n
+      at : (a : Answer) (gs : List FillStep) → Came s l fs name i a n
           → state_at n gs ≡ record {
             taken = gs;
             horizon = n.table_horizon;
@@ -181,7 +181,7 @@ module _ (s : Settings) (o : Opened s) (l : Load) (fs : List Filling) (w : Start
       (resting (rests-so l.week fs w.held.week (state_at l fs) refl refl name i v h))
   call-after name i _ (back {r = r}) = same (filling (call name i)) (Err r) l sent_back
 
-  fill-after : (x : Filling) → After s t (filling x) (filled l x).answer (state_at (filled l x).load (fs ++ given l x))
+  fill-after : (x : FillStep) → After s t (filling x) (filled l x).answer (state_at (filled l x).load (fs ++ given l x))
   unfolding stop_spec rule_spec service_spec service_on exception_spec exception_on
   fill-after (stop id name parent i) = go (stop_answer l id name parent i) refl
     where
@@ -231,16 +231,17 @@ module _ (s : Settings) (o : Opened s) (l : Load) (fs : List Filling) (w : Start
   withdraw-same k = cond-not _ _ w.fresh
 
   -- a step that fills leaves it unsearched
-  filled-steps : (x : Filling) → stepped l (filling x) ≡ filled l x → Stepping s l fs (filling x)
+  filled-steps : (x : FillStep) → stepped l (filling x) ≡ filled l x → Stepping s l fs (filling x)
   filled-steps x e = record {
     first = by-matches s l fs (filling x) (matches (filling x));
-    after = subst (λ (r : Stepped). After s t (filling x) r.answer (state_at r.load (fs ++ cond (is_taken r.answer) (x ∷ []) []))) (sym e)
+    after = subst (λ (r : StepResult). After s t (filling x) r.answer (state_at r.load (fs ++ cond (is_taken r.answer) (x ∷ []) [])))
+        (sym e)
         (fill-after x);
-    new = λ d. subst (λ (r : Stepped). Start s r.load (fs ++ cond (is_taken r.answer) (x ∷ []) [])) (sym e) (fill_start s l x fs w);
-    done = λ d. absurd (true≢false (sym d ∙ ap (λ (r : Stepped). r.load.searched) e ∙ filled-searched l x ∙ w.fresh));
+    new = λ d. subst (λ (r : StepResult). Start s r.load (fs ++ cond (is_taken r.answer) (x ∷ []) [])) (sym e) (fill_start s l x fs w);
+    done = λ d. absurd (true≢false (sym d ∙ ap (λ (r : StepResult). r.load.searched) e ∙ filled-searched l x ∙ w.fresh));
   }
 
-  abbrev OutBy : CallKey → Stepped → Type 0
+  abbrev OutBy : CallKey → StepResult → Type 0
   OutBy k r =
       After s t (withdraw k) r.answer (state_at r.load
       (cond (is_taken r.answer) (without_last (named_filling l.settings l.table_horizon k) fs) fs))
@@ -267,7 +268,7 @@ module _ (s : Settings) (o : Opened s) (l : Load) (fs : List Filling) (w : Start
 
 -- ---- a load that is searched: a call and a withdrawal have it searched again, and every other step is sent back with 15
 
-answered-15 : (l : Load) (x : Filling) → l.searched ≡ true → ((name : List ℕ) (i : CallInput) → x ≡ call name i → ⊥)
+answered-15 : (l : Load) (x : FillStep) → l.searched ≡ true → ((name : List ℕ) (i : CallInput) → x ≡ call name i → ⊥)
     → (stepped l (filling x)).answer ≡ Err AlreadySearched
 unfolding stop_tests rule_tests service_tests exception_tests
 answered-15 l (stop id name parent i) e f = first_holds (step-answered l (filling (stop id name parent i))).first e
@@ -278,7 +279,7 @@ answered-15 l (service name weekdays start to) e f =
 answered-15 l (exception name date kind) e f = first_holds (step-answered l (filling (exception name date kind))).first
     (or-true-left l.searched l.week.closed e)
 
-module _ (s : Settings) (o : Opened s) (l : Load) (fs : List Filling) (v : Stands s l fs) (e : l.searched ≡ true) where
+module _ (s : Settings) (o : Opened s) (l : Load) (fs : List FillStep) (v : Stands s l fs) (e : l.searched ≡ true) where
   w : Start s (unsearched_of l) (apart fs)
   w = v.done e
 
@@ -295,12 +296,12 @@ module _ (s : Settings) (o : Opened s) (l : Load) (fs : List Filling) (v : Stand
   left_step x f q = record { first = f; after = q.after; new = λ d. absurd (true≢false (sym q.searched ∙ d)); done = λ d. q.start }
 
   -- sent back with 15
-  back_step : (x : Filling) → First (Err AlreadySearched) (causes_of s (state_at l fs) (filling x)) → stepped l (filling x) ≡ filled l x
+  back_step : (x : FillStep) → First (Err AlreadySearched) (causes_of s (state_at l fs) (filling x)) → stepped l (filling x) ≡ filled l x
       → (stepped l (filling x)).answer ≡ Err AlreadySearched → Stepping s l fs (filling x)
   back_step x f q a =
       left_step (filling x) (subst (λ (y : Answer). First y (causes_of s (state_at l fs) (filling x))) (sym a) f)
       (subst (λ (m : Load). Leaves s l fs (filling x) (stepped l (filling x)).answer m
-      (fs ++ cond (is_taken (stepped l (filling x)).answer) (x ∷ []) [])) (sym (ap (λ (r : Stepped). r.load) q ∙ filled-stays l x e))
+      (fs ++ cond (is_taken (stepped l (filling x)).answer) (x ∷ []) [])) (sym (ap (λ (r : StepResult). r.load) q ∙ filled-stays l x e))
       (subst (λ (y : Answer). Leaves s l fs (filling x) y l (fs ++ cond (is_taken y) (x ∷ []) [])) (sym a)
       (same-leaves s l fs (filling x) (Err AlreadySearched) l (stays-so s l fs (filling x) AlreadySearched e w))))
 
@@ -331,19 +332,19 @@ module _ (s : Settings) (o : Opened s) (l : Load) (fs : List Filling) (v : Stand
 
 -- ---- the whole list
 
-any_step : (s : Settings) → Opened s → (l : Load) (fs : List Filling) → Stands s l fs → (x : Step) → Stepping s l fs x
+any_step : (s : Settings) → Opened s → (l : Load) (fs : List FillStep) → Stands s l fs → (x : Step) → Stepping s l fs x
 any_step s o l fs v x = go l.searched refl
   where
     go : (b : Bool) → l.searched ≡ b → Stepping s l fs x
     go false e = new-step s o l fs (v.new e) x
     go true e = done-step s o l fs v e x
 
-pub record Walked (s : Settings) (l : Load) (xs : List Step) (fs : List Filling) : Type 0 where
-  pub taken : List Filling
+pub record Walked (s : Settings) (l : Load) (xs : List Step) (fs : List FillStep) : Type 0 where
+  pub taken : List FillStep
   pub runs : Runs s (state_at l fs) xs (answers_from l xs) (state_at (handed l xs) taken)
   pub stands : Stands s (handed l xs) taken
 
-pub walk : (s : Settings) → Opened s → (xs : List Step) (l : Load) (fs : List Filling) → Stands s l fs → Walked s l xs fs
+pub walk : (s : Settings) → Opened s → (xs : List Step) (l : Load) (fs : List FillStep) → Stands s l fs → Walked s l xs fs
 walk s o [] l fs w = record { taken = fs; runs = end; stands = w }
 walk s o (x ∷ xs) l fs w =
     let q = any_step s o l fs w x in

@@ -17,7 +17,7 @@ use Rattle.week.specs.Weeks.{is_dated, WeekStepped, closed_week, running}
 use Rattle.week.proofs.SoundLaws.{closed-stays}
 use Rattle.load.specs.declared.Load.{Load}
 use Rattle.load.specs.Steps.{is_unknown, is_resting, service_spec, exception_spec}
-use Rattle.load.specs.Filling.{Filling, stop, call, rule, service, exception, filled}
+use Rattle.load.specs.FillStep.{FillStep, stop, call, rule, service, exception, filled}
 use Rattle.withdrawal.specs.Removal.{without_last}
 use Rattle.again.specs.Again.{add_spec_of, withdraw_spec}
 use Rattle.steps.specs.Steps.{Step, filling, withdraw, search, limited}
@@ -30,7 +30,7 @@ use Rattle.comparison.proofs.AfterLaws.{named_filling, taken_after, name_in, inp
 abbrev Goes : List ℕ → CallInput → Week → Type 0
 Goes name i w = (w.closed ≡ true) × (running w name i.day ≡ Runs)
 
-abbrev pub CallsRun : Load → List Filling → Type 0
+abbrev pub CallsRun : Load → List FillStep → Type 0
 CallsRun l fs = is_dated l.week ≡ true → (name : List ℕ) (i : CallInput) → Memᴰ (call name i) fs → Goes name i l.week
 
 goes-closed : (name : List ℕ) (i : CallInput) (w : Week) → running w name i.day ≡ Runs → Goes name i (closed_week w)
@@ -38,7 +38,7 @@ unfolding running
 goes-closed name i w e = (refl, e)
 
 -- a step that is no call
-none-new : (x : Filling) (b : Bool) (fs : List Filling) (name : List ℕ) (i : CallInput) → (call name i ≡ x → ⊥)
+none-new : (x : FillStep) (b : Bool) (fs : List FillStep) (name : List ℕ) (i : CallInput) → (call name i ≡ x → ⊥)
     → Memᴰ (call name i) (fs ++ cond b (x ∷ []) []) → Memᴰ (call name i) fs
 none-new x false fs name i f m = subst (Memᴰ (call name i)) (append-nil fs) m
 none-new x true fs name i f m = go (Memᴰ.append_cases fs m)
@@ -63,11 +63,11 @@ call-goes l name i d t =
     (add-closes l name i d (ap is_refused a), add-week l name i (λ w. running w name i.day ≡ Runs) r r)
 
 -- of the rest of a list, what held goes on
-run-less : (l : Load) (n : Load) (fs gs : List Filling) → n.week ≡ l.week → ((x : Filling) → Memᴰ x gs → Memᴰ x fs) → CallsRun l fs
+run-less : (l : Load) (n : Load) (fs gs : List FillStep) → n.week ≡ l.week → ((x : FillStep) → Memᴰ x gs → Memᴰ x fs) → CallsRun l fs
     → CallsRun n gs
 run-less l n fs gs e f w d name i m = subst (Goes name i) (sym e) (w (ap (λ (v : Week). is_dated v) (sym e) ∙ d) name i (f (call name i) m))
 
-pub step-runs : (l : Load) (x : Step) (fs : List Filling) → CallsRun l fs → CallsRun (next l x) (taken_after l x fs)
+pub step-runs : (l : Load) (x : Step) (fs : List FillStep) → CallsRun l fs → CallsRun (next l x) (taken_after l x fs)
 unfolding service_spec exception_spec
 step-runs l (filling (stop id nm parent j)) fs w d name i m =
     let e = stop-week l id nm parent j in
@@ -107,7 +107,7 @@ step-runs l (filling (call nm j)) fs w d name i m = go (is_taken (add_spec_of l 
 step-runs l (withdraw k) fs w d name i m = run-less l (next l (withdraw k)) fs (taken_after l (withdraw k) fs) (withdraw-week l k)
     (go (is_taken (withdraw_spec l k).answer)) w d name i m
   where
-    go : (b : Bool) (x : Filling) → Memᴰ x (cond b (without_last (named_filling l.settings l.table_horizon k) fs) fs) → Memᴰ x fs
+    go : (b : Bool) (x : FillStep) → Memᴰ x (cond b (without_last (named_filling l.settings l.table_horizon k) fs) fs) → Memᴰ x fs
     go true x m = without-mem (named_filling l.settings l.table_horizon k) fs x m
     go false x m = m
 step-runs l search fs w d name i m = run-less l (next l search) fs fs (search-week l) (λ x k. k) w d name i m

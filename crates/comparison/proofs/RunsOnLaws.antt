@@ -23,14 +23,14 @@ use Rattle.services.proofs.Marks.{folded, runs-when}
 use Rattle.stops.specs.Texts.{same_bytes_of}
 use Rattle.texts.proofs.Laws.{read-whole}
 use Rattle.week.specs.Weeks.{service_of, name_of, named}
-use Rattle.load.specs.Filling.{Filling, stop, call, rule, service, exception}
+use Rattle.load.specs.FillStep.{FillStep, stop, call, rule, service, exception}
 use Rattle.comparison.specs.Taken.{ServiceGiven}
 use Rattle.comparison.specs.Services.{InWeek, RunsOn}
 use Rattle.comparison.proofs.NthLaws.{bytes_same, same_bytes}
 use Rattle.comparison.proofs.SettingLaws.{digit_set, set-digit}
 
 -- of what was taken, the exceptions to the service of the name
-abbrev pub exceptions_of : List ℕ → List Filling → List Exception
+abbrev pub exceptions_of : List ℕ → List FillStep → List Exception
 exceptions_of n [] = []
 exceptions_of n (stop id name parent i ∷ xs) = exceptions_of n xs
 exceptions_of n (call name i ∷ xs) = exceptions_of n xs
@@ -39,7 +39,7 @@ exceptions_of n (service name weekdays start end ∷ xs) = exceptions_of n xs
 exceptions_of n (exception name date kind ∷ xs) =
     cond (same_bytes_of n name) (record { date = date; kind = kind } ∷ exceptions_of n xs) (exceptions_of n xs)
 
-pub exceptions-append : (n : List ℕ) (fs gs : List Filling) → exceptions_of n (fs ++ gs) ≡ exceptions_of n fs ++ exceptions_of n gs
+pub exceptions-append : (n : List ℕ) (fs gs : List FillStep) → exceptions_of n (fs ++ gs) ≡ exceptions_of n fs ++ exceptions_of n gs
 exceptions-append n [] gs = refl
 exceptions-append n (stop id name parent i ∷ fs) gs = exceptions-append n fs gs
 exceptions-append n (call name i ∷ fs) gs = exceptions-append n fs gs
@@ -54,7 +54,7 @@ exceptions-append n (exception name date kind ∷ fs) gs = go (same_bytes_of n n
     go false e = e
 
 -- the service as the week holds it
-unfoldable pub held_service : List ℕ → List Filling → ServiceGiven → Service
+unfoldable pub held_service : List ℕ → List FillStep → ServiceGiven → Service
 held_service dates fs g = after_all dates (service_of g.name g.weekdays g.start g.end) (exceptions_of g.name fs)
 
 -- exceptions keep the name
@@ -67,7 +67,7 @@ new-name : (name : List ℕ) (weekdays start end : ℕ) → length name ≤ 32 �
 unfolding service_of
 new-name name weekdays start end h = read-whole 32 name h (omega arith)
 
-pub held-name : (dates : List ℕ) (fs : List Filling) (g : ServiceGiven) → length g.name ≤ 32 → name_of (held_service dates fs g) ≡ g.name
+pub held-name : (dates : List ℕ) (fs : List FillStep) (g : ServiceGiven) → length g.name ≤ 32 → name_of (held_service dates fs g) ≡ g.name
 unfolding held_service
 held-name dates fs g h = name-kept dates (service_of g.name g.weekdays g.start g.end) (exceptions_of g.name fs)
     ∙ new-name g.name g.weekdays g.start g.end h
@@ -76,14 +76,14 @@ held-name dates fs g h = name-kept dates (service_of g.name g.weekdays g.start g
 abbrev pub given : List ℕ → ServiceGiven → Bool
 given n g = same_bytes_of g.name n
 
-pub held-named : (dates : List ℕ) (fs : List Filling) (n : List ℕ) (g : ServiceGiven) → length g.name ≤ 32
+pub held-named : (dates : List ℕ) (fs : List FillStep) (n : List ℕ) (g : ServiceGiven) → length g.name ≤ 32
     → named n (held_service dates fs g) ≡ given n g
 held-named dates fs n g h = ap (λ (x : List ℕ). same_bytes_of x n) (held-name dates fs g h)
 
 -- ---- after one more
 
 -- nothing of the service
-pub held_same : (dates : List ℕ) (fs : List Filling) (x : Filling) (g : ServiceGiven) → exceptions_of g.name (x ∷ []) ≡ []
+pub held_same : (dates : List ℕ) (fs : List FillStep) (x : FillStep) (g : ServiceGiven) → exceptions_of g.name (x ∷ []) ≡ []
     → held_service dates (fs ++ x ∷ []) g ≡ held_service dates fs g
 unfolding held_service
 held_same dates fs x g e =
@@ -97,7 +97,7 @@ unfolding after_all
 after-snoc dates s xs x = foldl-append _ s xs (x ∷ [])
 
 -- an exception to it
-pub held-excepted : (dates : List ℕ) (fs : List Filling) (name : List ℕ) (date kind : ℕ) (g : ServiceGiven) → given name g ≡ true
+pub held-excepted : (dates : List ℕ) (fs : List FillStep) (name : List ℕ) (date kind : ℕ) (g : ServiceGiven) → given name g ≡ true
     → held_service dates (fs ++ exception name date kind ∷ []) g ≡ excepted_of (held_service dates fs g) (days_on dates date) kind
 unfolding held_service
 held-excepted dates fs name date kind g e =
@@ -107,28 +107,28 @@ held-excepted dates fs name date kind g e =
     ∙ after-snoc dates (service_of g.name g.weekdays g.start g.end) (exceptions_of g.name fs) (record { date = date; kind = kind })
 
 -- no exception yet
-pub held_new : (dates : List ℕ) (fs : List Filling) (g : ServiceGiven) → exceptions_of g.name fs ≡ []
+pub held_new : (dates : List ℕ) (fs : List FillStep) (g : ServiceGiven) → exceptions_of g.name fs ≡ []
     → held_service dates fs g ≡ service_of g.name g.weekdays g.start g.end
 unfolding held_service after_all
 held_new dates fs g e = ap (after_all dates (service_of g.name g.weekdays g.start g.end)) e
 
 -- ---- exceptions by their dates
 
-abbrev name_in : Filling → List ℕ
+abbrev name_in : FillStep → List ℕ
 name_in (stop id name parent i) = []
 name_in (call name i) = []
 name_in (rule i) = []
 name_in (service name weekdays start end) = []
 name_in (exception name date kind) = name
 
-abbrev date_in : Filling → ℕ
+abbrev date_in : FillStep → ℕ
 date_in (stop id name parent i) = 0
 date_in (call name i) = 0
 date_in (rule i) = 0
 date_in (service name weekdays start end) = 0
 date_in (exception name date kind) = date
 
-abbrev kind_in : Filling → ℕ
+abbrev kind_in : FillStep → ℕ
 kind_in (stop id name parent i) = 0
 kind_in (call name i) = 0
 kind_in (rule i) = 0
@@ -140,18 +140,18 @@ is_so date kind x = eqb x.date date && eqb x.kind kind
 
 -- the exception is there exactly if one of the name's has its date and kind
 module _ (n : List ℕ) (date kind : ℕ) where
-  abbrev one : Filling
+  abbrev one : FillStep
   one = exception n date kind
 
   -- which is no step of another kind
-  here : (x : Filling) (fs : List Filling) → (one ≡ x → ⊥) → Memᴰ one (x ∷ fs) → Memᴰ one fs
+  here : (x : FillStep) (fs : List FillStep) → (one ≡ x → ⊥) → Memᴰ one (x ∷ fs) → Memᴰ one fs
   here x fs f m = go (Memᴰ.cases_cons m)
     where
       go : (one ≡ x) ⊎ Memᴰ one fs → Memᴰ one fs
       go (inl e) = absurd (f e)
       go (inr m) = m
 
-  pub there : (fs : List Filling) → Memᴰ one fs → anyb (is_so date kind) (exceptions_of n fs) ≡ true
+  pub there : (fs : List FillStep) → Memᴰ one fs → anyb (is_so date kind) (exceptions_of n fs) ≡ true
   there [] m = absurd (Memᴰ.not-nil m)
   there (stop id name parent i ∷ fs) m = there fs (here _ fs (λ e. cc) m)
   there (call name i ∷ fs) m = there fs (here _ fs (λ e. cc) m)
@@ -167,7 +167,7 @@ module _ (n : List ℕ) (date kind : ℕ) where
       go false q (inl e) ih = absurd (true≢false (sym (ap (same_bytes_of n) (sym (ap name_in e)) ∙ same_bytes n) ∙ q))
       go false q (inr m) ih = ih m
 
-  pub from : (fs : List Filling) → anyb (is_so date kind) (exceptions_of n fs) ≡ true → Memᴰ one fs
+  pub from : (fs : List FillStep) → anyb (is_so date kind) (exceptions_of n fs) ≡ true → Memᴰ one fs
   from [] e = absurd (false≢true e)
   from (stop id name parent i ∷ fs) e = Memᴰ.tail (from fs e)
   from (call name i ∷ fs) e = Memᴰ.tail (from fs e)
@@ -229,7 +229,7 @@ in-week g date = (to, back)
 
 -- ---- runs
 
-module _ (fs : List Filling) (g : ServiceGiven) (date : ℕ) where
+module _ (fs : List FillStep) (g : ServiceGiven) (date : ℕ) where
   abbrev xs : List Exception
   xs = exceptions_of g.name fs
 
@@ -268,14 +268,14 @@ unfolding service_of
 new-fresh name weekdays start end = record { none_added = refl; none_removed = refl }
 
 -- the service that is held runs on the load's day k exactly if it does by what was taken
-held-runs-with : (dates : List ℕ) (fs : List Filling) (g : ServiceGiven) (k : ℕ) → k < length dates
+held-runs-with : (dates : List ℕ) (fs : List FillStep) (g : ServiceGiven) (k : ℕ) → k < length dates
     → runs_of (held_service dates fs g) k (get_or dates k 0)
     ≡ runs_with (g.weekdays % 128) g.start g.end (exceptions_of g.name fs) (get_or dates k 0)
 unfolding held_service service_of
 held-runs-with dates fs g k h = folded dates (service_of g.name g.weekdays g.start g.end) (exceptions_of g.name fs) k
     (new-fresh g.name g.weekdays g.start g.end) h
 
-pub held-runs : (dates : List ℕ) (fs : List Filling) (g : ServiceGiven) (k : ℕ) → k < length dates
+pub held-runs : (dates : List ℕ) (fs : List FillStep) (g : ServiceGiven) (k : ℕ) → k < length dates
     → (runs_of (held_service dates fs g) k (get_or dates k 0) ≡ true) ↔ RunsOn fs g (get_or dates k 0)
 held-runs dates fs g k h =
     let r = runs-when (g.weekdays % 128) g.start g.end (exceptions_of g.name fs) (get_or dates k 0) in

@@ -13,8 +13,8 @@ use Rattle.offers.specs.Admitted.{Clear}
 use Rattle.offers.specs.Search.{Outcome, clashing, falling, found}
 use Rattle.limited.specs.Limited.{offers_within, joins_within, finished_within}
 use Rattle.load.specs.declared.Load.{Load}
-use Rattle.load.specs.declared.Stepped.{Stepped}
-use Rattle.load.specs.Filling.{Filling}
+use Rattle.load.specs.declared.StepResult.{StepResult}
+use Rattle.load.specs.FillStep.{FillStep}
 use Rattle.search.specs.Timetable.{timetable_of}
 use Rattle.search.specs.Search.{search_spec}
 use Rattle.search.specs.Within.{finishes_in, ran_within, within_spec, step_of}
@@ -33,16 +33,16 @@ use Rattle.comparison.proofs.SearchingLaws.{within-here, untaken-refused, found-
 use Rattle.comparison.proofs.SearchedLaws.{searched-start}
 
 -- the step x, answered a, leaves m, and nothing more taken
-pub record Searching (s : Settings) (l : Load) (fs : List Filling) (x : Step) (a : Answer) (m : Load) : Type 0 where
+pub record Searching (s : Settings) (l : Load) (fs : List FillStep) (x : Step) (a : Answer) (m : Load) : Type 0 where
   pub after : After s (state_at l fs) x a (state_at m fs)
   pub new : m.searched ≡ false → Start s m fs
   pub done : m.searched ≡ true → Start s (unsearched_of m) (apart fs)
 
-module _ (s : Settings) (o : Opened s) (l : Load) (fs : List Filling) (w : Start s l fs) where
+module _ (s : Settings) (o : Opened s) (l : Load) (fs : List FillStep) (w : Start s l fs) where
   abbrev t : State
   t = state_at l fs
 
-  abbrev Found : Step → Stepped → Type 0
+  abbrev Found : Step → StepResult → Type 0
   Found x r = Searching s l fs x r.answer r.load
 
   -- sent back
@@ -53,7 +53,7 @@ module _ (s : Settings) (o : Opened s) (l : Load) (fs : List Filling) (w : Start
   taken : (x : Step) (limit : Option ℕ) (e : is_taken (researched limit l).answer ≡ true)
       → After s t x (Ok Taken) (done (researched limit l).load.limit t) → Found x (researched limit l)
   taken x limit e v = record {
-    after = subst (λ (r : Stepped). After s t x r.answer (state_at (researched limit l).load fs)) (sym (taken-researched limit l e).is)
+    after = subst (λ (r : StepResult). After s t x r.answer (state_at (researched limit l).load fs)) (sym (taken-researched limit l e).is)
         (subst (After s t x (Ok Taken)) (sym (found-state limit l e fs)) v);
     new = λ d. absurd (true≢false (sym (found-searched limit l e) ∙ d));
     done = λ d. searched-start s l fs fs w (beside_same fs) w.held.days refl limit e;
@@ -65,7 +65,7 @@ module _ (s : Settings) (o : Opened s) (l : Load) (fs : List Filling) (w : Start
       none_so : is_taken (researched None l).answer ≡ true → (researched None l).load.limit ≡ None
       none_so e =
           let q = researched-full l in
-          ap (λ (r : Stepped). r.load.limit) q ∙ limit-full l (sym (ap (λ (r : Stepped). is_taken r.answer) q) ∙ e)
+          ap (λ (r : StepResult). r.load.limit) q ∙ limit-full l (sym (ap (λ (r : StepResult). is_taken r.answer) q) ∙ e)
 
       go : (b : Bool) → is_taken (researched None l).answer ≡ b → Found search (researched None l)
       go true e = taken search None e (subst (λ (k : Option ℕ). After s t search (Ok Taken) (done k t)) (sym (none_so e)) a_search)
@@ -92,12 +92,12 @@ module _ (s : Settings) (o : Opened s) (l : Load) (fs : List Filling) (w : Start
       unfolding finishes_in
       limited-after =
           subst (After s t (limited n) (Ok Taken)) (limited-to n t (finished_within n (timetable_of l)) (researched (Some n) l).load.limit
-          (ap (λ (r : Stepped). r.load.limit) is ∙ limit-within n l e))
+          (ap (λ (r : StepResult). r.load.limit) is ∙ limit-within n l e))
           (a_limited limited-here)
 
       limited-found : Found (limited n) (step_of (within_spec l n))
       limited-found = subst (Found (limited n)) is
-          (taken (limited n) (Some n) (ap (λ (r : Stepped). is_taken r.answer) is ∙ e) limited-after)
+          (taken (limited n) (Some n) (ap (λ (r : StepResult). is_taken r.answer) is ∙ e) limited-after)
 
     pub limited-so : Searching s l fs (limited n) (within_spec l n).answer (within_spec l n).load
     limited-so = go (is_taken (within_spec l n).answer) refl

@@ -17,9 +17,9 @@ use Rattle.profile.specs.declared.Journey.{Journey}
 use Rattle.offers.specs.Order.{in_order_of}
 use Rattle.offers.proofs.OrderLaws.{sorted_front}
 use Rattle.load.specs.declared.Load.{Load}
-use Rattle.load.specs.declared.Stepped.{Stepped}
+use Rattle.load.specs.declared.StepResult.{StepResult}
 use Rattle.load.specs.Load.{stopped}
-use Rattle.load.specs.Filling.{Filling}
+use Rattle.load.specs.FillStep.{FillStep}
 use Rattle.load.specs.Sound.{Sound}
 use Rattle.search.specs.Search.{with_found}
 use Rattle.again.specs.Again.{unsearched_of, researched}
@@ -35,20 +35,21 @@ use Rattle.comparison.proofs.StartLaws.{Start, state_at}
 use Rattle.comparison.proofs.AsideLaws.{Beside, beside_back, beside-on, apart, apart-calls, apart-like, week-beside}
 
 -- calls apart are shown in order
-pub shown-apart : (z : Settings) (h : ℕ) (fs : List Filling) → windowed z h (calls_in (apart fs)) ≡ in_order_of (windowed z h (calls_in fs))
+pub shown-apart : (z : Settings) (h : ℕ) (fs : List FillStep) → windowed z h (calls_in (apart fs))
+    ≡ in_order_of (windowed z h (calls_in fs))
 shown-apart z h fs = ap (windowed z h) (apart-calls fs) ∙ shown-sorted z h (calls_in fs)
 
-pub apart-again : (z : Settings) (h : ℕ) (fs : List Filling)
+pub apart-again : (z : Settings) (h : ℕ) (fs : List FillStep)
     → in_order_of (windowed z h (calls_in (apart fs))) ≡ in_order_of (windowed z h (calls_in fs))
 apart-again z h fs = ap in_order_of (shown-apart z h fs) ∙ in-order-again (windowed z h (calls_in fs))
 
 -- a call of it is one of the list
-pub apart-days : (fs : List Filling) → ((j : CallInput) → Memᴰ j (calls_in fs) → j.day ≤ 2) → (j : CallInput)
+pub apart-days : (fs : List FillStep) → ((j : CallInput) → Memᴰ j (calls_in fs) → j.day ≤ 2) → (j : CallInput)
     → Memᴰ j (calls_in (apart fs)) → j.day ≤ 2
 apart-days fs days j m = days j (sort-mem raw_earlier (calls_in fs) (subst (Memᴰ j) (apart-calls fs) m))
 
 -- p holds gs, which gives what fs does but for the order of the calls
-module _ (s : Settings) (p : Load) (gs fs : List Filling) (w : Start s p gs) (b : Beside gs fs)
+module _ (s : Settings) (p : Load) (gs fs : List FillStep) (w : Start s p gs) (b : Beside gs fs)
     (days : (j : CallInput) → Memᴰ j (calls_in fs) → j.day ≤ 2)
     (same : in_order_of (windowed p.settings p.table_horizon (calls_in gs))
     ≡ in_order_of (windowed p.settings p.table_horizon (calls_in fs))) where
@@ -76,29 +77,29 @@ module _ (s : Settings) (p : Load) (gs fs : List Filling) (w : Start s p gs) (b 
       → Start s (unsearched_of (researched limit p).load) (apart fs)
   searched-start limit t =
       let f = taken-researched limit p t in
-      let is : (researched limit p).load ≡ with_found p f.kept f.to f.mark f.limit = ap (λ (r : Stepped). r.load) f.is in
+      let is : (researched limit p).load ≡ with_found p f.kept f.to f.mark f.limit = ap (λ (r : StepResult). r.load) f.is in
       subst (λ (m : Load). Start s (unsearched_of m) (apart fs)) (sym is)
       (start-so f.kept f.to f.mark f.limit (subst Sound is (researched-sound limit p w.sound)))
 
 -- a stopped load has at most one change, so what was handed in says so
-pub few-changes : (s : Settings) (l : Load) (fs : List Filling) → Start s (unsearched_of l) (apart fs) → Sound l → stopped l ≡ true
+pub few-changes : (s : Settings) (l : Load) (fs : List FillStep) → Start s (unsearched_of l) (apart fs) → Sound l → stopped l ≡ true
     → s.max_transfers ≤ 1
 unfolding unsearched_of canonical_of
 few-changes s l fs w v e = subst (λ (k : ℕ). k ≤ 1) (ap (λ (z : Settings). z.max_transfers) w.settings) (v.stopped_change e)
 
 -- ---- a step x on the searched load l, answered a, leaves n, and hs taken
 
-pub record Leaves (s : Settings) (l : Load) (fs : List Filling) (x : Step) (a : Answer) (n : Load) (hs : List Filling) : Type 0 where
+pub record Leaves (s : Settings) (l : Load) (fs : List FillStep) (x : Step) (a : Answer) (n : Load) (hs : List FillStep) : Type 0 where
   pub after : After s (state_at l fs) x a (state_at n hs)
   pub searched : n.searched ≡ true
   pub start : Start s (unsearched_of n) (apart hs)
 
 -- sent back, it leaves the load
-pub stays-so : (s : Settings) (l : Load) (fs : List Filling) (x : Step) (r : Refusal) → l.searched ≡ true
+pub stays-so : (s : Settings) (l : Load) (fs : List FillStep) (x : Step) (r : Refusal) → l.searched ≡ true
     → Start s (unsearched_of l) (apart fs) → Leaves s l fs x (Err r) l fs
 stays-so s l fs x r d w = record { after = sent_back; searched = d; start = w }
 
 -- with nothing more taken
-pub same-leaves : (s : Settings) (l : Load) (fs : List Filling) (x : Step) (a : Answer) (n : Load) → Leaves s l fs x a n fs
+pub same-leaves : (s : Settings) (l : Load) (fs : List FillStep) (x : Step) (a : Answer) (n : Load) → Leaves s l fs x a n fs
     → Leaves s l fs x a n (fs ++ [])
 same-leaves s l fs x a n v = subst (Leaves s l fs x a n) (sym (append-nil fs)) v

@@ -24,9 +24,9 @@ use Rattle.offers.specs.Offers.{sorted, offers}
 use Rattle.offers.specs.Admitted.{Clear}
 use Rattle.limited.specs.Limited.{offers_within, joins_within, finished_within}
 use Rattle.load.specs.declared.Load.{Load}
-use Rattle.load.specs.declared.Stepped.{Stepped}
+use Rattle.load.specs.declared.StepResult.{StepResult}
 use Rattle.load.specs.Load.{table_of, stopped}
-use Rattle.load.specs.Filling.{Filling}
+use Rattle.load.specs.FillStep.{FillStep}
 use Rattle.search.specs.Timetable.{timetable_of}
 use Rattle.search.specs.Search as search
 use Rattle.search.specs.Search.{with_found, with_journeys, search_spec, is_never, would_fall}
@@ -73,7 +73,7 @@ dec-below h m os = (
     led : Falls [] h m os (end_of (fall (covᶠ journey_figures) (dueᶠ journey_figures) 64 3600 h m [] os))
     led = fall-falls [] os h m (omega arith)
 
-module _ (s : Settings) (l : Load) (fs : List Filling) (w : Start s l fs) (o : Opened s) where
+module _ (s : Settings) (l : Load) (fs : List FillStep) (w : Start s l fs) (o : Opened s) where
   pub dec-neighbours : Decides (clashes (sorted (timetable_of l))) (Clashing s l.table_horizon (calls_in fs))
   unfolding timetable_of
   dec-neighbours = dec-clashing s l.table_horizon (calls_in fs) (table_calls (table_of l))
@@ -146,7 +146,7 @@ brought : (b : Bool) (B Q : State → Type 0) (v : State) → B v → ((u : Stat
 brought b B Q v there only d = (λ e. (v, there, d.0 e), λ (u, x, q). d.1 (subst Q (only u x) q))
 
 -- m holds what it brings, with the calls in any order; the search before it was stopped at the limit n or not
-module _ (s : Settings) (m : Load) (gs fs : List Filling) (w : Start s m gs) (o : Opened s) (like : Like gs fs) (t : State) where
+module _ (s : Settings) (m : Load) (gs fs : List FillStep) (w : Start s m gs) (o : Opened s) (like : Like gs fs) (t : State) where
   abbrev v : State
   v = cut_to (keeping t fs) m.table_horizon m.table_limits
 
@@ -218,9 +218,9 @@ untaken-refused limit m new P f t = go (researched limit m).answer (research-fir
 
 module _ (limit : Option ℕ) (m : Load) (t : is_taken (researched limit m).answer ≡ true) where
   pub found-searched : (researched limit m).load.searched ≡ true
-  found-searched = ap (λ (r : Stepped). r.load.searched) (taken-researched limit m t).is
+  found-searched = ap (λ (r : StepResult). r.load.searched) (taken-researched limit m t).is
 
-  pub found-state : (hs : List Filling) → state_at (researched limit m).load hs
+  pub found-state : (hs : List FillStep) → state_at (researched limit m).load hs
       ≡ done ((researched limit m).load.limit) (record {
         taken = hs;
         horizon = m.table_horizon;
@@ -260,10 +260,10 @@ limited-to n t true k e = λ j. done (sym e j) t
 limited-to n t false k e = λ j. done (sym e j) t
 
 pub limit-full : (m : Load) → is_taken (search_spec m).answer ≡ true → (search_spec m).load.limit ≡ None
-limit-full m t = ap (λ (r : Stepped). r.load.limit) (taken-found m t).is
+limit-full m t = ap (λ (r : StepResult). r.load.limit) (taken-found m t).is
 
 -- the search of m again is the one stated of what it brings
-module _ (s : Settings) (m : Load) (gs fs : List Filling) (w : Start s m gs) (o : Opened s) (like : Like gs fs) (x : State) where
+module _ (s : Settings) (m : Load) (gs fs : List FillStep) (w : Start s m gs) (o : Opened s) (like : Like gs fs) (x : State) where
   abbrev X : State
   X = cut_to (keeping x fs) m.table_horizon m.table_limits
 
@@ -278,13 +278,13 @@ module _ (s : Settings) (m : Load) (gs fs : List Filling) (w : Start s m gs) (o 
       (finished_within n (timetable_of m)) like v) in
       subst (Again s (done (Some n) X)) (limited-to n (done (Some n) X) (finished_within n (timetable_of m))
       (researched (Some n) m).load.limit
-      (ap (λ (r : Stepped). r.load.limit) q ∙ limit-within n m (sym (ap (λ (r : Stepped). is_taken r.answer) q) ∙ t))) u
+      (ap (λ (r : StepResult). r.load.limit) q ∙ limit-within n m (sym (ap (λ (r : StepResult). is_taken r.answer) q) ∙ t))) u
 
   again-full : is_taken (researched None m).answer ≡ true → Again s (done None X) (done (researched None m).load.limit X)
   again-full t =
       let q = researched-full m in
       let k : (researched None m).load.limit ≡ None =
-      ap (λ (r : Stepped). r.load.limit) q ∙ limit-full m (sym (ap (λ (r : Stepped). is_taken r.answer) q) ∙ t) in
+      ap (λ (r : StepResult). r.load.limit) q ∙ limit-full m (sym (ap (λ (r : StepResult). is_taken r.answer) q) ∙ t) in
       subst (λ (y : Option ℕ). Again s (done None X) (done y X)) (sym k) (in_full refl)
 
   pub again-so : (limit : Option ℕ) → (is_some limit ≡ true → s.max_transfers ≤ 1) → is_taken (researched limit m).answer ≡ true

@@ -16,7 +16,7 @@ use Rattle.load.specs.declared.Load.{Load}
 use Rattle.calendar.specs.Dates.{is_date}
 use Rattle.services.specs.Wrong.{span_wrong, exception_wrong}
 use Rattle.week.specs.Weeks.{named, service_tests, exception_tests}
-use Rattle.load.specs.Filling.{Filling}
+use Rattle.load.specs.FillStep.{FillStep}
 use Rattle.comparison.specs.Taken.{services_in}
 use Rattle.comparison.specs.Services.{Named}
 use Rattle.comparison.specs.Causes.{Late, service_causes, exception_causes}
@@ -25,7 +25,7 @@ use Rattle.comparison.proofs.WeekLaws.{dec-named}
 use Rattle.comparison.proofs.StartLaws.{Start, state_at}
 use Rattle.comparison.proofs.CauseLaws.{dec-date}
 
-module _ (s : Settings) (l : Load) (fs : List Filling) (w : Start s l fs) where
+module _ (s : Settings) (l : Load) (fs : List FillStep) (w : Start s l fs) where
   service-count : l.week.service_count ≡ length (services_in fs)
   service-count =
       let h : length (take l.week.service_count l.week.services) ≡ l.week.service_count =

@@ -8,7 +8,7 @@ use Rattle.settings.specs.declared.Settings.{Settings}
 use Rattle.settings.specs.Settings.{canonical_of}
 use Rattle.load.specs.declared.Load.{Load}
 use Rattle.load.specs.Steps.{Opening, opened}
-use Rattle.load.specs.Filling.{Filling}
+use Rattle.load.specs.FillStep.{FillStep}
 use Rattle.load.specs.Sound.{Opens, Sound}
 use Rattle.load.proofs.SoundLaws.{open-sound}
 use Rattle.load.proofs.TableLaws.{opened-settings}
@@ -19,7 +19,7 @@ use Rattle.comparison.specs.Feeds.{feed_of}
 use Rattle.comparison.proofs.TakenLaws.{Held, opened-holds}
 
 -- an unsearched load that holds what was taken: what a search of it is handed
-pub record Start (s : Settings) (p : Load) (fs : List Filling) : Type 0 where
+pub record Start (s : Settings) (p : Load) (fs : List FillStep) : Type 0 where
   pub sound : Sound p
   pub settings : p.settings ≡ canonical_of s
   pub held : Held p fs
@@ -37,7 +37,7 @@ no_limit l v f = go l.limit refl
     go None e = refl
 
 -- what a load was given, as the steps' answers tell it
-abbrev pub state_at : Load → List Filling → State
+abbrev pub state_at : Load → List FillStep → State
 state_at l fs = record {
   taken = fs;
   horizon = l.table_horizon;
@@ -49,7 +49,7 @@ state_at l fs = record {
 }
 
 -- what is given to a search by what was taken, with the horizon of the load's table
-abbrev pub feed_from : Settings → Load → List Filling → Feed
+abbrev pub feed_from : Settings → Load → List FillStep → Feed
 feed_from s l fs =
     feed_of s (record {
       taken = fs;
@@ -62,5 +62,5 @@ feed_from s l fs =
     })
 
 -- what the load gives to a search is what was taken
-pub same-feed : (s : Settings) (p : Load) (fs : List Filling) → Start s p fs → feed_from s p fs ≡ feed_of s (state_at p fs)
+pub same-feed : (s : Settings) (p : Load) (fs : List FillStep) → Start s p fs → feed_from s p fs ≡ feed_of s (state_at p fs)
 same-feed s p fs w = refl

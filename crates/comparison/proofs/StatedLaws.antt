@@ -10,7 +10,7 @@ use lib.Dec.{eqb}
 use Rattle.settings.specs.declared.Settings.{Settings}
 use Rattle.calls.specs.declared.Call.{Call}
 use Rattle.load.specs.declared.Load.{Load}
-use Rattle.load.specs.Filling.{Filling}
+use Rattle.load.specs.FillStep.{FillStep}
 use Rattle.ways.specs.Rides.{leg, first_ride, rides, first_rides}
 use Rattle.offers.specs.Offers.{Timetable, network_of, sorted}
 use Rattle.offers.specs.Admitted.{Clear}
@@ -77,7 +77,7 @@ join-in (tested i ∷ xs) e m = go (Memᴰ.cases_cons m) (join-in xs e)
     go (inl q) ih = inr (i, Memᴰ.head refl, sym q)
     go (inr n) ih = more (ih n)
 
-module _ (s : Settings) (l : Load) (fs : List Filling) (w : Start s l fs) (o : Opened s) (clear : Clear (timetable_of l))
+module _ (s : Settings) (l : Load) (fs : List FillStep) (w : Start s l fs) (o : Opened s) (clear : Clear (timetable_of l))
     (few : (timetable_of l).max_transfers ≤ 1) where
   abbrev F : Feed
   F = feed_from s l fs

@@ -41,11 +41,11 @@ use Rattle.stops.proofs.SoundLaws.{found, id-kept, name-kept, needed-usable}
 use Rattle.stops.proofs.Laws as stops
 use Rattle.stops.proofs.Laws.{id-short}
 use Rattle.load.specs.declared.Load.{Load}
-use Rattle.load.specs.declared.Stepped.{Stepped}
+use Rattle.load.specs.declared.StepResult.{StepResult}
 use Rattle.load.specs.Load.{empty_of, table_of, with_table, with_stops, with_rules, with_week}
 use Rattle.load.specs.Steps.{Opening, week_of, opened, station_in, stop_answer, stop_spec, call_fitted, plain_call, rule_answer}
 use Rattle.load.specs.Steps.{rule_spec, service_spec, exception_spec}
-use Rattle.load.specs.Filling.{Filling, stop, call, rule, service, exception, filled}
+use Rattle.load.specs.FillStep.{FillStep, stop, call, rule, service, exception, filled}
 use Rattle.load.specs.Sound.{Three, Opens, Sound}
 use Rattle.load.proofs.StepLaws.{Called, without, goes_on, stays_out, sent_back, called}
 use Rattle.services.specs.Exceptions.{days_on, excepted_of}
@@ -114,7 +114,7 @@ pub record HeldAs (st : Stop) (ss : List StopGiven) (k : ℕ) : Type 0 where
   pub key : KeyHeld st given
   pub parent : ParentHeld st.parent ss k given.parent
 
-pub record Held (l : Load) (fs : List Filling) : Type 0 where
+pub record Held (l : Load) (fs : List FillStep) : Type 0 where
   pub calls : table_calls (table_of l) ≡ windowed l.settings l.table_horizon (calls_in fs)
   pub days : (i : CallInput) → Memᴰ i (calls_in fs) → i.day ≤ 2
   pub rules : take l.rule_count l.rules ≡ rules_in fs
@@ -140,11 +140,11 @@ opened-holds o w = record {
 }
 
 -- the load with a week that holds it too
-pub held-week : (l : Load) (fs : List Filling) (v : Week) → Held l fs → WeekHeld v fs → Held (with_week l v) fs
+pub held-week : (l : Load) (fs : List FillStep) (v : Week) → Held l fs → WeekHeld v fs → Held (with_week l v) fs
 held-week l fs v w h = record { calls = w.calls; days = w.days; rules = w.rules; stops = w.stops; each = w.each; week = h }
 
 -- closed, a week holds the same
-pub week-closed : (w : Week) (fs : List Filling) → WeekHeld w fs → WeekHeld (closed_week w) fs
+pub week-closed : (w : Week) (fs : List FillStep) → WeekHeld w fs → WeekHeld (closed_week w) fs
 week-closed w fs v = record { services = v.services; short = v.short; apart = v.apart; orphan = v.orphan; three = v.three }
 
 -- more stops keep one
@@ -204,7 +204,7 @@ parent-found b ss n f id name parent i e = (first_taken _ _ refl (answer-is-firs
 snoc-length : {A : Type 0} (l : List A) (x : A) → length (l ++ x ∷ []) ≡ length l + 1
 snoc-length l x = length-append l (x ∷ [])
 
-module _ (l : Load) (fs : List Filling) (sound : Sound l) (w : Held l fs) where
+module _ (l : Load) (fs : List FillStep) (sound : Sound l) (w : Held l fs) where
   -- a load that stays
   pub held_same : Held l (fs ++ [])
   held_same = subst (Held l) (sym (append-nil fs)) w
@@ -219,7 +219,7 @@ module _ (l : Load) (fs : List Filling) (sound : Sound l) (w : Held l fs) where
     abbrev st : Stop
     st = stop_of id name (station_in l parent) i
 
-    abbrev gs : List Filling
+    abbrev gs : List FillStep
     gs = fs ++ stop id name parent i ∷ []
 
     room : n < length l.stops
@@ -279,7 +279,7 @@ module _ (l : Load) (fs : List Filling) (sound : Sound l) (w : Held l fs) where
   -- ---- a rule
 
   module _ (i : Rule) (e : rule_answer l i ≡ Ok Taken) where
-    abbrev rs : List Filling
+    abbrev rs : List FillStep
     rs = fs ++ rule i ∷ []
 
     rule-room : l.rule_count < length l.rules
@@ -314,7 +314,7 @@ module _ (l : Load) (fs : List Filling) (sound : Sound l) (w : Held l fs) where
     abbrev fit : Tried
     fit = call_fitted l i
 
-    abbrev cs : List Filling
+    abbrev cs : List FillStep
     cs = fs ++ call name i ∷ []
 
     -- what is in the table after the step, refused or not
@@ -361,7 +361,7 @@ module _ (l : Load) (fs : List Filling) (sound : Sound l) (w : Held l fs) where
   -- ---- a service, an exception
 
   -- what was taken beside stops, calls and rules leaves these
-  module _ (x : Filling) (no_call : calls_in (x ∷ []) ≡ []) (no_rule : rules_in (x ∷ []) ≡ []) (no_stop : stops_in (x ∷ []) ≡ []) where
+  module _ (x : FillStep) (no_call : calls_in (x ∷ []) ≡ []) (no_rule : rules_in (x ∷ []) ≡ []) (no_stop : stops_in (x ∷ []) ≡ []) where
     beside-calls : calls_in (fs ++ x ∷ []) ≡ calls_in fs
     beside-calls = calls-append fs (x ∷ []) ∙ ap (λ (r : List CallInput). calls_in fs ++ r) no_call ∙ append-nil (calls_in fs)
 
@@ -383,10 +383,10 @@ module _ (l : Load) (fs : List Filling) (sound : Sound l) (w : Held l fs) where
 
 -- ---- every step that fills
 
-abbrev pub given : Load → Filling → List Filling
+abbrev pub given : Load → FillStep → List FillStep
 given l x = cond (is_taken (filled l x).answer) (x ∷ []) []
 
-pub fill-held : (l : Load) (x : Filling) (fs : List Filling) → Sound l → Held l fs → Held (filled l x).load (fs ++ given l x)
+pub fill-held : (l : Load) (x : FillStep) (fs : List FillStep) → Sound l → Held l fs → Held (filled l x).load (fs ++ given l x)
 unfolding stop_spec plain_call rule_spec service_spec service_on exception_spec exception_on
 fill-held l (stop id name parent i) fs sound w = go (is_taken (stop_answer l id name parent i)) refl
   where
@@ -410,7 +410,7 @@ fill-held l (call name i) fs sound w = by _ (called l name i)
     go (Err r) e = held_same l fs sound w
 
     -- with its services closed
-    shut : (m : Load) (gs : List Filling) → m.week ≡ l.week → Held m gs → Held (with_week m (closed_week l.week)) gs
+    shut : (m : Load) (gs : List FillStep) → m.week ≡ l.week → Held m gs → Held (with_week m (closed_week l.week)) gs
     shut m gs e v = held-week m gs (closed_week l.week) v
         (subst (λ (u : Week). WeekHeld (closed_week u) gs) e (week-closed m.week gs v.week))
 
@@ -421,7 +421,7 @@ fill-held l (call name i) fs sound w = by _ (called l name i)
     closes (Ok Outside) e = shut _ _ refl (go (Ok Outside) e)
     closes (Err r) e = go (Err r) e
 
-    by : (r : Stepped) → Called l name i r → Held r.load (fs ++ cond (is_taken r.answer) (call name i ∷ []) [])
+    by : (r : StepResult) → Called l name i r → Held r.load (fs ++ cond (is_taken r.answer) (call name i ∷ []) [])
     by _ (without d) = go (call_fitted l i).answer refl
     by _ (goes_on d e) = closes (call_fitted l i).answer refl
     by _ (stays_out d e) = shut l (fs ++ []) refl (held_same l fs sound w)

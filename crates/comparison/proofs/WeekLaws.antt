@@ -23,7 +23,7 @@ use Rattle.week.specs.declared.Running.TheVariants as variants
 use Rattle.week.specs.Weeks.{is_dated, dates_in, blank_service, named, place_of, place_in, service_in, running}
 use Rattle.week.proofs.StepLaws.{place-below}
 use Rattle.load.specs.Steps.{is_unknown, is_resting}
-use Rattle.load.specs.Filling.{Filling}
+use Rattle.load.specs.FillStep.{FillStep}
 use Rattle.comparison.specs.Taken.{ServiceGiven, services_in, State}
 use Rattle.comparison.specs.Services.{RunsOn, Named, Unknown, Running, Resting}
 use Rattle.comparison.proofs.NthLaws.{bytes_same, same_bytes}
@@ -35,7 +35,7 @@ abbrev pub Apart : List ServiceGiven → Type 0
 Apart [] = Unit {0}
 Apart (g ∷ gs) = (anyb (given g.name) gs ≡ false) × Apart gs
 
-pub record WeekHeld (w : Week) (fs : List Filling) : Type 0 where
+pub record WeekHeld (w : Week) (fs : List FillStep) : Type 0 where
   pub services : take w.service_count w.services ≡ map (held_service (dates_in w) fs) (services_in fs)
   pub short : (g : ServiceGiven) → Memᴰ g (services_in fs) → length g.name ≤ 32
   pub apart : Apart (services_in fs)
@@ -71,7 +71,7 @@ apart_snoc (g ∷ gs) new (h, a) f =
       apart_snoc gs new a (or-false-right (given new.name g) (anyb (given new.name) gs) f),
     )
 
-module _ {w : Week} {fs : List Filling} (v : WeekHeld w fs) where
+module _ {w : Week} {fs : List FillStep} (v : WeekHeld w fs) where
   abbrev gs : List ServiceGiven
   gs = services_in fs
 
@@ -150,9 +150,9 @@ module _ {w : Week} {fs : List Filling} (v : WeekHeld w fs) where
                 dates,
                 (
                   g,
-                  subst (λ (x : List Filling). Memᴰ g (services_in x)) (sym taken) m,
+                  subst (λ (x : List FillStep). Memᴰ g (services_in x)) (sym taken) m,
                   name,
-                  subst (λ (x : List Filling). RunsOn x g (get_or (dates_in w) day 0)) (sym taken) r,
+                  subst (λ (x : List FillStep). RunsOn x g (get_or (dates_in w) day 0)) (sym taken) r,
                 ),
               )
 
@@ -160,18 +160,19 @@ module _ {w : Week} {fs : List Filling} (v : WeekHeld w fs) where
           back (ds, de, (h, m, name, r)) =
               let (g, k, name', is) = found n e in
               let same : ds ≡ dates_in w = some-injective ds (dates_in w) (sym de ∙ dates) in
-              let q : h ≡ g = one_name gs h g v.apart (subst (λ (x : List Filling). Memᴰ h (services_in x)) taken m) k (name ∙ sym name') in
+              let q : h ≡ g = one_name gs h g v.apart (subst (λ (x : List FillStep). Memᴰ h (services_in x)) taken m) k (name
+              ∙ sym name') in
               let r' : RunsOn fs g (get_or (dates_in w) day 0) =
               subst (λ (x : List ℕ). RunsOn fs g (get_or x day 0)) same
               (subst (λ (y : ServiceGiven). RunsOn fs y (get_or ds day 0)) q
-              (subst (λ (x : List Filling). RunsOn x h (get_or ds day 0)) taken r)) in
+              (subst (λ (x : List FillStep). RunsOn x h (get_or ds day 0)) taken r)) in
               ap (λ (s : Service). runs_of s day (get_or (dates_in w) day 0)) is ∙ (held-runs (dates_in w) fs g day below).1 r'
 
 some-in : (o : Option (List ℕ)) → is_some o ≡ true → o ≡ Some (unwrap_or o [])
 some-in None e = absurd (false≢true e)
 some-in (Some dates) e = refl
 
-module _ {w : Week} {fs : List Filling} (v : WeekHeld w fs) (t : State) (taken : t.taken ≡ fs) (dates : t.dates ≡ w.dates) (n : List ℕ)
+module _ {w : Week} {fs : List FillStep} (v : WeekHeld w fs) (t : State) (taken : t.taken ≡ fs) (dates : t.dates ≡ w.dates) (n : List ℕ)
     (day : ℕ) where
   with-dates : is_dated w ≡ true → t.dates ≡ Some (dates_in w)
   with-dates d = dates ∙ some-in w.dates d
@@ -200,10 +201,10 @@ module _ {w : Week} {fs : List Filling} (v : WeekHeld w fs) (t : State) (taken :
       go true d true e = such d e _ refl
 
   not_named : anyb (named n) (take w.service_count w.services) ≡ false → Named t.taken n → ⊥
-  not_named e x = true≢false (sym ((dec-named v n).1 (subst (λ (y : List Filling). Named y n) taken x)) ∙ e)
+  not_named e x = true≢false (sym ((dec-named v n).1 (subst (λ (y : List FillStep). Named y n) taken x)) ∙ e)
 
   is-named : anyb (named n) (take w.service_count w.services) ≡ true → Named t.taken n
-  is-named e = subst (λ (y : List Filling). Named y n) (sym taken) ((dec-named v n).0 e)
+  is-named e = subst (λ (y : List FillStep). Named y n) (sym taken) ((dec-named v n).0 e)
 
   unknown-either : (b : Bool) → is_unknown (cond b variants.Runs variants.Rests) ≡ false
   unknown-either true = refl

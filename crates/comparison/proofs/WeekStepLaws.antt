@@ -19,7 +19,7 @@ use Rattle.week.specs.declared.Week.{Week}
 use Rattle.week.specs.Weeks.{is_dated, dates_in, blank_service, service_of, named, place_of, place_in, service_in, with_services}
 use Rattle.week.specs.Sound.{WeekSound}
 use Rattle.week.proofs.StepLaws.{place-below}
-use Rattle.load.specs.Filling.{Filling, service, exception}
+use Rattle.load.specs.FillStep.{FillStep, service, exception}
 use Rattle.comparison.specs.Taken.{ServiceGiven, services_in}
 use Rattle.comparison.proofs.NthLaws.{bytes_same, services-append}
 use Rattle.comparison.proofs.RunsOnLaws.{exceptions_of, exceptions-append, held_service, given, held-named, held_same, held-excepted}
@@ -40,7 +40,7 @@ opened-week w c th = record {
 }
 
 -- the week holds the same of a list with one more that is no service and no exception
-pub week-more : (w : Week) (fs : List Filling) (x : Filling) → services_in (x ∷ []) ≡ [] → ((n : List ℕ) → exceptions_of n (x ∷ []) ≡ [])
+pub week-more : (w : Week) (fs : List FillStep) (x : FillStep) → services_in (x ∷ []) ≡ [] → ((n : List ℕ) → exceptions_of n (x ∷ []) ≡ [])
     → WeekHeld w fs → WeekHeld w (fs ++ x ∷ [])
 week-more w fs x s e v =
     let same : services_in (fs ++ x ∷ []) ≡ services_in fs =
@@ -56,12 +56,12 @@ week-more w fs x s e v =
     }
 
 -- a service that is taken
-module _ (w : Week) (fs : List Filling) (name : List ℕ) (weekdays start end : ℕ) (sound : WeekSound w) (v : WeekHeld w fs)
+module _ (w : Week) (fs : List FillStep) (name : List ℕ) (weekdays start end : ℕ) (sound : WeekSound w) (v : WeekHeld w fs)
     (room : w.service_count < 64) (fits : length name ≤ 32) (new : anyb (named name) (take w.service_count w.services) ≡ false) where
   abbrev one : ServiceGiven
   one = record { name = name; weekdays = weekdays; start = start; end = end }
 
-  abbrev x : Filling
+  abbrev x : FillStep
   x = service name weekdays start end
 
   unknown : anyb (given name) (services_in fs) ≡ false
@@ -96,9 +96,9 @@ module _ (w : Week) (fs : List Filling) (name : List ℕ) (weekdays start end : 
       either g (inr m) = subst (λ (y : ServiceGiven). length y.name ≤ 32) (sym (Memᴰ.eq_of_singleton m)) fits
 
 -- an exception that is taken
-module _ (w : Week) (fs : List Filling) (name : List ℕ) (date kind : ℕ) (v : WeekHeld w fs)
+module _ (w : Week) (fs : List FillStep) (name : List ℕ) (date kind : ℕ) (v : WeekHeld w fs)
     (known : anyb (named name) (take w.service_count w.services) ≡ true) where
-  abbrev y : Filling
+  abbrev y : FillStep
   y = exception name date kind
 
   abbrev before : ServiceGiven → Service

@@ -19,9 +19,9 @@ use Rattle.calls.specs.Shown.{windowed, table_calls}
 use Rattle.stops.specs.Sound.{stop_at}
 use Rattle.offers.specs.Order.{in_order_of, clashes}
 use Rattle.load.specs.declared.Load.{Load}
-use Rattle.load.specs.declared.Stepped.{Stepped}
+use Rattle.load.specs.declared.StepResult.{StepResult}
 use Rattle.load.specs.Load.{table_of, with_table, stopped}
-use Rattle.load.specs.Filling.{Filling}
+use Rattle.load.specs.FillStep.{FillStep}
 use Rattle.load.specs.Sound.{Sound}
 use Rattle.calls.specs.declared.CallKey.{CallKey}
 use Rattle.withdrawal.specs.Removal.{without_last, has_key, key_known, withdrawn, named_in}
@@ -55,9 +55,9 @@ abbrev Days : List CallInput → Type 0
 Days is = (j : CallInput) → Memᴰ j is → j.day ≤ 2
 
 -- what is left gives the same beside its calls
-left-beside : (s : Settings) (t : State) (k : CallKey) (hs : List Filling) → Withdrawn s t k (keeping t hs) → Beside hs t.taken
+left-beside : (s : Settings) (t : State) (k : CallKey) (hs : List FillStep) → Withdrawn s t k (keeping t hs) → Beside hs t.taken
 left-beside s t k hs v =
-    subst (λ (fs : List Filling). Beside fs t.taken) (sym (ap (λ (x : State). x.taken) v.left))
+    subst (λ (fs : List FillStep). Beside fs t.taken) (sym (ap (λ (x : State). x.taken) v.left))
     (subst (Beside (v.before ++ v.behind)) (sym v.whole) (beside-less v.before v.behind v.name v.gone))
 
 -- the load that the withdrawal leaves of an unsearched one
@@ -65,12 +65,12 @@ abbrev out_of : Load → CallKey → Load
 out_of l k = with_table l (withdrawn (table_of l) k)
 
 -- l holds gs, and what it leaves shows the calls of hs, which gives what gs does beside them
-left-start : (s : Settings) (l : Load) (k : CallKey) (gs hs : List Filling) → Start s l gs → key_known k ≡ true
+left-start : (s : Settings) (l : Load) (k : CallKey) (gs hs : List FillStep) → Start s l gs → key_known k ≡ true
     → anyb (has_key k) (table_calls (table_of l)) ≡ true → Beside hs gs → Days (calls_in hs)
     → without_last (has_key k) (table_calls (table_of l)) ≡ windowed l.settings l.table_horizon (calls_in hs) → Start s (out_of l k) hs
 unfolding withdrawn
 left-start s l k gs hs w known there b days e = record {
-  sound = subst (λ (r : Stepped). Sound r.load) (there-goes l k known there) (taken-out-sound l k w.sound);
+  sound = subst (λ (r : StepResult). Sound r.load) (there-goes l k known there) (taken-out-sound l k w.sound);
   settings = w.settings;
   held = record {
     calls = (withdrawn-leaves (table_of l) k w.sound.table there).calls ∙ e;
@@ -85,7 +85,7 @@ left-start s l k gs hs w known there b days e = record {
 
 -- ---- on a load that is not searched
 
-module _ (s : Settings) (o : Opened s) (l : Load) (fs : List Filling) (w : Start s l fs) (k : CallKey) where
+module _ (s : Settings) (o : Opened s) (l : Load) (fs : List FillStep) (w : Start s l fs) (k : CallKey) where
   abbrev h : ℕ
   h = l.table_horizon
 
@@ -115,7 +115,7 @@ module _ (s : Settings) (o : Opened s) (l : Load) (fs : List Filling) (w : Start
       go false e = (refl, dec-key k, λ p. (refl, dec-24, λ q. tt))
 
   module _ (there : anyb (has_key k) (table_calls (table_of l)) ≡ true) where
-    abbrev left : List Filling
+    abbrev left : List FillStep
     left = without_last (named_filling l.settings h k) fs
 
     gone-so : Withdrawn s (state_at l fs) k (keeping (state_at l fs) left)
@@ -132,7 +132,7 @@ module _ (s : Settings) (o : Opened s) (l : Load) (fs : List Filling) (w : Start
     left-days j m = w.held.days j (without-mem (named_in l.settings h k) (calls_in fs) j
         (subst (Memᴰ j) (calls-without l.settings h k fs) m))
 
-  abbrev Leaving : Stepped → Type 0
+  abbrev Leaving : StepResult → Type 0
   Leaving r = After s (state_at l fs) (withdraw k) r.answer
       (state_at r.load (cond (is_taken r.answer) (without_last (named_filling l.settings l.table_horizon k) fs) fs))
       × Start s r.load (cond (is_taken r.answer) (without_last (named_filling l.settings l.table_horizon k) fs) fs)
@@ -150,14 +150,14 @@ module _ (s : Settings) (o : Opened s) (l : Load) (fs : List Filling) (w : Start
 
 -- ---- on a searched load
 
-module _ (s : Settings) (o : Opened s) (l : Load) (fs : List Filling) (d : l.searched ≡ true) (kept : Kept l)
+module _ (s : Settings) (o : Opened s) (l : Load) (fs : List FillStep) (d : l.searched ≡ true) (kept : Kept l)
     (w : Start s (unsearched_of l) (apart fs))
     (days : Days (calls_in fs)) (few : stopped l ≡ true → s.max_transfers ≤ 1) (k : CallKey) where
   abbrev u : Load
   u = unsearched_of l
 
   -- searched again
-  abbrev once : Load → Stepped
+  abbrev once : Load → StepResult
   once n = researched l.limit n
 
   abbrev seen : List Call
@@ -185,7 +185,7 @@ module _ (s : Settings) (o : Opened s) (l : Load) (fs : List Filling) (d : l.sea
       (dec-24 s o u (apart fs) w k)
 
   module _ (known : key_known k ≡ true) (there : anyb (has_key k) (table_calls (table_of u)) ≡ true) where
-    abbrev rest : List Filling
+    abbrev rest : List FillStep
     rest = without_last (named_filling u.settings u.table_horizon k) fs
 
     any_seen : anyb (has_key k) seen ≡ true
@@ -245,7 +245,7 @@ module _ (s : Settings) (o : Opened s) (l : Load) (fs : List Filling) (d : l.sea
       go e f =
           let known = not-false (key_known k) e in
           let there = not-false (anyb (has_key k) (table_calls (table_of u))) f in
-          subst (λ (r : Stepped). Matches (search_tests l r.load) (again_causes s (Withdrawn s T k))) (sym (there-goes u k known there))
+          subst (λ (r : StepResult). Matches (search_tests l r.load) (again_causes s (Withdrawn s T k))) (sym (there-goes u k known there))
           (rest-again known there)
 
   pub withdrawn-match : Matches (tests.withdraw_causes l k) (withdraw_causes s (state_at l fs) k)
@@ -254,7 +254,7 @@ module _ (s : Settings) (o : Opened s) (l : Load) (fs : List Filling) (d : l.sea
       (subst (λ (b : Bool). Matches (cond b (withdraw_tests u k ++ search_tests l (taken_out u k).load) (withdraw_tests l k))
       (withdraw_causes s T k)) (sym d) withdraw-front)
 
-  abbrev LeftBy : Stepped → Type 0
+  abbrev LeftBy : StepResult → Type 0
   LeftBy r = Leaves s l fs (withdraw k) r.answer r.load
       (cond (is_taken r.answer) (without_last (named_filling u.settings u.table_horizon k) fs) fs)
 
@@ -269,7 +269,7 @@ module _ (s : Settings) (o : Opened s) (l : Load) (fs : List Filling) (d : l.sea
       (λ g. go g (is_taken (once (out_of u k)).answer) refl)
     where
       go : (g : Goes u k) → (b : Bool) → is_taken (once (out_of u k)).answer ≡ b
-          → LeftBy (cond {A = Stepped} b (record { answer = Ok Taken; load = (once (out_of u k)).load })
+          → LeftBy (cond {A = StepResult} b (record { answer = Ok Taken; load = (once (out_of u k)).load })
           (record { answer = (once (out_of u k)).answer; load = l }))
       go g true t = rest-searched g.known g.there t
       go g false t = refused-so (out_of u k) w.fresh t

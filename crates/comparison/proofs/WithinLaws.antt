@@ -13,7 +13,7 @@ use Rattle.settings.specs.declared.Settings.{Settings}
 use Rattle.calls.specs.declared.CallInput.{CallInput}
 use Rattle.calls.specs.declared.Call.{Call}
 use Rattle.profile.specs.declared.Journey.{Journey}
-use Rattle.load.specs.Filling.{Filling}
+use Rattle.load.specs.FillStep.{FillStep}
 use Rattle.comparison.specs.Taken.{State, keeping, calls_in}
 use Rattle.comparison.specs.Admitted.{Feed}
 use Rattle.comparison.specs.OfferOrder.{Offer, alone, changing, through, Each, Ascending, Offered}
@@ -263,7 +263,7 @@ within-perm F is js q n os k f w = record {
   count = w.count;
 }
 
-pub within-like : (s : Settings) (t : State) (gs fs : List Filling) (n : ℕ) (os : List Journey) (k : ℕ) (f : Bool) → Like gs fs
+pub within-like : (s : Settings) (t : State) (gs fs : List FillStep) (n : ℕ) (os : List Journey) (k : ℕ) (f : Bool) → Like gs fs
     → Within (feed_of s (keeping t gs)) n os k f → Within (feed_of s (keeping t fs)) n os k f
 within-like s t gs fs n os k f w a =
     within-perm (feed_of s (keeping t fs)) (calls_in gs) (calls_in fs) w.calls n os k f

@@ -39,7 +39,7 @@ pub record Parent (ss : List StopGiven) (x p : ℕ) : Type 0 where
   pub named : child.parent ≡ Some station.id
   pub type_one : station.input.location_type ≡ 1
 
--- "membership byte (bits 0 to 3 origins, bits 4 to 7 targets; bits past the counts are ignored)"
+-- the bit of x's membership byte is set: 0 to 3 for the origins, 4 to 7 for the targets (RULES 3.3)
 pub record Member (ss : List StopGiven) (x bit : ℕ) : Type 0 where
   pub given : StopGiven
   pub at : Nth ss x given
@@ -47,36 +47,37 @@ pub record Member (ss : List StopGiven) (x bit : ℕ) : Type 0 where
 
 -- ---- changes
 
--- "among rules whose from is the stop or its parent, likewise to"
+-- n, the from or to of a rule, is x or x's parent
 abbrev pub Side : Feed → ℕ → ℕ → Type 0
 Side F n x = (n ≡ x) ⊎ Parent F.stops x n
 
+-- the rule applies to a change from x to y (RULES 6.2)
 abbrev pub Applies : Feed → ℕ → ℕ → Rule → Type 0
 Applies F x y r = Side F r.from x × Side F r.to y
 
--- request 06: of two half-exact rules "the one exact on the from side wins, whichever came last. Full exactness still comes first"
+-- how exact the rule is: 3 on both sides, 2 on the from side, 1 on the to side, 0 between both stations
 pub data Rank (x y : ℕ) (r : Rule) : ℕ → Type 0 where
   both : r.from ≡ x → r.to ≡ y → Rank x y r 3
   fore : r.from ≡ x → (r.to ≡ y → ⊥) → Rank x y r 2
   rear : (r.from ≡ x → ⊥) → r.to ≡ y → Rank x y r 1
   neither : (r.from ≡ x → ⊥) → (r.to ≡ y → ⊥) → Rank x y r 0
 
--- r was taken and applies, and every other rule that does has a lower rank, in whatever order they were taken
+-- r counts for a change from x to y: it was taken and applies, and every other rule that does is less exact, whichever was taken first
 pub record Chosen (F : Feed) (x y : ℕ) (r : Rule) : Type 0 where
   pub taken : Memᴰ r F.rules
   pub applies : Applies F x y r
   pub highest : (q : Rule) (m n : ℕ) → Memᴰ q F.rules → Applies F x y q → (q ≡ r → ⊥) → Rank x y q m → Rank x y r n → m < n
 
--- "optional seconds (absent counts as 0)"
+-- the seconds of a rule, 0 for none
 abbrev pub Seconds : Option ℕ → ℕ → Type 0
 Seconds (Some n) v = v ≡ n
 Seconds None v = v ≡ 0
 
+-- n is the larger of a and b
 abbrev pub Larger : ℕ → ℕ → ℕ → Type 0
 Larger a b n = ((a ≤ b) × (n ≡ b)) ⊎ ((b ≤ a) × (n ≡ a))
 
--- what a rule gives, by its type; `change` is the setting `transfer_seconds` (request 05). "Types 0 and 1 now give" that "whatever the
--- seconds say" (request 02), type 2 gives max(seconds, that); "type 3 forbids", so it has no case
+-- a change by the rule r takes n seconds; `change` is the change time of the settings (RULES 6.3). Type 3 forbids it, so it has no case
 pub data Gives (change : ℕ) (r : Rule) (n : ℕ) : Type 0 where
   type_zero : r.transfer_type ≡ 0 → n ≡ change → Gives change r n
   type_one : r.transfer_type ≡ 1 → n ≡ change → Gives change r n
@@ -88,16 +89,17 @@ pub record ByRule (F : Feed) (x y n : ℕ) : Type 0 where
   pub chosen : Chosen F x y by
   pub gives : Gives F.settings.transfer_seconds by n
 
--- "With no rule, same stop, same parent or same place gives" the change time; "else none"
+-- without a rule that applies: the change time, between stops that are one, have one parent or are of one place (RULES 6.4)
 pub record ByNearness (F : Feed) (x y n : ℕ) : Type 0 where
   pub no_rule : (q : Rule) → Memᴰ q F.rules → Applies F x y q → ⊥
   pub near : (x ≡ y) ⊎ (((p : ℕ) × Parent F.stops x p × Parent F.stops y p) ⊎ F.Place x y)
   pub takes : n ≡ F.settings.transfer_seconds
 
+-- a change from x to y takes n seconds
 abbrev pub Change : Feed → ℕ → ℕ → ℕ → Type 0
 Change F x y n = ByRule F x y n ⊎ ByNearness F x y n
 
--- "`join`: trip or day differs, and arrival + transfer seconds is at most departure": a ride that alights at a joins one that boards at c
+-- a ride that alights at a joins one that boards at c (RULES 6.5)
 pub record Joins (F : Feed) (a c : Call) : Type 0 where
   pub differs : ((a.trip ≡ c.trip) × (a.day ≡ c.day)) → ⊥
   pub seconds : ℕ
@@ -106,7 +108,7 @@ pub record Joins (F : Feed) (a c : Call) : Type 0 where
 
 -- ---- rides and journeys
 
--- "A ride boards at a boardable call and alights at a later alightable call of that trip and day", both taken
+-- a ride from the call b to the call a, both taken and seen as these (RULES 8.2)
 pub record Leg (F : Feed) (b a : Call) : Type 0 where
   pub boards : CallInput
   pub alights : CallInput
@@ -120,6 +122,7 @@ pub record Leg (F : Feed) (b a : Call) : Type 0 where
   pub board : b.board ≡ true
   pub alight : a.alight ≡ true
 
+-- the ride r of a journey tells of the one from b to a
 pub record IsRide (b a : Call) (r : Ride) : Type 0 where
   pub trip : r.trip ≡ b.trip
   pub day : r.day ≡ b.day
@@ -130,8 +133,8 @@ pub record IsRide (b a : Call) (r : Ride) : Type 0 where
   pub board : r.board_request ≡ b.board_request
   pub alight : r.alight_request ≡ a.alight_request
 
--- j leaves origin o for the call b, and comes from the call a to target k:
--- "leave = departure − walk × 60" and "boarding needs departure at or above walk × 60", "arrival = alighting + target walk × 60"
+-- j goes from its origin to the call b, and from the call a to its target. Leave is the departure less the walk, and at least 0, so one
+-- can't board before the walk from 0 is done; arrival is that of a and the target's walk (RULES 8.3)
 pub record Between (F : Feed) (b a : Call) (j : Journey) : Type 0 where
   pub origin : j.origin < F.settings.origins
   pub target : j.target < F.settings.targets
@@ -141,6 +144,7 @@ pub record Between (F : Feed) (b a : Call) (j : Journey) : Type 0 where
   pub leave : j.leave + j.walk * 60 ≡ b.departure
   pub arrival : j.arrival ≡ a.arrival + get_or F.settings.target_walks j.target 0 * 60
 
+-- j is admitted, by one ride
 pub record Direct (F : Feed) (j : Journey) : Type 0 where
   pub b : Call
   pub a : Call
@@ -148,10 +152,11 @@ pub record Direct (F : Feed) (j : Journey) : Type 0 where
   pub between : Between F b a j
   pub rides : j.rides ≡ 1
   pub first : IsRide b a j.first
-  -- a journey of one ride has no last, and none of fewer than three a middle: the paper leaves open what stands there
+  -- a journey of one ride has no last and no middle, one of two no middle; what the record has there is `no_ride`
   pub middle : j.middle ≡ no_ride
   pub last : j.last ≡ no_ride
 
+-- by two, from b to a and from c to d
 pub record Changing (F : Feed) (j : Journey) : Type 0 where
   pub b : Call
   pub a : Call
@@ -167,7 +172,7 @@ pub record Changing (F : Feed) (j : Journey) : Type 0 where
   pub middle : j.middle ≡ no_ride
   pub last : IsRide c d j.last
 
--- "A middle ride needs a boardable and a later alightable call of one trip and day, and joins on both sides." (request 10)
+-- by three, the middle one from c to d and the last from e to g; first and last may be of one trip and day
 pub record Through (F : Feed) (j : Journey) : Type 0 where
   pub b : Call
   pub a : Call
@@ -187,5 +192,6 @@ pub record Through (F : Feed) (j : Journey) : Type 0 where
   pub middle : IsRide c d j.middle
   pub last : IsRide e g j.last
 
+-- j is admitted (RULES 8.3)
 abbrev pub Admits : Feed → Journey → Type 0
 Admits F j = Direct F j ⊎ (Changing F j ⊎ Through F j)

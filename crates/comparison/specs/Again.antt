@@ -9,7 +9,7 @@ use Rattle.calls.specs.declared.CallInput.{CallInput}
 use Rattle.calls.specs.declared.CallKey.{CallKey}
 use Rattle.withdrawal.specs.Removal.{key_of}
 use Rattle.load.specs.Steps.{Opening}
-use Rattle.load.specs.Filling.{call}
+use Rattle.load.specs.FillStep.{call}
 use Rattle.load.specs.Sound.{Opens}
 use Rattle.search.specs.Search.{search_spec}
 use Rattle.again.specs.Again.{unsearched_of}
@@ -21,6 +21,7 @@ use Rattle.comparison.specs.Taken.{calls_in, State, fresh, shut}
 use Rattle.comparison.specs.Withdrawal.{NoneSuch}
 use Rattle.comparison.specs.Causes.{First, causes_of}
 use Rattle.comparison.specs.Runs.{Runs}
+use Rattle.calls.specs.Sizes.{no_trip}
 
 -- the call, and the withdrawal of its trip, day and sequence
 abbrev pub there_and_back_of : List ℕ → CallInput → List Step
@@ -45,7 +46,7 @@ pub record Withdrawals : Type 0 where
   pub no_15 : (s : Settings) (t : State) (name : List ℕ) (i : CallInput)
       → First (Err AlreadySearched) (causes_of s t (filling (call name i))) → ⊥
   -- 24 exactly if the table has no such call
-  pub unknown : (s : Settings) (t : State) (k : CallKey) (a : Answer) → First a (causes_of s t (withdraw k)) → k.trip < 65535 → k.day ≤ 2
+  pub unknown : (s : Settings) (t : State) (k : CallKey) (a : Answer) → First a (causes_of s t (withdraw k)) → k.trip < no_trip → k.day ≤ 2
       → (a ≡ Err CallUnknown) ↔ NoneSuch s t.horizon k (calls_in t.taken)
   -- no withdrawal is answered with 14
   pub in_order : (o : Opening) (xs : List Step) (k : CallKey) → (stepped (end_of o xs) (withdraw k)).answer ≡ Err Neighbours → ⊥

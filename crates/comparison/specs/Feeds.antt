@@ -1,11 +1,10 @@
--- What was taken, as a `Feed`: what a search is given.
--- RULES 8.
+-- What a search is given, as a `Feed`: the settings and what stands taken. RULES 8.
 use Rattle.settings.specs.declared.Settings.{Settings}
 use Rattle.comparison.specs.Taken.{stops_in, calls_in, rules_in, State}
 use Rattle.comparison.specs.Admitted.{Feed}
 use Rattle.comparison.specs.Places.{OnePlace}
 
--- what is given to a search by the settings and by what was taken, with the horizon of the window
+-- its horizon is the table's
 abbrev pub feed_of : Settings → State → Feed
 feed_of s t = record {
   settings = s;

@@ -1,6 +1,5 @@
--- "The list holds exactly the journeys due by its horizon that none other beats, the older of equals": by the positions of the offers.
--- And request 09: "Keep the list by arrival, rides and walk, least first, then latest leave."
--- RULES 8.7.
+-- The list: exactly the offers due by its horizon that no offer beats, of equals the first offered, told by the positions of the offers; in
+-- order of arrival, rides and walk, least first, then latest leave. RULES 8.7.
 use Rattle.std.specs.Prelude.{◌≡◌, ◌⊎◌, ◌↔◌, ℕ, ◌≤◌, ◌<◌, length, get_or}
 use mathlib.Core.List.{List, [], ◌∷◌, Memᴰ}
 use Rattle.profile.specs.declared.Journey.{Journey}

@@ -1,6 +1,5 @@
--- "Calls are put in order of trip, day, sequence. Neighbours of one trip and day with equal sequence, or with a departure after the next
--- arrival, refuse the search."
--- RULES 8.1.
+-- Calls in order of trip, day and sequence, and the neighbours for which a search is refused: of one trip and day, and of one sequence or
+-- the first departing after the second arrives. RULES 8.1.
 use Rattle.std.specs.Prelude.{◌≡◌, ◌⊎◌, ℕ, ◌<◌}
 use mathlib.Core.List.{List, [], ◌∷◌, ◌++◌, Memᴰ, Permᴰ}
 use Rattle.settings.specs.declared.Settings.{Settings}
@@ -24,7 +23,7 @@ pub record Ordered (s : Settings) (h : ℕ) (is : List CallInput) (os : List Cal
   pub same : Permᴰ os seen
   pub in_order : InOrder os
 
--- two neighbours refuse the search
+-- there are two such neighbours
 pub record Clashing (s : Settings) (h : ℕ) (is : List CallInput) : Type 0 where
   pub calls : List Call
   pub ordered : Ordered s h is calls

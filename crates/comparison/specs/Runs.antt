@@ -1,5 +1,5 @@
--- A whole list of steps: each is answered for the first of its causes, and its answer says what is taken. "Each entry gets the load that
--- the one before it returned"; here, what was taken before it. No load is read.
+-- A whole list of steps: each is answered for the first of its causes, and its answer says what stands taken after it, by which the next
+-- one is answered. No load is read.
 -- RULES 1.2, 10, 11.3, 15.1.
 use Rattle.refusal.specs.First.{Answer}
 use Rattle.refusal.specs.declared.Accepted.TheVariants.{Taken, Outside}
@@ -12,7 +12,7 @@ use Rattle.calls.specs.declared.CallKey.{CallKey}
 use Rattle.rules.specs.declared.Rule.{Rule}
 use Rattle.profile.specs.declared.Journey.{Journey}
 use Rattle.load.specs.Steps.{Opening}
-use Rattle.load.specs.Filling.{stop, call, rule, service, exception}
+use Rattle.load.specs.FillStep.{stop, call, rule, service, exception}
 use Rattle.steps.specs.Steps.{Step, filling, withdraw, search, limited}
 use Rattle.comparison.specs.Taken.{calls_in, State, fresh, more, up_to, done, limited_to, shut}
 use Rattle.comparison.specs.Services.{Resting}
@@ -23,15 +23,15 @@ use Rattle.comparison.specs.Events.{Within}
 use Rattle.comparison.specs.Horizon.{Fits}
 use Rattle.comparison.specs.Causes.{First, causes_of}
 
--- t stands taken, and is searched again where it was searched: "within the same limit" if it was stopped, which may then finish, else in
--- full
+-- t after the search again that a step on a searched load brings: as it is where it holds no limit, searched in full or not at all; else
+-- searched within that limit, which may finish now
 pub data Again (s : Settings) (t : State) : State → Type 0 where
   in_full : t.stopped ≡ None → Again s t t
   within : {n tested : ℕ} {os : List Journey} {finishes : Bool} → t.stopped ≡ Some n → Within (feed_of s t) n os tested finishes
       → Again s t (limited_to n finishes t)
 
--- where t was taken, a step that is answered so leaves this taken. A call and a withdrawal leave the same before a search and after it, but
--- for a limit: the search again of a searched load takes nothing more
+-- `After s t x a u`: where t stands taken, the step x, answered a, leaves u. A call and a withdrawal on a searched load have it searched
+-- again, which takes nothing more, but a stopped search may finish then (`Again`)
 pub data After (s : Settings) (t : State) : Step → Answer → State → Type 0 where
   sent_back : {x : Step} {r : Refusal} → After s t x (Err r) t
   a_stop : {id : List ℕ} {name parent : Option (List ℕ)} {i : StopInput}
@@ -54,16 +54,15 @@ pub data After (s : Settings) (t : State) : Step → Answer → State → Type 0
   a_limited : {n tested : ℕ} {os : List Journey} {finishes : Bool} → Within (feed_of s t) n os tested finishes
       → After s t (limited n) (Ok Taken) (limited_to n finishes t)
 
--- the steps, handed in where t was taken, are answered so and leave v taken
+-- `Runs s t xs rs v`: where t stands taken, the steps xs are answered rs, each for the first of its causes, and leave v
 pub data Runs (s : Settings) : State → List Step → List Answer → State → Type 0 where
   end : {t : State} → Runs s t [] [] t
   step : {t u v : State} {x : Step} {xs : List Step} {a : Answer} {rs : List Answer}
       → First a (causes_of s t x) → After s t x a u → Runs s u xs rs v → Runs s t (x ∷ xs) (a ∷ rs) v
 
--- "Which journeys are admitted is defined from the settings and the list alone: by the stops and rules taken and the calls answered taken
--- under this paper's rules, as `window` and the table's cuts leave them when the accepted search starts." And request 11: "a withdrawn call
--- doesn't count as answered taken, and the search is the last accepted one": that is of what stands taken at the end, since after a search
--- a call that is taken, withdrawn, or outside after a cut has the load searched again, and nothing else alters what is taken
+-- j is admitted by the list of steps, which leaves a searched load: by the stops, rules and calls that stand taken at the end, as the
+-- window and the cuts leave them (RULES 8.3, 15.1). These are what the last search searched: after a search only a call that is taken,
+-- withdrawn, or outside after a cut alters them, and each has the load searched again
 pub record Admitted (o : Opening) (xs : List Step) (j : Journey) : Type 0 where
   pub answers : List Answer
   pub end : State
@@ -71,7 +70,7 @@ pub record Admitted (o : Opening) (xs : List Step) (j : Journey) : Type 0 where
   pub searched : end.searched ≡ true
   pub admits : Admits (feed_of o.settings end) j
 
--- request 12: the list leaves no search that was stopped
+-- the list of steps doesn't leave a stopped search
 pub record Finished (o : Opening) (xs : List Step) : Type 0 where
   pub answers : List Answer
   pub end : State

@@ -4,7 +4,8 @@ use Rattle.std.specs.Prelude.{Bool, true, false, List, [], ◌∷◌, ◌++◌, 
 use Rattle.stops.specs.declared.StopInput.{StopInput}
 use Rattle.calls.specs.declared.CallInput.{CallInput}
 use Rattle.rules.specs.declared.Rule.{Rule}
-use Rattle.load.specs.Filling.{Filling, stop, call, rule, service, exception}
+use Rattle.load.specs.FillStep.{FillStep, stop, call, rule, service, exception}
+use Rattle.calls.specs.Sizes.{longest_horizon}
 
 -- a stop as it was handed in: its id, its name and its parent's id, where there are any, and the rest
 pub record StopGiven : Type 0 where
@@ -21,7 +22,7 @@ pub record ServiceGiven : Type 0 where
   pub end : ℕ
 
 -- of what was taken, the stops, the calls, the rules and the services
-abbrev pub stops_in : List Filling → List StopGiven
+abbrev pub stops_in : List FillStep → List StopGiven
 stops_in [] = []
 stops_in (stop id name parent i ∷ xs) = record { id = id; name = name; parent = parent; input = i } ∷ stops_in xs
 stops_in (call name i ∷ xs) = stops_in xs
@@ -29,7 +30,7 @@ stops_in (rule i ∷ xs) = stops_in xs
 stops_in (service name weekdays start end ∷ xs) = stops_in xs
 stops_in (exception name date kind ∷ xs) = stops_in xs
 
-abbrev pub calls_in : List Filling → List CallInput
+abbrev pub calls_in : List FillStep → List CallInput
 calls_in [] = []
 calls_in (stop id name parent i ∷ xs) = calls_in xs
 calls_in (call name i ∷ xs) = i ∷ calls_in xs
@@ -37,7 +38,7 @@ calls_in (rule i ∷ xs) = calls_in xs
 calls_in (service name weekdays start end ∷ xs) = calls_in xs
 calls_in (exception name date kind ∷ xs) = calls_in xs
 
-abbrev pub rules_in : List Filling → List Rule
+abbrev pub rules_in : List FillStep → List Rule
 rules_in [] = []
 rules_in (stop id name parent i ∷ xs) = rules_in xs
 rules_in (call name i ∷ xs) = rules_in xs
@@ -45,7 +46,7 @@ rules_in (rule r ∷ xs) = r ∷ rules_in xs
 rules_in (service name weekdays start end ∷ xs) = rules_in xs
 rules_in (exception name date kind ∷ xs) = rules_in xs
 
-abbrev pub services_in : List Filling → List ServiceGiven
+abbrev pub services_in : List FillStep → List ServiceGiven
 services_in [] = []
 services_in (stop id name parent i ∷ xs) = services_in xs
 services_in (call name i ∷ xs) = services_in xs
@@ -53,29 +54,34 @@ services_in (rule i ∷ xs) = services_in xs
 services_in (service name weekdays start end ∷ xs) = record { name = name; weekdays = weekdays; start = start; end = end } ∷ services_in xs
 services_in (exception name date kind ∷ xs) = services_in xs
 
--- what was taken and not withdrawn, in order, of calls those answered taken; the horizon of the window and the mark, as the cuts leave them
--- (the table's, also once a search was taken: the list's own are not held here); whether a search was taken, and its limit where the last
--- one was stopped at one; the dates of the three days, where the load was opened with dates; whether services are closed
+-- what stands taken after some steps
 pub record State : Type 0 where
-  pub taken : List Filling
+  -- what was answered taken and not withdrawn, in order
+  pub taken : List FillStep
+  -- the table's horizon and mark, as its cuts leave them; what a search lowers further is not held here
   pub horizon : ℕ
   pub limits : ℕ
+  -- whether a search was taken
   pub searched : Bool
+  -- the limit of the last search, if it was stopped at one
   pub stopped : Option ℕ
+  -- the dates of the three days, if the load was opened with dates
   pub dates : Option (List ℕ)
+  -- whether services and exceptions come too late (RULES 4.3)
   pub closed : Bool
 
--- "Loads opened without dates answer as before, and a service or exception there meets 15": there they are closed from the opening
+-- whether services are closed from the opening on: where there are no dates
 abbrev pub without : Option (List ℕ) → Bool
 without None = true
 without (Some dates) = false
 
--- "Opening gives an empty load with horizon 21600 and limits 0"
+-- after the opening (RULES 1.4)
 abbrev pub fresh : Option (List ℕ) → State
-fresh dates = record { taken = []; horizon = 21600; limits = 0; searched = false; stopped = None; dates = dates; closed = without dates }
+fresh dates =
+    record { taken = []; horizon = longest_horizon; limits = 0; searched = false; stopped = None; dates = dates; closed = without dates }
 
 -- with one more taken
-abbrev pub more : State → Filling → State
+abbrev pub more : State → FillStep → State
 more t x = record {
   taken = t.taken ++ x ∷ [];
   horizon = t.horizon;
@@ -87,7 +93,7 @@ more t x = record {
 }
 
 -- with these taken instead
-abbrev pub keeping : State → List Filling → State
+abbrev pub keeping : State → List FillStep → State
 keeping t fs = record {
   taken = fs;
   horizon = t.horizon;
@@ -110,7 +116,7 @@ up_to t h m = record {
   closed = t.closed;
 }
 
--- searched, and stopped at the limit or, with none, finished: "a limited search that finished" holds no limit
+-- searched: stopped at the limit, or with none finished
 abbrev pub done : Option ℕ → State → State
 done limit t = record {
   taken = t.taken;
@@ -122,12 +128,12 @@ done limit t = record {
   closed = t.closed;
 }
 
--- what a search within the limit n leaves, finished or not
+-- after a search within the limit n, finished (true) or stopped
 abbrev pub limited_to : ℕ → Bool → State → State
 limited_to n true t = done None t
 limited_to n false t = done (Some n) t
 
--- "Services and exceptions come before the search and the first answered call"
+-- with services closed
 abbrev pub shut : State → State
 shut t = record {
   taken = t.taken;

@@ -1,12 +1,11 @@
--- Request 11: "Name trip, day and sequence; the last taken of several goes." Which call that is, by what was handed in and taken.
--- RULES 10.3.
+-- Which call a withdrawal takes out, by what was handed in and taken: of those with its trip, day and sequence the last taken. RULES 10.3.
 use Rattle.std.specs.Prelude.{◌≡◌, ℕ}
 use mathlib.Core.List.{List, ◌∷◌, ◌++◌, Memᴰ}
 use Rattle.settings.specs.declared.Settings.{Settings}
 use Rattle.calls.specs.declared.CallInput.{CallInput}
 use Rattle.calls.specs.declared.Call.{Call}
 use Rattle.calls.specs.declared.CallKey.{CallKey}
-use Rattle.load.specs.Filling.{Filling, call}
+use Rattle.load.specs.FillStep.{FillStep, call}
 use Rattle.comparison.specs.Taken.{calls_in, State, keeping}
 use Rattle.comparison.specs.Window.{Seen}
 
@@ -20,17 +19,17 @@ pub record HasKey (k : CallKey) (i : CallInput) : Type 0 where
 abbrev pub InTable : Settings → ℕ → CallInput → Type 0
 InTable s h i = (c : Call) × Seen s h i c
 
--- "no such call in the table"
+-- no call taken has the key and is in the table
 abbrev pub NoneSuch : Settings → ℕ → CallKey → List CallInput → Type 0
 NoneSuch s h k is = (i : CallInput) → Memᴰ i is → HasKey k i → InTable s h i → ⊥
 
--- of the calls taken that have the key and are in the table the last goes, which leaves u: the others in their order, horizon and mark as
--- they were. "It never widens an unsearched load's horizon", and of a searched load it is "the horizon it then had"
+-- of the calls taken that have the key and are in the table the last goes, which leaves u: the others in their order, the table's horizon
+-- and mark as they were
 pub record Withdrawn (s : Settings) (t : State) (k : CallKey) (u : State) : Type 0 where
-  pub before : List Filling
+  pub before : List FillStep
   pub name : List ℕ
   pub gone : CallInput
-  pub behind : List Filling
+  pub behind : List FillStep
   pub whole : t.taken ≡ before ++ call name gone ∷ behind
   pub key : HasKey k gone
   pub there : InTable s t.horizon gone

@@ -13,7 +13,7 @@ use Rattle.profile.specs.Journeys.{journey_figures}
 use Rattle.profile.specs.Instances.{figures_of}
 use Rattle.load.specs.Sound.{Opens}
 use Rattle.load.specs.Steps.{Opening, undated, dated}
-use Rattle.load.specs.Filling.{stop, call, rule, service, exception}
+use Rattle.load.specs.FillStep.{stop, call, rule, service, exception}
 use Rattle.best.specs.Best.{kept_of}
 use Rattle.steps.specs.Steps.{Step, filling, withdraw, search, limited}
 use Rattle.steps.specs.Lists.{end_of}

@@ -1,4 +1,5 @@
-// The demands, as relations over what was handed in, and their proofs. Nothing is computed here.
+// The three demands, as relations over what was handed in, and their proofs. Nothing is computed here: the contract of `demands()` cites
+// what is proved.
 #![tactic(auto)]
 
 ghost use Rattle.comparison.specs.Proved.{Proved};

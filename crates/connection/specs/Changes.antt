@@ -9,10 +9,11 @@ use Rattle.transfer.specs.Changes.{ends_of_of, transfer_of}
 use Rattle.offers.specs.Offers.{same_run}
 use Rattle.connection.specs.declared.Cause.{Cause}
 use Rattle.connection.specs.declared.Cause.TheVariants.{SameRun, Forbidden, NoChange, TooShort}
+use Rattle.stops.specs.Sizes.{stop_room}
 
 -- a stop past the 128th, which no step takes, joins nothing
 unfoldable pub in_reach : ℕ → ℕ → Bool
-in_reach from to = ltb from 128 && ltb to 128
+in_reach from to = ltb from stop_room && ltb to stop_room
 
 -- type 3
 abbrev pub forbids : Option Rule → Bool

@@ -11,6 +11,7 @@ use crate::tests::first_of;
 use crate::{Cause, FoundLeg};
 use calls::Call;
 use rules::{Rule, same_pair};
+use stops::STOPS;
 use transfer::Transfers;
 
 // A change from the ride that boards and alights at the first two calls to one that boards at the third.
@@ -22,7 +23,8 @@ struct Change {
 }
 
 impl Change {
-    // Whether it is to the trip and day that one comes by. Trip and day one by one: `feed` compares them for its own record of a call.
+    // Whether it is to the trip and day that one comes by. Trip and day one by one: `search_input` compares them for its own record of a
+    // call.
     fn is_within_a_run(&self) -> bool
         ensures { result ≡ same_run self.now.board self.now.next }
     {
@@ -34,7 +36,7 @@ impl Change {
 fn in_reach(from: u16, to: u16) -> bool
     ensures { result ≡ in_reach from to }
 {
-    from < 128 && to < 128
+    usize::from(from) < STOPS && usize::from(to) < STOPS
 }
 
 // The place of the last of the rules for the pair.

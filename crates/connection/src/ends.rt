@@ -7,7 +7,7 @@ ghost use Rattle.connection.specs.Ends.{low_digit, is_member_of, end_tests, coun
 use crate::tests::first_of;
 use crate::{Cause, Connection};
 use calls::Call;
-use feed::can_walk;
+use search_input::can_walk;
 use settings::Settings;
 use stops::Stop;
 

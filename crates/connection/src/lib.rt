@@ -1,5 +1,5 @@
-// A connection that a person names: its origin and target, and one to three rides, each a trip on a day from one call to another. Here
-// stands why it can't be made: the first of a list of causes, in a fixed order. What is said of one that can is told in `verdict`.
+// A connection that a person names: its origin and target, and one to three rides, each a trip on a day from one call to another; and why
+// it can't be made: the first of a list of causes, in a fixed order. What is said of one that can be made stands in crate `verdict`.
 #![tactic(auto)]
 
 pub mod changes;

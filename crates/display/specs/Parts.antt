@@ -10,6 +10,7 @@ use Rattle.profile.specs.declared.Journey.{Journey}
 use Rattle.groups.specs.declared.Group.{Group}
 use Rattle.groups.specs.Groups.{list_of}
 use Rattle.display.specs.declared.part.Shown.{Shown}
+use Rattle.profile.specs.Sizes.{least_horizon}
 
 -- what a group shows, or why it shows nothing; none of a group that isn't given
 abbrev pub Part : Type 0
@@ -42,7 +43,7 @@ window_of ks share h = window_before (drop share ks) h
 
 -- one of so many doesn't fit, and the window is below 3600
 unfoldable pub falls_below : ℕ → ℕ → ℕ → Bool
-falls_below n share w = ltb share n && ltb w 3600
+falls_below n share w = ltb share n && ltb w least_horizon
 
 abbrev pub is_due : ℕ → Journey → Bool
 is_due w j = leb j.arrival w

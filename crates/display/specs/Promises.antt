@@ -15,6 +15,8 @@ use Rattle.groups.specs.Refused.{turned_away}
 use Rattle.display.specs.Parts.{Part, shows, window_to, shown_count, window_of, shown_by}
 use Rattle.display.specs.Display.{share_of, display_of, part_of}
 use Rattle.display.specs.Queries.{best_of_group}
+use Rattle.profile.specs.Sizes.{least_horizon}
+use Rattle.shares.specs.Shares.{shown_room}
 
 -- "ranked by arrival, equals in list order": of a list in order the ranks are its places
 abbrev pub earlier : Journey → Journey → Bool
@@ -39,7 +41,8 @@ pub record Given (gs : List Group) (g : Group) : Type 0 where
 
 -- one of its list doesn't fit its share, and what is a second before its arrival is below 3600
 abbrev pub FallsBelow : List Group → Group → Type 0
-FallsBelow gs g = (share_of gs g.number < length (list_of g)) × ((get_or (list_of g) (share_of gs g.number) no_journey).arrival - 1 < 3600)
+FallsBelow gs g =
+    (share_of gs g.number < length (list_of g)) × ((get_or (list_of g) (share_of gs g.number) no_journey).arrival - 1 < least_horizon)
 
 -- the whole display is refused with 23 exactly where its groups turn it away; then no group has a part
 abbrev pub RefusedWhole : Type 0
@@ -72,7 +75,8 @@ SixteenShown = (gs : List Group) (g : Group) → Given gs g → length (list_of 
 -- at most 64 are shown in all
 abbrev pub SixtyFour : Type 0
 SixtyFour = (gs : List Group) → ((g : Group) → Memᴰ g gs → Ordered journey_figures (list_of g))
-    → shown_count (group_part gs 0) + (shown_count (group_part gs 1) + (shown_count (group_part gs 2) + shown_count (group_part gs 3))) ≤ 64
+    → shown_count (group_part gs 0) + (shown_count (group_part gs 1) + (shown_count (group_part gs 2) + shown_count (group_part gs 3)))
+    ≤ shown_room
 
 -- an answer, read as none if it is due after w
 abbrev pub read_none_of : ℕ → Option Journey → Option Journey

@@ -1,4 +1,4 @@
-// A display for up to four groups (request 08): dealt at once from their searched loads, then asked for a group's best.
+// A display for up to four groups (RULES 12): dealt at once from their searched loads, then asked for a group's best.
 #![tactic(auto)]
 
 ghost use Rattle.std.specs.Prelude.{◌≡◌};

@@ -5,7 +5,7 @@ ghost use Rattle.display.specs.Parts.{count_in, window_of, falls_below, shown_by
 
 use groups::Group;
 use prefix::first;
-use profile::Journey;
+use profile::{Journey, LEAST_HORIZON};
 use refusal::Refusal;
 
 // What a group shows: the first `count` of its list, those due by the window.
@@ -48,7 +48,7 @@ fn window_at(list: &[Journey], share: usize, horizon: u16) -> u16
 fn falls_below(count: usize, share: usize, window: u16) -> bool
     ensures { result ≡ falls_below count share window }
 {
-    share < count && window < 3600
+    share < count && window < LEAST_HORIZON
 }
 
 // How many of the journeys are due by the window.

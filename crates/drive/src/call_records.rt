@@ -4,7 +4,7 @@ use again::{add, withdraw};
 use calls::{CallInput, CallKey};
 use fields::layout::{call_filled, pickup_at};
 use fields::records::call_in;
-use load::{Load, Stepped};
+use load::{Load, StepResult};
 
 fn call_of(b: &[u8]) -> Result<CallInput, Malformed> {
     if call_filled(b) {
@@ -15,12 +15,12 @@ fn call_of(b: &[u8]) -> Result<CallInput, Malformed> {
 }
 
 // One that names no service has the empty name.
-pub fn call(load: Load, b: &[u8]) -> Result<Stepped, Malformed> {
+pub fn call(load: Load, b: &[u8]) -> Result<StepResult, Malformed> {
     Ok(add(load, b"", call_of(b)?))
 }
 
 // The service's name stands behind the call's own fields.
-pub fn service_call(load: Load, b: &[u8]) -> Result<Stepped, Malformed> {
+pub fn service_call(load: Load, b: &[u8]) -> Result<StepResult, Malformed> {
     let (own, name) = b.split_at_checked(pickup_at(b) + 2).ok_or(Malformed)?;
     let mut fields = Fields::new(name);
     let name = fields.text()?;
@@ -29,7 +29,7 @@ pub fn service_call(load: Load, b: &[u8]) -> Result<Stepped, Malformed> {
 }
 
 // A withdrawal: trip, day, sequence.
-pub fn withdrawal(load: Load, mut fields: Fields<'_>) -> Result<Stepped, Malformed> {
+pub fn withdrawal(load: Load, mut fields: Fields<'_>) -> Result<StepResult, Malformed> {
     let key = CallKey {
         trip: fields.u16()?,
         day: fields.u8()?,

@@ -1,6 +1,7 @@
 // Reads step files (docs/STEPS.md) from standard input and prints a line for each record, then the last load. Input that begins
 // with byte 83 is one step file; other input is a batch, with a line `.` after each file. A file of a batch that is longer than
-// the buffer, or is not there whole, ends the run; one step file that fills the buffer is malformed.
+// the buffer, or is not there whole, ends the run; one step file that fills the buffer is malformed. A read that fails ends the run too,
+// and is told on standard error, as a write that fails is.
 #![tactic(auto)]
 
 mod call_records;
@@ -16,8 +17,9 @@ mod write_record;
 
 use record_fields::Malformed;
 use std::io::Stdin;
-use stdio::input;
+use stdio::input::Unread;
 use stdio::out::Out;
+use stdio::{input, told};
 
 // As long as the longest file.
 const MOST: usize = 1048576;
@@ -38,22 +40,30 @@ fn batched(out: &mut Out, file: &[u8]) {
 }
 
 // The files of a batch; the first one's length is in the buffer.
-fn batch(stdin: Stdin, out: &mut Out, buf: &mut [u8]) {
-    if let Some(file) = input::body(stdin, buf) {
-        batched(out, file);
-        input::each_file(stdin, buf, |file| batched(out, file));
+fn batch(stdin: Stdin, out: &mut Out, buf: &mut [u8]) -> Result<(), Unread> {
+    let Some(file) = input::body(stdin, buf)? else {
+        return Ok(());
+    };
+    batched(out, file);
+    input::each_file(stdin, buf, |file| batched(out, file))
+}
+
+// One step file, or a batch.
+fn run_input(stdin: Stdin, out: &mut Out) -> Result<(), Unread> {
+    let mut bytes = input::zeros::<MOST>();
+    let buf: &mut [u8] = &mut bytes;
+    let got = input::head(stdin, buf)?;
+    if 0 < got && buf.first() == Some(&83) {
+        one(out, input::rest(stdin, buf, got)?);
+    } else if got == 4 {
+        return batch(stdin, out, buf);
     }
+    Ok(())
 }
 
 fn main(rt: HostRuntime) {
-    let stdin = rt.stdin();
-    let mut out = Out::new(rt.stdout());
-    let mut bytes = input::zeros::<MOST>();
-    let buf: &mut [u8] = &mut bytes;
-    let got = input::head(stdin, buf);
-    if 0 < got && buf.first() == Some(&83) {
-        one(&mut out, input::rest(stdin, buf, got));
-    } else if got == 4 {
-        batch(stdin, &mut out, buf);
+    let mut out = Out::new(rt.stdout(), rt.stderr());
+    if run_input(rt.stdin(), &mut out).is_err() {
+        told::unread(rt.stderr());
     }
 }

@@ -8,7 +8,7 @@ use crate::{call_records, query_records, settings_records, week_records, write_r
 use file::Reader;
 use file::framed::Records;
 use file::record::record;
-use load::{Load, Stepped};
+use load::{Load, StepResult};
 use prefix::first;
 use refusal::{Answer, Refusal};
 use stdio::load_lines::{horizon, journeys, table};
@@ -28,7 +28,7 @@ impl State {
     }
 
     // An opening: another load in place of this one, unless it is refused.
-    fn opened(&mut self, out: &mut Out, s: Stepped) {
+    fn opened(&mut self, out: &mut Out, s: StepResult) {
         told(out, s.answer, "opened");
         if s.answer.is_ok() {
             self.load = Some(s.load);
@@ -36,7 +36,7 @@ impl State {
     }
 
     // A step on the open load.
-    fn stepped<F: FnOnce(Load) -> Result<Stepped, Malformed>>(
+    fn stepped<F: FnOnce(Load) -> Result<StepResult, Malformed>>(
         &mut self,
         out: &mut Out,
         step: F,
@@ -82,7 +82,7 @@ impl State {
 }
 
 // A stop, rule or search, as a load file has it.
-fn filled(load: Load, b: &[u8]) -> Result<Stepped, Malformed> {
+fn filled(load: Load, b: &[u8]) -> Result<StepResult, Malformed> {
     let reader = Reader {
         opened: true,
         second: false,
@@ -92,7 +92,7 @@ fn filled(load: Load, b: &[u8]) -> Result<Stepped, Malformed> {
     if is_malformed(t.answer) {
         return Err(Malformed);
     }
-    Ok(Stepped {
+    Ok(StepResult {
         answer: t.answer,
         load: t.reader.load,
     })

@@ -2,7 +2,7 @@
 use crate::record_fields::{Fields, Malformed};
 use fields::layout::{minutes_at, settings_filled_by};
 use fields::records::settings_by;
-use load::{Load, Stepped};
+use load::{Load, StepResult};
 use settings::Settings;
 
 fn settings(b: &[u8]) -> Result<Settings, Malformed> {
@@ -13,12 +13,12 @@ fn settings(b: &[u8]) -> Result<Settings, Malformed> {
     }
 }
 
-pub fn opening(b: &[u8]) -> Result<Stepped, Malformed> {
+pub fn opening(b: &[u8]) -> Result<StepResult, Malformed> {
     Ok(Load::open(settings(b)?))
 }
 
 // The three dates stand behind the settings.
-pub fn dated_opening(b: &[u8]) -> Result<Stepped, Malformed> {
+pub fn dated_opening(b: &[u8]) -> Result<StepResult, Malformed> {
     let (own, dates) = b.split_at_checked(minutes_at(b) + 35).ok_or(Malformed)?;
     let mut fields = Fields::new(dates);
     let dates = [fields.u32()?, fields.u32()?, fields.u32()?];

@@ -1,6 +1,6 @@
 // Services and exceptions, which a load with dates takes (request 03).
 use crate::record_fields::{Fields, Malformed};
-use load::{Load, Stepped};
+use load::{Load, StepResult};
 use services::{ExceptionInput, ServiceInput};
 
 // Seven marks from Monday's on as a mask, in which Monday's is digit 0.
@@ -12,7 +12,7 @@ fn mask(marks: [u8; 7]) -> Result<u8, Malformed> {
 }
 
 // A service: its name, seven marks, start and end.
-pub fn service(load: Load, mut fields: Fields<'_>) -> Result<Stepped, Malformed> {
+pub fn service(load: Load, mut fields: Fields<'_>) -> Result<StepResult, Malformed> {
     let name = fields.text()?;
     let input = ServiceInput {
         weekdays: mask(fields.bytes()?)?,
@@ -24,7 +24,7 @@ pub fn service(load: Load, mut fields: Fields<'_>) -> Result<Stepped, Malformed>
 }
 
 // An exception: the service's name, a date, the type.
-pub fn exception(load: Load, mut fields: Fields<'_>) -> Result<Stepped, Malformed> {
+pub fn exception(load: Load, mut fields: Fields<'_>) -> Result<StepResult, Malformed> {
     let name = fields.text()?;
     let input = ExceptionInput {
         date: fields.u32()?,

@@ -16,7 +16,7 @@ use Rattle.refusal.specs.First.{is_refused, Answer}
 use Rattle.refusal.proofs.FirstLaws.{answer-is-first}
 use Rattle.fields.specs.Numbers.{byte_at}
 use Rattle.file.specs.declared.Reader.{Reader}
-use Rattle.file.specs.declared.Fed.{Fed}
+use Rattle.file.specs.declared.ReadResult.{ReadResult}
 use Rattle.file.specs.Record.{fresh_reader, record_spec}
 use Rattle.file.specs.File.{version_answer, starts_whole, size_of, body_of, later, fed_spec, end_tests, end_answer, ended_by, read_spec_of}
 use Rattle.file.specs.Answered.{Reached, start, past, Version, one, two, FileAnswered, version, refused, ended, ReadAnswered}
@@ -24,7 +24,7 @@ use Rattle.file.proofs.FedLaws.{whole_room, fed-stops, fed-refuses, fed-goes-on,
 use Rattle.file.proofs.RecordLaws.{record-answered}
 
 -- where the records end: at one that is refused, or where no whole one is left
-data Ends (second : Bool) (bytes : List ℕ) : Fed → Type 0 where
+data Ends (second : Bool) (bytes : List ℕ) : ReadResult → Type 0 where
   at-refused : {r : Reader} {at : ℕ} → Reached second bytes r at → starts_whole (drop at bytes) ≡ true
       → is_refused (record_spec r (body_of (drop at bytes))).answer ≡ true
       → Ends second bytes (record { answer = (record_spec r (body_of (drop at bytes))).answer; used = at; reader = r })
@@ -39,7 +39,7 @@ no_more at a r = λ t. record { answer = a; used = same at t; reader = r }
     same n = omega arith
 
 -- the records from a place on
-abbrev fed_from : List ℕ → Reader → ℕ → Fed
+abbrev fed_from : List ℕ → Reader → ℕ → ReadResult
 fed_from bytes r at = later at (fed_spec r (drop at bytes))
 
 module _ (second : Bool) (bytes : List ℕ) (r : Reader) (at : ℕ) (reach : Reached second bytes r at) where
@@ -47,7 +47,7 @@ module _ (second : Bool) (bytes : List ℕ) (r : Reader) (at : ℕ) (reach : Rea
   rest = drop at bytes
 
   -- the records after the next
-  abbrev after : Fed
+  abbrev after : ReadResult
   after = fed_from bytes (record_spec r (body_of rest)).reader (at + size_of rest)
 
   ends-none : starts_whole rest ≡ false → Ends second bytes (fed_from bytes r at)
@@ -92,7 +92,7 @@ fed-ends second bytes = subst (Ends second bytes) (later-zero (fed_spec (fresh_r
 -- ---- the whole file
 
 module _ (xs : List ℕ) (second : Bool) (v : Version xs second) where
-  file-ends : (f : Fed) → Ends second (drop 1 xs) f → FileAnswered xs (ended_by (drop 1 xs) f)
+  file-ends : (f : ReadResult) → Ends second (drop 1 xs) f → FileAnswered xs (ended_by (drop 1 xs) f)
   unfolding end_answer
   file-ends f (at-refused {r} {at} reach e g) =
       let b : List ℕ = body_of (drop at (drop 1 xs)) in

@@ -13,7 +13,7 @@ use borrow.Author.Tests.{leb-true, le-leb}
 use Rattle.refusal.specs.First.{is_refused}
 use Rattle.fields.specs.Numbers.{u16_at}
 use Rattle.file.specs.declared.Reader.{Reader}
-use Rattle.file.specs.declared.Fed.{Fed}
+use Rattle.file.specs.declared.ReadResult.{ReadResult}
 use Rattle.file.specs.Record.{record_spec}
 use Rattle.file.specs.File.{starts_whole, size_of, body_of, later, fed_by, fed_spec, continued, FedInParts}
 
@@ -50,7 +50,7 @@ none-whole = refl
 -- ---- turns
 
 -- one turn, with what follows it
-unfoldable turned : Bool → Bool → Reader → List ℕ → Fed → Fed
+unfoldable turned : Bool → Bool → Reader → List ℕ → ReadResult → ReadResult
 turned whole refused r xs next =
     cond whole (cond refused (record { answer = (record_spec r (body_of xs)).answer; used = 0; reader = r }) (later (size_of xs) next))
     (record { answer = Ok Taken; used = 0; reader = r })
@@ -68,7 +68,7 @@ fed-by-room zero r xs = omega arith
 fed-by-room (suc n) r xs = go (starts_whole xs) refl (is_refused (record_spec r (body_of xs)).answer)
     (fed-by-room n (record_spec r (body_of xs)).reader (drop (size_of xs) xs))
   where
-    rest : Fed
+    rest : ReadResult
     rest = fed_by n (record_spec r (body_of xs)).reader (drop (size_of xs) xs)
 
     go : (b : Bool) → starts_whole xs ≡ b → (c : Bool) → rest.used ≤ length (drop (size_of xs) xs) → (turned b c r xs rest).used ≤ length xs
@@ -93,7 +93,7 @@ fed-enough (suc n) (suc m) r xs h k =
     (λ (a : length (drop (size_of xs) xs) ≤ n) (b : length (drop (size_of xs) xs) ≤ m).
     fed-enough n m (record_spec r (body_of xs)).reader (drop (size_of xs) xs) a b)
   where
-    rest : ℕ → Fed
+    rest : ℕ → ReadResult
     rest k = fed_by k (record_spec r (body_of xs)).reader (drop (size_of xs) xs)
 
     go : (b : Bool) → starts_whole xs ≡ b → (c : Bool)
@@ -131,10 +131,10 @@ fed-goes-on r (x ∷ xs) e f =
 
 -- ---- in parts
 
-pub later-zero : (f : Fed) → later 0 f ≡ f
+pub later-zero : (f : ReadResult) → later 0 f ≡ f
 later-zero f = λ t. record { answer = f.answer; used = zero-add f.used t; reader = f.reader }
 
-pub later-later : (a b : ℕ) (f : Fed) → later a (later b f) ≡ later (a + b) f
+pub later-later : (a b : ℕ) (f : ReadResult) → later a (later b f) ≡ later (a + b) f
 later-later a b f = λ t. record { answer = f.answer; used = sym (add_assoc a b f.used) t; reader = f.reader }
 
 -- the first turn of the whole is that of the part
@@ -148,7 +148,7 @@ turn-append r xs ys e f =
     ∙ rw (body, size, drop-append-le (size_of xs) xs ys room) refl
 
 -- what is fed of `xs ++ ys` when f was fed of xs
-abbrev Parted : Reader → List ℕ → List ℕ → Fed → Type 0
+abbrev Parted : Reader → List ℕ → List ℕ → ReadResult → Type 0
 Parted r xs ys f = fed_spec r (xs ++ ys) ≡ continued f xs ys
 
 parted-stop : (r : Reader) (xs ys : List ℕ) → starts_whole xs ≡ false → Parted r xs ys (fed_spec r xs)
@@ -163,7 +163,7 @@ parted-refused r xs ys e f =
     ∙ rw (body, f) refl)
 
 -- a turn more or less before what is continued
-later-continued : (s : ℕ) (g : Fed) (xs ys : List ℕ) → later s (continued g (drop s xs) ys) ≡ continued (later s g) xs ys
+later-continued : (s : ℕ) (g : ReadResult) (xs ys : List ℕ) → later s (continued g (drop s xs) ys) ≡ continued (later s g) xs ys
 later-continued s g xs ys = go (is_refused g.answer)
   where
     go : (b : Bool) → later s (cond b g (later g.used (fed_spec g.reader (drop g.used (drop s xs) ++ ys))))

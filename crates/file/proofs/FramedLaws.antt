@@ -11,7 +11,7 @@ use lib.Seq.{length-take-le}
 use Rattle.refusal.specs.First.{is_refused}
 use Rattle.fields.specs.Numbers.{u16_at}
 use Rattle.file.specs.declared.Reader.{Reader}
-use Rattle.file.specs.declared.Fed.{Fed}
+use Rattle.file.specs.declared.ReadResult.{ReadResult}
 use Rattle.file.specs.Record.{record_spec}
 use Rattle.file.specs.File.{starts_whole, size_of, body_of, whole_of, later, fed_by, fed_spec}
 use Rattle.file.specs.Handed.{bodies_by}
@@ -82,11 +82,11 @@ unfolding fed_by bodies_by fed_each
 by-bodies zero r xs = refl
 by-bodies (suc n) r xs = go (starts_whole xs) refl (by-bodies n (record_spec r (body_of xs)).reader (drop (size_of xs) xs))
   where
-    first : Fed → Fed
+    first : ReadResult → ReadResult
     first f = cond (is_refused (record_spec r (body_of xs)).answer)
         (record { answer = (record_spec r (body_of xs)).answer; used = 0; reader = r }) f
 
-    none : Fed
+    none : ReadResult
     none = fed_each r []
 
     go : (w : Bool) → starts_whole xs ≡ w → fed_by n (record_spec r (body_of xs)).reader (drop (size_of xs) xs)

@@ -18,8 +18,8 @@ use Rattle.load.specs.Sound.{Opens}
 use Rattle.steps.specs.Steps.{stepped}
 use Rattle.steps.specs.Lists.{handed, end_of}
 use Rattle.file.specs.declared.Reader.{Reader}
-use Rattle.file.specs.declared.Took.{Took}
-use Rattle.file.specs.declared.Fed.{Fed}
+use Rattle.file.specs.declared.RecordResult.{RecordResult}
+use Rattle.file.specs.declared.ReadResult.{ReadResult}
 use Rattle.file.specs.Record.{fresh_reader, open_reader, step_in, stepped_by, record_spec}
 use Rattle.file.specs.File.{starts_whole, size_of, body_of, version_answer, is_second, fed_spec, end_answer, ended_by, read_spec_of}
 use Rattle.file.specs.Handed.{bodies_by, ReadHands}
@@ -58,7 +58,7 @@ opens r b o k =
 -- ---- the bodies
 
 -- the rest of a file, once a load is opened: each body is handed to it
-abbrev Hands : ℕ → Reader → List ℕ → Fed → Type 0
+abbrev Hands : ℕ → Reader → List ℕ → ReadResult → Type 0
 Hands n r xs f = is_refused f.answer ≡ false → f.reader.load ≡ handed r.load (map step_in (bodies_by n xs))
 
 hands-stop : (n : ℕ) (r : Reader) (xs : List ℕ) → starts_whole xs ≡ false → Hands n r xs (fed_spec r xs)
@@ -110,7 +110,7 @@ end-opened o left e = go (not (eqb left 0)) o e
     go false false e = absurd (true≢false (ap is_refused e))
 
 -- no record was refused on the way
-ended : (xs : List ℕ) (f : Fed) → (ended_by xs f).answer ≡ Ok Taken → (is_refused f.answer ≡ false) × (f.reader.opened ≡ true)
+ended : (xs : List ℕ) (f : ReadResult) → (ended_by xs f).answer ≡ Ok Taken → (is_refused f.answer ≡ false) × (f.reader.opened ≡ true)
 ended xs f e = go (is_refused f.answer) refl e
   where
     go : (c : Bool) → is_refused f.answer ≡ c → cond c f.answer (end_answer f.reader.opened (length (drop f.used xs))) ≡ Ok Taken
@@ -134,7 +134,7 @@ read-on xs e = go (is_refused (version_answer xs)) refl e
     go false q k = refl
 
 -- the records that open a load and fill it
-pub record Fills (second : Bool) (zs : List ℕ) (f : Fed) : Type 0 where
+pub record Fills (second : Bool) (zs : List ℕ) (f : ReadResult) : Type 0 where
   pub head : List ℕ
   pub rest : List (List ℕ)
   pub bodies : bodies_by (length zs) zs ≡ head ∷ rest
@@ -155,16 +155,16 @@ fills-on second z zs e f k =
       bodies = bodies-on (length zs) (z ∷ zs) e;
       opens = o.0;
       ends =
-          ap (λ (g : Fed). g.reader.load) s
+          ap (λ (g : ReadResult). g.reader.load) s
           ∙ hands (length zs) (record_spec (fresh_reader second) (body_of (z ∷ zs))).reader (drop (size_of (z ∷ zs)) (z ∷ zs))
           (rw (length-drop (size_of (z ∷ zs)) (z ∷ zs)) (omega (arith, room))) (ap (λ (q : Reader). q.opened) o.1)
-          (sym (ap (λ (g : Fed). is_refused g.answer) s) ∙ k)
+          (sym (ap (λ (g : ReadResult). is_refused g.answer) s) ∙ k)
           ∙ ap (λ (q : Reader). handed q.load (map step_in (bodies_by (length zs) (drop (size_of (z ∷ zs)) (z ∷ zs))))) o.1;
     }
 
 fills-none : (second : Bool) (zs : List ℕ) → starts_whole zs ≡ false → (fed_spec (fresh_reader second) zs).reader.opened ≡ true → ⊥
 unfolding fresh_reader
-fills-none second zs e k = false≢true (sym (ap (λ (g : Fed). g.reader.opened) (fed-stops (fresh_reader second) zs e)) ∙ k)
+fills-none second zs e k = false≢true (sym (ap (λ (g : ReadResult). g.reader.opened) (fed-stops (fresh_reader second) zs e)) ∙ k)
 
 fills : (second : Bool) (zs : List ℕ) → is_refused (fed_spec (fresh_reader second) zs).answer ≡ false
     → (fed_spec (fresh_reader second) zs).reader.opened ≡ true → Fills second zs (fed_spec (fresh_reader second) zs)
@@ -176,18 +176,18 @@ fills second (z ∷ zs) k o = go (starts_whole (z ∷ zs)) refl (is_refused (rec
         → Fills second (z ∷ zs) (fed_spec (fresh_reader second) (z ∷ zs))
     go false e c f = absurd (fills-none second (z ∷ zs) e o)
     go true e true f = absurd (true≢false (sym f
-        ∙ sym (ap (λ (g : Fed). is_refused g.answer) (fed-refuses (fresh_reader second) (z ∷ zs) e f)) ∙ k))
+        ∙ sym (ap (λ (g : ReadResult). is_refused g.answer) (fed-refuses (fresh_reader second) (z ∷ zs) e f)) ∙ k))
     go true e false f = fills-on second z zs e f k
 
 pub read-hands : ReadHands
 read-hands xs e =
     let q = read-on xs e in
-    let n = ended (drop 1 xs) (fed_spec (fresh_reader (is_second xs)) (drop 1 xs)) (sym (ap (λ (t : Took). t.answer) q) ∙ e) in
+    let n = ended (drop 1 xs) (fed_spec (fresh_reader (is_second xs)) (drop 1 xs)) (sym (ap (λ (t : RecordResult). t.answer) q) ∙ e) in
     let f = fills (is_second xs) (drop 1 xs) n.0 n.1 in
     record {
       head = f.head;
       rest = f.rest;
       bodies = f.bodies;
       opens = f.opens;
-      ends = ap (λ (t : Took). t.reader.load) q ∙ f.ends;
+      ends = ap (λ (t : RecordResult). t.reader.load) q ∙ f.ends;
     }

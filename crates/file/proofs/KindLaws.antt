@@ -4,7 +4,7 @@ use mathlib.Core.Bool.{Bool, true, false, true≢false}
 use mathlib.Core.List.{List, []}
 use Prim.Native.Nat.{ℕ}
 use Rattle.refusal.specs.First.{is_refused}
-use Rattle.load.specs.declared.Stepped.{Stepped}
+use Rattle.load.specs.declared.StepResult.{StepResult}
 use Rattle.fields.specs.declared.kind.Kind.{Kind}
 use Rattle.fields.specs.declared.kind.Kind.TheVariants.{Settings, Stop, Call, Rule, Search}
 use Rattle.fields.specs.Kind.{number_of}
@@ -14,7 +14,7 @@ use Rattle.load.specs.Steps.{call_spec}
 use Rattle.steps.proofs.StepLaws.{call-before}
 use Rattle.file.specs.declared.Reader.{Reader}
 use Rattle.file.specs.Record.{kind_right, filled, step_in, stepped_by}
-use Rattle.file.specs.Kinds.{filled_as, stepped_as}
+use Rattle.file.specs.Kinds.{filled_as, closed_reader, stepped_as}
 
 pub filled-as : (k : Kind) (second : Bool) (b : List ℕ) → byte_at b 0 ≡ number_of k → filled second b ≡ filled_as k second b
 unfolding filled
@@ -43,7 +43,10 @@ stepped-as k r b e g = go k r.opened refl e g
     go Search true o e g = rw (o, e) refl
     go Search false o e g = absurd (true≢false (sym g))
 
--- a call that the load answers itself came before its search
-pub stepped-before : (r : Reader) (b : List ℕ) {s : Stepped}
-    → s ≡ call_spec r.load [] (call_in b) → is_refused s.answer ≡ false → s ≡ stepped_as Call r b
-stepped-before r b e f = e ∙ sym (call-before r.load [] (call_in b) (ap (λ (t : Stepped). is_refused t.answer) (sym e) ∙ f))
+-- of the reader version and load are read
+pub stepped-closed : (k : Kind) (r : Reader) (b : List ℕ) → stepped_as k (closed_reader r.second r.load) b ≡ stepped_as k r b
+stepped-closed Settings r b = refl
+stepped-closed Stop r b = refl
+stepped-closed Call r b = refl
+stepped-closed Rule r b = refl
+stepped-closed Search r b = refl

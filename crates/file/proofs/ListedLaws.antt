@@ -24,12 +24,12 @@ use Rattle.week.specs.Weeks.{is_dated, undated_week}
 use Rattle.load.specs.declared.Load.{Load}
 use Rattle.load.specs.Load.{empty_of, empty_load, blank_settings}
 use Rattle.load.specs.Steps.{undated, open_answer, opened, open_spec_of}
-use Rattle.load.specs.Filling.{stop, call, rule}
+use Rattle.load.specs.FillStep.{stop, call, rule}
 use Rattle.steps.specs.Steps.{filling, search, stepped, numbers}
 use Rattle.steps.proofs.AnsweredLaws.{opening-answered, step-answered, undated-listed}
 use Rattle.steps.proofs.WeekLaws.{step-dated}
 use Rattle.file.specs.declared.Reader.{Reader}
-use Rattle.file.specs.declared.Took.{Took}
+use Rattle.file.specs.declared.RecordResult.{RecordResult}
 use Rattle.file.specs.Record.{fresh_reader, record_tests, step_in, stepped_by, settled, record_spec, causes_by, numbers_by}
 use Rattle.file.specs.File.{body_of, end_tests, read_spec_of}
 use Rattle.file.specs.Answered.{Reached, start, past, FileAnswered, version, refused, ended, file_numbers, ReadListed}
@@ -162,7 +162,7 @@ end-inside opened left a f = ap (λ (c : Answer). one_of (answer_number c) file_
     go false true = refl
     go false false = refl
 
-listed_by : (xs : List ℕ) (t : Took) → FileAnswered xs t → one_of (answer_number t.answer) file_numbers ≡ true
+listed_by : (xs : List ℕ) (t : RecordResult) → FileAnswered xs t → one_of (answer_number t.answer) file_numbers ≡ true
 listed_by xs t (version n m) = refl
 listed_by xs t (refused {second} {r} {at} {a} v reach whole f g) =
     record-inside r (body_of (drop at (drop 1 xs))) a (reached-undated second (drop 1 xs) reach) f

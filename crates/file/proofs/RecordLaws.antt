@@ -8,19 +8,21 @@ use mathlib.Core.List.{List, [], ◌∷◌, ◌++◌}
 use Prim.Native.Nat.{ℕ}
 use lib.Dec.{eqb}
 use lib.ListN.{length}
-use Rattle.laws.proofs.Bools.{or-true-cases, or-true-left, or_true_right, cond-by}
+use Rattle.laws.proofs.Bools.{or-true-cases, or-true-left, or_true_right, cond-by, cond-not}
 use Rattle.refusal.specs.declared.Refusal.TheVariants.{RecordLength, RecordKind}
 use Rattle.refusal.specs.First.{First, AllFail, first_answer, is_refused, answer_number, Answer}
 use Rattle.refusal.proofs.FirstLaws.{answer-is-first, first-append, first_past}
 use Rattle.laws.specs.Lists.{one_of}
 use Rattle.fields.specs.Numbers.{byte_at}
 use Rattle.fields.specs.Second.{settings_by}
-use Rattle.load.specs.declared.Stepped.{Stepped}
-use Rattle.load.specs.Steps.{undated, opened, open_spec_of}
-use Rattle.steps.specs.Steps.{stepped}
+use Rattle.load.specs.declared.StepResult.{StepResult}
+use Rattle.load.specs.declared.Load.{Load}
+use Rattle.load.specs.Steps as steps
+use Rattle.load.specs.Steps.{undated, opened, open_spec_of, unless_refused}
+use Rattle.steps.specs.Steps.{Step, stepped}
 use Rattle.steps.proofs.AnsweredLaws.{step-answered, opening-answered}
 use Rattle.file.specs.declared.Reader.{Reader}
-use Rattle.file.specs.declared.Took.{Took}
+use Rattle.file.specs.declared.RecordResult.{RecordResult}
 use Rattle.file.specs.Record.{open_reader, kind_right, filled, record_tests, step_in, stepped_by, settled, record_spec, causes_by}
 use Rattle.file.specs.Record.{numbers_by, RecordAnswered}
 
@@ -89,20 +91,20 @@ tested : (r : Reader) (b : List ℕ) (c : Bool) → is_refused (first_answer (re
 unfolding record_spec
 tested r b c e = rw e refl
 
-settled_is : (r : Reader) (s : Stepped) → settled r s
+settled_is : (r : Reader) (s : StepResult) → settled r s
     ≡ record { answer = s.answer; reader = cond (is_refused s.answer) r (open_reader s.load) }
 unfolding settled
 settled_is r s = refl
 
-settled-answer : (r : Reader) (s : Stepped) → (settled r s).answer ≡ s.answer
+settled-answer : (r : Reader) (s : StepResult) → (settled r s).answer ≡ s.answer
 unfolding settled
 settled-answer r s = refl
 
-pub settled-taken : (r : Reader) (s : Stepped) → is_refused s.answer ≡ false → (settled r s).reader ≡ open_reader s.load
+pub settled-taken : (r : Reader) (s : StepResult) → is_refused s.answer ≡ false → (settled r s).reader ≡ open_reader s.load
 unfolding settled
 settled-taken r s e = rw e refl
 
-record Answers (r : Reader) (b : List ℕ) (t : Took) : Type 0 where
+record Answers (r : Reader) (b : List ℕ) (t : RecordResult) : Type 0 where
   first : First t.answer (record_tests r.opened r.second b ++ causes_by r b)
   taken : t.answer ≡ Ok Taken → AllFail (record_tests r.opened r.second b ++ causes_by r b)
   listed : one_of (answer_number t.answer) (0 ∷ 18 ∷ 19 ∷ numbers_by r b) ≡ true
@@ -111,8 +113,8 @@ record Answers (r : Reader) (b : List ℕ) (t : Took) : Type 0 where
 answers : (r : Reader) (b : List ℕ) → Answers r b (record_spec r b)
 answers r b = go (is_refused (first_answer (record_tests r.opened r.second b))) refl
   where
-    past : (s : Stepped) → AllFail (record_tests r.opened r.second b) → Stepping r b s.answer → Answers r b (settled r s)
-    past s n w = subst (λ (t : Took). Answers r b t) (sym (settled_is r s)) (record {
+    past : (s : StepResult) → AllFail (record_tests r.opened r.second b) → Stepping r b s.answer → Answers r b (settled r s)
+    past s n w = subst (λ (t : RecordResult). Answers r b t) (sym (settled_is r s)) (record {
       first = first_past s.answer (record_tests r.opened r.second b) (causes_by r b) n w.first;
       taken = λ k. both-fail (record_tests r.opened r.second b) (causes_by r b) n (w.taken k);
       listed = listed-past (answer_number s.answer) (numbers_by r b) w.listed;
@@ -141,12 +143,12 @@ taken-settled r b k = go (is_refused (first_answer (record_tests r.opened r.seco
   where
     go : (c : Bool) → is_refused (first_answer (record_tests r.opened r.second b)) ≡ c
         → (is_refused (stepped_by r b).answer ≡ false) × ((record_spec r b).reader ≡ open_reader (stepped_by r b).load)
-    go true e = absurd (true≢false (sym e ∙ sym (ap (λ (t : Took). is_refused t.answer) (tested r b true e)) ∙ k))
+    go true e = absurd (true≢false (sym e ∙ sym (ap (λ (t : RecordResult). is_refused t.answer) (tested r b true e)) ∙ k))
     go false e =
         let f : is_refused (stepped_by r b).answer ≡ false =
-        sym (ap is_refused (settled-answer r (stepped_by r b))) ∙ sym (ap (λ (t : Took). is_refused t.answer) (tested r b false e))
+        sym (ap is_refused (settled-answer r (stepped_by r b))) ∙ sym (ap (λ (t : RecordResult). is_refused t.answer) (tested r b false e))
         ∙ k in
-        (f, ap (λ (t : Took). t.reader) (tested r b false e) ∙ settled-taken r (stepped_by r b) f)
+        (f, ap (λ (t : RecordResult). t.reader) (tested r b false e) ∙ settled-taken r (stepped_by r b) f)
 
 -- ---- one test after another
 
@@ -158,11 +160,42 @@ module _ (r : Reader) (b : List ℕ) {a : Answer} {t : Bool} (a-is : a ≡ first
   pub turned-away : t ≡ true → record { answer = a; reader = r } ≡ record_spec r b
   turned-away e = ap (λ (x : Answer). record { answer = x; reader = r }) a-is ∙ sym (tested r b true (refused-by e))
 
-  module _ {s : Stepped} {u : Bool} (s-is : s ≡ stepped_by r b) (u-is : u ≡ is_refused s.answer) (e : t ≡ false) where
-    pub sent_back : u ≡ true → record { answer = s.answer; reader = r } ≡ record_spec r b
-    unfolding settled
-    sent_back f = sym (tested r b false (refused-by e) ∙ rw (sym s-is, sym u-is ∙ f) refl)
+  -- what a step in place answers, and the load that it leaves
+  module _ {s : Answer} {m : Load} {u : Bool} (s-is : steps.stepped s m ≡ unless_refused r.load (stepped_by r b)) (u-is : u ≡ is_refused s)
+      (e : t ≡ false) where
+    answer-is : s ≡ (stepped_by r b).answer
+    answer-is = ap (λ (x : StepResult). x.answer) s-is
 
-    pub taken : u ≡ false → record { answer = s.answer; reader = open_reader s.load } ≡ record_spec r b
+    refused-as : {c : Bool} → u ≡ c → is_refused (stepped_by r b).answer ≡ c
+    refused-as f = ap is_refused (sym answer-is) ∙ sym u-is ∙ f
+
+    pub sent_back : u ≡ true → record { answer = s; reader = record { opened = r.opened; second = r.second; load = m } } ≡ record_spec r b
     unfolding settled
-    taken f = sym (tested r b false (refused-by e) ∙ rw (sym s-is, sym u-is ∙ f) refl)
+    sent_back f =
+        let same : m ≡ r.load = ap (λ (x : StepResult). x.load) s-is ∙ cond-by _ _ (refused-as f) in
+        let stays : r ≡ cond (is_refused (stepped_by r b).answer) r (open_reader (stepped_by r b).load) = sym (cond-by _ _ (refused-as f)) in
+        (λ k. record { answer = answer-is k; reader = record { opened = r.opened; second = r.second; load = same k } })
+        ∙ (λ k. record { answer = (stepped_by r b).answer; reader = stays k }) ∙ sym (tested r b false (refused-by e))
+
+    pub taken : u ≡ false → record { answer = s; reader = open_reader m } ≡ record_spec r b
+    unfolding settled
+    taken f =
+        let same : m ≡ (stepped_by r b).load = ap (λ (x : StepResult). x.load) s-is ∙ cond-not _ _ (refused-as f) in
+        let goes : open_reader (stepped_by r b).load ≡ cond (is_refused (stepped_by r b).answer) r (open_reader (stepped_by r b).load) =
+        sym (cond-not _ _ (refused-as f)) in
+        (λ k. record { answer = answer-is k; reader = open_reader (same k) })
+        ∙ (λ k. record { answer = (stepped_by r b).answer; reader = goes k }) ∙ sym (tested r b false (refused-by e))
+
+-- ---- a step that leaves a load that it sends back as it was
+
+pub stays : (l : Load) (x : Step) → stepped l x ≡ unless_refused l (stepped l x)
+stays l x = go (is_refused (stepped l x).answer) refl
+  where
+    go : (c : Bool) → is_refused (stepped l x).answer ≡ c → stepped l x ≡ unless_refused l (stepped l x)
+    go true e =
+        let same : (stepped l x).load ≡ cond (is_refused (stepped l x).answer) l (stepped l x).load =
+        (step-answered l x).unchanged e ∙ sym (cond-by _ _ e) in
+        λ k. record { answer = (stepped l x).answer; load = same k }
+    go false e =
+        let same : (stepped l x).load ≡ cond (is_refused (stepped l x).answer) l (stepped l x).load = sym (cond-not _ _ e) in
+        λ k. record { answer = (stepped l x).answer; load = same k }

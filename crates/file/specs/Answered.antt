@@ -5,7 +5,7 @@ use Rattle.refusal.specs.First.{First, is_refused, answer_number, Answer}
 use Rattle.laws.specs.Lists.{one_of}
 use Rattle.fields.specs.Numbers.{byte_at}
 use Rattle.file.specs.declared.Reader.{Reader}
-use Rattle.file.specs.declared.Took.{Took}
+use Rattle.file.specs.declared.RecordResult.{RecordResult}
 use Rattle.file.specs.Record.{fresh_reader, record_tests, record_spec, causes_by}
 use Rattle.file.specs.File.{starts_whole, size_of, body_of, end_tests, read_spec_of}
 
@@ -22,7 +22,7 @@ pub data Version (xs : List ℕ) : Bool → Type 0 where
   two : byte_at xs 0 ≡ 2 → Version xs true
 
 -- of a file xs: 17; a record sent back for its first cause, with the reader before it; or the end, with 18, 19 or none
-pub data FileAnswered (xs : List ℕ) : Took → Type 0 where
+pub data FileAnswered (xs : List ℕ) : RecordResult → Type 0 where
   version : (byte_at xs 0 ≡ 1 → ⊥) → (byte_at xs 0 ≡ 2 → ⊥)
       → FileAnswered xs (record { answer = Err FileVersion; reader = fresh_reader false })
   refused : {second : Bool} {r : Reader} {at : ℕ} {a : Answer} → Version xs second → Reached second (drop 1 xs) r at

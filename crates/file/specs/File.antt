@@ -6,8 +6,9 @@ use Rattle.refusal.specs.declared.Refusal.TheVariants.{FileVersion, RecordLength
 use Rattle.refusal.specs.First.{first_answer, is_refused, Answer}
 use Rattle.fields.specs.Numbers.{byte_at, u16_at}
 use Rattle.file.specs.declared.Reader.{Reader}
-use Rattle.file.specs.declared.Took.{Took}
-use Rattle.file.specs.declared.Fed.{Fed}
+use Rattle.file.specs.declared.RecordResult.{RecordResult}
+use Rattle.file.specs.declared.ReadResult.{ReadResult}
+use Rattle.file.specs.declared.Used.{Used}
 use Rattle.file.specs.Record.{fresh_reader, record_spec}
 
 -- ---- 17, before all else: another or no version
@@ -36,12 +37,16 @@ body_of xs = take (u16_at xs 0) (drop 2 xs)
 abbrev pub whole_of : List ℕ → Option (List ℕ)
 whole_of xs = cond (starts_whole xs) (Some (body_of xs)) None
 
+-- records in place: what they are answered, and the reader that they leave
+abbrev pub fed_as : Used → Reader → ReadResult
+fed_as u r = record { answer = u.answer; used = u.used; reader = r }
+
 -- so many bytes were used before
-abbrev pub later : ℕ → Fed → Fed
+abbrev pub later : ℕ → ReadResult → ReadResult
 later n f = record { answer = f.answer; used = n + f.used; reader = f.reader }
 
 -- the whole records at the start of the bytes, up to the first that is refused; at most n of them
-unfoldable pub fed_by : ℕ → Reader → List ℕ → Fed
+unfoldable pub fed_by : ℕ → Reader → List ℕ → ReadResult
 fed_by zero r xs = record { answer = Ok Taken; used = 0; reader = r }
 fed_by (suc n) r xs =
     cond (starts_whole xs) (cond (is_refused (record_spec r (body_of xs)).answer)
@@ -50,7 +55,7 @@ fed_by (suc n) r xs =
     (record { answer = Ok Taken; used = 0; reader = r })
 
 -- each record takes two bytes or more, so there are no more turns than bytes
-unfoldable pub fed_spec : Reader → List ℕ → Fed
+unfoldable pub fed_spec : Reader → List ℕ → ReadResult
 fed_spec r xs = fed_by (length xs) r xs
 
 -- ---- the end: 18, a record that runs past it; 19, a file with no record
@@ -63,19 +68,24 @@ end_answer opened left = first_answer (end_tests opened left)
 
 -- ---- the whole file
 
-abbrev pub ended_by : List ℕ → Fed → Took
+abbrev pub ended_by : List ℕ → ReadResult → RecordResult
 ended_by xs f = record {
   answer = cond (is_refused f.answer) f.answer (end_answer f.reader.opened (length (drop f.used xs)));
   reader = f.reader;
 }
 
-unfoldable pub read_spec_of : List ℕ → Took
+-- read to a reader
+unfoldable pub read_to_of : Reader → List ℕ → RecordResult
+read_to_of r xs =
+    cond (is_refused (version_answer xs)) (record { answer = version_answer xs; reader = r }) (ended_by (drop 1 xs) (fed_spec r (drop 1 xs)))
+
+unfoldable pub read_spec_of : List ℕ → RecordResult
 read_spec_of xs =
     cond (is_refused (version_answer xs)) (record { answer = version_answer xs; reader = fresh_reader (is_second xs) })
     (ended_by (drop 1 xs) (fed_spec (fresh_reader (is_second xs)) (drop 1 xs)))
 
 -- a file may be read in parts: what is left of a part is put before the next, unless a record of the part was refused
-abbrev pub continued : Fed → List ℕ → List ℕ → Fed
+abbrev pub continued : ReadResult → List ℕ → List ℕ → ReadResult
 continued f xs ys = cond (is_refused f.answer) f (later f.used (fed_spec f.reader (drop f.used xs ++ ys)))
 
 abbrev pub FedInParts : Type 0

@@ -1,5 +1,5 @@
 -- A record by its kind: what fills it, what it is tested for, and what it hands in.
-use Rattle.std.specs.Prelude.{ℕ, Bool, List, [], Result, Err, Ok}
+use Rattle.std.specs.Prelude.{ℕ, Bool, false, List, [], Result, Err, Ok}
 use Rattle.refusal.specs.declared.Refusal.{Refusal}
 use Rattle.refusal.specs.First.{first_answer, Answer}
 use Rattle.fields.specs.declared.kind.Kind.{Kind}
@@ -10,7 +10,8 @@ use Rattle.fields.specs.Layout.{text_at, option_text_at, name_at, parent_at}
 use Rattle.fields.specs.Layout.{stop_filled_of, call_filled_of, rule_filled_of, search_filled_of}
 use Rattle.fields.specs.Records.{stop_in, call_in, rule_in}
 use Rattle.fields.specs.Second.{settings_by, settings_filled_by}
-use Rattle.load.specs.declared.Stepped.{Stepped}
+use Rattle.load.specs.declared.Load.{Load}
+use Rattle.load.specs.declared.StepResult.{StepResult}
 use Rattle.load.specs.Steps.{undated, open_spec_of, stop_spec, rule_spec}
 use Rattle.again.specs.Again.{add_spec_of}
 use Rattle.search.specs.Search.{search_spec}
@@ -24,7 +25,11 @@ filled_as Call second b = call_filled_of b
 filled_as Rule second b = rule_filled_of b
 filled_as Search second b = search_filled_of b
 
-abbrev pub stepped_as : Kind → Reader → List ℕ → Stepped
+-- a reader of this version and load: the step of a record reads no more of it
+abbrev pub closed_reader : Bool → Load → Reader
+closed_reader second l = record { opened = false; second = second; load = l }
+
+abbrev pub stepped_as : Kind → Reader → List ℕ → StepResult
 stepped_as Settings r b = open_spec_of (undated (settings_by r.second b))
 stepped_as Stop r b = stop_spec r.load (text_at b 1) (option_text_at b (name_at b)) (option_text_at b (parent_at b)) (stop_in b)
 stepped_as Call r b = add_spec_of r.load [] (call_in b)

@@ -10,13 +10,13 @@ use Rattle.fields.specs.Records.{stop_in, call_in, rule_in}
 use Rattle.fields.specs.Second.{settings_by, settings_filled_by}
 use Rattle.laws.specs.Lists.{one_of}
 use Rattle.load.specs.declared.Load.{Load}
-use Rattle.load.specs.declared.Stepped.{Stepped}
+use Rattle.load.specs.declared.StepResult.{StepResult}
 use Rattle.load.specs.Load.{empty_load, blank_settings}
 use Rattle.load.specs.Steps.{undated, open_tests, open_spec_of}
-use Rattle.load.specs.Filling.{stop, call, rule}
+use Rattle.load.specs.FillStep.{stop, call, rule}
 use Rattle.steps.specs.Steps.{Step, filling, search, stepped, causes, numbers}
 use Rattle.file.specs.declared.Reader.{Reader}
-use Rattle.file.specs.declared.Took.{Took}
+use Rattle.file.specs.declared.RecordResult.{RecordResult}
 
 -- before the first record, of a file of version 2 or of version 1
 unfoldable pub fresh_reader : Bool → Reader
@@ -25,6 +25,10 @@ fresh_reader second = record { opened = false; second = second; load = empty_loa
 -- once the settings are taken; the version counts no more
 abbrev pub open_reader : Load → Reader
 open_reader l = record { opened = true; second = false; load = l }
+
+-- a record in place: its answer, and the reader that it leaves
+abbrev pub took : Answer → Reader → RecordResult
+took a r = record { answer = a; reader = r }
 
 -- settings come first and only first; after them kinds 2 to 5: stop, call, rule, search
 unfoldable pub kind_right : Bool → ℕ → Bool
@@ -53,14 +57,14 @@ step_in b =
     (cond (eqb (byte_at b 0) 3) (filling (call [] (call_in b))) (cond (eqb (byte_at b 0) 4) (filling (rule (rule_in b))) search))
 
 -- the settings open a load; every other record is handed to it
-unfoldable pub stepped_by : Reader → List ℕ → Stepped
+unfoldable pub stepped_by : Reader → List ℕ → StepResult
 stepped_by r b = cond r.opened (stepped r.load (step_in b)) (open_spec_of (undated (settings_by r.second b)))
 
 -- a refused record leaves the reader as it was
-unfoldable pub settled : Reader → Stepped → Took
+unfoldable pub settled : Reader → StepResult → RecordResult
 settled r s = record { answer = s.answer; reader = cond (is_refused s.answer) r (open_reader s.load) }
 
-unfoldable pub record_spec : Reader → List ℕ → Took
+unfoldable pub record_spec : Reader → List ℕ → RecordResult
 record_spec r b =
     cond (is_refused (first_answer (record_tests r.opened r.second b)))
     (record { answer = first_answer (record_tests r.opened r.second b); reader = r })

@@ -1,4 +1,4 @@
-// A load file (requests 01 and 13, versions 1 and 2): the definitions of what is read of one, and its records, tested and taken one by one.
+// A load file of version 1 or 2 (RULES 13): the definitions of what is read of one, and its records, tested and taken one by one.
 #![tactic(auto)]
 
 pub mod framed;
@@ -18,17 +18,25 @@ pub struct Reader {
 }
 
 // What a record is answered, and the reader after it: the reader given, where the record is refused.
-// As with `Stepped`, the load goes on beside its answer, also where that refuses.
+// As with `StepResult`, the load goes on beside its answer, also where that refuses.
 #[derive(Clone, Copy, Debug, PartialEq)]
-pub struct Took {
+pub struct RecordResult {
     pub answer: Answer,
     pub reader: Reader,
 }
 
-// What is answered to bytes, how many of them whole records took, and the reader after those: by value beside the answer, as in `Took`.
+// What is answered to bytes, how many of them whole records took, and the reader after those: by value beside the answer, as in
+// `RecordResult`.
 #[derive(Clone, Copy, Debug, PartialEq)]
-pub struct Fed {
+pub struct ReadResult {
     pub answer: Answer,
     pub used: usize,
     pub reader: Reader,
+}
+
+// The same of a reader that is lent.
+#[derive(Clone, Copy, Debug, PartialEq)]
+pub struct Used {
+    pub answer: Answer,
+    pub used: usize,
 }

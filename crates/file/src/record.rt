@@ -1,25 +1,21 @@
 // One record, tested and taken.
-ghost use Rattle.std.specs.Prelude.{◌≡◌, []};
-ghost use Rattle.fields.specs.Layout.{text_at, option_text_at, name_at, parent_at};
-ghost use Rattle.fields.specs.Records.{stop_in};
+ghost use Rattle.std.specs.Prelude.{◌≡◌};
 ghost use Rattle.fields.specs.Kind.{number_of};
-ghost use Rattle.load.specs.Steps.{stop_spec};
-ghost use Rattle.again.specs.Again.{add_spec_of};
-ghost use Rattle.file.specs.Record.{kind_right, record_spec};
-ghost use Rattle.file.specs.Kinds.{filled_as, tested, stepped_as};
+ghost use Rattle.load.specs.Steps.{stepped, unless_refused};
+ghost use Rattle.file.specs.Record.{kind_right, took, record_spec};
+ghost use Rattle.file.specs.Kinds.{filled_as, tested, closed_reader, stepped_as};
 
 use crate::stop_texts::new_stop;
-use crate::{Reader, Took};
-use again::add;
-use calls::CallInput;
+use crate::{Reader, RecordResult};
+use again::take_added;
 use fields::kind::Kind;
 use fields::layout::{
     call_filled, kind_of, rule_filled, search_filled, settings_filled_by, stop_filled,
 };
 use fields::records::{call_in, rule_in, settings_by};
-use load::{Load, Stepped};
-use refusal::{Refusal, is_refused};
-use search::search;
+use load::Load;
+use refusal::{Answer, Refusal, is_refused};
+use search::take_search;
 
 // Settings come first and only first.
 #[tactic(auto, unfolding(crate::specs::Record::kind_right))]
@@ -63,60 +59,45 @@ fn tested(opened: bool, second: bool, b: &[u8]) -> Result<Kind, Refusal>
     Ok(kind)
 }
 
-fn stop_record(load: Load, b: &[u8]) -> Stepped
-    ensures { result ≡ stop_spec load (text_at b.now 1) (option_text_at b.now (name_at b.now))
-        (option_text_at b.now (parent_at b.now)) (stop_in b.now) }
-{
-    load.stop(new_stop(b))
-}
-
-// A call of a file names no service; after the search record it has the load searched again.
-fn call_record(load: Load, input: CallInput) -> Stepped
-    ensures { result ≡ add_spec_of load [] input }
-{
-    add(load, &[], input)
-}
-
 // A record is handed to the load, or opens it. The match stays: each kind hands in something else.
-fn stepped_as(kind: Kind, reader: Reader, b: &[u8]) -> Stepped
-    ensures { result ≡ stepped_as kind reader b.now }
+fn take(load: &mut Load, kind: Kind, second: bool, b: &[u8]) -> Answer
+    ensures { stepped result load.new ≡ unless_refused load.old (stepped_as kind (closed_reader second load.old) b.now) }
 {
-    let load = reader.load;
     match kind {
-        Kind::Settings => Load::open(settings_by(reader.second, b)),
-        Kind::Stop => stop_record(load, b),
-        Kind::Call => call_record(load, call_in(b)),
-        Kind::Rule => load.rule(rule_in(b)),
-        Kind::Search => search(load),
+        Kind::Settings => load.reopen(settings_by(second, b)),
+        Kind::Stop => load.take_stop(new_stop(b)),
+        // Of a file a call names no service; after the search record it has the load searched again.
+        Kind::Call => take_added(load, &[], call_in(b)),
+        Kind::Rule => load.take_rule(rule_in(b)),
+        Kind::Search => take_search(load),
     }
 }
 
-// The body of a record: what follows its length.
-pub fn record(reader: Reader, b: &[u8]) -> Took
-    ensures { result ≡ record_spec reader b.now }
+// The body of a record, what follows its length, taken in place.
+pub fn take_record(reader: &mut Reader, b: &[u8]) -> Answer
+    ensures { took result reader.new ≡ record_spec reader.old b.now }
 {
     let kind = match tested(reader.opened, reader.second, b) {
         Ok(kind) => kind,
-        Err(refusal) => {
-            return Took {
-                answer: Err(refusal),
-                reader,
-            };
-        }
+        Err(refusal) => return Err(refusal),
     };
-    let s = stepped_as(kind, reader, b);
-    if is_refused(s.answer) {
-        return Took {
-            answer: s.answer,
-            reader,
-        };
+    let answer = take(&mut reader.load, kind, reader.second, b);
+    if is_refused(answer) {
+        return answer;
     }
-    Took {
-        answer: s.answer,
-        reader: Reader {
-            opened: true,
-            second: false,
-            load: s.load,
-        },
+    reader.opened = true;
+    reader.second = false;
+    answer
+}
+
+// The same by value.
+pub fn record(reader: Reader, b: &[u8]) -> RecordResult
+    ensures { result ≡ record_spec reader b.now }
+{
+    let mut next = reader;
+    let answer = take_record(&mut next, b);
+    RecordResult {
+        answer,
+        reader: next,
     }
 }

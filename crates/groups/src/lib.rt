@@ -1,4 +1,4 @@
-// The groups of a display (request 08): what is read of each one's load, the group of a number, and why a display is turned away.
+// The groups of a display (RULES 12): what is read of each one's load, the group of a number, and why a display is turned away.
 #![tactic(auto)]
 
 ghost use Rattle.std.specs.Prelude.{◌≡◌, eqb, ltb, option_copied};
@@ -8,7 +8,7 @@ ghost use Rattle.groups.specs.Refused.{is_wrong, twice, turned_away};
 
 use load::Load;
 use prefix::first;
-use profile::Journey;
+use profile::{Journey, KEPT};
 
 // What a display reads of a load, which is given for the group of a number. Its list stands by value, an array with a count as in a load:
 // the load that it is read from is gone when the display is dealt. `searched` is one of the fields that are read, and says of no other
@@ -20,7 +20,7 @@ pub struct Group {
     pub now: i64,
     pub horizon: u16,
     pub count: usize,
-    pub journeys: [Journey; 64],
+    pub journeys: [Journey; KEPT],
 }
 
 // A load, given for the group of a number. By its fields, as most of a load is not read.

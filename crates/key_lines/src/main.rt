@@ -9,9 +9,10 @@ const MOST: usize = 16384;
 
 // As in `show`. One function for both would take the printer, and ask in a clause longer than this body how many bytes it fills.
 fn main(rt: HostRuntime) {
-    if let Some(t) = read_input(rt.stdin(), rt.stderr()) {
+    let mut reader = reader::fresh(false);
+    if let Some(answer) = read_input(rt.stdin(), rt.stderr(), &mut reader) {
         let mut out = [0; MOST];
-        let n = lines::ride_lines(&mut out, t.answer, t.reader.load);
+        let n = lines::ride_lines_of(&mut out, answer, &reader.load);
         print(rt.stdout(), rt.stderr(), &out[..n]);
     }
 }

@@ -4,6 +4,11 @@ use Rattle.laws.specs.Tables.{table}
 use Rattle.profile.specs.declared.Journey.{Journey}
 use Rattle.profile.specs.Journeys.{no_ride}
 use Rattle.best.specs.Best.{best_of_of, first_leaving}
+use Rattle.profile.specs.Sizes.{kept_room}
+
+-- the number of no journey
+abbrev pub no_number : ℕ
+no_number = 65535
 
 -- a journey of four figures; it bears its number as its origin, at which best does not look
 abbrev pub journey_with : ℕ → ℕ → ℕ → ℕ → ℕ → Journey
@@ -21,13 +26,13 @@ journey_with n l a r w = record {
 
 -- the 64 journeys of columns of leaves, arrivals, rides and walks
 unfoldable pub journeys_of : List ℕ → List ℕ → List ℕ → List ℕ → List Journey
-journeys_of leaves arrivals rides walks = table 64
+journeys_of leaves arrivals rides walks = table kept_room
     (λ i. journey_with i (get_or leaves i 0) (get_or arrivals i 0) (get_or rides i 0) (get_or walks i 0))
 
 -- number, leave, arrival, rides and walk; for none 65535 and zeros
 unfoldable pub answer_of : Option Journey → List ℕ
 answer_of (Some j) = j.origin ∷ j.leave ∷ j.arrival ∷ j.rides ∷ j.walk ∷ []
-answer_of None = 65535 ∷ 0 ∷ 0 ∷ 0 ∷ 0 ∷ []
+answer_of None = no_number ∷ 0 ∷ 0 ∷ 0 ∷ 0 ∷ []
 
 -- the answer over the first n of them, up to the horizon h, at the second s
 unfoldable pub best_numbers : List ℕ → List ℕ → List ℕ → List ℕ → ℕ → ℕ → ℤ → List ℕ

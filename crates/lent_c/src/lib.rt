@@ -8,8 +8,11 @@ ghost use Rattle.lent_c.specs.Plain.{journey_with, journeys_of, answer_of, best_
 use best::{best_over, first_leaving};
 use lent::best_lent;
 use prefix::first;
-use profile::{Journey, no_ride};
+use profile::{Journey, KEPT, no_ride};
 use std::array;
+
+// The number of no journey.
+const NO_NUMBER: u16 = 65535;
 
 fn journey_with(number: u8, leave: u16, arrival: u16, rides: u8, walk: u8) -> Journey
     ensures { result ≡ journey_with number leave arrival rides walk }
@@ -29,11 +32,11 @@ fn journey_with(number: u8, leave: u16, arrival: u16, rides: u8, walk: u8) -> Jo
 }
 
 fn journeys_of(
-    leaves: &[u16; 64],
-    arrivals: &[u16; 64],
-    rides: &[u8; 64],
-    walks: &[u8; 64],
-) -> [Journey; 64]
+    leaves: &[u16; KEPT],
+    arrivals: &[u16; KEPT],
+    rides: &[u8; KEPT],
+    walks: &[u8; KEPT],
+) -> [Journey; KEPT]
     ensures { result ≡ journeys_of leaves.now arrivals.now rides.now walks.now }
 {
     array::from_fn(|i| journey_with(i as u8, leaves[i], arrivals[i], rides[i], walks[i]))
@@ -50,7 +53,7 @@ fn answer_of(found: Option<Journey>) -> [u16; 5]
             j.rides as u16,
             j.walk as u16,
         ],
-        None => [65535, 0, 0, 0, 0],
+        None => [NO_NUMBER, 0, 0, 0, 0],
     }
 }
 
@@ -58,10 +61,10 @@ fn answer_of(found: Option<Journey>) -> [u16; 5]
 // zeros.
 #[unsafe(no_mangle)]
 pub extern "C" fn best_over_numbers(
-    leaves: &[u16; 64],
-    arrivals: &[u16; 64],
-    rides: &[u8; 64],
-    walks: &[u8; 64],
+    leaves: &[u16; KEPT],
+    arrivals: &[u16; KEPT],
+    rides: &[u8; KEPT],
+    walks: &[u8; KEPT],
     count: usize,
     horizon: u16,
     second: i64,
@@ -76,10 +79,10 @@ pub extern "C" fn best_over_numbers(
 // The same by `best_lent`.
 #[unsafe(no_mangle)]
 pub extern "C" fn best_lent_numbers(
-    leaves: &[u16; 64],
-    arrivals: &[u16; 64],
-    rides: &[u8; 64],
-    walks: &[u8; 64],
+    leaves: &[u16; KEPT],
+    arrivals: &[u16; KEPT],
+    rides: &[u8; KEPT],
+    walks: &[u8; KEPT],
     count: usize,
     horizon: u16,
     second: i64,
@@ -94,10 +97,10 @@ pub extern "C" fn best_lent_numbers(
 // The first of them that leaves in time (`first_leaving`): best, where they stand in order.
 #[unsafe(no_mangle)]
 pub extern "C" fn first_numbers(
-    leaves: &[u16; 64],
-    arrivals: &[u16; 64],
-    rides: &[u8; 64],
-    walks: &[u8; 64],
+    leaves: &[u16; KEPT],
+    arrivals: &[u16; KEPT],
+    rides: &[u8; KEPT],
+    walks: &[u8; KEPT],
     count: usize,
     horizon: u16,
     second: i64,

@@ -4,7 +4,7 @@
 
 mod questions;
 
-use profile::Journey;
+use profile::{Journey, KEPT};
 use std::fmt;
 
 // An answer of best.
@@ -25,7 +25,7 @@ impl fmt::Display for Shown {
 }
 
 // `None` where a question is misspelt or a write fails: either goes unsaid, as what is printed is compared with the file `stdout`.
-fn ask(rt: &impl Print, name: &str, list: &[Journey; 64], question: &str) -> Option<()> {
+fn ask(rt: &impl Print, name: &str, list: &[Journey; KEPT], question: &str) -> Option<()> {
     let q = questions::read_question(question)?;
     let over = best::best_over(prefix::first(list, q.count), q.horizon, q.second);
     let lent = lent::best_lent(list, q.count, q.horizon, q.second);

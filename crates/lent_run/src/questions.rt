@@ -1,5 +1,5 @@
 // The lists that are asked, and the questions of each. A line has a name, a list and its questions.
-use profile::{Journey, Ride};
+use profile::{Journey, KEPT, Ride};
 use std::str::{FromStr, Split};
 
 // A journey is written by its number, leave, arrival, rides and walk; a question by how many journeys are asked, the horizon and the
@@ -62,9 +62,9 @@ fn journey(text: &str) -> Option<Journey> {
 }
 
 // The first journey stands in each slot, each other one in the slot of its number.
-pub fn list(text: &str) -> Option<[Journey; 64]> {
+pub fn list(text: &str) -> Option<[Journey; KEPT]> {
     let (first, others) = text.split_once(',').unwrap_or((text, ""));
-    let mut list = [journey(first)?; 64];
+    let mut list = [journey(first)?; KEPT];
     for row in others.split_terminator(',') {
         let journey = journey(row)?;
         let slot = usize::from(journey.first.trip);

@@ -18,7 +18,7 @@ use Rattle.profile.specs.declared.figures.Figures.{Figures}
 use Rattle.profile.specs.Figures.{covᶠ, dueᶠ, lexb}
 use Rattle.profile.specs.Front.{front}
 use Rattle.profile.specs.Walk.{Antichain}
-use Rattle.profile.specs.Kept.{St, going, refused, latest, settle, offer, run}
+use Rattle.profile.specs.Kept.{SearchState, going, refused, latest, settle, offer, run}
 use Rattle.profile.specs.Best.{pick, best}
 use Rattle.profile.proofs.FiguresLaws.{figures-order, covers-arrival, lexb-eq, prefer-arrival}
 use Rattle.profile.proofs.FrontLaws.{after-mem, front-covers, front-antichain}
@@ -190,20 +190,20 @@ module _ {A : Type 0} (fig : A → Figures) (kind : A → ℕ) where
   -- ---- a search goes on: what it has for second 0 stays, or is replaced by what arrives no later
 
   -- something is kept that arrives by a
-  abbrev Has : ℕ → St A → Type 0
+  abbrev Has : ℕ → SearchState A → Type 0
   Has a (going ks h l) = (k : A) × Memᴰ k ks × ((fig k).arrival ≤ a)
   Has a refused = Unit {0}
 
   -- the horizon is as it was at the start, or something is kept
-  abbrev Left : ℕ → St A → Type 0
+  abbrev Left : ℕ → SearchState A → Type 0
   Left h₀ (going ks h l) = (h₀ ≤ h) ⊎ ((k : A) × Memᴰ k ks)
   Left h₀ refused = Unit {0}
 
-  has_left : (h₀ a : ℕ) (s : St A) → Has a s → Left h₀ s
+  has_left : (h₀ a : ℕ) (s : SearchState A) → Has a s → Left h₀ s
   has_left h₀ a refused w = tt
   has_left h₀ a (going ks h l) (k, m, d) = inr (k, m)
 
-  abbrev search : ℕ → ℕ → List A → St A
+  abbrev search : ℕ → ℕ → List A → SearchState A
   search h₀ l₀ os = run (covᶠ fig) (dueᶠ fig) 64 3600 h₀ l₀ os
 
   module _ (n : ℕ) (at64 : n ≤ 64) where
@@ -223,7 +223,8 @@ module _ {A : Type 0} (fig : A → Figures) (kind : A → ℕ) where
             let (x, i, d) = one-before n os few h (omega (arith, at64)) in
             (x, mem-filterb (λ z. leb (dueᶠ fig z) g) i (le-leb (fig x).arrival g d), omega (arith, leb-false (fig k).arrival g t))
 
-    offer-has : (a h₀ : ℕ) (os : List A) (o : A) (s : St A) → Kinds fig kind n (os ++ o ∷ []) → Holds (covᶠ fig) (dueᶠ fig) 64 h₀ os s
+    offer-has : (a h₀ : ℕ) (os : List A) (o : A) (s : SearchState A) → Kinds fig kind n (os ++ o ∷ [])
+        → Holds (covᶠ fig) (dueᶠ fig) 64 h₀ os s
         → Has a s → Has a (offer (covᶠ fig) (dueᶠ fig) 64 3600 s o)
     offer-has a h₀ os o refused few w has = tt
     offer-has a h₀ os o (going ks h l) few (e, len, le) (k, m, d) =
@@ -245,7 +246,8 @@ module _ {A : Type 0} (fig : A → Figures) (kind : A → ℕ) where
         (run_holds (figures-order fig) 64 3600 (omega arith) h₀ l₀ xs) has) in
         rw q (goes-on-has a h₀ l₀ (xs ++ y ∷ []) ys few' one)
 
-    offer-left : (h₀ : ℕ) (os : List A) (o : A) (s : St A) → Kinds fig kind n (os ++ o ∷ []) → Holds (covᶠ fig) (dueᶠ fig) 64 h₀ os s
+    offer-left : (h₀ : ℕ) (os : List A) (o : A) (s : SearchState A) → Kinds fig kind n (os ++ o ∷ [])
+        → Holds (covᶠ fig) (dueᶠ fig) 64 h₀ os s
         → Left h₀ s → Left h₀ (offer (covᶠ fig) (dueᶠ fig) 64 3600 s o)
     offer-left h₀ os o refused few w x = tt
     offer-left h₀ os o (going ks h l) few w (inr (k, m)) =

@@ -16,7 +16,7 @@ use Rattle.ways.proofs.RideLaws.{Alone, Changing, rides-mem, mem-rides, firsts-m
 use Rattle.calls.specs.declared.Call.{Call}
 use Rattle.profile.specs.declared.Journey.{Journey}
 use Rattle.profile.specs.Figures.{covᶠ, dueᶠ}
-use Rattle.profile.specs.Kept.{St, going, refused, searched}
+use Rattle.profile.specs.Kept.{SearchState, going, refused, searched}
 use Rattle.profile.specs.Fall.{fall}
 use Rattle.profile.specs.Best.{bestℤ, ordered}
 use Rattle.profile.specs.Claims.{Keeps}
@@ -116,7 +116,8 @@ finished-is-full n t h l one e =
 pub within-by-offers : WithinByOffers
 unfolding search_within
 within-by-offers n t h l =
-    ap (λ (s : St Journey). cond (clashes (sorted t)) clashing (found_by s)) (search-is-fall journey_figures h l (offers_within n t))
+    ap (λ (s : SearchState Journey). cond (clashes (sorted t)) clashing (found_by s))
+    (search-is-fall journey_figures h l (offers_within n t))
     ∙ ap (λ (f : Outcome). cond (clashes (sorted t)) clashing f)
     (keeping-ends (offers_within n t) (fall (covᶠ journey_figures) (dueᶠ journey_figures) 64 3600 h l [] (offers_within n t)))
 
@@ -126,7 +127,7 @@ pub within-found : (n : ℕ) (t : Timetable) (h₀ l₀ h l : ℕ) (ks : List Jo
 unfolding search_within
 within-found n t h₀ l₀ h l ks e = go (clashes (sorted t)) refl (searched journey_figures 64 3600 h₀ l₀ (offers_within n t)) refl e
   where
-    go : (b : Bool) → clashes (sorted t) ≡ b → (s : St Journey) → searched journey_figures 64 3600 h₀ l₀ (offers_within n t) ≡ s
+    go : (b : Bool) → clashes (sorted t) ≡ b → (s : SearchState Journey) → searched journey_figures 64 3600 h₀ l₀ (offers_within n t) ≡ s
         → cond b clashing (found_by s) ≡ found ks h l
         → Clear t × (ks' : List Journey) × Keeps journey_figures h₀ l₀ (offers_within n t) ks' h l × (ks ≡ ordered journey_figures ks')
     go true p s q r = absurd (false≢true cc)

@@ -9,6 +9,7 @@ use Rattle.profile.specs.Kept.{searched}
 use Rattle.profile.specs.Instances.{figures_of, ends}
 use Rattle.profile.specs.Best.{best}
 use Rattle.profile.specs.Claims.{Keeps}
+use Rattle.profile.specs.Sizes.{kept_room}
 
 module _ {A : Type 0} (fig : A → Figures) where
   -- the offers are of n kinds: each has a number below n, and those of one number have as many rides and the same walk
@@ -26,13 +27,13 @@ module _ {A : Type 0} (fig : A → Figures) where
 
   -- where there are at most 64 kinds, more offers never turn an answer for second 0 into none or into a later arrival
   abbrev pub NeverLater : Type 0
-  NeverLater = (kind : A → ℕ) (n h₀ l₀ : ℕ) (xs ys ks ks' : List A) (h h' l l' : ℕ) → n ≤ 64 → Kinds kind n (xs ++ ys)
+  NeverLater = (kind : A → ℕ) (n h₀ l₀ : ℕ) (xs ys ks ks' : List A) (h h' l l' : ℕ) → n ≤ kept_room → Kinds kind n (xs ++ ys)
       → Keeps fig h₀ l₀ xs ks h l → Keeps fig h₀ l₀ (xs ++ ys) ks' h' l'
       → (j : A) → best fig ks h 0 ≡ Some j → (j' : A) × (best fig ks' h' 0 ≡ Some j') × ((fig j').arrival ≤ (fig j).arrival)
 
   -- and a cut never empties the list: of each offer due by the horizon at the start, one is kept that arrives no later
   abbrev pub NeverEmptied : Type 0
-  NeverEmptied = (kind : A → ℕ) (n h₀ l₀ : ℕ) (os ks : List A) (h l : ℕ) → n ≤ 64 → Kinds kind n os → Keeps fig h₀ l₀ os ks h l
+  NeverEmptied = (kind : A → ℕ) (n h₀ l₀ : ℕ) (os ks : List A) (h l : ℕ) → n ≤ kept_room → Kinds kind n os → Keeps fig h₀ l₀ os ks h l
       → (o : A) → Memᴰ o os → (fig o).arrival ≤ h₀ → (k : A) × Memᴰ k ks × ((fig k).arrival ≤ (fig o).arrival)
 
 -- n journeys that arrive together; each leaves a second later and walks a minute more than the one before

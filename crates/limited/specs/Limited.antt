@@ -18,6 +18,7 @@ use Rattle.offers.specs.Admitted.{Rides, Starts, Clear}
 use Rattle.offers.specs.Search.{Outcome, clashing, found, found_by, ends_by_of, search_of}
 use Rattle.counted.specs.Events.{Event, joins_of, offers_of, joins_in, up_to, finished}
 use Rattle.counted.specs.Joins.{Join, events}
+use Rattle.profile.specs.Sizes.{kept_room, least_horizon}
 
 -- the events of a search of the timetable
 unfoldable pub events_of : Timetable → List (Event (Join Call) Journey)
@@ -35,7 +36,8 @@ finished_within n t = finished n (events_of t)
 
 -- what it answers: these offers in order, from the horizon h and the mark l
 unfoldable pub search_within : ℕ → Timetable → ℕ → ℕ → Outcome
-search_within n t h l = cond (clashes (sorted t)) clashing (found_by (searched journey_figures 64 3600 h l (offers_within n t)))
+search_within n t h l =
+    cond (clashes (sorted t)) clashing (found_by (searched journey_figures kept_room least_horizon h l (offers_within n t)))
 
 -- how many joins there are: first rides, one for each of their origins, times rides
 unfoldable pub all_joins : Timetable → ℕ
@@ -79,7 +81,7 @@ FinishedIsFull = (n : ℕ) (t : Timetable) (h l : ℕ) → OneChange t → finis
 abbrev pub WithinByOffers : Type 0
 WithinByOffers = (n : ℕ) (t : Timetable) (h l : ℕ)
     → search_within n t h l ≡ cond (clashes (sorted t)) clashing
-    (ends_by_of (offers_within n t) (fall (covᶠ journey_figures) (dueᶠ journey_figures) 64 3600 h l [] (offers_within n t)))
+    (ends_by_of (offers_within n t) (fall (covᶠ journey_figures) (dueᶠ journey_figures) kept_room least_horizon h l [] (offers_within n t)))
 
 -- at most 8 unbeaten journeys share an arrival: of one ride or two, from at most four origins
 abbrev pub EightTogether : Type 0
@@ -93,7 +95,7 @@ LargerNeverLater = (n m : ℕ) (t : Timetable) (h₀ l₀ : ℕ) (ks ks' : List 
     → (j : Journey) → bestℤ journey_figures ks h (pos 0) ≡ Some j
     → (j' : Journey) × (bestℤ journey_figures ks' h' (pos 0) ≡ Some j') × (j'.arrival ≤ j.arrival)
 
--- the order in which the calls were taken is nothing to a search within a limit
+-- a search within a limit doesn't depend on the order in which the calls were taken
 pub record WithinSame (n : ℕ) (t u : Timetable) (h l : ℕ) : Type 0 where
   pub outcome : search_within n t h l ≡ search_within n u h l
   pub joins : Clear t → joins_within n t ≡ joins_within n u

@@ -12,15 +12,15 @@ use Rattle.laws.specs.Lists.{span}
 use Rattle.laws.proofs.Agree.{span_below}
 use Rattle.laws.proofs.Folds.{concat_map-mem}
 use Rattle.profile.specs.Found.{Row}
-use Rattle.state.specs.View.{view}
+use Rattle.search_state.specs.View.{view}
 use Rattle.candidate.specs.Offer.{passed_over}
 use Rattle.candidate.proofs.PassedLaws.{offers-covered}
-use Rattle.feed.specs.declared.FirstRide.{FirstRide}
+use Rattle.search_input.specs.declared.FirstRide.{FirstRide}
 use Rattle.rides.specs.Loops.{over_calls, last_board_rows, change_rows}
-use Rattle.feed.specs.Feed.{call_at}
+use Rattle.search_input.specs.Feed.{call_at}
 use Rattle.rides.specs.Sheets.{joins_of, sheet_of}
 use Rattle.rides.specs.Bounds.{bucket_of, Bounds}
-use Rattle.profile.specs.Kept.{St, going, refused}
+use Rattle.profile.specs.Kept.{SearchState, going, refused}
 use Rattle.candidate.specs.Offer.{offer_to}
 use Rattle.counted.specs.Events.{tested, offered, offers_of, joins_in}
 use Rattle.limited_rides.specs.Runs.{RowEvent, Run, on, over, go_on, meet, meet_all, skip, run_at, Met, Spent}
@@ -35,10 +35,10 @@ use Rattle.limited_rides.proofs.CountLaws.{joined-count, apart-count, change-joi
 -- ---- a block
 
 -- each offer of the events leaves the state as it is
-abbrev Still : St Row → List RowEvent → Type 0
+abbrev Still : SearchState Row → List RowEvent → Type 0
 Still s es = (o : Row) → Memᴰ o (offers_of es) → offer_to s o ≡ s
 
-passed-still : (s : St Row) (b : Row) (es : List RowEvent) → passed_over s b ≡ true → Covers b (offers_of es) → Still s es
+passed-still : (s : SearchState Row) (b : Row) (es : List RowEvent) → passed_over s b ≡ true → Covers b (offers_of es) → Still s es
 passed-still s b es p f o m = offers-covered s b (o ∷ []) p (λ x n. let q : x ≡ o = Memᴰ.eq_of_singleton n in rw q (f o m))
 
 skip-none : (y : Run) → y ≡ skip 0 y
@@ -46,7 +46,7 @@ unfolding skip
 skip-none (over s) = refl
 skip-none (on s n) = sym (rw (le-leb 0 n (omega arith)) (ap (λ (k : ℕ). on s k) (omega arith)))
 
-still-run : (s : St Row) (n : ℕ) (es : List RowEvent) → Still s es → meet_all (go_on s n) es ≡ skip (joins_in es) (go_on s n)
+still-run : (s : SearchState Row) (n : ℕ) (es : List RowEvent) → Still s es → meet_all (go_on s n) es ≡ skip (joins_in es) (go_on s n)
 unfolding meet_all meet go_on skip
 still-run s n [] f = skip-none (go_on s n)
 still-run refused n (e ∷ es) f = over-stays refused es

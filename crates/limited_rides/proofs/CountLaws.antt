@@ -8,7 +8,7 @@ use lib.Dec.{eqb}
 use lib.ListN.{length, length-append}
 use Rattle.laws.specs.Lists.{concat_map, filterb, span}
 use Rattle.profile.specs.Found.{Row}
-use Rattle.feed.specs.declared.FirstRide.{FirstRide}
+use Rattle.search_input.specs.declared.FirstRide.{FirstRide}
 use Rattle.ways.specs.Rides.{leg}
 use Rattle.counted.specs.Events.{tested, offered, joins_of, offers_of, joins_in}
 use Rattle.counted.specs.Joins.{Join, join_of}

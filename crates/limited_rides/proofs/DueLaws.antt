@@ -8,7 +8,7 @@ use native.Mathlib.Omega.{arith}
 use Rattle.laws.specs.Lists.{concat_map, span}
 use Rattle.laws.specs.Bits.{bits_of}
 use Rattle.laws.proofs.Places.{span-cons, span-nil, concat_map-cong, tails-span}
-use Rattle.feed.specs.Feed.{call_at, same_run, target_mask, target_walk_of, arrival_of}
+use Rattle.search_input.specs.Feed.{call_at, same_run, target_mask, target_walk_of, arrival_of}
 use Rattle.rides.specs.Rows.{network_of}
 use Rattle.rides.specs.Loops.{later_from}
 use Rattle.rides.specs.Sheets.{joins_of, sheet_of}

@@ -13,7 +13,7 @@ use Rattle.laws.proofs.Places.{concat_map-cong, concat_map-map, tails-span}
 use Rattle.ways.specs.Rides.{Leg, leg, first_ride, Network, alightings, rides, first_rides, directs}
 use Rattle.ways.proofs.RideLaws as listed
 use Rattle.profile.specs.Found.{Row}
-use Rattle.feed.specs.Feed.{same_run, joined}
+use Rattle.search_input.specs.Feed.{same_run, joined}
 use Rattle.counted.specs.Events.{tested, offered}
 use Rattle.counted.specs.Joins.{join_of, events}
 use Rattle.counted.specs.Joins as search

@@ -12,8 +12,8 @@ use lib.Dec.{ltb}
 use Rattle.laws.specs.Lists.{span, take_while, filterb}
 use Rattle.laws.proofs.Lists.{length-filterb}
 use Rattle.laws.proofs.Places.{span-cons, span-nil}
-use Rattle.feed.specs.declared.FeedCall.{FeedCall}
-use Rattle.feed.specs.Feed.{call_at, same_run}
+use Rattle.search_input.specs.declared.FeedCall.{FeedCall}
+use Rattle.search_input.specs.Feed.{call_at, same_run}
 use Rattle.rides.specs.Loops.{later_from}
 use Rattle.rides.proofs.LoopLaws.{run-end, run-next, run-on}
 use Rattle.limited_rides.specs.Counts.{alights_from, rides_from, sum_of, rides_in, Counts}

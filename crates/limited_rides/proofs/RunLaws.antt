@@ -12,8 +12,8 @@ use borrow.Author.Tests.{le-leb, lt-leb, leb-true, leb-false}
 use Rattle.laws.specs.Lists.{foldl}
 use Rattle.laws.proofs.Bools.{test}
 use Rattle.profile.specs.Found.{Row}
-use Rattle.profile.specs.Kept.{St, going, refused}
-use Rattle.state.specs.View.{view, open_of}
+use Rattle.profile.specs.Kept.{SearchState, going, refused}
+use Rattle.search_state.specs.View.{view, open_of}
 use Rattle.candidate.specs.Offer.{offer_to}
 use Rattle.candidate.proofs.OfferLaws.{offers-late}
 use Rattle.counted.specs.Events.{tested, offered, offers_of, joins_in, up_to}
@@ -25,7 +25,7 @@ use Rattle.limited_rides.specs.Runs.{run_at, Met, Spent, RunStates, RunFinishes}
 
 -- ---- what is over stays
 
-pub over-stays : (s : St Row) (es : List RowEvent) → meet_all (over s) es ≡ over s
+pub over-stays : (s : SearchState Row) (es : List RowEvent) → meet_all (over s) es ≡ over s
 unfolding meet_all meet
 over-stays s [] = refl
 over-stays s (e ∷ es) = over-stays s es
@@ -48,12 +48,12 @@ same : {A : Type 0} (b : Bool) (x : A) → x ≡ cond b x x
 same true x = refl
 same false x = refl
 
-skip-go : (s : St Row) (n m : ℕ) → skip m (go_on s n) ≡ cond (leb m n) (go_on s (n - m)) (over s)
+skip-go : (s : SearchState Row) (n m : ℕ) → skip m (go_on s n) ≡ cond (leb m n) (go_on s (n - m)) (over s)
 unfolding skip go_on
 skip-go (going ks h l) n m = refl
 skip-go refused n m = same (leb m n) (over refused)
 
-pub skip-over : (s : St Row) (m : ℕ) → skip m (over s) ≡ over s
+pub skip-over : (s : SearchState Row) (m : ℕ) → skip m (over s) ≡ over s
 unfolding skip
 skip-over s m = refl
 
@@ -61,7 +61,7 @@ pub spent-some : {m n : ℕ} {k : Option ℕ} → SomeIff k (n ≤ m) (m - n) �
 unfolding run_at
 spent-some {m} {n} {k} e = record { is = λ s. go s k e }
   where
-    go : (s : St Row) (k : Option ℕ) → SomeIff k (n ≤ m) (m - n) → run_at s k ≡ skip n (run_at s (Some m))
+    go : (s : SearchState Row) (k : Option ℕ) → SomeIff k (n ≤ m) (m - n) → run_at s k ≡ skip n (run_at s (Some m))
     go s (Some x) (h, q) = sym (skip-go s m n ∙ rw (le-leb n m h, ← q))
     go s None h = sym (skip-go s m n ∙ rw (lt-leb n m (omega arith)))
 
@@ -88,10 +88,10 @@ over-stopped l = refl
 
 -- an array of the same state may stand for the last, or for the first
 pub met-last : {l l' l'' : List ℕ} {k k' : Option ℕ} {es : List RowEvent} → view l'' ≡ view l' → Met l k l' k' es → Met l k l'' k' es
-met-last {k' = k'} e w = seen_last (ap (λ (s : St Row). run_at s k') e) w
+met-last {k' = k'} e w = seen_last (ap (λ (s : SearchState Row). run_at s k') e) w
 
 pub met-first : {l l' l'' : List ℕ} {k k' : Option ℕ} {es : List RowEvent} → view l'' ≡ view l → Met l'' k l' k' es → Met l k l' k' es
-met-first {k = k} e w = seen_first (ap (λ (s : St Row). run_at s k) e) w
+met-first {k = k} e w = seen_first (ap (λ (s : SearchState Row). run_at s k) e) w
 
 pub over-met : {l : List ℕ} {k : Option ℕ} {es : List RowEvent} {r : Bool} → r ≡ is_over (run_at (view l) k) → r ≡ true → Met l k l k es
 unfolding meet_all
@@ -105,13 +105,14 @@ unfolding offer_all
 refused-offers os = refused-fold os
 
 -- offers that are made while it goes on
-offers-run : (s : St Row) (n : ℕ) (os : List Row) → meet_all (go_on s n) (map offered os) ≡ go_on (offer_all s os) n
+offers-run : (s : SearchState Row) (n : ℕ) (os : List Row) → meet_all (go_on s n) (map offered os) ≡ go_on (offer_all s os) n
 unfolding meet_all meet go_on offer_all
 offers-run s n [] = refl
 offers-run (going ks h l) n (o ∷ os) = offers-run (offer_to (going ks h l) o) n os
-offers-run refused n (o ∷ os) = over-stays refused (map offered os) ∙ sym (ap (λ (s : St Row). go_on s n) (refused-offers (o ∷ os)))
+offers-run refused n (o ∷ os) = over-stays refused (map offered os)
+    ∙ sym (ap (λ (s : SearchState Row). go_on s n) (refused-offers (o ∷ os)))
 
-is-over : (s : St Row) → true ≡ is_over (over s)
+is-over : (s : SearchState Row) → true ≡ is_over (over s)
 unfolding is_over
 is-over s = refl
 
@@ -123,7 +124,7 @@ offered-met {l} {k = None} e f o = absurd (true≢false (is-over (view l) ∙ sy
 
 -- ---- what it comes to
 
-state-all : (y : Run) (s : St Row) → y ≡ over s → state_of y ≡ s
+state-all : (y : Run) (s : SearchState Row) → y ≡ over s → state_of y ≡ s
 unfolding state_of
 state-all y s e = rw e
 

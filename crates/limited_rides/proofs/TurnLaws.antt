@@ -6,7 +6,7 @@ use Prim.Native.Nat.{ℕ}
 use Rattle.std.specs.Prelude.{Option}
 use Rattle.laws.specs.Lists.{concat_map, span}
 use Rattle.ways.specs.Rides.{first_rides}
-use Rattle.state.specs.View.{view}
+use Rattle.search_state.specs.View.{view}
 use Rattle.rides.specs.declared.firsts.FirstRides.{FirstRides}
 use Rattle.rides.specs.declared.lent.Lent.{Lent}
 use Rattle.rides.specs.Firsts.{firsts_left}

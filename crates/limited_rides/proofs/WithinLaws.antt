@@ -13,15 +13,15 @@ use Rattle.ways.specs.Rides.{First, first_rides}
 use Rattle.counted.specs.Events.{offered}
 use Rattle.laws.proofs.Bools.{test, not-true}
 use Rattle.profile.specs.Found.{Row}
-use Rattle.profile.specs.Kept.{St, going, refused}
-use Rattle.state.specs.View.{view}
+use Rattle.profile.specs.Kept.{SearchState, going, refused}
+use Rattle.search_state.specs.View.{view}
 use Rattle.candidate.specs.Offer.{offer_to}
 use Rattle.rides.specs.Offered.{offer_all}
 use Rattle.counted.specs.Events.{offers_of, joins_in, up_to, finished}
 use Rattle.counted.proofs.EventLaws.{count-is, finished-if}
 use Rattle.limited_rides.specs.declared.Tested.{Tested}
 use Rattle.limited_rides.specs.Runs.{RowEvent, on, over, go_on, meet_all, state_of, run_at, Met}
-use Rattle.feed.specs.declared.FirstRide.{FirstRide}
+use Rattle.search_input.specs.declared.FirstRide.{FirstRide}
 use Rattle.rides.specs.Rows.{Sheet, Joins, first_at, network_of}
 use Rattle.rides.specs.Loops.{direct_rows}
 use Rattle.rides.specs.Sheets.{sheet_of, joins_of}
@@ -30,34 +30,34 @@ use Rattle.limited_rides.proofs.EventRowLaws.{events-by-loops}
 use Rattle.limited_rides.specs.Within.{Within, told}
 use Rattle.limited_rides.proofs.RunLaws.{run-states, run-finishes}
 
-state-go : (s : St Row) (n : ℕ) → state_of (go_on s n) ≡ s
+state-go : (s : SearchState Row) (n : ℕ) → state_of (go_on s n) ≡ s
 unfolding state_of go_on
 state-go (going ks h l) n = refl
 state-go refused n = refl
 
-state-at : (s : St Row) (k : Option ℕ) → state_of (run_at s k) ≡ s
+state-at : (s : SearchState Row) (k : Option ℕ) → state_of (run_at s k) ≡ s
 unfolding run_at state_of
 state-at s (Some n) = state-go s n
 state-at s None = refl
 
 -- a search that goes on has its joins left
-go_left : (s f : St Row) (m n : ℕ) → go_on s m ≡ on f n → m ≡ n
+go_left : (s f : SearchState Row) (m n : ℕ) → go_on s m ≡ on f n → m ≡ n
 unfolding go_on
 go_left (going ks h l) f m n e = cc
 go_left refused f m n e = let z : ◌≡◌ {A = ℕ} 0 1 = cc in absurd (omega arith)
 
-on_read : (s f : St Row) (k : Option ℕ) (n : ℕ) → run_at s k ≡ on f n → k ≡ Some n
+on_read : (s f : SearchState Row) (k : Option ℕ) (n : ℕ) → run_at s k ≡ on f n → k ≡ Some n
 unfolding run_at
 on_read s f (Some m) n e = ap Some (go_left s f m n e)
 on_read s f None n e = let z : ◌≡◌ {A = ℕ} 0 1 = cc in absurd (omega arith)
 
 -- one that is over and not refused has none
-go-over : (s f : St Row) (m : ℕ) → (s ≡ refused → ⊥) → go_on s m ≡ over f → ⊥
+go-over : (s f : SearchState Row) (m : ℕ) → (s ≡ refused → ⊥) → go_on s m ≡ over f → ⊥
 unfolding go_on
 go-over (going ks h l) f m r e = let z : ◌≡◌ {A = ℕ} 0 1 = cc in omega arith
 go-over refused f m r e = r refl
 
-over-read : (s f : St Row) (k : Option ℕ) → (s ≡ refused → ⊥) → run_at s k ≡ over f → k ≡ None
+over-read : (s f : SearchState Row) (k : Option ℕ) → (s ≡ refused → ⊥) → run_at s k ≡ over f → k ≡ None
 unfolding run_at
 over-read s f (Some m) r e = absurd (go-over s f m r e)
 over-read s f None r e = refl

@@ -1,9 +1,9 @@
 -- How many rides board at a place, and how many there are. A block of joins that is not walked is its count, which no first ride changes.
 use Rattle.std.specs.Prelude.{◌≡◌, cond, List, [], ◌∷◌, ℕ, ◌+◌, ◌-◌, ◌<◌, length, get_or}
 use Rattle.laws.specs.Lists.{filterb, span}
-use Rattle.feed.specs.declared.FeedCall.{FeedCall}
-use Rattle.feed.specs.declared.FirstRide.{FirstRide}
-use Rattle.feed.specs.Feed.{call_at}
+use Rattle.search_input.specs.declared.FeedCall.{FeedCall}
+use Rattle.search_input.specs.declared.FirstRide.{FirstRide}
+use Rattle.search_input.specs.Feed.{call_at}
 use Rattle.counted.specs.Events.{joins_in}
 use Rattle.rides.specs.Rows.{Sheet, Joins}
 use Rattle.rides.specs.Loops.{later_from}

@@ -3,7 +3,7 @@ use Rattle.std.specs.Prelude.{◌≡◌, cond, List, [], ◌∷◌, map, ℕ, �
 use Rattle.laws.specs.Lists.{concat_map, span}
 use Rattle.laws.specs.Bits.{bits_of}
 use Rattle.ways.specs.Rides.{rides}
-use Rattle.feed.specs.Feed.{call_at, target_mask, target_walk_of, arrival_of}
+use Rattle.search_input.specs.Feed.{call_at, target_mask, target_walk_of, arrival_of}
 use Rattle.rides.specs.Rows.{network_of}
 use Rattle.rides.specs.Loops.{later_from}
 use Rattle.rides.specs.Sheets.{joins_of, sheet_of}

@@ -4,14 +4,15 @@ use Rattle.std.specs.Prelude.{◌≡◌, cond, List, [], ◌∷◌, ◌++◌, ma
 use Rattle.laws.specs.Lists.{concat_map, span}
 use Rattle.ways.specs.Rides.{leg, First, first_ride, first_rides}
 use Rattle.profile.specs.Found.{Row}
-use Rattle.feed.specs.declared.FeedCall.{FeedCall}
-use Rattle.feed.specs.declared.FirstRide.{FirstRide}
+use Rattle.search_input.specs.declared.FeedCall.{FeedCall}
+use Rattle.search_input.specs.declared.FirstRide.{FirstRide}
 use Rattle.counted.specs.Events.{tested, offered, offers_of}
 use Rattle.counted.specs.Joins.{join_of, events}
 use Rattle.rides.specs.Rows.{Sheet, Joins, first_at, direct_by, change_by, network_of}
 use Rattle.rides.specs.Loops.{later_from, last_alight_rows, change_rows, direct_rows}
 use Rattle.rides.specs.Sheets.{sheet_of, joins_of}
 use Rattle.limited_rides.specs.Runs.{RowEvent}
+use Rattle.calls.specs.Sizes.{call_room}
 
 -- the ways of two loops, each from where it stands
 unfoldable pub run_events : (ℕ → List RowEvent) → (ℕ → FeedCall) → ℕ → ℕ → ℕ → List RowEvent
@@ -55,7 +56,7 @@ row_events s joins depth n = concat_map (λ f. first_events s joins depth n (fir
 -- every event of a search over the lent arrays and their first n calls, of which there are at most 512
 unfoldable pub events_at : List ℕ → List ℕ → ℕ → ℕ → List RowEvent
 events_at f g n depth =
-    events (network_of (sheet_of f) (joins_of f g)) (direct_by (sheet_of f)) (change_by (sheet_of f)) depth (span 0 (min n 512))
+    events (network_of (sheet_of f) (joins_of f g)) (direct_by (sheet_of f)) (change_by (sheet_of f)) depth (span 0 (min n call_room))
 
 -- ---- what is claimed
 
@@ -66,4 +67,4 @@ ChangeOffers =
 
 -- the loops come to every event, in order
 abbrev pub EventsByLoops : Type 0
-EventsByLoops = (f g : List ℕ) (n depth : ℕ) → events_at f g n depth ≡ row_events (sheet_of f) (joins_of f g) depth (min n 512)
+EventsByLoops = (f g : List ℕ) (n depth : ℕ) → events_at f g n depth ≡ row_events (sheet_of f) (joins_of f g) depth (min n call_room)

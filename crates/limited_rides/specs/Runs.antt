@@ -3,8 +3,8 @@
 use Rattle.std.specs.Prelude.{◌≡◌, Bool, true, false, cond, List, ℕ, zero, suc, ◌-◌, leb, Option, Some, None}
 use Rattle.laws.specs.Lists.{foldl}
 use Rattle.profile.specs.Found.{Row}
-use Rattle.profile.specs.Kept.{St, going, refused}
-use Rattle.state.specs.View.{view}
+use Rattle.profile.specs.Kept.{SearchState, going, refused}
+use Rattle.search_state.specs.View.{view}
 use Rattle.candidate.specs.Offer.{offer_to}
 use Rattle.counted.specs.Events.{Event, tested, offered, offers_of, joins_in, up_to}
 use Rattle.counted.specs.Joins.{Join}
@@ -15,11 +15,11 @@ abbrev pub RowEvent : Type 0
 RowEvent = Event (Join ℕ) Row
 
 pub data Run : Type 0 where
-  on : St Row → ℕ → Run
-  over : St Row → Run
+  on : SearchState Row → ℕ → Run
+  over : SearchState Row → Run
 
 -- a state with n joins left; a refused search is over
-unfoldable pub go_on : St Row → ℕ → Run
+unfoldable pub go_on : SearchState Row → ℕ → Run
 go_on (going ks h l) n = on (going ks h l) n
 go_on refused n = over refused
 
@@ -43,12 +43,12 @@ is_over (on s n) = false
 is_over (over s) = true
 
 -- the state, whether it is over or not
-unfoldable pub state_of : Run → St Row
+unfoldable pub state_of : Run → SearchState Row
 state_of (on s n) = s
 state_of (over s) = s
 
 -- the state s with the joins left; with none of them the search has stopped
-unfoldable pub run_at : St Row → Option ℕ → Run
+unfoldable pub run_at : SearchState Row → Option ℕ → Run
 run_at s (Some n) = go_on s n
 run_at s None = over s
 
@@ -66,17 +66,18 @@ Met l k l' k' es = After seen meet (record { state = l; joins = k }) (record { s
 
 -- k' is what is left of k after m joins, whatever the state
 pub record Spent (k k' : Option ℕ) (m : ℕ) : Type 0 where
-  pub is : (s : St Row) → run_at s k' ≡ skip m (run_at s k)
+  pub is : (s : SearchState Row) → run_at s k' ≡ skip m (run_at s k)
 
 -- ---- what is claimed
 
 -- the state is that after the offers up to the limit
 abbrev pub RunStates : Type 0
-RunStates = (s : St Row) (n : ℕ) (es : List RowEvent) → state_of (meet_all (go_on s n) es) ≡ foldl offer_to s (offers_of (up_to n es))
+RunStates = (s : SearchState Row) (n : ℕ) (es : List RowEvent) → state_of (meet_all (go_on s n) es)
+    ≡ foldl offer_to s (offers_of (up_to n es))
 
 -- where it is not refused: it goes on exactly if there are no more joins than n, with what is left of these
 abbrev pub RunFinishes : Type 0
-RunFinishes = (s : St Row) (n : ℕ) (es : List RowEvent) → (state_of (meet_all (go_on s n) es) ≡ refused → ⊥)
+RunFinishes = (s : SearchState Row) (n : ℕ) (es : List RowEvent) → (state_of (meet_all (go_on s n) es) ≡ refused → ⊥)
     → meet_all (go_on s n) es
     ≡ cond (leb (joins_in es) n) (on (foldl offer_to s (offers_of es)) (n - joins_in es))
     (over (foldl offer_to s (offers_of (up_to n es))))

@@ -1,7 +1,7 @@
 -- What a search within a limit ends with: the state after the offers up to the limit, the joins tested, and whether none is left.
 use Rattle.std.specs.Prelude.{◌≡◌, true, false, List, ℕ, ◌-◌, Option, Some, None}
 use Rattle.profile.specs.Kept.{refused}
-use Rattle.state.specs.View.{view}
+use Rattle.search_state.specs.View.{view}
 use Rattle.rides.specs.Offered.{offer_all}
 use Rattle.counted.specs.Events.{offers_of, joins_in, up_to, finished}
 use Rattle.limited_rides.specs.declared.Tested.{Tested}

@@ -1,12 +1,13 @@
 // The earliest that any ride brings one to a target, walk included: what the margin of a stopped search reads.
 ghost use Rattle.std.specs.Prelude.{◌≡◌, cond, ◌+◌, ◌≤◌, ◌<◌, min, None};
-ghost use Rattle.feed.specs.Feed.{call_at};
+ghost use Rattle.search_input.specs.Feed.{call_at};
 ghost use Rattle.limited_rides.specs.Earliest.{sooner, soonest, target_due, alight_due, later_due, ride_due};
+ghost use Rattle.calls.specs.Sizes.{call_room};
 
-use feed::arrival_of;
-use feed::layout::Feed;
 use rides::bits::Digits;
-use rides::calls::Calls;
+use rides::call_list::Calls;
+use search_input::arrival_of;
+use search_input::layout::Feed;
 
 // The sooner of two times, either of which may be missing. The loops are those of `rides: bounds`, but with a time past 65535 as it is.
 #[tactic(auto, unfolding(crate::specs::Earliest::sooner))]
@@ -32,7 +33,7 @@ fn at_targets(calls: &Calls, a: u16, targets: Digits) -> Option<u32>
 
 // The same of the targets of the stop at place m, if one can alight there.
 fn at_alighting(calls: &Calls, m: usize) -> Option<u32>
-    requires { m < 512 }
+    requires { m < call_room }
     ensures { result ≡ soonest (alight_due calls.now.feed.now m) }
 {
     let c = calls.at(m);
@@ -55,7 +56,7 @@ fn at_later(calls: &Calls, j: usize, next: Option<u32>) -> Option<u32>
 
 // t, if one can board at j.
 fn at_boarding(calls: &Calls, j: usize, t: Option<u32>) -> Option<u32>
-    requires { j < 512 }
+    requires { j < call_room }
     ensures { result ≡ cond (call_at calls.now.feed.now j).board t None }
 {
     if calls.at(j).board { t } else { None }
@@ -75,7 +76,7 @@ fn least_of(calls: &Calls) -> Option<u32>
 
 // The earliest of every ride over the first n calls; none where no ride alights at a target.
 pub fn earliest_of(feed: &Feed, n: usize) -> Option<u32>
-    ensures { result ≡ soonest (ride_due feed.now (min n 512)) }
+    ensures { result ≡ soonest (ride_due feed.now (min n call_room)) }
 {
     least_of(&Calls::first(feed, n))
 }

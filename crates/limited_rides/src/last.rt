@@ -1,6 +1,6 @@
 // Last rides within a limit on joins: what is offered after a first ride, with a change. A block of rides that is not walked is its count.
 ghost use Rattle.std.specs.Prelude.{◌≡◌, ◌+◌, ◌≤◌, ◌<◌};
-ghost use Rattle.feed.specs.Feed.{call_at};
+ghost use Rattle.search_input.specs.Feed.{call_at};
 ghost use Rattle.rides.specs.Sheets.{sheet_of};
 ghost use Rattle.rides.specs.Places.{sheet_in, joins_in};
 ghost use Rattle.limited_rides.specs.Runs.{Met};
@@ -10,12 +10,12 @@ ghost use Rattle.limited_rides.specs.Counts.{Counts};
 use crate::counts::RideCounts;
 use crate::tally::{Tally, is_over, spend};
 use candidate::passes_over;
-use feed::FirstRide;
 use rides::bounds::bucket_of;
-use rides::calls::{Calls, Ride};
+use rides::call_list::{Calls, Ride};
 use rides::last::{LastRides, last_targets};
 use rides::later::Later;
-use state::layout::State;
+use search_input::FirstRide;
+use search_state::layout::State;
 
 // The join with the ride r, and its offers unless the search is over.
 fn last_alight(st: &mut State, tally: &mut Tally, calls: &Calls, f: FirstRide, r: Ride)

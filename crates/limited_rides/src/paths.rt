@@ -9,7 +9,7 @@ use crate::tally::{Tally, is_over};
 use rides::firsts::FirstRides;
 use rides::lent::Lent;
 use rides::paths::directs;
-use state::layout::State;
+use search_state::layout::State;
 
 // The direct journeys alone.
 pub fn direct_paths(st: &mut State, tally: &mut Tally, lent: &Lent)

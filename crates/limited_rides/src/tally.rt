@@ -1,10 +1,10 @@
 // The joins left of a search within a limit; none of them, once a join past it was met.
 ghost use Rattle.std.specs.Prelude.{◌≡◌};
-ghost use Rattle.state.specs.View.{view};
+ghost use Rattle.search_state.specs.View.{view};
 ghost use Rattle.limited_rides.specs.Runs.{run_at, is_over, Spent};
 
-use state::is_refused;
-use state::layout::State;
+use search_state::is_refused;
+use search_state::layout::State;
 
 pub type Tally = Option<u64>;
 

@@ -10,11 +10,11 @@ use crate::counts::counts_of;
 use crate::last::LastJoins;
 use crate::paths::{change_paths, direct_paths};
 use crate::tally::Tally;
-use feed::layout::{Changes, Feed};
 use rides::bounds::bounds_of;
 use rides::last::LastRides;
 use rides::lent::Lent;
-use state::layout::State;
+use search_input::layout::{Changes, Feed};
+use search_state::layout::State;
 
 // What a limit tells with so much of it left.
 fn tested(limit: u64, left: Tally) -> Tested

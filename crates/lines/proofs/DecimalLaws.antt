@@ -28,9 +28,9 @@ by-small (suc k) n = go (ltb n 10) (by-small k (n / 10))
     go true h = omega arith
     go false h = simp length-append (omega arith)
 
-pub decimal-small : (n : ℕ) → length (decimal n) ≤ 5
+pub decimal-small : (n : ℕ) → length (decimal n) ≤ 20
 unfolding decimal
-decimal-small n = by-small 5 n
+decimal-small n = by-small 20 n
 
 -- one place more changes nothing where there are enough
 by-more : (k n : ℕ) → n < tens (suc k) → decimal_by (suc k) n ≡ decimal_by (suc (suc k)) n
@@ -44,13 +44,25 @@ by-more (suc k) n h = go (ltb n 10) (by-more k (n / 10) (omega arith))
     go true e = refl
     go false e = rw e refl
 
+-- nor do some more
+by-enough : (j k n : ℕ) → n < tens (suc k) → decimal_by (suc k) n ≡ decimal_by (suc k + j) n
+by-enough zero k n h = let e : suc k + 0 ≡ suc k = omega arith in rw e refl
+by-enough (suc j) k n h =
+    let e : suc k + suc j ≡ suc (suc k) + j = omega arith in
+    rw e (by-more k n h ∙ by-enough j (suc k) n (omega arith))
+
+-- a number below 65536 has five digits at most
+pub short-decimal : (n : ℕ) → n < 65536 → length (decimal n) ≤ 5
+unfolding decimal
+short-decimal n h = rw (← by-enough 15 4 n (omega arith)) (by-small 5 n)
+
 pub decimal-one : (n : ℕ) → n < 10 → decimal n ≡ (48 + n) ∷ []
 unfolding decimal decimal_by
 decimal-one n h = rw (lt-ltb n 10 h) refl
 
-pub decimal-more : (n : ℕ) → 10 ≤ n → n < 65536 → decimal n ≡ decimal (n / 10) ++ ((48 + n % 10) ∷ [])
+pub decimal-more : (n : ℕ) → 10 ≤ n → n < 18446744073709551616 → decimal n ≡ decimal (n / 10) ++ ((48 + n % 10) ∷ [])
 unfolding decimal decimal_by
-decimal-more n h f = rw (le-ltb n 10 h) (ap (λ (ds : List ℕ). ds ++ ((48 + n % 10) ∷ [])) (by-more 3 (n / 10) (omega arith)))
+decimal-more n h f = rw (le-ltb n 10 h) (ap (λ (ds : List ℕ). ds ++ ((48 + n % 10) ∷ [])) (by-more 18 (n / 10) (omega arith)))
 
 first_then : (xs : List ℕ) (y : ℕ) → 48 < get_or xs 0 0 → 48 < get_or (xs ++ y ∷ []) 0 0
 first_then [] y h = absurd (omega arith)
@@ -83,13 +95,13 @@ by_right (suc k) n h = go (ltb n 10) refl (by_right k (n / 10) (omega arith))
 
 pub decimal-right : DecimalRight
 unfolding decimal
-decimal-right n h = by_right 4 n (omega arith)
+decimal-right n h = by_right 19 n (omega arith)
 
 -- ---- put into a buffer
-pub one-put : (n : ℕ) {a b : Buffer} → n < 10 → Put 1 ((48 + n) ∷ []) a b → Put 5 (decimal n) a b
-one-put n h p = put-within 5 (decimal-small n) (put_as (sym (decimal-one n h)) p)
+pub one-put : (n : ℕ) {a b : Buffer} → n < 10 → Put 1 ((48 + n) ∷ []) a b → Put 20 (decimal n) a b
+one-put n h p = put-within 20 (decimal-small n) (put_as (sym (decimal-one n h)) p)
 
-module _ (n : ℕ) (fits : n < 65536) where
+module _ (n : ℕ) (fits : n < 18446744073709551616) where
   two-more : 100 ≤ n → decimal n ≡ decimal (n / 100) ++ ((48 + n / 10 % 10) ∷ (48 + n % 10) ∷ [])
   two-more h =
       let e : n / 10 / 10 ≡ n / 100 = omega arith in
@@ -105,16 +117,20 @@ module _ (n : ℕ) (fits : n < 65536) where
       ∙ ap (λ (ds : List ℕ). ds ++ ((48 + n % 10) ∷ [])) (decimal-one (n / 10) (omega arith))
       ∙ ap (λ (d : ℕ). d ∷ (48 + n % 10) ∷ []) e
 
-  pub more-put : {a b c d : Buffer} → 100 ≤ n → Put 5 (decimal (n / 100)) a b → Put 1 ((48 + n / 10 % 10) ∷ []) b c
+  pub more-put : {a b c d : Buffer} → 100 ≤ n → Put 20 (decimal (n / 100)) a b → Put 1 ((48 + n / 10 % 10) ∷ []) b c
       → Put 1 ((48 + n % 10) ∷ []) c d
-      → Put 5 (decimal n) a d
-  more-put h p q r = put-within 5 (decimal-small n) (put_as (sym (two-more h)) (put_then p (put_then q r)))
+      → Put 20 (decimal n) a d
+  more-put h p q r = put-within 20 (decimal-small n) (put_as (sym (two-more h)) (put_then p (put_then q r)))
 
   pub two-put : {b c d : Buffer} → 10 ≤ n → n < 100 → Put 1 ((48 + n / 10 % 10) ∷ []) b c → Put 1 ((48 + n % 10) ∷ []) c d
-      → Put 5 (decimal n) b d
-  two-put h k q r = put-within 5 (decimal-small n) (put_as (sym (two-only h k)) (put_then q r))
+      → Put 20 (decimal n) b d
+  two-put h k q r = put-within 20 (decimal-small n) (put_as (sym (two-only h k)) (put_then q r))
 
 -- a space before it
-pub space-put : (n : ℕ) {a b c : Buffer} → Put 1 (32 ∷ []) a b → Put 5 (decimal n) b c → Put 6 (spaced n) a c
+pub space-put : (n : ℕ) {a b c : Buffer} → Put 1 (32 ∷ []) a b → Put 20 (decimal n) b c → Put 21 (spaced n) a c
 unfolding spaced
 space-put n p q = put_then p q
+
+pub short-put : (n : ℕ) {a b : Buffer} → n < 65536 → Put 21 (spaced n) a b → Put 6 (spaced n) a b
+unfolding spaced
+short-put n h p = put-within 6 (omega (arith, short-decimal n h)) p

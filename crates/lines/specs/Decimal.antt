@@ -8,9 +8,9 @@ unfoldable pub decimal_by : ℕ → ℕ → List ℕ
 decimal_by zero n = []
 decimal_by (suc k) n = cond (ltb n 10) ((48 + n) ∷ []) (decimal_by k (n / 10) ++ ((48 + n % 10) ∷ []))
 
--- of a number below 65536
+-- of a number below 2^64
 unfoldable pub decimal : ℕ → List ℕ
-decimal n = decimal_by 5 n
+decimal n = decimal_by 20 n
 
 -- a space and a number
 unfoldable pub spaced : ℕ → List ℕ
@@ -35,4 +35,4 @@ pub record Spells (n : ℕ) (ds : List ℕ) : Type 0 where
   pub nought : n ≡ 0 → ds ≡ 48 ∷ []
 
 abbrev pub DecimalRight : Type 0
-DecimalRight = (n : ℕ) → n < 65536 → Spells n (decimal n)
+DecimalRight = (n : ℕ) → n < 18446744073709551616 → Spells n (decimal n)

@@ -1,4 +1,4 @@
-// The lines that are printed of a load, as bytes in a lent buffer: request 01's, or each journey with its rides.
+// The lines that are printed of a load, as bytes in a lent buffer: those of RULES 13.3, or each journey with its rides.
 #![tactic(auto)]
 
 ghost use Rattle.std.specs.Prelude.{◌≡◌, take};
@@ -13,6 +13,7 @@ use load::Load;
 use prefix::first;
 use refusal::Answer;
 
+pub mod digits;
 mod journeys;
 mod text;
 
@@ -37,22 +38,30 @@ fn answer_lines(out: &mut Buffer<'_>, rides: bool, answer: Answer, load: &Load)
 }
 
 // Puts the lines at the start of the buffer, and answers how many bytes they are: a length, as C reads it, which lends the buffer. One
-// function over any size, for this and the next, would be as long as the two.
+// function over any size, for this and `ride_lines_of`, would be as long as the two.
+pub fn lines_of(out: &mut [u8; 4096], answer: Answer, load: &Load) -> usize
+    ensures out_after { take result out.new ≡ lines_of answer load.now }
+    ensures counts { Counts result out.new }
+{
+    let mut text = Buffer::new(out);
+    answer_lines(&mut text, false, answer, load);
+    text.len
+}
+
+// The same of a load by value.
 pub fn lines(out: &mut [u8; 4096], answer: Answer, load: Load) -> usize
     ensures out_after { take result out.new ≡ lines_of answer load }
     ensures counts { Counts result out.new }
 {
-    let mut text = Buffer::new(out);
-    answer_lines(&mut text, false, answer, &load);
-    text.len
+    lines_of(out, answer, &load)
 }
 
 // The same with the rides of each journey, and whether the load was searched.
-pub fn ride_lines(out: &mut [u8; 16384], answer: Answer, load: Load) -> usize
-    ensures out_after { take result out.new ≡ ride_lines_of answer load }
+pub fn ride_lines_of(out: &mut [u8; 16384], answer: Answer, load: &Load) -> usize
+    ensures out_after { take result out.new ≡ ride_lines_of answer load.now }
     ensures counts { Counts result out.new }
 {
     let mut text = Buffer::new(out);
-    answer_lines(&mut text, true, answer, &load);
+    answer_lines(&mut text, true, answer, load);
     text.len
 }

@@ -1,27 +1,19 @@
-// Numbers as text, and the lines that have no journey.
+// Short numbers as text, and the lines that have no journey.
 ghost use Rattle.std.specs.Prelude.{[], ◌∷◌, ◌++◌, ◌+◌, ◌*◌, length};
 ghost use Rattle.laws.specs.Lists.{concat_map};
 ghost use Rattle.buffer.specs.Put.{Put};
-ghost use Rattle.lines.specs.Decimal.{decimal, spaced};
+ghost use Rattle.lines.specs.Decimal.{spaced};
 ghost use Rattle.lines.specs.Lines.{horizon_line_of, refused_line_of};
 ghost use Rattle.lines.specs.Rides.{searched_line};
 
+use crate::digits::number;
 use buffer::Buffer;
 
-// A number's decimal digits. By hand: no clause says that a `write!` into the buffer can't fail, and at an error nothing is known of it;
-// and by the kit's itoa, which is as fast, the lines would rest on its contract besides, which is trusted here and not proved. Two digits a
-// step: one a step was slower.
-fn decimal(out: &mut Buffer<'_>, n: u16)
-    ensures { Put 5 (decimal n) out.old out.new }
+// A short number behind a space: five digits at most.
+fn short(out: &mut Buffer<'_>, n: u16)
+    ensures { Put 6 (spaced n) out.old out.new }
 {
-    if n < 10 {
-        return out.byte(b'0' + n as u8);
-    }
-    if 100 <= n {
-        decimal(out, n / 100);
-    }
-    out.byte(b'0' + (n / 10 % 10) as u8);
-    out.byte(b'0' + (n % 10) as u8);
+    number(out, u64::from(n));
 }
 
 // Each number behind a space.
@@ -29,8 +21,7 @@ pub fn numbers(out: &mut Buffer<'_>, ns: &[u16])
     ensures { Put (6 * length ns.now) (concat_map spaced ns.now) out.old out.new }
 {
     for n in ns {
-        out.byte(b' ');
-        decimal(out, *n);
+        short(out, *n);
     }
 }
 

@@ -19,11 +19,11 @@ use Rattle.week.specs.Weeks.{is_dated, service_tests, service_on, exception_test
 use Rattle.week.proofs.StepLaws.{runs-undated}
 use Rattle.week.proofs.SoundLaws.{service-unchanged, exception-unchanged}
 use Rattle.load.specs.declared.Load.{Load}
-use Rattle.load.specs.declared.Stepped.{Stepped}
+use Rattle.load.specs.declared.StepResult.{StepResult}
 use Rattle.load.specs.Load.{table_of, with_week}
 use Rattle.load.specs.Steps.{stop_answer, stop_spec, plain_call, is_unknown, is_resting, running_tests, gate_answer, call_spec, rule_answer}
 use Rattle.load.specs.Steps.{rule_spec, service_spec, exception_spec}
-use Rattle.load.specs.Filling.{stop, call, rule, service, exception, window_tests, causes, StepAnswered}
+use Rattle.load.specs.FillStep.{stop, call, rule, service, exception, window_tests, causes, StepAnswered}
 use Rattle.load.proofs.StepLaws.{Called, without, goes_on, stays_out, sent_back, called, gate-passed, plain-unchanged}
 
 refused-not-taken : (a : Answer) → is_refused a ≡ true → is_taken a ≡ false
@@ -59,7 +59,7 @@ module _ (l : Load) (name : List ℕ) (i : CallInput) where
   call-first : First (call_spec l name i).answer (causes l (call name i))
   call-first = go _ (called l name i)
     where
-      go : (r : Stepped) → Called l name i r → First r.answer (causes l (call name i))
+      go : (r : StepResult) → Called l name i r → First r.answer (causes l (call name i))
       go _ (without d) = plain-first _ (undated-runs d)
       go _ (goes_on d e) = plain-first _ (gate-passed l.searched l.stop_count i _ e).1.1
       go _ (stays_out d e) = gate-first (Ok Outside) e (λ q. true≢false (sym (ap is_taken q)))
@@ -68,7 +68,7 @@ module _ (l : Load) (name : List ℕ) (i : CallInput) where
   call-unchanged : is_refused (call_spec l name i).answer ≡ true → (call_spec l name i).load ≡ l
   call-unchanged = go _ (called l name i)
     where
-      go : (r : Stepped) → Called l name i r → is_refused r.answer ≡ true → r.load ≡ l
+      go : (r : StepResult) → Called l name i r → is_refused r.answer ≡ true → r.load ≡ l
       go _ (without d) e = plain-unchanged l i e
       go _ (goes_on d q) e = cond-by _ _ e
       go _ (stays_out d q) e = absurd (false≢true e)

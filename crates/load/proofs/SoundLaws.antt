@@ -22,11 +22,11 @@ use Rattle.week.specs.declared.Week.{Week}
 use Rattle.week.specs.Weeks.{closed_week}
 use Rattle.week.specs.Sound.{WeekSound}
 use Rattle.week.proofs.SoundLaws.{undated-sound, dated-sound, closed-sound, service-keeps-sound, exception-keeps-sound}
-use Rattle.load.specs.declared.Stepped.{Stepped}
+use Rattle.load.specs.declared.StepResult.{StepResult}
 use Rattle.load.specs.Load.{empty_of, table_of, with_table, with_week}
 use Rattle.load.specs.Steps.{week_of, station_in, stop_answer, stop_load, stop_spec, call_fitted, plain_call, closing, call_spec}
 use Rattle.load.specs.Steps.{rule_answer, rule_load, rule_spec, service_spec, exception_spec}
-use Rattle.load.specs.Filling.{stop, call, rule, service, exception}
+use Rattle.load.specs.FillStep.{stop, call, rule, service, exception}
 use Rattle.load.specs.Sound.{Sound, OpenSound, FillKeepsSound}
 use Rattle.load.proofs.StepLaws.{Called, without, goes_on, stays_out, sent_back, called}
 
@@ -125,7 +125,7 @@ with-week-sound l w s v = record {
   week = v;
 }
 
-closing-sound : (l : Load) (r : Stepped) → Sound l → Sound r.load → Sound (closing l r).load
+closing-sound : (l : Load) (r : StepResult) → Sound l → Sound r.load → Sound (closing l r).load
 closing-sound l r s v = go (is_refused r.answer)
   where
     go : (b : Bool) → Sound (cond b l (with_week r.load (closed_week l.week)))
@@ -135,7 +135,7 @@ closing-sound l r s v = go (is_refused r.answer)
 call-sound : (l : Load) (name : List ℕ) (i : CallInput) → Sound l → Sound (call_spec l name i).load
 call-sound l name i s = go _ (called l name i)
   where
-    go : (r : Stepped) → Called l name i r → Sound r.load
+    go : (r : StepResult) → Called l name i r → Sound r.load
     go _ (without d) = plain-sound l i s
     go _ (goes_on d e) = closing-sound l (plain_call l i) s (plain-sound l i s)
     go _ (stays_out d e) = with-week-sound l (closed_week l.week) s (closed-sound l.week s.week)

@@ -13,7 +13,7 @@ use Rattle.refusal.specs.declared.Refusal.{Refusal}
 use Rattle.refusal.specs.First.{AllFail, hit, miss, none as no_test, first_answer, is_refused, is_taken, Answer}
 use Rattle.refusal.proofs.FirstLaws.{taken_is, first-is-answer, answer-is-first, first-append, first_taken}
 use Rattle.settings.specs.declared.Settings.{Settings}
-use Rattle.settings.specs.Settings.{over_counts, all_near, settings_tests}
+use Rattle.settings.specs.Settings.{over_counts, all_near, settings_tests, canonical_of}
 use Rattle.stops.specs.declared.Stop.{Stop}
 use Rattle.stops.specs.declared.StopInput.{StopInput}
 use Rattle.stops.specs.Taken.{stop_of, blank_stop}
@@ -36,10 +36,11 @@ use Rattle.services.specs.Wrong.{dates_wrong}
 use Rattle.week.specs.declared.Week.{Week}
 use Rattle.week.specs.declared.Running.{Running}
 use Rattle.week.specs.declared.Running.TheVariants.{Unknown, Rests, Runs}
-use Rattle.week.specs.Weeks.{is_dated, closed_week, running}
+use Rattle.week.specs.Weeks.{is_dated, undated_week, closed_week, running}
 use Rattle.load.specs.declared.Load.{Load}
-use Rattle.load.specs.declared.Stepped.{Stepped}
+use Rattle.load.specs.declared.StepResult.{StepResult}
 use Rattle.load.specs.Load.{empty_with, empty_of, table_of, with_table, with_stops, with_rules, with_week}
+use Rattle.load.specs.Steps.{unless_refused, open_spec_of}
 use Rattle.load.specs.Steps.{stepped, undated, dated, open_answer, station_in, stop_answer, stop_load, stop_spec}
 use Rattle.load.specs.Steps.{call_fitted, call_load, plain_call, is_unknown, is_resting, running_tests, gate_answer, closed_load, closing}
 use Rattle.load.specs.Steps.{gated, dated_call, call_spec, rule_answer, rule_load, rule_spec}
@@ -55,6 +56,25 @@ empty-made s w a b r j ea eb er ej = λ k. empty_with s (ea k) (eb k) (er k) (ej
 pub undated-answer : (s : Settings) → first_answer (settings_tests s) ≡ open_answer (undated s)
 unfolding open_answer settings_tests
 undated-answer s = refl
+
+-- a load that is opened anew
+module _ (l : Load) (s : Settings) (a : Answer) (h : a ≡ first_answer (settings_tests s)) where
+  pub reopen-refused : is_refused a ≡ true → stepped a l ≡ unless_refused l (open_spec_of (undated s))
+  unfolding open_spec_of
+  reopen-refused e =
+      let q : a ≡ open_answer (undated s) = h ∙ undated-answer s in
+      let same : l ≡ (unless_refused l (open_spec_of (undated s))).load = sym (cond-by _ _ (ap is_refused (sym q) ∙ e)) in
+      λ k. record { answer = q k; load = same k }
+
+  pub reopen-taken : is_refused a ≡ false → (c : Settings) (w : Week) → c ≡ canonical_of s → w ≡ undated_week
+      → (m : Load) → m ≡ empty_of c w → stepped a m ≡ unless_refused l (open_spec_of (undated s))
+  unfolding open_spec_of
+  reopen-taken e c w ec ew m em =
+      let q : a ≡ open_answer (undated s) = h ∙ undated-answer s in
+      let f : is_refused (open_answer (undated s)) ≡ false = ap is_refused (sym q) ∙ e in
+      let made : m ≡ empty_of (canonical_of s) undated_week = em ∙ (λ k. empty_of (ec k) (ew k)) in
+      let same : m ≡ (unless_refused l (open_spec_of (undated s))).load = made ∙ sym (cond-not _ _ f ∙ cond-not _ _ f) in
+      λ k. record { answer = q k; load = same k }
 
 -- settings that are not sent back pass both tests
 settings-pass : (s : Settings) → is_refused (first_answer (settings_tests s)) ≡ false → AllFail (settings_tests s)
@@ -223,7 +243,8 @@ module _ (l : Load) (r : Running) (i : CallInput) (a : Answer) (h : a ≡ gate_a
       → stepped b m ≡ dated_call l r i
   plain-refused t b m q e =
       let same : m ≡ (closing l (stepped b m)).load =
-      ap (λ (x : Stepped). x.load) q ∙ plain-unchanged l i (ap (λ (x : Stepped). is_refused x.answer) (sym q) ∙ e) ∙ sym (cond-by _ _ e) in
+      ap (λ (x : StepResult). x.load) q ∙ plain-unchanged l i (ap (λ (x : StepResult). is_refused x.answer) (sym q) ∙ e)
+      ∙ sym (cond-by _ _ e) in
       (λ k. stepped b (same k)) ∙ ap (closing l) q ∙ passes t
 
   pub plain-answered : is_taken a ≡ true → (b : Answer) (m : Load) → stepped b m ≡ plain_call l i → is_refused b ≡ false → (w : Week)
@@ -242,7 +263,7 @@ module _ (l : Load) (name : List ℕ) (i : CallInput) where
   call-undated d = sym (cond-not _ _ d)
 
 -- what became of a call, by its week and its gate
-pub data Called (l : Load) (name : List ℕ) (i : CallInput) : Stepped → Type 0 where
+pub data Called (l : Load) (name : List ℕ) (i : CallInput) : StepResult → Type 0 where
   without : is_dated l.week ≡ false → Called l name i (plain_call l i)
   goes_on : is_dated l.week ≡ true → gate_answer l.searched l.stop_count (running l.week name i.day) i ≡ Ok Taken
       → Called l name i (closing l (plain_call l i))

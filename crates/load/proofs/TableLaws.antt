@@ -23,11 +23,11 @@ use Rattle.rules.specs.declared.Rule.{Rule}
 use Rattle.week.specs.declared.Week.{Week}
 use Rattle.week.specs.Weeks.{closed_week}
 use Rattle.load.specs.declared.Load.{Load}
-use Rattle.load.specs.declared.Stepped.{Stepped}
+use Rattle.load.specs.declared.StepResult.{StepResult}
 use Rattle.load.specs.Load.{empty_of, table_of, with_table, with_stops, with_rules, with_week}
 use Rattle.load.specs.Steps.{Opening, opened, station_in, stop_answer, stop_spec, call_fitted, plain_call, closed_load, closing, call_spec}
 use Rattle.load.specs.Steps.{rule_answer, rule_spec, service_spec, exception_spec}
-use Rattle.load.specs.Filling.{Filling, stop, call, rule, service, exception, filled, filled_by}
+use Rattle.load.specs.FillStep.{FillStep, stop, call, rule, service, exception, filled, filled_by}
 use Rattle.load.specs.Sound.{Sound}
 use Rattle.load.specs.Table.{taken_call, taken_calls, TableLemma, OneOfSeven, NeverRises, FallsOnlyFull, OutsideUnchanged}
 use Rattle.load.proofs.StepLaws.{Called, without, goes_on, stays_out, sent_back, called, call-undated}
@@ -67,7 +67,7 @@ pub call-left : {X : Type 0} (f : Load → X) (l : Load) (name : List ℕ) (i : 
     ⊎ ((f (call_spec l name i).load ≡ f l) × (is_taken (call_spec l name i).answer ≡ false))
 call-left f l name i k = go _ (called l name i)
   where
-    go : (r : Stepped) → Called l name i r → (f r.load ≡ f (plain_call l i).load) ⊎ ((f r.load ≡ f l) × (is_taken r.answer ≡ false))
+    go : (r : StepResult) → Called l name i r → (f r.load ≡ f (plain_call l i).load) ⊎ ((f r.load ≡ f l) × (is_taken r.answer ≡ false))
     go _ (without d) = inl refl
     go _ (goes_on d e) = inl (closing_same f l i k)
     go _ (stays_out d e) = inr (k l (closed_week l.week), refl)
@@ -110,7 +110,7 @@ pub call-keeps : {X : Type 0} (f : Load → X) (l : Load) (name : List ℕ) (i :
 call-keeps f l name i k e = ⊎_elim (λ q. q ∙ e) (λ q. q.0) (call-left f l name i k)
 
 -- a step keeps the settings
-pub fill-settings : (l : Load) (x : Filling) → (filled l x).load.settings ≡ l.settings
+pub fill-settings : (l : Load) (x : FillStep) → (filled l x).load.settings ≡ l.settings
 unfolding stop_spec rule_spec service_spec exception_spec
 fill-settings l (stop id name parent i) =
     either_same settings_of (with_stop l id name parent i) l (is_taken (stop_answer l id name parent i)) refl
@@ -145,7 +145,7 @@ call-shows : (l : Load) (name : List ℕ) (i : CallInput) (is : List CallInput) 
     → ShowsIn (call_spec l name i).load (is ++ taken_call l (call name i))
 call-shows l name i is s q = go _ (called l name i)
   where
-    go : (r : Stepped) → Called l name i r → ShowsIn r.load (is ++ cond (is_taken r.answer) (i ∷ []) [])
+    go : (r : StepResult) → Called l name i r → ShowsIn r.load (is ++ cond (is_taken r.answer) (i ∷ []) [])
     go _ (without d) = plain-shows l i is s q
     go _ (goes_on d e) =
         let same = closing_same settings_of l i (λ m w. refl) in
@@ -155,7 +155,7 @@ call-shows l name i is s q = go _ (called l name i)
     go _ (stays_out d e) = same-shows l (closed_load l) is refl refl q
     go _ (sent_back d r e) = same-shows l l is refl refl q
 
-pub fill_shows : (l : Load) (x : Filling) (is : List CallInput) → Sound l → ShowsIn l is → ShowsIn (filled l x).load (is ++ taken_call l x)
+pub fill_shows : (l : Load) (x : FillStep) (is : List CallInput) → Sound l → ShowsIn l is → ShowsIn (filled l x).load (is ++ taken_call l x)
 fill_shows l (stop id name parent i) is s q =
     same-shows l (stop_spec l id name parent i).load is (fill-settings l (stop id name parent i)) (stop-table l id name parent i) q
 fill_shows l (rule i) is s q = same-shows l (rule_spec l i).load is (fill-settings l (rule i)) (rule-table l i) q
@@ -166,15 +166,15 @@ fill_shows l (service name weekdays start end) is s q =
 fill_shows l (exception name date kind) is s q =
     same-shows l (exception_spec l name date kind).load is (fill-settings l (exception name date kind)) (exception-table l name date kind) q
 
-filled-sound : (xs : List Filling) (l : Load) → Sound l → Sound (filled_by l xs)
+filled-sound : (xs : List FillStep) (l : Load) → Sound l → Sound (filled_by l xs)
 filled-sound [] l s = s
 filled-sound (x ∷ xs) l s = filled-sound xs (filled l x).load (fill-keeps-sound l x s)
 
-filled-settings : (xs : List Filling) (l : Load) → (filled_by l xs).settings ≡ l.settings
+filled-settings : (xs : List FillStep) (l : Load) → (filled_by l xs).settings ≡ l.settings
 filled-settings [] l = refl
 filled-settings (x ∷ xs) l = filled-settings xs (filled l x).load ∙ fill-settings l x
 
-filled-shows : (xs : List Filling) (l : Load) (old : List CallInput) → Sound l → ShowsIn l old
+filled-shows : (xs : List FillStep) (l : Load) (old : List CallInput) → Sound l → ShowsIn l old
     → ShowsIn (filled_by l xs) (old ++ taken_calls l xs)
 filled-shows [] l old s q = q ∙ ap (windowed l.settings l.table_horizon) (sym (append-nil old))
 filled-shows (x ∷ xs) l old s q =
@@ -268,4 +268,4 @@ plain-unchanged l i w u o = go (is_refused (call_fitted l i).answer)
         ∙ same-table l (w.same_horizon u) (w.same_limits u)
 
 pub outside-unchanged : OutsideUnchanged
-outside-unchanged l i w u d name o = ap (λ (r : Stepped). r.load) (sym (call-undated l name i d)) ∙ plain-unchanged l i w u o
+outside-unchanged l i w u d name o = ap (λ (r : StepResult). r.load) (sym (call-undated l name i d)) ∙ plain-unchanged l i w u o

@@ -17,7 +17,7 @@ use Rattle.week.specs.declared.Running.{Running}
 use Rattle.week.specs.declared.Running.TheVariants.{Runs}
 use Rattle.week.specs.Weeks.{is_dated, closed_week, running}
 use Rattle.load.specs.declared.Load.{Load}
-use Rattle.load.specs.declared.Stepped.{Stepped}
+use Rattle.load.specs.declared.StepResult.{StepResult}
 use Rattle.load.specs.Load.{table_of, with_table, with_week}
 use Rattle.load.specs.Steps.{call_fitted, plain_call, gate_answer, closing, gated, call_spec}
 use Rattle.load.proofs.StepLaws.{Called, without, goes_on, stays_out, sent_back, called, gate-searched, gate-wrong, gate-told, gate-passed}
@@ -43,7 +43,7 @@ module _ (l : Load) (i : CallInput) where
       go (miss h (miss g f)) = absurd (true≢false (sym (ap not k) ∙ g))
 
   closing-refused : (r : Refusal) → (plain_call l i).answer ≡ Err r
-      → ◌≡◌ {A = Stepped} (record { answer = Err r; load = l }) (closing l (plain_call l i))
+      → ◌≡◌ {A = StepResult} (record { answer = Err r; load = l }) (closing l (plain_call l i))
   closing-refused r e =
       let same : l ≡ (closing l (plain_call l i)).load = sym (cond-by _ _ (ap is_refused e)) in
       λ k. record { answer = sym e k; load = same k }
@@ -66,7 +66,7 @@ module _ (l : Load) (name : List ℕ) (i : CallInput) (d : is_dated l.week ≡ t
       at : gate_answer l.searched l.stop_count (running l.week name i.day) i ≡ gate_answer l.searched l.stop_count Runs i
       at = ap (λ (r : Running). gate_answer l.searched l.stop_count r i) e
 
-      go : (r : Stepped) → Called l name i r → r ≡ closing l (plain_call l i)
+      go : (r : StepResult) → Called l name i r → r ≡ closing l (plain_call l i)
       go _ (without n) = absurd (true≢false (sym d ∙ n))
       go _ (goes_on n g) = refl
       go _ (stays_out n g) = by-gate l i (Ok Outside) (sym g ∙ at)
@@ -77,7 +77,7 @@ module _ (l : Load) (name : List ℕ) (i : CallInput) (d : is_dated l.week ≡ t
       → f (call_spec l name i).load ≡ f l
   call-rests f k n = go _ (called l name i)
     where
-      go : (r : Stepped) → Called l name i r → f r.load ≡ f l
+      go : (r : StepResult) → Called l name i r → f r.load ≡ f l
       go _ (without e) = absurd (true≢false (sym d ∙ e))
       go _ (goes_on e g) = absurd (n (gate-passed l.searched l.stop_count i _ g).1.1)
       go _ (stays_out e g) = k l (closed_week l.week)
@@ -91,7 +91,7 @@ module _ (l : Load) (name : List ℕ) (i : CallInput) (d : is_dated l.week ≡ t
       shut true e = absurd (true≢false e)
       shut false e = refl
 
-      go : (r : Stepped) → Called l name i r → is_refused r.answer ≡ false → r.load.week ≡ closed_week l.week
+      go : (r : StepResult) → Called l name i r → is_refused r.answer ≡ false → r.load.week ≡ closed_week l.week
       go _ (without n) e = absurd (true≢false (sym d ∙ n))
       go _ (goes_on n g) e = shut (is_refused (plain_call l i).answer) e
       go _ (stays_out n g) e = refl
@@ -115,7 +115,7 @@ call-week l name i P p q = go _ (called l name i)
     shut true = p
     shut false = q
 
-    go : (r : Stepped) → Called l name i r → P r.load.week
+    go : (r : StepResult) → Called l name i r → P r.load.week
     go _ (without n) = subst P (sym (plain-week l i)) p
     go _ (goes_on n g) = shut (is_refused (plain_call l i).answer)
     go _ (stays_out n g) = q

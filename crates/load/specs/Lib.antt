@@ -1,6 +1,6 @@
 pub mod Load
 pub mod Steps
-pub mod Filling
+pub mod FillStep
 pub mod Sound
 pub mod Table
 pub mod Clock

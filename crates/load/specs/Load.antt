@@ -14,22 +14,26 @@ use Rattle.profile.specs.Journeys.{no_journey}
 use Rattle.week.specs.declared.Week.{Week}
 use Rattle.week.specs.Weeks.{undated_week}
 use Rattle.load.specs.declared.Load.{Load}
+use Rattle.stops.specs.Sizes.{stop_room}
+use Rattle.calls.specs.Sizes.{call_room, longest_horizon}
+use Rattle.rules.specs.Sizes.{rule_room}
+use Rattle.profile.specs.Sizes.{kept_room}
 
 -- nothing taken yet, every slot the record given for it: horizon 21600, limits 0
 abbrev pub empty_with : Settings → Stop → Call → Rule → Journey → Week → Load
 empty_with s a b r j w = record {
   settings = s;
-  stops = replicate 128 a;
+  stops = replicate stop_room a;
   stop_count = 0;
-  calls = replicate 512 b;
+  calls = replicate call_room b;
   call_count = 0;
-  rules = replicate 128 r;
+  rules = replicate rule_room r;
   rule_count = 0;
-  journeys = replicate 64 j;
+  journeys = replicate kept_room j;
   journey_count = 0;
-  table_horizon = 21600;
+  table_horizon = longest_horizon;
   table_limits = 0;
-  horizon = 21600;
+  horizon = longest_horizon;
   limits = 0;
   searched = false;
   limit = None;

@@ -11,7 +11,8 @@ use Rattle.week.specs.Sound.{WeekSound}
 use Rattle.load.specs.declared.Load.{Load}
 use Rattle.load.specs.Load.{stopped, table_of}
 use Rattle.load.specs.Steps.{Opening, open_answer, opened}
-use Rattle.load.specs.Filling.{Filling, filled}
+use Rattle.load.specs.FillStep.{FillStep, filled}
+use Rattle.profile.specs.Sizes.{kept_room}
 
 -- dates come by threes
 abbrev pub Three : Option (List ℕ) → Type 0
@@ -27,16 +28,16 @@ pub record Sound (l : Load) : Type 0 where
   pub table : TableSound (table_of l)
   pub calls_known : StopsKnown l.stop_count (table_of l)
   pub rules : RulesSound l.stop_count l.rules l.rule_count
-  pub few : l.journey_count ≤ 64
-  pub long : length l.journeys ≡ 64
-  pub blank : drop l.journey_count l.journeys ≡ replicate (64 - l.journey_count) no_journey
+  pub few : l.journey_count ≤ kept_room
+  pub long : length l.journeys ≡ kept_room
+  pub blank : drop l.journey_count l.journeys ≡ replicate (kept_room - l.journey_count) no_journey
   -- by arrival, rides and walk, least first, then latest leave
   pub in_order : Ordered journey_figures (take l.journey_count l.journeys)
   -- before the search
   pub none_kept : l.searched ≡ false → l.journey_count ≡ 0
   pub same_horizon : l.searched ≡ false → l.horizon ≡ l.table_horizon
   pub same_limits : l.searched ≡ false → l.limits ≡ l.table_limits
-  -- a search that was stopped, and of what load
+  -- a load that holds a limit is searched, and has at most one change, as a limited search with two is refused (RULES 11.3)
   pub stopped_search : stopped l ≡ true → l.searched ≡ true
   pub stopped_change : stopped l ≡ true → l.settings.max_transfers ≤ 1
   pub week : WeekSound l.week
@@ -45,4 +46,4 @@ abbrev pub OpenSound : Type 0
 OpenSound = (o : Opening) → Sound (opened o)
 
 abbrev pub FillKeepsSound : Type 0
-FillKeepsSound = (l : Load) (x : Filling) → Sound l → Sound (filled l x).load
+FillKeepsSound = (l : Load) (x : FillStep) → Sound l → Sound (filled l x).load

@@ -21,12 +21,16 @@ use Rattle.week.specs.declared.Running.{Running}
 use Rattle.week.specs.declared.Running.TheVariants.{Unknown, Rests, Runs}
 use Rattle.week.specs.Weeks.{is_dated, undated_week, dated_week, closed_week, service_on, exception_on, running}
 use Rattle.load.specs.declared.Load.{Load}
-use Rattle.load.specs.declared.Stepped.{Stepped}
+use Rattle.load.specs.declared.StepResult.{StepResult}
 use Rattle.load.specs.Load.{empty_of, empty_load, blank_settings, table_of, with_table, with_stops, with_rules, with_week}
 
 -- a step in place: its answer, and the load that it leaves
-abbrev pub stepped : Answer → Load → Stepped
+abbrev pub stepped : Answer → Load → StepResult
 stepped a l = record { answer = a; load = l }
+
+-- a step made of l, by which l stays where it is sent back
+abbrev pub unless_refused : Load → StepResult → StepResult
+unless_refused l s = record { answer = s.answer; load = cond (is_refused s.answer) l s.load }
 
 -- ---- opening: 1, 2, 20
 
@@ -59,10 +63,10 @@ week_of (Some dates) = dated_week dates
 abbrev pub opened : Opening → Load
 opened o = empty_of (canonical_of o.settings) (week_of o.dates)
 
-abbrev pub open_by : Answer → Settings → Week → Stepped
+abbrev pub open_by : Answer → Settings → Week → StepResult
 open_by a s w = record { answer = a; load = cond (is_refused a) (empty_load blank_settings) (empty_of (canonical_of s) w) }
 
-unfoldable pub open_spec_of : Opening → Stepped
+unfoldable pub open_spec_of : Opening → StepResult
 open_spec_of o = open_by (open_answer o) o.settings (week_of o.dates)
 
 -- ---- stop: 15, 3, 5, 6, 7, 8, 4
@@ -77,7 +81,7 @@ stop_answer l id name parent i = first_answer (stop_tests l.searched l.stops l.s
 abbrev pub stop_load : Load → Stop → Answer → Load
 stop_load l s a = cond (is_taken a) (with_stops l (set l.stops l.stop_count s) (l.stop_count + 1)) l
 
-unfoldable pub stop_spec : Load → List ℕ → Option (List ℕ) → Option (List ℕ) → StopInput → Stepped
+unfoldable pub stop_spec : Load → List ℕ → Option (List ℕ) → Option (List ℕ) → StopInput → StepResult
 stop_spec l id name parent i = record {
   answer = stop_answer l id name parent i;
   load = stop_load l (stop_of id name (station_in l parent) i) (stop_answer l id name parent i);
@@ -92,7 +96,7 @@ abbrev pub call_load : Load → Tried → Load
 call_load l f = cond (is_refused f.answer) l (with_table l f.table)
 
 -- a call that its service lets pass: 15, 9, absent time, 10, outside, 11
-unfoldable pub plain_call : Load → CallInput → Stepped
+unfoldable pub plain_call : Load → CallInput → StepResult
 plain_call l i = record { answer = (call_fitted l i).answer; load = call_load l (call_fitted l i) }
 
 abbrev pub is_unknown : Running → Bool
@@ -118,19 +122,19 @@ abbrev pub closed_load : Load → Load
 closed_load l = with_week l (closed_week l.week)
 
 -- an answered call closes the services
-abbrev pub closing : Load → Stepped → Stepped
+abbrev pub closing : Load → StepResult → StepResult
 closing l r = record { answer = r.answer; load = cond (is_refused r.answer) l (with_week r.load (closed_week l.week)) }
 
-abbrev pub gated : Load → CallInput → Answer → Stepped
+abbrev pub gated : Load → CallInput → Answer → StepResult
 gated l i (Ok Taken) = closing l (plain_call l i)
 gated l i (Ok Outside) = record { answer = Ok Outside; load = closed_load l }
 gated l i (Err r) = record { answer = Err r; load = l }
 
-unfoldable pub dated_call : Load → Running → CallInput → Stepped
+unfoldable pub dated_call : Load → Running → CallInput → StepResult
 dated_call l r i = gated l i (gate_answer l.searched l.stop_count r i)
 
 -- the call of a service, whose name is empty where none is named; without dates the name is unread
-unfoldable pub call_spec : Load → List ℕ → CallInput → Stepped
+unfoldable pub call_spec : Load → List ℕ → CallInput → StepResult
 call_spec l name i = cond (is_dated l.week) (dated_call l (running l.week name i.day) i) (plain_call l i)
 
 -- ---- rule: 15, 9, 12, 13, 11
@@ -142,12 +146,12 @@ rule_answer l r = first_answer (rule_tests l.searched l.stop_count l.rules l.rul
 abbrev pub rule_load : Load → Rule → Answer → Load
 rule_load l r a = cond (is_taken a) (with_rules l (set l.rules l.rule_count r) (l.rule_count + 1)) l
 
-unfoldable pub rule_spec : Load → Rule → Stepped
+unfoldable pub rule_spec : Load → Rule → StepResult
 rule_spec l r = record { answer = rule_answer l r; load = rule_load l r (rule_answer l r) }
 
 -- ---- service: 15, 3, 5, 20, 22
 
-unfoldable pub service_spec : Load → List ℕ → ℕ → ℕ → ℕ → Stepped
+unfoldable pub service_spec : Load → List ℕ → ℕ → ℕ → ℕ → StepResult
 service_spec l name weekdays start end = record {
   answer = (service_on l.week l.searched name weekdays start end).answer;
   load = with_week l (service_on l.week l.searched name weekdays start end).week;
@@ -155,7 +159,7 @@ service_spec l name weekdays start end = record {
 
 -- ---- exception: 15, 20, 21
 
-unfoldable pub exception_spec : Load → List ℕ → ℕ → ℕ → Stepped
+unfoldable pub exception_spec : Load → List ℕ → ℕ → ℕ → StepResult
 exception_spec l name date kind = record {
   answer = (exception_on l.week l.searched name date kind).answer;
   load = with_week l (exception_on l.week l.searched name date kind).week;

@@ -10,11 +10,11 @@ use Rattle.load.specs.declared.Load.{Load}
 use Rattle.load.specs.Load.{table_of}
 use Rattle.load.specs.Steps.{Opening, opened, call_spec}
 use Rattle.load.specs.Sound.{Sound}
-use Rattle.load.specs.Filling.{Filling, stop, call, rule, service, exception, filled, filled_by}
+use Rattle.load.specs.FillStep.{FillStep, stop, call, rule, service, exception, filled, filled_by}
 use Rattle.week.specs.Weeks.{is_dated}
 
 -- the call of a step, if it is answered taken
-abbrev pub taken_call : Load → Filling → List CallInput
+abbrev pub taken_call : Load → FillStep → List CallInput
 taken_call l (stop id name parent i) = []
 taken_call l (call name i) = cond (is_taken (call_spec l name i).answer) (i ∷ []) []
 taken_call l (rule r) = []
@@ -22,26 +22,26 @@ taken_call l (service name weekdays start end) = []
 taken_call l (exception name date kind) = []
 
 -- the calls answered taken, in order
-abbrev pub taken_calls : Load → List Filling → List CallInput
+abbrev pub taken_calls : Load → List FillStep → List CallInput
 taken_calls l [] = []
 taken_calls l (x ∷ xs) = taken_call l x ++ taken_calls (filled l x).load xs
 
 -- the table is exactly those calls, each seen through the window at the table's horizon, those outside it left out
 abbrev pub TableLemma : Type 0
-TableLemma = (o : Opening) (xs : List Filling)
+TableLemma = (o : Opening) (xs : List FillStep)
     → table_calls (table_of (filled_by (opened o) xs))
     ≡ windowed (canonical_of o.settings) (filled_by (opened o) xs).table_horizon (taken_calls (opened o) xs)
 
 -- its horizon is one of 21600, 16200, 12150, 9113, 6835, 5127, 3846
 abbrev pub OneOfSeven : Type 0
-OneOfSeven = (o : Opening) (xs : List Filling) → one_of (filled_by (opened o) xs).table_horizon horizons ≡ true
+OneOfSeven = (o : Opening) (xs : List FillStep) → one_of (filled_by (opened o) xs).table_horizon horizons ≡ true
 
 -- it never rises, and falls only when a call inside the window meets a full table
 abbrev pub NeverRises : Type 0
-NeverRises = (l : Load) (x : Filling) → (filled l x).load.table_horizon ≤ l.table_horizon
+NeverRises = (l : Load) (x : FillStep) → (filled l x).load.table_horizon ≤ l.table_horizon
 
 abbrev pub FallsOnlyFull : Type 0
-FallsOnlyFull = (l : Load) (x : Filling) → (filled l x).load.table_horizon < l.table_horizon
+FallsOnlyFull = (l : Load) (x : FillStep) → (filled l x).load.table_horizon < l.table_horizon
     → (name : List ℕ) × (i : CallInput) × (x ≡ call name i) × Meets l.settings (table_of l) i
 
 -- a call that is outside as it comes leaves a sound load without dates unchanged, until the search. (On a dated load it closes the

@@ -3,7 +3,7 @@ ghost use Rattle.std.specs.Prelude.{◌≡◌, []};
 ghost use Rattle.week.specs.Weeks.{running};
 ghost use Rattle.load.specs.Steps.{stepped, plain_call, gate_answer, dated_call, call_spec};
 
-use crate::{Load, Stepped};
+use crate::{Load, StepResult};
 use calls::{CallInput, Table, Uncut};
 use refusal::{Accepted, Answer, Refusal, is_refused, is_taken};
 use table::step::{CallGate, is_known};
@@ -11,16 +11,16 @@ use week::{Running, closed};
 
 impl Load {
     // A call that names its service. On a load without dates the name is unread.
-    pub fn call_of(self, service: &[u8], input: CallInput) -> Stepped
+    pub fn call_of(self, service: &[u8], input: CallInput) -> StepResult
         ensures { result ≡ call_spec self service.now input }
     {
         let mut next = self;
         let answer = next.take_call_of(service, input);
-        Stepped { answer, load: next }
+        StepResult { answer, load: next }
     }
 
     // The same in place.
-    fn take_call_of(&mut self, service: &[u8], input: CallInput) -> Answer
+    pub fn take_call_of(&mut self, service: &[u8], input: CallInput) -> Answer
         ensures { stepped result self.new ≡ call_spec self.old service.now input }
     {
         if self.week.dates.is_some() {
@@ -71,12 +71,12 @@ impl Load {
     }
 
     // A call that names no service: on a dated load no service has the empty name. It is taken, lies outside the window, or is sent back.
-    pub fn call(self, input: CallInput) -> Stepped
+    pub fn call(self, input: CallInput) -> StepResult
         ensures { result ≡ call_spec self [] input }
     {
         let mut next = self;
         let answer = next.take_call(input);
-        Stepped { answer, load: next }
+        StepResult { answer, load: next }
     }
 
     // The same in place. Where nothing is cut, the table is not copied apart.

@@ -1,4 +1,5 @@
-// The load: settings, stops, calls, rules and journeys, passed by value. It is opened, filled, searched once, then queried.
+// The load: settings, stops, calls, rules, services and journeys, by value or lent. It is opened and filled here; crates above search and
+// query it, and add and withdraw calls.
 #![tactic(auto)]
 
 mod calling;
@@ -12,22 +13,23 @@ ghost use Rattle.load.specs.Steps.{
   open_by,
   open_spec_of,
   stepped,
+  unless_refused,
   stop_spec,
   rule_spec,
   service_spec,
   exception_spec,
 };
 
-use calls::{Call, blank_call};
+use calls::{CALLS, Call, LONGEST_HORIZON, blank_call};
 use prefix::first;
-use profile::{Journey, no_journey};
+use profile::{Journey, KEPT, no_journey};
 use refusal::{Accepted, Answer, Refusal, is_refused, is_taken};
-use rules::{Rule, blank_rule, rule_answer};
+use rules::{RULES, Rule, blank_rule, rule_answer};
 use services::{ExceptionInput, ServiceInput, dates_wrong};
 use settings::{Settings, canonical, settings_answer};
 use stop_answer::{parent_of, stop_answer};
 use stops::taken::{blank_stop, stop_of};
-use stops::{NewStop, Stop};
+use stops::{NewStop, STOPS, Stop};
 use week::{Week, dated, undated};
 
 // Counts stand beside arrays, since the core has no heap and the kit's `ArrayVec` is not `Copy`, as a load is: a slot past its count holds
@@ -37,13 +39,13 @@ use week::{Week, dated, undated};
 #[derive(Clone, Copy, Debug, PartialEq)]
 pub struct Load {
     pub settings: Settings,
-    pub stops: [Stop; 128],
+    pub stops: [Stop; STOPS],
     pub stop_count: usize,
-    pub calls: [Call; 512],
+    pub calls: [Call; CALLS],
     pub call_count: usize,
-    pub rules: [Rule; 128],
+    pub rules: [Rule; RULES],
     pub rule_count: usize,
-    pub journeys: [Journey; 64],
+    pub journeys: [Journey; KEPT],
     pub journey_count: usize,
     pub table_horizon: u16,
     pub table_limits: u8,
@@ -57,7 +59,7 @@ pub struct Load {
 // What a step answers, and the load that it returns: the load given, where the step is sent back. No `Result`: the load goes on after
 // either.
 #[derive(Clone, Copy, Debug, PartialEq)]
-pub struct Stepped {
+pub struct StepResult {
     pub answer: Answer,
     pub load: Load,
 }
@@ -68,17 +70,17 @@ fn empty(settings: Settings, week: Week) -> Load
 {
     Load {
         settings,
-        stops: [blank_stop(); 128],
+        stops: [blank_stop(); STOPS],
         stop_count: 0,
-        calls: [blank_call(); 512],
+        calls: [blank_call(); CALLS],
         call_count: 0,
-        rules: [blank_rule(); 128],
+        rules: [blank_rule(); RULES],
         rule_count: 0,
-        journeys: [no_journey(); 64],
+        journeys: [no_journey(); KEPT],
         journey_count: 0,
-        table_horizon: 21600,
+        table_horizon: LONGEST_HORIZON,
         table_limits: 0,
-        horizon: 21600,
+        horizon: LONGEST_HORIZON,
         limits: 0,
         searched: false,
         limit: None,
@@ -106,7 +108,7 @@ fn dated_answer(settings: Settings, dates: [u32; 3]) -> Answer
 }
 
 // An opening by its answer: the empty load, or the one of blank settings where it is sent back.
-fn opening(answer: Answer, settings: Settings, week: Week) -> Stepped
+fn opening(answer: Answer, settings: Settings, week: Week) -> StepResult
     ensures { result ≡ open_by answer settings week }
 {
     let load = if is_refused(answer) {
@@ -114,34 +116,46 @@ fn opening(answer: Answer, settings: Settings, week: Week) -> Stepped
     } else {
         empty(canonical(settings), week)
     };
-    Stepped { answer, load }
+    StepResult { answer, load }
 }
 
 // A step by value is the step in place of a copy: three lines alike in each, as a function that took the step as a closure would state its
 // promise once more.
 impl Load {
     // An empty load, or why the settings are sent back: then the load is the empty one of blank settings.
-    pub fn open(settings: Settings) -> Stepped
+    pub fn open(settings: Settings) -> StepResult
         ensures { result ≡ open_spec_of (undated settings) }
     {
         opening(settings_answer(settings), settings, undated())
     }
 
     // The same with the dates of the three days: services may come, and calls name one.
-    pub fn open_dated(settings: Settings, dates: [u32; 3]) -> Stepped
+    pub fn open_dated(settings: Settings, dates: [u32; 3]) -> StepResult
         ensures { result ≡ open_spec_of (dated settings dates) }
     {
         opening(dated_answer(settings, dates), settings, dated(dates))
     }
 
+    // An empty load in place of this one, or why the settings are sent back: then it stays.
+    pub fn reopen(&mut self, settings: Settings) -> Answer
+        ensures { stepped result self.new ≡ unless_refused self.old (open_spec_of (undated settings)) }
+    {
+        let answer = settings_answer(settings);
+        if is_refused(answer) {
+            return answer;
+        }
+        *self = empty(canonical(settings), undated());
+        answer
+    }
+
     // A stop is taken or sent back.
-    pub fn stop(self, stop: NewStop<'_>) -> Stepped
+    pub fn stop(self, stop: NewStop<'_>) -> StepResult
         ensures { result
             ≡ stop_spec self stop.entry.id.now (option_copied stop.entry.name) (option_copied stop.entry.parent) stop.entry.input }
     {
         let mut next = self;
         let answer = next.take_stop(stop);
-        Stepped { answer, load: next }
+        StepResult { answer, load: next }
     }
 
     // The same in place.
@@ -161,12 +175,12 @@ impl Load {
     }
 
     // A rule is taken or sent back.
-    pub fn rule(self, rule: Rule) -> Stepped
+    pub fn rule(self, rule: Rule) -> StepResult
         ensures { result ≡ rule_spec self rule }
     {
         let mut next = self;
         let answer = next.take_rule(rule);
-        Stepped { answer, load: next }
+        StepResult { answer, load: next }
     }
 
     // The same in place.
@@ -184,12 +198,12 @@ impl Load {
     }
 
     // A service is taken or sent back.
-    pub fn service(self, name: &[u8], input: ServiceInput) -> Stepped
+    pub fn service(self, name: &[u8], input: ServiceInput) -> StepResult
         ensures { result ≡ service_spec self name.now input.weekdays input.start input.end }
     {
         let mut next = self;
         let answer = next.take_service(name, input);
-        Stepped { answer, load: next }
+        StepResult { answer, load: next }
     }
 
     // The same in place.
@@ -201,12 +215,12 @@ impl Load {
     }
 
     // An exception to a service is taken or sent back.
-    pub fn exception(self, name: &[u8], input: ExceptionInput) -> Stepped
+    pub fn exception(self, name: &[u8], input: ExceptionInput) -> StepResult
         ensures { result ≡ exception_spec self name.now input.date input.kind }
     {
         let mut next = self;
         let answer = next.take_exception(name, input);
-        Stepped { answer, load: next }
+        StepResult { answer, load: next }
     }
 
     // The same in place.

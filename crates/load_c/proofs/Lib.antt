@@ -1,1 +1,2 @@
 pub mod SearchesLaws
+pub mod BestLaws

@@ -3,7 +3,7 @@ use Rattle.std.specs.Prelude.{ℕ, zero, suc, ◌+◌, ◌%◌, Bool, cond, [], 
 use Rattle.calls.specs.declared.CallInput.{CallInput}
 use Rattle.withdrawal.specs.Removal.{key_of}
 use Rattle.load.specs.declared.Load.{Load}
-use Rattle.load.specs.declared.Stepped.{Stepped}
+use Rattle.load.specs.declared.StepResult.{StepResult}
 use Rattle.load.specs.Load.{seen_of, with_seen}
 use Rattle.again.specs.Again.{add_spec_of, withdraw_spec}
 
@@ -33,9 +33,9 @@ call_at trip sequence stop second = record {
 -- ---- what is done in each turn
 
 -- a call is added, or the one with its key withdrawn
-abbrev pub alteration_of : Bool → CallInput → Load → Stepped
+abbrev pub alteration_of : Bool → CallInput → Load → StepResult
 alteration_of adds i l = cond adds (add_spec_of l [] i) (withdraw_spec l (key_of i))
 
 -- the horizon that a step leaves
-unfoldable pub horizon_after : (Load → Stepped) → Load → ℕ
+unfoldable pub horizon_after : (Load → StepResult) → Load → ℕ
 horizon_after step l = (step l).load.horizon

@@ -2,21 +2,21 @@
 ghost use Rattle.std.specs.Prelude.{◌≡◌};
 ghost use Rattle.file.specs.File.{read_spec_of};
 ghost use Rattle.load.specs.declared.Load.{Load};
-ghost use Rattle.load.specs.declared.Stepped.{Stepped};
+ghost use Rattle.load.specs.declared.StepResult.{StepResult};
 ghost use Rattle.search.specs.Search.{search_spec};
 ghost use Rattle.withdrawal.specs.Removal.{key_of};
 ghost use Rattle.load_c.specs.Searches.{sum_of, call_at, alteration_of, horizon_after};
 
 use again::{add, withdraw};
 use calls::{CallInput, CallKey};
-use load::{Load, Stepped};
+use load::{Load, StepResult};
 use reader::read;
 use search::search;
 
 // So many turns of one load, its mark the parity of those that are left: the sum of the horizons that the step leaves.
-fn summed<F: Fn(Load) -> Stepped>(load: Load, times: u16, step: F) -> u64
+fn summed<F: Fn(Load) -> StepResult>(load: Load, times: u16, step: F) -> u64
     requires { F.IsAlwaysCallable step }
-    ensures { (f : Load → Stepped) → ((l : Load) (r : Stepped) → F.post step l r → r ≡ f l)
+    ensures { (f : Load → StepResult) → ((l : Load) (r : StepResult) → F.post step l r → r ≡ f l)
         → result ≡ sum_of (horizon_after f) times load }
 {
     let mut next = load;

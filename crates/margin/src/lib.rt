@@ -1,4 +1,4 @@
-// The margin of a stopped load's answer for second 0: the finished answer is at most that much earlier.
+// The margin of a stopped load's answer for second 0: the full search's answer is at most that much earlier (RULES 11.4).
 #![tactic(auto)]
 
 ghost use Rattle.std.specs.Prelude.{◌≡◌};

@@ -3,22 +3,20 @@
 use crate::show::yes;
 use rules::Rule;
 use std::io;
+use stops::{NO_STOP, STOPS};
 use transfer::Transfers;
 use transfer::pair::join;
 
-// In place of an option, as in `Transfers`.
-const NO_STOP: u16 = 65535;
-
-fn parents() -> [u16; 128] {
-    let mut parents = [NO_STOP; 128];
+fn parents() -> [u16; STOPS] {
+    let mut parents = [NO_STOP; STOPS];
     parents[1] = 0;
     parents[2] = 0;
     parents[4] = 3;
     parents
 }
 
-fn places() -> [u16; 128] {
-    let mut places = [NO_STOP; 128];
+fn places() -> [u16; STOPS] {
+    let mut places = [NO_STOP; STOPS];
     places[1] = 0;
     places[2] = 0;
     places[4] = 1;

@@ -1,4 +1,4 @@
--- The order in which the calls were taken is nothing to what is admitted, what is offered, and what a search finds.
+-- What is admitted, what is offered and what a search finds don't depend on the order in which the calls were taken.
 use mathlib.Core.Path.{◌≡◌, refl, ap, ◌∙◌}
 use mathlib.Core.Logic.{inl, inr}
 use mathlib.Core.Bool.{Bool, true, false, cond}

@@ -6,7 +6,7 @@ use Prim.Native.Nat.{ℕ}
 use native.Mathlib.Omega.{arith}
 use Rattle.profile.specs.declared.Journey.{Journey}
 use Rattle.profile.specs.Figures.{covᶠ, dueᶠ}
-use Rattle.profile.specs.Kept.{St, going, refused, searched}
+use Rattle.profile.specs.Kept.{SearchState, going, refused, searched}
 use Rattle.profile.specs.Fall.{Ends, up_to, never, fall, keeping}
 use Rattle.profile.specs.Best.{ordered}
 use Rattle.profile.specs.Journeys.{journey_figures}
@@ -20,7 +20,7 @@ pub search-found : SearchFound
 unfolding search_of
 search-found t h₀ l₀ h l ks e = go (clashes (sorted t)) refl (searched journey_figures 64 3600 h₀ l₀ (offers t)) refl e
   where
-    go : (b : Bool) → clashes (sorted t) ≡ b → (s : St Journey) → searched journey_figures 64 3600 h₀ l₀ (offers t) ≡ s
+    go : (b : Bool) → clashes (sorted t) ≡ b → (s : SearchState Journey) → searched journey_figures 64 3600 h₀ l₀ (offers t) ≡ s
         → cond b clashing (found_by s) ≡ found ks h l
         → Clear t × (ks'' : List Journey) × (searched journey_figures 64 3600 h₀ l₀ (offers t) ≡ going ks'' h l)
         × (ks ≡ ordered journey_figures ks'')
@@ -35,6 +35,6 @@ keeping-ends os never = refl
 pub search-by-offers : SearchByOffers
 unfolding search_of
 search-by-offers t h l =
-    ap (λ (s : St Journey). cond (clashes (sorted t)) clashing (found_by s)) (search-is-fall journey_figures h l (offers t))
+    ap (λ (s : SearchState Journey). cond (clashes (sorted t)) clashing (found_by s)) (search-is-fall journey_figures h l (offers t))
     ∙ ap (λ (f : Outcome). cond (clashes (sorted t)) clashing f)
     (keeping-ends (offers t) (fall (covᶠ journey_figures) (dueᶠ journey_figures) 64 3600 h l [] (offers t)))

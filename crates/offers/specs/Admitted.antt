@@ -98,7 +98,7 @@ OffersAdmitted = (t : Timetable) → Clear t → (j : Journey) → Memᴰ j (off
 abbrev pub OffersAhead : Type 0
 OffersAhead = (t : Timetable) → Clear t → Timed t.calls → InTime t → (j : Journey) → Memᴰ j (offers t) → j.leave ≤ j.arrival
 
--- the order in which the calls were taken is nothing to what is admitted, and to what is offered
+-- what is admitted and what is offered don't depend on the order in which the calls were taken
 abbrev pub AdmittedInAnyOrder : Type 0
 AdmittedInAnyOrder = (t : Timetable) (ys : List Call) → Permᴰ t.calls ys → (j : Journey) → Admitted t j ↔ Admitted (with_calls t ys) j
 

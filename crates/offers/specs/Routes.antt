@@ -11,6 +11,7 @@ use Rattle.offers.specs.Offers.{offers}
 use Rattle.offers.specs.Admitted.{Rides, Starts, Ends, Clear, InTime}
 use Rattle.offers.specs.Search.{clashing, found_by, search_of}
 use Rattle.ways.specs.Routes.{Way, Route, here, ride_then, onward}
+use Rattle.profile.specs.Sizes.{kept_room, least_horizon}
 
 -- w leads on from the ride r, by so many changes
 abbrev pub Onward : ℕ → Timetable → Leg Call → Way Call → Type 0
@@ -56,7 +57,7 @@ RoutesAdmitted = (t : Timetable) → Clear t → (r : Route Call) → Memᴰ r (
 abbrev pub RoutesAhead : Type 0
 RoutesAhead = (t : Timetable) → Clear t → Timed t.calls → InTime t → (r : Route Call) → Memᴰ r (routes_of t) → leaves t r ≤ arrives t r
 
--- the order in which the calls were taken is nothing to the routes
+-- the routes don't depend on the order in which the calls were taken
 abbrev pub RoutesInAnyOrder : Type 0
 RoutesInAnyOrder = (t : Timetable) (ys : List Call) → Permᴰ t.calls ys → Clear t → routes_of t ≡ routes_of (with_calls t ys)
 
@@ -70,4 +71,4 @@ abbrev pub SearchUpToOne : Type 0
 SearchUpToOne = (t : Timetable) (h l : ℕ) → t.max_transfers ≤ 1
     → search_of t h l
     ≡ cond (clashes (sorted t)) clashing (found_by
-    (searched journey_figures 64 3600 h l (journeys (network_of t) (direct_by t) (change_by t) t.max_transfers (sorted t))))
+    (searched journey_figures kept_room least_horizon h l (journeys (network_of t) (direct_by t) (change_by t) t.max_transfers (sorted t))))

@@ -1,5 +1,5 @@
--- "Only stops of type 0 have a place key (`place_key`): parent's id hash; else, with a usable position, name hash
--- (the id where no name) and microdegrees; else id hash."
+-- The place key, which only stops of type 0 have: the hash of the parent's id; else, with a usable position, the hash of the folded name
+-- (of the id where there is none) and microdegrees; else the hash of the id. RULES 7.1.
 use Rattle.key.specs.declared.NameError.{NameError}
 use Rattle.std.specs.Prelude.{ℕ, Bool, true, false, List, [], ℤ, pos, None, Option, Some, Err, Ok, Result}
 use Rattle.key.specs.Hash.{key_of}

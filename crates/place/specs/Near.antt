@@ -1,4 +1,4 @@
--- "`same_place_keys`, operation for operation in f64, decides whether two places are one."
+-- Whether two keys match, operation for operation in f64. RULES 7.4.
 use Rattle.std.specs.Prelude.{Bool, true, false, cond, ◌&&◌, ℤ, pos, ◌+ℤ◌, ◌-ℤ◌, ◌==◌, int_lt, unsigned_abs, Float}
 use Rattle.std.specs.Float.{binary64}
 use Rattle.std.specs.Float.Ieee.{of_int, neg, le}
@@ -10,6 +10,7 @@ use Rattle.place.specs.declared.PlaceKey.{PlaceKey}
 unfoldable pub around : ℤ → ℤ
 around d = cond (int_lt (pos 180000000) (pos (unsigned_abs d))) (pos 360000000 -ℤ pos (unsigned_abs d)) (pos (unsigned_abs d))
 
+-- the same of two longitudes
 unfoldable pub turn : ℤ → ℤ → ℤ
 unfolding around
 turn a b = around (a -ℤ b)
@@ -34,6 +35,7 @@ unfoldable pub close_at : Float → Float → Float → Bool
 unfolding angle square series metres
 close_at s x y = le (square (metres x ⊗ series (square (angle s))) ⊕ square (metres y)) (n125 ⊗ n125)
 
+-- the same of two latitudes and longitudes in microdegrees
 unfoldable pub close_by : ℤ → ℤ → ℤ → ℤ → Bool
 unfolding close_at turn
 close_by alat alon blat blon = close_at (of_int binary64 (alat +ℤ blat)) (of_int binary64 (turn alon blon)) (of_int binary64 (alat -ℤ blat))

@@ -1,5 +1,5 @@
--- "A position is either given, as two f64 degrees, or absent." "Usable: finite, at most 90 and 180 in size.
--- Microdegrees: the f64 product with 1,000,000, cut toward zero."
+-- Positions: two f64 degrees, or none. Usable are those that are finite and at most 90 and 180 in size. Microdegrees are the f64 product
+-- with 1,000,000, cut toward zero. RULES 3.4, 7.2.
 use Rattle.std.specs.Prelude.{Bool, true, false, ◌&&◌, ℤ, Float, None, Option, Some}
 use Rattle.std.specs.Float.{nan, inf, fin}
 use Rattle.std.specs.Float.Ieee.{le, to_signed}

@@ -1,4 +1,4 @@
-// Places: the position of a stop, its place key, and whether two keys are one place.
+// Places: the position of a stop, its place key, and whether two keys match (RULES 7).
 #![tactic(auto)]
 
 ghost use Rattle.std.specs.Prelude.{◌≡◌, ◌&&◌, Some, is_some, option_copied};

@@ -10,9 +10,11 @@ use Rattle.stops.specs.declared.Stop.{Stop}
 use Rattle.stops.specs.Sound.{stop_at}
 use Rattle.places.specs.declared.Entry.{Entry}
 use Rattle.places.specs.Keys.{key_at}
+use Rattle.stops.specs.Sizes.{stop_room, no_stop}
+use Rattle.texts.specs.Sizes.{id_bytes}
 
 abbrev pub blank_entry : Entry
-blank_entry = record { id = held 32 []; stop = 0; key = no_place }
+blank_entry = record { id = held id_bytes []; stop = 0; key = no_place }
 
 unfoldable pub entry_at : List Stop → ℕ → Entry
 entry_at ss i = record { id = (stop_at ss i).id; stop = i; key = key_at ss i }
@@ -34,14 +36,14 @@ pub record EntryGroups : Type 0 where
   pub places : List ℕ
 
 abbrev pub put : EntryGroups → Entry → Option ℕ → EntryGroups
-put g x (Some r) = record { reps = g.reps; places = set g.places (x.stop % 128) r }
-put g x None = record { reps = g.reps ++ x ∷ []; places = set g.places (x.stop % 128) x.stop }
+put g x (Some r) = record { reps = g.reps; places = set g.places (x.stop % stop_room) r }
+put g x None = record { reps = g.reps ++ x ∷ []; places = set g.places (x.stop % stop_room) x.stop }
 
 abbrev pub place_entry : EntryGroups → Entry → EntryGroups
 place_entry g x = cond (eqb x.key.tag 0) g (put g x (first_entry x.key g.reps))
 
 abbrev pub no_entries : EntryGroups
-no_entries = record { reps = []; places = replicate 128 65535 }
+no_entries = record { reps = []; places = replicate stop_room no_stop }
 
 unfoldable pub group_entries : List Entry → EntryGroups
 group_entries xs = foldl place_entry no_entries xs

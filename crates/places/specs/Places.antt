@@ -8,6 +8,7 @@ use Rattle.stops.specs.declared.Stop.{Stop}
 use Rattle.stops.specs.Stops.{id_of}
 use Rattle.stops.specs.Sound.{stop_at}
 use Rattle.places.specs.Keys.{key_at}
+use Rattle.stops.specs.Sizes.{stop_room, no_stop}
 
 -- ---- of stops
 
@@ -41,7 +42,7 @@ place same keyed g i = cond (keyed i) (placed g i (first_match (same i) g.reps))
 
 -- 65535 is no place
 abbrev pub no_groups : Groups
-no_groups = record { reps = []; places = replicate 128 65535 }
+no_groups = record { reps = []; places = replicate stop_room no_stop }
 
 -- ---- the places of stops
 

@@ -4,9 +4,10 @@ use Rattle.stops.specs.declared.Stop.{Stop}
 use Rattle.stops.specs.Stops.{id_of}
 use Rattle.stops.specs.Sound.{stop_at}
 use Rattle.places.specs.Places.{has_key, same_place, id_less, places_of}
+use Rattle.stops.specs.Sizes.{stop_room, no_stop}
 
 abbrev pub place_at : List Stop → ℕ → ℕ
-place_at ss k = get_or (places_of ss) k 65535
+place_at ss k = get_or (places_of ss) k no_stop
 
 -- what holds of the place r of the stop k, where p gives each stop its place
 pub record PlaceRight (ss : List Stop) (p : ℕ → ℕ) (k r : ℕ) : Type 0 where
@@ -26,7 +27,7 @@ abbrev pub PlacesRight : List Stop → (ℕ → ℕ) → Type 0
 PlacesRight ss p = (k : ℕ) → k < length ss → has_key ss k ≡ true → PlaceRight ss p k (p k)
 
 abbrev pub EveryPlace : Type 0
-EveryPlace = (ss : List Stop) → length ss ≤ 128 → PlacesRight ss (place_at ss)
+EveryPlace = (ss : List Stop) → length ss ≤ stop_room → PlacesRight ss (place_at ss)
 
 -- no two stops have one id
 abbrev pub Distinct : List Stop → Type 0
@@ -34,12 +35,12 @@ Distinct ss = (j k : ℕ) → j < length ss → k < length ss → id_of (stop_at
 
 -- then there is only one way to give each its place
 abbrev pub OnlyPlaces : Type 0
-OnlyPlaces = (ss : List Stop) → length ss ≤ 128 → Distinct ss → (p : ℕ → ℕ) → PlacesRight ss p
+OnlyPlaces = (ss : List Stop) → length ss ≤ stop_room → Distinct ss → (p : ℕ → ℕ) → PlacesRight ss p
     → (k : ℕ) → k < length ss → has_key ss k ≡ true → p k ≡ place_at ss k
 
 -- a stop without a key has no place
 abbrev pub NoKeyNoPlace : Type 0
-NoKeyNoPlace = (ss : List Stop) → length ss ≤ 128 → (k : ℕ) → k < length ss → has_key ss k ≡ false → place_at ss k ≡ 65535
+NoKeyNoPlace = (ss : List Stop) → length ss ≤ stop_room → (k : ℕ) → k < length ss → has_key ss k ≡ false → place_at ss k ≡ no_stop
 
 -- places are not merged through a chain: of three stops in the order of ids, where the first two match and the last two, but not the
 -- first and the last, the last is a place of its own

@@ -5,12 +5,13 @@ ghost use Rattle.stops.specs.Sound.{stop_at};
 ghost use Rattle.stops.specs.Stops.{id_of};
 ghost use Rattle.places.specs.Entries.{blank_entry, entry_at};
 ghost use Rattle.places.specs.Keys.{parent_id, stop_key};
+ghost use Rattle.stops.specs.Sizes.{stop_room};
 
 use crate::Entry;
 use place::{PlaceKey, no_place, place_key};
 use std::array;
-use stops::Stop;
 use stops::taken::blank_stop;
+use stops::{STOPS, Stop};
 
 // The id of the stop of a number; empty past the last.
 #[tactic(auto, unfolding(stops::specs::Sound::stop_at, texts::specs::Texts::held))]
@@ -46,7 +47,7 @@ pub fn blank_entry() -> Entry
 
 // The entry of the stop with the number i; past the last that of a blank stop. That i is small is asked for the cast.
 fn entry_at(stops: &[Stop], i: usize) -> Entry
-    requires { i < 128 }
+    requires { i < stop_room }
     ensures { result ≡ entry_at stops.now i }
 {
     let blank = blank_stop();
@@ -59,12 +60,12 @@ fn entry_at(stops: &[Stop], i: usize) -> Entry
 }
 
 // The entries of the stops, of which there are at most 128.
-pub fn entries_of(stops: &[Stop]) -> [Entry; 128]
-    ensures { result ≡ table 128 (entry_at stops.now) }
+pub fn entries_of(stops: &[Stop]) -> [Entry; STOPS]
+    ensures { result ≡ table stop_room (entry_at stops.now) }
 {
     array::from_fn(
         |i: usize| -> Entry
-            requires { i < 128 }
+            requires { i < stop_room }
         { entry_at(stops, i) },
     )
 }

@@ -12,7 +12,7 @@ use Rattle.laws.specs.Lists.{filterb, foldl}
 use Rattle.laws.proofs.Lists.{snoc-ind}
 use Rattle.laws.proofs.Folds.{foldl-append}
 use Rattle.profile.specs.Front.{Order, front}
-use Rattle.profile.specs.Kept.{St, going, refused, latest, settle, offer, run}
+use Rattle.profile.specs.Kept.{SearchState, going, refused, latest, settle, offer, run}
 use Rattle.profile.specs.Fall.{never, fall, keeping, fits, Marked}
 use Rattle.profile.proofs.FrontLaws.{front-one-more}
 use Rattle.profile.proofs.KeptLaws.{settle-elim, front-latest, Holds, offer-settles, settle-holds, run_holds}
@@ -44,7 +44,7 @@ module _ {A : Type 0} {cov : A → A → Bool} {due : A → ℕ} (ord : Order co
       settle-elim due cap floor (Marked cov due cap h₀ l₀ os) (front cov due h os) h 1 (λ few. inr (f, le, refl)) (λ more. f)
       (λ more low. inr (f, omega (arith, front-latest cov due h os), refl))
 
-  offer-marked : (h₀ l₀ : ℕ) (os : List A) (o : A) (s : St A) → Holds cov due cap h₀ os s → Marked cov due cap h₀ l₀ os s
+  offer-marked : (h₀ l₀ : ℕ) (os : List A) (o : A) (s : SearchState A) → Holds cov due cap h₀ os s → Marked cov due cap h₀ l₀ os s
       → Marked cov due cap h₀ l₀ (os ++ o ∷ []) (offer cov due cap floor s o)
   offer-marked h₀ l₀ os o refused w m = fits_snoc cov due cap h₀ [] os o ∙ rw m
   offer-marked h₀ l₀ os o (going ks h l) (e, len, le) (inl (f, eh, el)) =

@@ -13,7 +13,7 @@ use Rattle.laws.proofs.Bools.{test}
 use Rattle.laws.proofs.Lists.{snoc-ind, length-filterb-lt}
 use Rattle.laws.proofs.Folds.{foldl-append}
 use Rattle.profile.specs.Front.{Order, front}
-use Rattle.profile.specs.Kept.{St, going, refused, latest, settle, offer, run}
+use Rattle.profile.specs.Kept.{SearchState, going, refused, latest, settle, offer, run}
 use Rattle.profile.proofs.FrontLaws.{after-due, after-mem, front-late, front-covered, front-added, front-one-more, front-covers}
 
 module _ {A : Type 0} (due : A → ℕ) where
@@ -34,7 +34,7 @@ module _ {A : Type 0} (due : A → ℕ) where
 
 module _ {A : Type 0} (due : A → ℕ) (cap floor : ℕ) where
   -- the three ways of `settle`: the list fits, the search is refused, or the horizon falls
-  pub settle-elim : (P : St A → Type 0) (ks : List A) (h l : ℕ)
+  pub settle-elim : (P : SearchState A → Type 0) (ks : List A) (h l : ℕ)
       → (length ks ≤ cap → P (going ks h l))
       → (cap < length ks → P refused)
       → (cap < length ks → floor ≤ latest due ks - 1 → P (going (filterb (λ k. leb (due k) (latest due ks - 1)) ks) (latest due ks - 1) 1))
@@ -59,7 +59,7 @@ front-latest cov due h os = latest-le due h (front cov due h os) (λ k m. (after
 
 module _ {A : Type 0} (cov : A → A → Bool) (due : A → ℕ) (cap : ℕ) where
   -- what holds of a state after the offers `os`, from the horizon h₀
-  abbrev pub Holds : ℕ → List A → St A → Type 0
+  abbrev pub Holds : ℕ → List A → SearchState A → Type 0
   Holds h₀ os (going ks h l) = (ks ≡ front cov due h os) × (length ks ≤ cap) × (h ≤ h₀)
   Holds h₀ os refused = Unit {0}
 
@@ -107,7 +107,7 @@ module _ {A : Type 0} {cov : A → A → Bool} {due : A → ℕ} (ord : Order co
           let lt = length-filterb-lt (λ k. leb (due k) g) w.1 (lt-leb (due w.0) g (omega (arith, w.2))) in
           omega arith
 
-  offer-holds : (h₀ : ℕ) (os : List A) (o : A) (s : St A) → Holds cov due cap h₀ os s
+  offer-holds : (h₀ : ℕ) (os : List A) (o : A) (s : SearchState A) → Holds cov due cap h₀ os s
       → Holds cov due cap h₀ (os ++ o ∷ []) (offer cov due cap floor s o)
   offer-holds h₀ os o refused w = tt
   offer-holds h₀ os o (going ks h l) (e, len, le) =

@@ -11,7 +11,7 @@ use Rattle.laws.specs.Lists.{filterb, anyb, foldl}
 use Rattle.laws.proofs.Lists.{filterb-mem}
 use Rattle.laws.proofs.Maps.{filterb-map, anyb-map}
 use Rattle.profile.specs.Figures.{Figures, covers, covᶠ, dueᶠ}
-use Rattle.profile.specs.Kept.{St, going, refused, latest, settle, offer, run, map_st}
+use Rattle.profile.specs.Kept.{SearchState, going, refused, latest, settle, offer, run, map_st}
 use Rattle.profile.proofs.KeptLaws.{settle-elim}
 
 module _ {A B : Type 0} (f : A → B) (fig : A → Figures) (fig' : B → Figures) where
@@ -84,7 +84,7 @@ module _ {A B : Type 0} (f : A → B) (fig : A → Figures) (fig' : B → Figure
         go false false = refl
 
     -- what holds of each kept holds after an offer of which it holds
-    abbrev pub Held : St A → Type 0
+    abbrev pub Held : SearchState A → Type 0
     Held (going ks h l) = Same ks
     Held refused = Unit {0}
 
@@ -105,13 +105,14 @@ module _ {A B : Type 0} (f : A → B) (fig : A → Figures) (fig' : B → Figure
         go false false = settle-held (filterb (λ k. not (covᶠ fig o k)) ks ++ o ∷ []) h l (kept_same ks o e eo)
 
     -- from any state of which it holds
-    pub fold-map : (s : St A) (os : List A) → Held s → Same os
+    pub fold-map : (s : SearchState A) (os : List A) → Held s → Same os
         → foldl (offer (covᶠ fig') (dueᶠ fig') cap floor) (map_st f s) (map f os)
         ≡ map_st f (foldl (offer (covᶠ fig) (dueᶠ fig) cap floor) s os)
     fold-map s [] w e = refl
     fold-map refused (o ∷ os) w e = fold-map refused os tt (λ x m. e x (Memᴰ.tail m))
     fold-map (going ks h l) (o ∷ os) w e =
-        ap (λ (s : St B). foldl (offer (covᶠ fig') (dueᶠ fig') cap floor) s (map f os)) (offer-map ks h l o w (e o (Memᴰ.head refl)))
+        ap (λ (s : SearchState B). foldl (offer (covᶠ fig') (dueᶠ fig') cap floor) s (map f os))
+        (offer-map ks h l o w (e o (Memᴰ.head refl)))
         ∙ fold-map (offer (covᶠ fig) (dueᶠ fig) cap floor (going ks h l) o) os (offer-held ks h l o w (e o (Memᴰ.head refl)))
         (λ x m. e x (Memᴰ.tail m))
 

@@ -12,7 +12,7 @@ use Rattle.laws.proofs.Bools.{test, not-true, and-true-left, or-false-left, or-f
 use Rattle.laws.proofs.Lists.{anyb-none, snoc-ind}
 use Rattle.laws.proofs.Folds.{foldl-append}
 use Rattle.profile.specs.Front.{Order, beats}
-use Rattle.profile.specs.Kept.{St, going, refused, too_late, offer, run}
+use Rattle.profile.specs.Kept.{SearchState, going, refused, too_late, offer, run}
 use Rattle.profile.specs.Walk.{place, near, Antichain, passes, reads, walk, walk_reads}
 use Rattle.profile.proofs.FrontLaws.{front-antichain}
 use Rattle.profile.proofs.KeptLaws.{Holds, run_holds}
@@ -143,7 +143,7 @@ module _ {A : Type 0} {cov : A → A → Bool} {due : A → ℕ} (ord : Order co
         → walk cov due cap floor (going ks h l) o ≡ offer cov due cap floor (going ks h l) o
     one-walk ks h l o w = rw (antichain-passes o ks w) refl
 
-    walk-holds : (h₀ : ℕ) (os : List A) (s : St A) (o : A) → Holds cov due cap h₀ os s
+    walk-holds : (h₀ : ℕ) (os : List A) (s : SearchState A) (o : A) → Holds cov due cap h₀ os s
         → walk cov due cap floor s o ≡ offer cov due cap floor s o
     walk-holds h₀ os refused o w = refl
     walk-holds h₀ os (going ks h l) o (e, len, le) = one-walk ks h l o (rw e (front-antichain cov due h os))
@@ -179,14 +179,15 @@ module _ {A : Type 0} {cov : A → A → Bool} {due : A → ℕ} (ord : Order co
 -- ---- offers that change nothing
 
 module _ {A : Type 0} (cov : A → A → Bool) (due : A → ℕ) (cap floor : ℕ) where
-  pub walk-late : (s : St A) (o : A) → too_late s (due o) ≡ true → walk cov due cap floor s o ≡ s
+  pub walk-late : (s : SearchState A) (o : A) → too_late s (due o) ≡ true → walk cov due cap floor s o ≡ s
   walk-late (going ks h l) o e = rw e
   walk-late refused o e = refl
 
-  pub reads-late : (s : St A) (o : A) → too_late s (due o) ≡ true → walk_reads cov due s o ≡ 0
+  pub reads-late : (s : SearchState A) (o : A) → too_late s (due o) ≡ true → walk_reads cov due s o ≡ 0
   reads-late (going ks h l) o e = rw e
   reads-late refused o e = refl
 
-  pub walks-late : (s : St A) (os : List A) → ((o : A) → Memᴰ o os → too_late s (due o) ≡ true) → foldl (walk cov due cap floor) s os ≡ s
+  pub walks-late : (s : SearchState A) (os : List A) → ((o : A) → Memᴰ o os → too_late s (due o) ≡ true)
+      → foldl (walk cov due cap floor) s os ≡ s
   walks-late s [] f = refl
   walks-late s (o ∷ os) f = rw (walk-late s o (f o (Memᴰ.head refl))) (walks-late s os (λ x m. f x (Memᴰ.tail m)))

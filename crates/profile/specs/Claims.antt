@@ -3,21 +3,22 @@ use Rattle.std.specs.Prelude.{◌≡◌, ◌↔◌, true, false, cond, ℕ, suc,
 use mathlib.Core.List.{List, [], map, Memᴰ, Permᴰ}
 use Rattle.laws.specs.Lists.{filterb, anyb, foldl}
 use Rattle.profile.specs.Figures.{Figures, covers, covᶠ, dueᶠ}
-use Rattle.profile.specs.Kept.{St, going, offer, searched, too_late, map_st}
+use Rattle.profile.specs.Kept.{SearchState, going, offer, searched, too_late, map_st}
 use Rattle.profile.specs.Walk.{place, Antichain, reads, walk}
 use Rattle.profile.specs.Front.{beats, front}
 use Rattle.profile.specs.Fall.{fall, keeping, Marked}
 use Rattle.profile.specs.Best.{bestℤ, firstℤ, read_by, Covers, Ahead, Complete, Ordered, ordered, figures_at, numbered}
+use Rattle.profile.specs.Sizes.{kept_room, least_horizon}
 
 module _ {A : Type 0} (fig : A → Figures) where
   -- a search of the offers `os`, from the horizon h₀ and the mark l₀, ends with ks kept, the horizon h and the mark l
   abbrev pub Keeps : ℕ → ℕ → List A → List A → ℕ → ℕ → Type 0
-  Keeps h₀ l₀ os ks h l = searched fig 64 3600 h₀ l₀ os ≡ going ks h l
+  Keeps h₀ l₀ os ks h l = searched fig kept_room least_horizon h₀ l₀ os ≡ going ks h l
 
   -- what is kept is the unbeaten list, in offer order, the older of equals; there are at most 64, and the horizon is no later than it was
   abbrev pub KeptIsFront : Type 0
   KeptIsFront = (h₀ l₀ : ℕ) (os ks : List A) (h l : ℕ) → Keeps h₀ l₀ os ks h l
-      → (ks ≡ front (covᶠ fig) (dueᶠ fig) h os) × (length ks ≤ 64) × (h ≤ h₀)
+      → (ks ≡ front (covᶠ fig) (dueᶠ fig) h os) × (length ks ≤ kept_room) × (h ≤ h₀)
 
   -- each of the unbeaten list was offered, is due by the horizon, and is beaten by no offer
   abbrev pub FrontUnbeaten : Type 0
@@ -45,11 +46,13 @@ module _ {A : Type 0} (fig : A → Figures) where
   -- on an antichain one walk leaves what judging and then dropping leave: list, order, horizon, mark, and a refusal
   abbrev pub OneWalk : Type 0
   OneWalk = (ks : List A) (h l : ℕ) (o : A) → Antichain (covᶠ fig) ks
-      → walk (covᶠ fig) (dueᶠ fig) 64 3600 (going ks h l) o ≡ offer (covᶠ fig) (dueᶠ fig) 64 3600 (going ks h l) o
+      → walk (covᶠ fig) (dueᶠ fig) kept_room least_horizon (going ks h l) o
+      ≡ offer (covᶠ fig) (dueᶠ fig) kept_room least_horizon (going ks h l) o
 
   -- the walks of any list of offers, from no journey, are a search
   abbrev pub WalksSearch : Type 0
-  WalksSearch = (h₀ l₀ : ℕ) (os : List A) → foldl (walk (covᶠ fig) (dueᶠ fig) 64 3600) (going [] h₀ l₀) os ≡ searched fig 64 3600 h₀ l₀ os
+  WalksSearch = (h₀ l₀ : ℕ) (os : List A)
+      → foldl (walk (covᶠ fig) (dueᶠ fig) kept_room least_horizon) (going [] h₀ l₀) os ≡ searched fig kept_room least_horizon h₀ l₀ os
 
   -- on an antichain the walk reads one more than stand in front of the first that equals or beats the offer; all of it if none does
   abbrev pub ReadsByPlace : Type 0
@@ -59,16 +62,18 @@ module _ {A : Type 0} (fig : A → Figures) where
   -- the horizon and the mark come from the offers alone, and with them the whole state
   abbrev pub SearchIsFall : Type 0
   SearchIsFall = (h₀ l₀ : ℕ) (os : List A)
-      → searched fig 64 3600 h₀ l₀ os ≡ keeping (covᶠ fig) (dueᶠ fig) os (fall (covᶠ fig) (dueᶠ fig) 64 3600 h₀ l₀ [] os)
+      → searched fig kept_room least_horizon h₀ l₀ os
+      ≡ keeping (covᶠ fig) (dueᶠ fig) os (fall (covᶠ fig) (dueᶠ fig) kept_room least_horizon h₀ l₀ [] os)
 
   -- horizon and mark are as they were if and only if no beginning of the offers has a 65th unbeaten one
   abbrev pub FallsAtOneMore : Type 0
-  FallsAtOneMore = (h₀ l₀ : ℕ) (os : List A) → Marked (covᶠ fig) (dueᶠ fig) 64 h₀ l₀ os (searched fig 64 3600 h₀ l₀ os)
+  FallsAtOneMore = (h₀ l₀ : ℕ) (os : List A)
+      → Marked (covᶠ fig) (dueᶠ fig) kept_room h₀ l₀ os (searched fig kept_room least_horizon h₀ l₀ os)
 
   -- an offer that is too late leaves the state as it is; so do any number of them
   abbrev pub LatePassedOver : Type 0
-  LatePassedOver = (s : St A) (os : List A) → ((o : A) → Memᴰ o os → too_late s (fig o).arrival ≡ true)
-      → foldl (offer (covᶠ fig) (dueᶠ fig) 64 3600) s os ≡ s
+  LatePassedOver = (s : SearchState A) (os : List A) → ((o : A) → Memᴰ o os → too_late s (fig o).arrival ≡ true)
+      → foldl (offer (covᶠ fig) (dueᶠ fig) kept_room least_horizon) s os ≡ s
 
   -- what a search keeps stands for its offers up to its horizon, if none leaves after it arrives
   abbrev pub KeptComplete : Type 0
@@ -111,7 +116,7 @@ module _ {A B : Type 0} (f : A → B) (fig : A → Figures) (fig' : B → Figure
   -- a search of f of the offers keeps f of what a search of the offers keeps, where f leaves the figures of an offer as they are
   abbrev pub SearchMaps : Type 0
   SearchMaps = (h₀ l₀ : ℕ) (os : List A) → ((o : A) → Memᴰ o os → fig' (f o) ≡ fig o)
-      → searched fig' 64 3600 h₀ l₀ (map f os) ≡ map_st f (searched fig 64 3600 h₀ l₀ os)
+      → searched fig' kept_room least_horizon h₀ l₀ (map f os) ≡ map_st f (searched fig kept_room least_horizon h₀ l₀ os)
 
   -- f of a list in order is f of the list, put in order, where f leaves the figures as they are
   abbrev pub OrderedMaps : Type 0

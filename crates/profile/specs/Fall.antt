@@ -1,7 +1,7 @@
 -- The horizon and the mark by the offers alone, with no kept list.
 use Rattle.std.specs.Prelude.{◌≡◌, ◌⊎◌, Bool, true, false, cond, ◌&&◌, List, [], ◌∷◌, ◌++◌, ℕ, ◌-◌, ◌<◌, leb, ltb, length}
 use Rattle.profile.specs.Front.{front}
-use Rattle.profile.specs.Kept.{St, going, refused, latest}
+use Rattle.profile.specs.Kept.{SearchState, going, refused, latest}
 
 -- the horizon and the mark that a search ends with, or the search is refused
 pub data Ends : Type 0 where
@@ -20,7 +20,7 @@ module _ {A : Type 0} (cov : A → A → Bool) (due : A → ℕ) (cap floor : �
 
 module _ {A : Type 0} (cov : A → A → Bool) (due : A → ℕ) where
   -- the state that keeps those of `os` that count at the horizon
-  abbrev pub keeping : List A → Ends → St A
+  abbrev pub keeping : List A → Ends → SearchState A
   keeping os (up_to h l) = going (front cov due h os) h l
   keeping os never = refused
 
@@ -32,6 +32,6 @@ module _ {A : Type 0} (cov : A → A → Bool) (due : A → ℕ) (cap : ℕ) whe
 
   -- from the horizon h₀ and the mark l₀: of every beginning of `os` at most `cap` count, and horizon and mark are as they were; or of
   -- some more do, and the horizon is earlier and the mark 1, or the search is refused
-  abbrev pub Marked : ℕ → ℕ → List A → St A → Type 0
+  abbrev pub Marked : ℕ → ℕ → List A → SearchState A → Type 0
   Marked h₀ l₀ os (going ks h l) = ((fits h₀ [] os ≡ true) × (h ≡ h₀) × (l ≡ l₀)) ⊎ ((fits h₀ [] os ≡ false) × (h < h₀) × (l ≡ 1))
   Marked h₀ l₀ os refused = fits h₀ [] os ≡ false

@@ -1,7 +1,7 @@
 -- The scope's starred instances on beating and on a 65th journey, as one table.
 use Rattle.std.specs.Prelude.{◌≡◌, true, false, List, [], ◌∷◌, ℕ, zero, suc, ◌+◌, length}
 use Rattle.profile.specs.Figures.{Figures, covers}
-use Rattle.profile.specs.Kept.{St, going, refused, searched}
+use Rattle.profile.specs.Kept.{SearchState, going, refused, searched}
 use Rattle.profile.specs.Front.{beats}
 
 abbrev pub figures_of : ℕ → ℕ → ℕ → ℕ → Figures
@@ -13,7 +13,7 @@ a_second_apart a zero = []
 a_second_apart a (suc n) = figures_of a (a + 3000) 1 5 ∷ a_second_apart (suc a) n
 
 -- how many are kept, the horizon and the mark; nothing where the search is refused
-abbrev pub ends : St Figures → List ℕ
+abbrev pub ends : SearchState Figures → List ℕ
 ends (going ks h l) = length ks ∷ h ∷ l ∷ []
 ends refused = []
 

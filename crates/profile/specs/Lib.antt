@@ -1,3 +1,4 @@
+pub mod Sizes
 pub mod Found
 pub mod Figures
 pub mod Kept

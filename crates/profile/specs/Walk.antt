@@ -4,7 +4,7 @@
 use Rattle.std.specs.Prelude.{◌≡◌, Bool, true, false, not, cond, ◌||◌, ℕ, suc, ltb, length}
 use mathlib.Core.List.{List, [], ◌∷◌, ◌++◌, Memᴰ}
 use Rattle.laws.specs.Lists.{filterb}
-use Rattle.profile.specs.Kept.{St, going, refused, settle}
+use Rattle.profile.specs.Kept.{SearchState, going, refused, settle}
 
 module _ {A : Type 0} where
   -- the place of the first that passes the test; the length if none does
@@ -34,7 +34,7 @@ module _ {A : Type 0} (cov : A → A → Bool) where
 module _ {A : Type 0} (cov : A → A → Bool) (due : A → ℕ) (cap floor : ℕ) where
   -- an offer due after the horizon is passed over, unread; so is one that the walk passes over; otherwise those it covers go and it is
   -- added last
-  abbrev pub walk : St A → A → St A
+  abbrev pub walk : SearchState A → A → SearchState A
   walk refused o = refused
   walk (going ks h l) o =
       cond (ltb h (due o)) (going ks h l)
@@ -42,6 +42,6 @@ module _ {A : Type 0} (cov : A → A → Bool) (due : A → ℕ) (cap floor : �
 
 module _ {A : Type 0} (cov : A → A → Bool) (due : A → ℕ) where
   -- how many kept journeys the walk of an offer reads
-  abbrev pub walk_reads : St A → A → ℕ
+  abbrev pub walk_reads : SearchState A → A → ℕ
   walk_reads refused o = 0
   walk_reads (going ks h l) o = cond (ltb h (due o)) 0 (reads cov o ks)

@@ -6,6 +6,12 @@ ghost use Rattle.profile.specs.Journeys.{no_ride, no_journey, no_row};
 
 pub mod figures;
 
+// How many journeys are kept: one more makes the horizon fall.
+pub const KEPT: usize = 64;
+
+// No horizon falls below it.
+pub const LEAST_HORIZON: u16 = 3600;
+
 // A ride, as a kept journey holds it.
 #[derive(Clone, Copy, Debug, Default, PartialEq, Eq)]
 pub struct Ride {

@@ -1,16 +1,15 @@
-// The reader of a load file (requests 01 and 13, versions 1 and 2), whole or in parts: version, records, end.
+// The reader of a load file of version 1 or 2 (RULES 13), whole or in parts: version, records, end.
 #![tactic(auto)]
 
 ghost use Rattle.std.specs.Prelude.{◌≡◌};
-ghost use Rattle.file.specs.Record.{fresh_reader};
-ghost use Rattle.file.specs.File.{version_answer, is_second, fed_spec, end_answer, read_spec_of};
+ghost use Rattle.file.specs.Record.{fresh_reader, took};
+ghost use Rattle.file.specs.File.{version_answer, is_second, fed_as, fed_spec, end_answer, read_to_of, read_spec_of};
 
 use fields::layout::kind_of;
 use file::framed::Records;
-use file::record::record;
-use file::{Fed, Reader, Took};
+use file::record::take_record;
+use file::{ReadResult, Reader, RecordResult, Used};
 use refusal::{Accepted, Answer, Refusal, is_refused};
-use runs::in_place::stored;
 
 // Before the first record of a file, by whether that is of version 2. No `Default`: a load has none.
 pub fn fresh(second: bool) -> Reader
@@ -41,30 +40,34 @@ pub fn is_second(bytes: &[u8]) -> bool
     kind_of(bytes) == 2
 }
 
-// The whole records at the start of the bytes, up to the first that is refused. Most are stored in place; the others copy the load.
-pub fn fed(reader: Reader, bytes: &[u8]) -> Fed
-    ensures { result ≡ fed_spec reader bytes.now }
+// The whole records at the start of the bytes, up to the first that is refused, taken in place.
+pub fn take_records(reader: &mut Reader, bytes: &[u8]) -> Used
+    ensures { fed_as result reader.new ≡ fed_spec reader.old bytes.now }
 {
-    let mut after = reader;
     let mut used = 0;
     for b in (Records { rest: bytes }) {
-        if !stored(&mut after, b) {
-            let t = record(after, b);
-            if is_refused(t.answer) {
-                return Fed {
-                    answer: t.answer,
-                    used,
-                    reader: after,
-                };
-            }
-            after = t.reader;
+        let answer = take_record(reader, b);
+        if is_refused(answer) {
+            return Used { answer, used };
         }
         used += 2 + b.len();
     }
-    Fed {
+    Used {
         answer: Ok(Accepted::Taken),
         used,
-        reader: after,
+    }
+}
+
+// The same by value.
+pub fn fed(reader: Reader, bytes: &[u8]) -> ReadResult
+    ensures { result ≡ fed_spec reader bytes.now }
+{
+    let mut next = reader;
+    let Used { answer, used } = take_records(&mut next, bytes);
+    ReadResult {
+        answer,
+        used,
+        reader: next,
     }
 }
 
@@ -82,24 +85,27 @@ pub fn ended(opened: bool, left: usize) -> Answer
     }
 }
 
-// A file that is there whole.
+// A file that is there whole, read to a reader: what it is answered.
 #[tactic(auto, using(crate::proofs::ReadLaws::version_room))]
-pub fn read(bytes: &[u8]) -> Took
-    ensures { result ≡ read_spec_of bytes.now }
+pub fn read_to(reader: &mut Reader, bytes: &[u8]) -> Answer
+    ensures { took result reader.new ≡ read_to_of reader.old bytes.now }
 {
-    let reader = fresh(is_second(bytes));
     let answer = version(bytes);
     if is_refused(answer) {
-        return Took { answer, reader };
+        return answer;
     }
-    let f = fed(reader, &bytes[1..]);
-    let reader = f.reader;
+    let f = take_records(reader, &bytes[1..]);
     if is_refused(f.answer) {
-        return Took {
-            answer: f.answer,
-            reader,
-        };
+        return f.answer;
     }
-    let answer = ended(reader.opened, bytes.len() - 1 - f.used);
-    Took { answer, reader }
+    ended(reader.opened, bytes.len() - 1 - f.used)
+}
+
+// The same to a fresh one.
+pub fn read(bytes: &[u8]) -> RecordResult
+    ensures { result ≡ read_spec_of bytes.now }
+{
+    let mut reader = fresh(is_second(bytes));
+    let answer = read_to(&mut reader, bytes);
+    RecordResult { answer, reader }
 }

@@ -1,5 +1,4 @@
--- The sixteen causes of "Why a call is sent back", the three of request 01's load file, the three of request 03's services, that of
--- request 08's display, that of request 11's withdrawal and the two of request 13's writing, each with its number.
+-- The 26 causes for which a step is sent back, each with its number. RULES 16.1.
 use Rattle.std.specs.Prelude.{ℕ}
 use Rattle.refusal.specs.declared.Refusal.{Refusal}
 use Rattle.refusal.specs.declared.Refusal.TheVariants.{SettingsRange, ClockRange, IdLength, StopsFull, IdTaken, LocationType}

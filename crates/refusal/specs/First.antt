@@ -1,4 +1,4 @@
--- A step's tests in the scope's order, each with the answer that it gives; the first that holds decides.
+-- A step's tests in the order of RULES 16.2, each with the answer that it gives; the first that holds decides.
 use Rattle.refusal.specs.declared.Refusal.{Refusal}
 use Rattle.refusal.specs.declared.Accepted.{Accepted}
 use Rattle.refusal.specs.declared.Accepted.TheVariants.{Taken, Outside}
@@ -41,7 +41,7 @@ abbrev pub answer_number : Answer → ℕ
 answer_number (Ok a) = 0
 answer_number (Err r) = number_of r
 
--- the value of each case: taken and outside, which bear no number of the scope's; or the number of the cause
+-- the value of each case: taken and outside, which have no number; or the number of the cause
 abbrev pub answer_value : Answer → Bool ⊎ ℕ
 answer_value (Ok Taken) = inl true
 answer_value (Ok Outside) = inl false

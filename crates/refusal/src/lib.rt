@@ -1,4 +1,4 @@
-// Why a call is sent back: one case for each cause, with the scope's number for it, and the answer of a step.
+// Why a step is sent back: one case for each cause, with its number of RULES 16.1; and the answer of a step.
 #![tactic(auto)]
 
 ghost use Rattle.std.specs.Prelude.{◌≡◌};
@@ -7,15 +7,15 @@ ghost use Rattle.refusal.specs.First.{is_refused, is_taken};
 
 #[derive(Clone, Copy, Debug, PartialEq, Eq)]
 pub enum Refusal {
-    // an origin or target count above 4, or `max_transfers` above 2
+    // an origin or target count above 4, `max_transfers` above 2, a change time above 15300; `max_transfers` 2 for a limited search
     SettingsRange = 1,
     // the start or an epoch beyond ±2^40
     ClockRange = 2,
-    // a stop id that is empty or over 32 bytes
+    // a stop's id, or a service's name, that is empty or over 32 bytes
     IdLength = 3,
     // the 129th stop
     StopsFull = 4,
-    // an id taken before
+    // a stop's id, or a service's name, that was taken before
     IdTaken = 5,
     // a location type above 1, or a station with a parent
     LocationType = 6,
@@ -23,19 +23,20 @@ pub enum Refusal {
     ParentUnknown = 7,
     // a name over 64 bytes, or a needed name that can't be used
     NameUnusable = 8,
-    // a stop unknown, trip 65535, a day above 2, pickup or drop-off above 3
+    // of a call or rule an unknown stop; of a call or withdrawal trip 65535 or a day above 2; of a call pickup or drop-off above 3
     FieldRange = 9,
     // arrival after departure
     TimesReversed = 10,
-    // the 129th rule, or a horizon that would fall below 3600
+    // the 129th rule; a horizon, or the window of a display's group, that would fall below 3600
     NoRoom = 11,
     // a transfer type above 3, or type 2 without seconds
     RuleType = 12,
     // a rule for the same pair
     PairTaken = 13,
-    // neighbours of one trip and day with equal sequence or overlapping times
+    // two neighbours in order of one trip and day, of one sequence or the first departing after the second arrives
     Neighbours = 14,
-    // a stop, call, rule or search after the search
+    // a stop, rule, service, exception or search after the search (a call is taken then); a service or exception after a call that was
+    // answered taken or outside, or on a load without dates
     AlreadySearched = 15,
     // a time text that is not digits:2 digits:2 digits, or out of range
     TimeText = 16,
@@ -47,7 +48,7 @@ pub enum Refusal {
     RecordKind = 19,
     // a date that the calendar hasn't, or an exception type other than 1 and 2
     DateWrong = 20,
-    // a service that was not taken
+    // a service that was not taken, named by a call or an exception
     ServiceUnknown = 21,
     // the 65th service
     ServicesFull = 22,
@@ -55,7 +56,7 @@ pub enum Refusal {
     DisplayGroups = 23,
     // a withdrawal that names no call of the table
     CallUnknown = 24,
-    // a load with dates, or one whose table's horizon is below 21600, can't be written
+    // a load that can't be written: with dates, of a stopped search, or with a table that was cut
     LoadUnwritable = 25,
     // a lent buffer that is shorter than the file
     BufferShort = 26,
@@ -71,7 +72,7 @@ pub enum Accepted {
 // What a step answers.
 pub type Answer = Result<Accepted, Refusal>;
 
-// The number of a cause: the scope's, and those of requests 01, 03, 08, 11 and 13.
+// The number of a cause.
 impl From<Refusal> for u8 {
     ghost from_gives = { λ r n. n ≡ number_of r };
 

@@ -5,7 +5,7 @@ use crate::loads::{rides, searched, week, with};
 use crate::step::Step;
 use crate::{good, pairs};
 use again::add;
-use load::{Load, Stepped};
+use load::{Load, StepResult};
 use refusal::Refusal;
 use std::io;
 
@@ -45,7 +45,7 @@ fn filling(faults: Faults) -> u16 {
     faults.many(Fault::Meets(Refusal::NoRoom), 512)
 }
 
-fn added(load: Load, faults: Faults) -> Stepped {
+fn added(load: Load, faults: Faults) -> StepResult {
     add(
         searched(load),
         service_of(faults),
@@ -54,7 +54,7 @@ fn added(load: Load, faults: Faults) -> Stepped {
 }
 
 // 64 journeys leave before it where its own is to be the 65th.
-fn tried(faults: Faults) -> Stepped {
+fn tried(faults: Faults) -> StepResult {
     let before = rides(faults.many(Fault::Falls, 128));
     added(
         with(boarded(before, faults), filling(faults), good::call),
@@ -62,7 +62,7 @@ fn tried(faults: Faults) -> Stepped {
     )
 }
 
-fn tried_of(faults: Faults) -> Stepped {
+fn tried_of(faults: Faults) -> StepResult {
     added(
         with(boarded(week(2), faults), filling(faults), good::call_of),
         faults,

@@ -7,7 +7,7 @@ use crate::shown::{held, then};
 use crate::step::Step;
 use again::add;
 use calls::CallInput;
-use load::Stepped;
+use load::StepResult;
 use refusal::Refusal;
 use std::io;
 
@@ -19,7 +19,7 @@ const FAULTS: [Fault; 5] = [
     Fault::Meets(Refusal::NoRoom),
 ];
 
-fn tried(faults: Faults) -> Stepped {
+fn tried(faults: Faults) -> StepResult {
     let load = with_calls(faults.many(Fault::Meets(Refusal::NoRoom), 512));
     add(load, b"", faulty_call(faults, 0, 1, 600))
 }

@@ -7,7 +7,7 @@ use crate::shown::then;
 use crate::step::Step;
 use crate::{good, pairs};
 use again::add;
-use load::{Load, Stepped};
+use load::{Load, StepResult};
 use refusal::Refusal;
 use services::{ExceptionInput, ServiceInput};
 use std::io;
@@ -22,7 +22,7 @@ const FAULTS: [Fault; 7] = [
     Fault::Meets(Refusal::NoRoom),
 ];
 
-fn tried(faults: Faults) -> Stepped {
+fn tried(faults: Faults) -> StepResult {
     let calls = faults.many(Fault::Meets(Refusal::NoRoom), 512);
     let load = with(week(2), calls, good::call_of);
     add(load, service_of(faults), faulty_call(faults, 0, 1, 600))

@@ -6,7 +6,7 @@ use crate::service_cases::{called, date_of};
 use crate::shown::then;
 use crate::step::Step;
 use crate::{good, pairs};
-use load::{Load, Stepped};
+use load::{Load, StepResult};
 use refusal::Refusal;
 use services::ExceptionInput;
 use std::io;
@@ -17,7 +17,7 @@ const FAULTS: [Fault; 3] = [
     Fault::Meets(Refusal::ServiceUnknown),
 ];
 
-fn tried(faults: Faults) -> Stepped {
+fn tried(faults: Faults) -> StepResult {
     let load = searched_if(faults.meet(Refusal::AlreadySearched), week(2));
     let input = ExceptionInput {
         date: date_of(faults),

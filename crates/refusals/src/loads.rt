@@ -2,7 +2,7 @@
 use crate::good;
 use crate::inputs::call;
 use again::add;
-use load::{Load, Stepped};
+use load::{Load, StepResult};
 use settings::Settings;
 
 // The start is 1000; days 0 and 1 start with it, and day 2 at 0.
@@ -18,7 +18,7 @@ pub const SETTINGS: Settings = Settings {
 };
 
 // So many good steps; those that are refused leave the load as it was.
-pub fn with<F: Fn(Load, u16) -> Stepped>(load: Load, n: u16, step: F) -> Load
+pub fn with<F: Fn(Load, u16) -> StepResult>(load: Load, n: u16, step: F) -> Load
     requires { F.IsAlwaysCallable step }
 {
     (0..n).fold(load, |load, i| step(load, i).load)

@@ -1,7 +1,6 @@
 // Meets each refusal of opening, stop, call, rule, search, service, exception and withdrawal alone and in pairs, and writes what is
-// answered, and what a good step after it is answered. The file `stdout` says what the scope's order, and those of requests 03, 11
-// and 12, give. In each file handle, label and what is tried are parameters of `told`, and a call's numbers those of `call`: a struct would
-// be made for one call.
+// answered, and what a good step after it is answered. The file `stdout` says what the order of RULES 16.2 gives. In each file handle,
+// label and what is tried are parameters of `told`, and a call's numbers those of `call`: a struct would be made for one call.
 #![tactic(auto)]
 
 mod added_cases;

@@ -2,7 +2,7 @@
 use crate::fault::{Fault, Faults};
 use crate::shown::then;
 use crate::step::Step;
-use load::Stepped;
+use load::StepResult;
 use refusal::Refusal;
 use std::io;
 
@@ -24,7 +24,7 @@ fn apart(step: Step, first: Fault, second: Fault) -> bool {
 }
 
 // The faults stand in the scope's order.
-pub fn each<F: Fn(Faults) -> Stepped>(
+pub fn each<F: Fn(Faults) -> StepResult>(
     rt: &impl Print,
     step: Step,
     faults: &[Fault],

@@ -5,7 +5,7 @@ use crate::loads::{searched_if, small, with_rules};
 use crate::pairs;
 use crate::shown::{held, then};
 use crate::step::Step;
-use load::Stepped;
+use load::StepResult;
 use refusal::Refusal;
 use rules::Rule;
 use std::io;
@@ -18,7 +18,7 @@ const FAULTS: [Fault; 5] = [
     Fault::Meets(Refusal::NoRoom),
 ];
 
-fn tried(faults: Faults) -> Stepped {
+fn tried(faults: Faults) -> StepResult {
     let load = with_rules(faults.many(Fault::Meets(Refusal::NoRoom), 128));
     let (from, to) = if faults.meet(Refusal::PairTaken) {
         (1, 2)

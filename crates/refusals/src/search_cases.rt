@@ -4,7 +4,7 @@ use crate::loads::{rides, searched_if, with_two};
 use crate::pairs;
 use crate::shown::then;
 use crate::step::Step;
-use load::{Load, Stepped};
+use load::{Load, StepResult};
 use refusal::Refusal;
 use search::{search, search_within};
 use std::io;
@@ -33,12 +33,12 @@ fn load_of(faults: Faults) -> Load {
     searched_if(faults.meet(Refusal::AlreadySearched), load)
 }
 
-fn tried(faults: Faults) -> Stepped {
+fn tried(faults: Faults) -> StepResult {
     search(load_of(faults))
 }
 
 // Two changes are allowed where a limited search is to be sent back for them.
-fn tried_limited(faults: Faults) -> Stepped {
+fn tried_limited(faults: Faults) -> StepResult {
     let mut load = load_of(faults);
     if faults.meet(Refusal::SettingsRange) {
         load.settings.max_transfers = 2;

@@ -5,7 +5,7 @@ use crate::loads::{searched_if, small, week};
 use crate::pairs;
 use crate::shown::{held, then};
 use crate::step::Step;
-use load::{Load, Stepped};
+use load::{Load, StepResult};
 use refusal::Refusal;
 use std::io;
 
@@ -26,7 +26,7 @@ pub fn date_of(faults: Faults) -> u32 {
     }
 }
 
-fn tried(faults: Faults) -> Stepped {
+fn tried(faults: Faults) -> StepResult {
     let load = week(if faults.meet(Refusal::ServicesFull) {
         64
     } else {

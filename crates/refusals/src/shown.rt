@@ -1,6 +1,6 @@
 // A line for each step: what is wrong with it, its answer, and the answer of a good step on the load that it returns.
 use crate::step::Step;
-use load::Stepped;
+use load::StepResult;
 use refusal::{Accepted, Answer};
 use std::{fmt, io};
 
@@ -19,7 +19,7 @@ impl fmt::Display for Shown {
 }
 
 // No load is opened, so no step follows.
-pub fn opened(rt: &impl Print, label: &str, stepped: Stepped) -> io::Result<()> {
+pub fn opened(rt: &impl Print, label: &str, stepped: StepResult) -> io::Result<()> {
     println!(rt; "open {label}: {}", Shown(stepped.answer))
 }
 
@@ -27,7 +27,7 @@ pub fn then(
     rt: &impl Print,
     step: Step,
     label: impl fmt::Display + Drop,
-    stepped: Stepped,
+    stepped: StepResult,
 ) -> io::Result<()> {
     let next = step.then(stepped.load);
     println!(rt;

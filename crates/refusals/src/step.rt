@@ -1,6 +1,6 @@
 // The steps that are tried, by the names that lines give them.
 use crate::good;
-use load::{Load, Stepped};
+use load::{Load, StepResult};
 use std::fmt;
 
 #[derive(Clone, Copy, Debug, PartialEq, Eq)]
@@ -46,7 +46,7 @@ impl fmt::Display for Step {
 impl Step {
     // A good step after this one: a call after a rule, a withdrawal and a call after the search, a service after an exception and after a
     // call that names one, an exception after a service, else a rule. A match, as no function may be handed out of a table.
-    pub fn then(self, load: Load) -> Stepped {
+    pub fn then(self, load: Load) -> StepResult {
         match self {
             Step::Rule | Step::Added | Step::Withdrawal | Step::Withdrawn => good::call(load, 127),
             Step::Service => good::exception(load, 127),

@@ -5,7 +5,7 @@ use crate::loads::{searched_if, small, with_stops};
 use crate::pairs;
 use crate::shown::{held, then};
 use crate::step::Step;
-use load::Stepped;
+use load::StepResult;
 use place::Degrees;
 use refusal::Refusal;
 use std::io;
@@ -22,7 +22,7 @@ const FAULTS: [Fault; 7] = [
 ];
 
 // The parent of a stop, if it has one, is unknown.
-fn tried(faults: Faults) -> Stepped {
+fn tried(faults: Faults) -> StepResult {
     let load = with_stops(faults.many(Fault::Meets(Refusal::StopsFull), 128));
     let name: &[u8] = if faults.meet(Refusal::NameUnusable) {
         &[b'a'; 65]

@@ -7,7 +7,7 @@ use crate::shown::then;
 use crate::step::Step;
 use again::{add, withdraw};
 use calls::CallKey;
-use load::{Load, Stepped};
+use load::{Load, StepResult};
 use refusal::Refusal;
 use std::io;
 
@@ -40,7 +40,7 @@ fn key(trip: u16, day: u8, sequence: u32) -> CallKey {
 }
 
 // The second call of trip 0.
-fn withdrawn(load: Load, faults: Faults) -> Stepped {
+fn withdrawn(load: Load, faults: Faults) -> StepResult {
     let trip = if faults.meet(Refusal::FieldRange) {
         65535
     } else {
@@ -54,12 +54,12 @@ fn withdrawn(load: Load, faults: Faults) -> Stepped {
     withdraw(load, key(trip, 0, sequence))
 }
 
-fn tried(faults: Faults) -> Stepped {
+fn tried(faults: Faults) -> StepResult {
     withdrawn(hiding(0), faults)
 }
 
 // 65 journeys are to show again where the list falls.
-fn tried_searched(faults: Faults) -> Stepped {
+fn tried_searched(faults: Faults) -> StepResult {
     let load = hiding(faults.many(Fault::Falls, 130));
     withdrawn(searched(load), faults)
 }

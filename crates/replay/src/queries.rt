@@ -9,9 +9,9 @@ use stdio::out::Out;
 
 // What a query answers.
 #[derive(Clone, Copy, Debug, PartialEq, Eq)]
-struct Found(Option<Journey>);
+struct BestJourney(Option<Journey>);
 
-impl fmt::Display for Found {
+impl fmt::Display for BestJourney {
     fn fmt<W: fmt::Write>(&self, f: &mut fmt::Formatter<W>) -> fmt::Result {
         match &self.0 {
             Some(j) => write!(f, "{}", Figures(j)),
@@ -38,7 +38,7 @@ pub fn bests(out: &mut Out, load: Load, kept: &[Journey]) {
     let mut last = None;
     for second in asked(load.horizon, kept) {
         if last != Some(second) {
-            writeln!(out, "best {second} {}", Found(best(load, second)));
+            writeln!(out, "best {second} {}", BestJourney(best(load, second)));
             last = Some(second);
         }
     }
@@ -46,6 +46,11 @@ pub fn bests(out: &mut Out, load: Load, kept: &[Journey]) {
 
 pub fn nexts(out: &mut Out, load: Load, kept: &[Journey]) {
     for j in kept {
-        writeln!(out, "next {} {}", j.leave, Found(next_after(load, 0, *j)));
+        writeln!(
+            out,
+            "next {} {}",
+            j.leave,
+            BestJourney(next_after(load, 0, *j))
+        );
     }
 }

@@ -15,7 +15,7 @@ use Rattle.ways.specs.Images.{Images, Stand}
 use Rattle.ways.proofs.ImageLaws.{journeys-of-images}
 use Rattle.profile.specs.Found.{Row}
 use Rattle.profile.specs.Journeys.{row, row_of}
-use Rattle.feed.specs.Feed.{same_run, leave_of, arrival_of}
+use Rattle.search_input.specs.Feed.{same_run, leave_of, arrival_of}
 use Rattle.rides.specs.Rows.{Sheet, Joins, first_of, direct_row, change_row, direct_by, change_by, network_of, rows}
 use Rattle.rides.specs.Agree.{Agree, RowsAgree}
 

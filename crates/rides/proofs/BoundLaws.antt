@@ -13,8 +13,8 @@ use lib.Seq.{get_or-set_same, get_or-set_other}
 use borrow.Author.Tests.{eqb-true, eqb-false}
 use Rattle.laws.specs.Bits.{bits_of}
 use Rattle.laws.proofs.Bools.{test}
-use Rattle.feed.specs.declared.FeedCall.{FeedCall}
-use Rattle.feed.specs.Feed.{call_at, same_run, target_mask, target_walk_of, arrival_of}
+use Rattle.search_input.specs.declared.FeedCall.{FeedCall}
+use Rattle.search_input.specs.Feed.{call_at, same_run, target_mask, target_walk_of, arrival_of}
 use Rattle.rides.specs.Loops.{later_from}
 use Rattle.rides.specs.Bounds.{AtTargets, AtCall, AtBoard, bucket_of, InBucket, Bounds, Filled, Lowered, Suffix}
 use Rattle.rides.proofs.LoopLaws.{run-end, run-next, run-on}

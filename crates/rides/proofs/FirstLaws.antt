@@ -14,7 +14,7 @@ use Rattle.laws.proofs.Flat.{concat_map-filterb, flat-single}
 use Rattle.laws.proofs.Places.{concat_map-cong, tails-span}
 use Rattle.ways.specs.Rides.{First, first_ride, first_rides}
 use Rattle.ways.proofs.RideLaws as listed
-use Rattle.feed.specs.Feed.{call_at, same_run, origin_mask, origin_walk_of}
+use Rattle.search_input.specs.Feed.{call_at, same_run, origin_mask, origin_walk_of}
 use Rattle.rides.specs.Rows.{Joins, network_of}
 use Rattle.rides.specs.Sheets.{sheet_of}
 use Rattle.rides.specs.Loops.{later_from}

@@ -10,3 +10,5 @@ pub mod RouteLaws
 pub mod OnwardLaws
 pub mod PassLaws
 pub mod RouteAgree
+pub mod OverLaws
+pub mod JoinedLaws

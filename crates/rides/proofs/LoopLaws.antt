@@ -19,14 +19,14 @@ use Rattle.std.specs.Int.Bits.{bit_and}
 use Rattle.laws.proofs.Bits.{bits_none, bits-set, lowest-first}
 use Rattle.laws.proofs.Places.{span-cons, span-nil}
 use Rattle.profile.specs.Found.{Row}
-use Rattle.profile.specs.Kept.{St, refused}
-use Rattle.state.specs.View.{view, open_of}
+use Rattle.profile.specs.Kept.{SearchState, refused}
+use Rattle.search_state.specs.View.{view, open_of}
 use Rattle.candidate.specs.Offer.{offer_to}
 use Rattle.candidate.proofs.OfferLaws.{offers-late}
-use Rattle.state.proofs.ViewLaws.{view-is-refused}
-use Rattle.feed.specs.declared.FeedCall.{FeedCall}
-use Rattle.feed.specs.declared.FirstRide.{FirstRide}
-use Rattle.feed.specs.Feed.{call_at, same_run}
+use Rattle.search_state.proofs.ViewLaws.{view-is-refused}
+use Rattle.search_input.specs.declared.FeedCall.{FeedCall}
+use Rattle.search_input.specs.declared.FirstRide.{FirstRide}
+use Rattle.search_input.specs.Feed.{call_at, same_run}
 use Rattle.ways.specs.Rides.{first_rides}
 use Rattle.rides.specs.declared.firsts.FirstRides.{FirstRides}
 use Rattle.rides.specs.declared.lent.Lent.{Lent}
@@ -70,10 +70,10 @@ module _ {S X E : Type 0} {see : S → X} {step : X → E → X} (feed changes :
   off-board t = rw (cond-and (call_at feed j).board (joins_of feed changes p j) es (sym e ∙ t)) generic.nothing
 
 -- a refused search stays as it is, whatever is offered
-refused_all : (s : St Row) (os : List Row) → s ≡ refused → foldl offer_to s os ≡ s
-refused_all s os e = ap (λ (r : St Row). foldl offer_to r os) e ∙ offers-late refused os (λ o m. refl) ∙ sym e
+refused_all : (s : SearchState Row) (os : List Row) → s ≡ refused → foldl offer_to s os ≡ s
+refused_all s os e = ap (λ (r : SearchState Row). foldl offer_to r os) e ∙ offers-late refused os (λ o m. refl) ∙ sym e
 
-run-same : (a b c : FeedCall) → same_run a b ≡ true → same_run a c ≡ same_run b c
+pub run-same : (a b c : FeedCall) → same_run a b ≡ true → same_run a c ≡ same_run b c
 unfolding same_run
 run-same a b c h = rw (eqb-true a.trip b.trip (and-true-left _ _ h), eqb-true a.day b.day (and-true-right (eqb a.trip b.trip) _ h))
 

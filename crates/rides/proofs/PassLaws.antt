@@ -4,7 +4,7 @@ use mathlib.Core.List.{List, ◌++◌}
 use Prim.Native.Nat.{ℕ, ◌≤◌, ◌<◌, min}
 use native.Mathlib.Omega.{arith}
 use borrow.Author.Tests.{ne_eqb}
-use Rattle.state.specs.View.{view}
+use Rattle.search_state.specs.View.{view}
 use Rattle.rides.specs.Rows.{rows}
 use Rattle.rides.specs.Loops.{pass_rows}
 use Rattle.rides.specs.Sheets.{joins_of, sheet_of}

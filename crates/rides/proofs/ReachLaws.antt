@@ -21,9 +21,9 @@ use Rattle.laws.proofs.Tails.{take_while-mem}
 use Rattle.ways.specs.Rides.{Leg, Network, joined_rides}
 use Rattle.ways.specs.Routes.{Way, here, ride_then, onward}
 use Rattle.ways.proofs.RideLaws.{Listed, joined-mem, listed_in}
-use Rattle.feed.specs.declared.FeedCall.{FeedCall}
-use Rattle.feed.specs.declared.FirstRide.{FirstRide}
-use Rattle.feed.specs.Feed.{call_at, same_run, target_mask, joined}
+use Rattle.search_input.specs.declared.FeedCall.{FeedCall}
+use Rattle.search_input.specs.declared.FirstRide.{FirstRide}
+use Rattle.search_input.specs.Feed.{call_at, same_run, target_mask, joined}
 use Rattle.rides.specs.Rows.{first_of, network_of}
 use Rattle.rides.specs.Loops.{later_from}
 use Rattle.rides.specs.Sheets.{sheet_of, joins_of}
@@ -33,7 +33,7 @@ use Rattle.rides.specs.Reach.{due_at, NotBefore, alighted_at, BoardAt, JoinAt, L
 
 -- ---- arrays filled from the left and from the right
 
-length-replicate : (k x : ℕ) → length (replicate k x) ≡ k
+pub length-replicate : (k x : ℕ) → length (replicate k x) ≡ k
 length-replicate zero x = refl
 length-replicate (suc k) x = ap suc (length-replicate k x)
 

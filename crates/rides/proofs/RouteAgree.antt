@@ -14,7 +14,7 @@ use Rattle.ways.specs.Routes.{Way, Route, here, ride_then, allowed, onward, pass
 use Rattle.ways.proofs.RideLaws.{joined-mem, listed_in}
 use Rattle.ways.proofs.RouteLaws.{Passed, pass-mem, routes-of-images}
 use Rattle.profile.specs.Journeys.{row, row_of}
-use Rattle.feed.specs.Feed.{leave_of, arrival_of}
+use Rattle.search_input.specs.Feed.{leave_of, arrival_of}
 use Rattle.rides.specs.Rows.{Sheet, Joins, first_of, direct_row, change_row, three_row, network_of}
 use Rattle.rides.specs.Reach.{end_of}
 use Rattle.rides.specs.Routes.{on_row, row_to, row_by, route_rows}

@@ -15,7 +15,7 @@ use Rattle.ways.specs.Routes.{Way, Route, here, ride_then, route_of, onward, pas
 use Rattle.ways.proofs.RideLaws.{over-joined}
 use Rattle.ways.proofs.RouteLaws.{up-to-one}
 use Rattle.profile.specs.Found.{Row}
-use Rattle.feed.specs.declared.FirstRide.{FirstRide}
+use Rattle.search_input.specs.declared.FirstRide.{FirstRide}
 use Rattle.rides.specs.Rows.{Sheet, Joins, first_of, first_at, three_row, direct_by, change_by, network_of, rows}
 use Rattle.rides.specs.Loops.{over_bits, later_from, over_run, end_at, onward_rows, first_rows_of, pass_rows}
 use Rattle.rides.specs.Routes.{on_row, row_to, row_by, three_rows, route_rows, RowsUpToOne, RowsThreeLast}

@@ -12,7 +12,7 @@ use Rattle.laws.proofs.Places.{concat_map-cong, tails-span}
 use Rattle.ways.specs.Rides.{leg, first_ride, first_rides, directs, changes, journeys}
 use Rattle.ways.proofs.RideLaws.{over-firsts, over-joined}
 use Rattle.profile.specs.Found.{Row}
-use Rattle.feed.specs.Feed.{same_run, joined}
+use Rattle.search_input.specs.Feed.{same_run, joined}
 use Rattle.rides.specs.Rows.{Sheet, Joins, first_of, first_at, direct_row, change_row, direct_by, change_by, network_of, rows}
 use Rattle.rides.specs.Loops.{over_bits, over_calls, later_from, over_run}
 use Rattle.rides.specs.Loops.{last_at, last_alight_rows, last_board_rows, change_rows, direct_at, direct_rows, first_rows_of, pass_rows}

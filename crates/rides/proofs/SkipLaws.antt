@@ -1,32 +1,27 @@
 -- Last rides that need not be walked: where a row that bounds them would be passed over, so would every one of theirs.
-use mathlib.Core.Path.{◌≡◌, refl, sym, ap, ◌∙◌}
+use mathlib.Core.Path.{◌≡◌, refl}
 use mathlib.Core.Bool.{Bool, true, false, cond, not, ◌&&◌}
 use mathlib.Core.List.Memᴰ
 use mathlib.Core.List.{List, [], Memᴰ}
-use Prim.Native.Nat.{ℕ, ◌+◌, ◌-◌, ◌≤◌, ◌<◌}
+use Prim.Native.Nat.{ℕ, ◌+◌, ◌≤◌, ◌<◌}
 use native.Mathlib.Omega.{arith}
 use lib.Dec.{eqb}
 use lib.ListN.{get_or}
 use borrow.Author.Tests.{leb-true}
-use Rattle.laws.specs.Lists.{span}
 use Rattle.laws.specs.Bits.{bits_of}
 use Rattle.laws.proofs.Bools.{and-true-right}
-use Rattle.laws.proofs.Agree.{span_below}
 use Rattle.laws.proofs.Folds.{concat_map-mem}
 use Rattle.profile.specs.Found.{Row}
 use Rattle.profile.specs.Journeys.{cov, row_of}
-use Rattle.state.specs.View.{view}
-use Rattle.candidate.specs.Offer.{passed_over}
-use Rattle.candidate.proofs.PassedLaws.{cov-no-later, offers-covered}
-use Rattle.feed.specs.declared.FirstRide.{FirstRide}
+use Rattle.candidate.proofs.PassedLaws.{cov-no-later}
+use Rattle.search_input.specs.declared.FirstRide.{FirstRide}
 use Rattle.rides.specs.Rows.{change_row}
-use Rattle.rides.specs.Loops.{over_bits, over_calls, over_run, later_from, last_at, last_alight_rows, last_board_rows, change_rows}
-use Rattle.feed.specs.Feed.{call_at, change_at, target_mask, joined}
+use Rattle.rides.specs.Loops.{over_bits, over_run, later_from, last_at, last_alight_rows, last_board_rows}
+use Rattle.search_input.specs.Feed.{call_at, change_at, target_mask, joined}
 use Rattle.rides.specs.Sheets.{joins_of, sheet_of}
-use Rattle.rides.specs.Offered.{Offered}
 use Rattle.rides.specs.Bounds.{AtTargets, AtCall, AtBoard, bucket_of, Bounds}
 
-cond-mem : {A : Type 0} {x : A} {xs : List A} (b : Bool) → Memᴰ x (cond b xs []) → (b ≡ true) × Memᴰ x xs
+pub cond-mem : {A : Type 0} {x : A} {xs : List A} (b : Bool) → Memᴰ x (cond b xs []) → (b ≡ true) × Memᴰ x xs
 cond-mem true m = (refl, m)
 cond-mem false m = absurd (Memᴰ.not-nil m)
 
@@ -34,26 +29,28 @@ cond-mem false m = absurd (Memᴰ.not-nil m)
 abbrev pub Covers : Row → List Row → Type 0
 Covers b os = (o : Row) → Memᴰ o os → cov b o ≡ true
 
-pub passes : {l : List ℕ} {r : Bool} (b : Row) (os : List Row) → r ≡ passed_over (view l) b → r ≡ true → Covers b os → Offered l l os
-passes {l} b os e t f = record { is = sym (offers-covered (view l) b os (sym e ∙ t) f) }
-
 -- the earliest that a two-ride journey after f could be, if it is due at t or later
 abbrev pub earliest : FirstRide → ℕ → Row
 earliest f t = row_of f.leave t 2 f.walk 0 0 0 0 0 0 0 0
 
 module _ (feed : List ℕ) (f : FirstRide) where
-  -- it covers every last ride that boards at j, if none is at a target earlier
-  pub run-covered : (n j t u : ℕ) → t ≤ u → AtBoard feed n j u
-      → Covers (earliest f t) (over_run (last_alight_rows (sheet_of feed) f j) (call_at feed) n j (j + 1))
+  -- it covers the last rides that board at j and alight behind the place i, if none is at a target earlier
+  pub rest-covered : (n j i t u : ℕ) → t ≤ u → AtBoard feed n i u
+      → Covers (earliest f t) (over_run (last_alight_rows (sheet_of feed) f j) (call_at feed) n i (i + 1))
   unfolding over_run last_alight_rows over_bits last_at change_row row_of sheet_of AtBoard AtCall AtTargets
-  run-covered n j t u h w o i =
-      let (m, p, q) = concat_map-mem (last_alight_rows (sheet_of feed) f j) (later_from (call_at feed) n j (j + 1)) i in
+  rest-covered n j i t u h w o k =
+      let (m, p, q) = concat_map-mem (last_alight_rows (sheet_of feed) f j) (later_from (call_at feed) n i (i + 1)) k in
       let (y, r) = cond-mem (call_at feed m).alight q in
       let (x, z, v) = concat_map-mem (last_at (sheet_of feed) f j m) (bits_of (target_mask feed (call_at feed m).stop)) r in
-      let k = w m p y x z in
+      let g = w m p y x z in
       rw (Memᴰ.eq_of_singleton v) (cov-no-later (earliest f t) (change_row (sheet_of feed) f j m x) refl (omega arith) refl refl)
 
-joins_after : (feed changes : List ℕ) (f : FirstRide) (j : ℕ) → joins_of feed changes f j ≡ true → f.arrival ≤ (call_at feed j).departure
+  -- all of them
+  pub run-covered : (n j t u : ℕ) → t ≤ u → AtBoard feed n j u
+      → Covers (earliest f t) (over_run (last_alight_rows (sheet_of feed) f j) (call_at feed) n j (j + 1))
+  run-covered n j t u h w = rest-covered n j j t u h w
+
+pub joins_after : (feed changes : List ℕ) (f : FirstRide) (j : ℕ) → joins_of feed changes f j ≡ true → f.arrival ≤ (call_at feed j).departure
 unfolding joins_of joined
 joins_after feed changes f j e =
     let b = call_at feed j in
@@ -63,13 +60,6 @@ joins_after feed changes f j e =
     omega (arith, h)
 
 module _ (feed : List ℕ) (n : ℕ) (f : FirstRide) {b : List ℕ} {t : ℕ} (w : Bounds b feed n) where
-  -- no ride that boards at j is walked, if one due at its bound would be passed over
-  pub skip-run : {l : List ℕ} {r : Bool} (j : ℕ) → j < n → t ≡ get_or b j 0 → r ≡ passed_over (view l) (earliest f t) → r ≡ true
-      → Offered l l (over_run (last_alight_rows (sheet_of feed) f j) (call_at feed) n j (j + 1))
-  skip-run j h e p q =
-      passes (earliest f t) (over_run (last_alight_rows (sheet_of feed) f j) (call_at feed) n j (j + 1)) p q
-      (run-covered feed f n j t (get_or b j 0) (omega arith) (w.board j h))
-
   pub board-covered : (changes : List ℕ) (j : ℕ) → j < n → t ≡ get_or b (bucket_of f.arrival) 0
       → Covers (earliest f t) (last_board_rows (sheet_of feed) (joins_of feed changes) n f j)
   unfolding last_board_rows sheet_of
@@ -77,15 +67,3 @@ module _ (feed : List ℕ) (n : ℕ) (f : FirstRide) {b : List ℕ} {t : ℕ} (w
       let (y, p) = cond-mem (call_at feed j).board m in
       let (z, i) = cond-mem (joins_of feed changes f j) p in
       run-covered feed f n j t (get_or b j 0) (omega (arith, w.after f.arrival j h y (joins_after feed changes f j z))) (w.board j h) o i
-
-  -- no last ride is walked, if one due at the bound of all that depart after the first ride arrives would be passed over
-  pub skip-changes : {l : List ℕ} {r : Bool} (changes : List ℕ) (depth : ℕ) {q : ℕ} → q ≡ bucket_of f.arrival → t ≡ get_or b q 0
-      → r ≡ passed_over (view l) (earliest f t) → r ≡ true
-      → Offered l l (change_rows (sheet_of feed) (joins_of feed changes) depth n f)
-  unfolding change_rows over_calls
-  skip-changes changes depth eq e p q =
-      passes (earliest f t) (change_rows (sheet_of feed) (joins_of feed changes) depth n f) p q
-      (λ o m.
-      let (j, k, i) =
-      concat_map-mem (last_board_rows (sheet_of feed) (joins_of feed changes) n f) (span 0 (n - 0)) (cond-mem (eqb depth 1) m).1 in
-      board-covered changes j (span_below 0 n k) (e ∙ ap (λ (z : ℕ). get_or b z 0) eq) o i)

@@ -4,8 +4,9 @@ use Rattle.std.specs.Prelude.{◌≡◌, true, ℕ, ◌+◌, ◌/◌, ◌≤◌,
 use Rattle.std.specs.Coded.{le_prop}
 use mathlib.Core.List.{List, Memᴰ}
 use Rattle.laws.specs.Bits.{bits_of}
-use Rattle.feed.specs.Feed.{call_at, target_mask, target_walk_of, arrival_of}
+use Rattle.search_input.specs.Feed.{call_at, target_mask, target_walk_of, arrival_of}
 use Rattle.rides.specs.Loops.{later_from}
+use Rattle.search_input.specs.Layout.{call_room}
 
 -- who alights at the time a is at no target of the mask before t
 unfoldable pub AtTargets : List ℕ → ℕ → ℕ → ℕ → Type 0
@@ -21,7 +22,7 @@ AtBoard feed n j t = (m : ℕ) → Memᴰ m (later_from (call_at feed) n j (j + 
 
 -- where the number for departures at t and later stands
 unfoldable pub bucket_of : ℕ → ℕ
-bucket_of t = 512 + t / 128
+bucket_of t = call_room + t / 128
 
 -- what the loops of a search ask of the array b: the number at j bounds the rides that board at j, and that for t those numbers at j that
 -- are boardable and depart at t or later
@@ -52,11 +53,11 @@ pub record Filled (b feed : List ℕ) (n j : ℕ) : Type 0 where
 
 -- c is b with the number for the departure of j lowered
 pub record Lowered (b c feed : List ℕ) (j : ℕ) : Type 0 where
-  pub low : (i : ℕ) → i < 512 → get_or c i 0 ≡ get_or b i 0
+  pub low : (i : ℕ) → i < call_room → get_or c i 0 ≡ get_or b i 0
   pub less : (p : ℕ) → get_or c p 0 ≤ get_or b p 0
   pub here : InBucket c feed j
 
 -- c is b with each number for departures no later than any of b for later ones
 pub record Suffix (b c : List ℕ) : Type 0 where
-  pub low : (i : ℕ) → i < 512 → get_or c i 0 ≡ get_or b i 0
-  pub least : (p q : ℕ) → 512 ≤ p → p ≤ q → q < 1024 → get_or c p 0 ≤ get_or b q 0
+  pub low : (i : ℕ) → i < call_room → get_or c i 0 ≡ get_or b i 0
+  pub least : (p q : ℕ) → call_room ≤ p → p ≤ q → q < 1024 → get_or c p 0 ≤ get_or b q 0

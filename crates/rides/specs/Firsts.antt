@@ -3,7 +3,7 @@ use Rattle.std.specs.Prelude.{cond, List, [], ◌++◌, map, ℕ, ◌+◌, ◌-�
 use Rattle.laws.specs.Lists.{concat_map, filterb, span}
 use Rattle.laws.specs.Bits.{bits_of}
 use Rattle.ways.specs.Rides.{First, first_ride}
-use Rattle.feed.specs.Feed.{call_at, origin_mask, origin_walk_of}
+use Rattle.search_input.specs.Feed.{call_at, origin_mask, origin_walk_of}
 use Rattle.rides.specs.Loops.{later_from}
 use Rattle.rides.specs.Places.{later_left}
 use Rattle.rides.specs.declared.firsts.FirstLeg.{FirstLeg}

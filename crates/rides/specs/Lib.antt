@@ -8,3 +8,4 @@ pub mod Agree
 pub mod Bounds
 pub mod Reach
 pub mod Routes
+pub mod Over

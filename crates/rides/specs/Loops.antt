@@ -4,9 +4,9 @@ use Rattle.std.specs.Prelude.{cond, List, [], ◌∷◌, ◌++◌, ℕ, zero, su
 use Rattle.laws.specs.Lists.{concat_map, take_while, span}
 use Rattle.laws.specs.Bits.{bits_of}
 use Rattle.profile.specs.Found.{Row}
-use Rattle.feed.specs.declared.FeedCall.{FeedCall}
-use Rattle.feed.specs.declared.FirstRide.{FirstRide}
-use Rattle.feed.specs.Feed.{same_run}
+use Rattle.search_input.specs.declared.FeedCall.{FeedCall}
+use Rattle.search_input.specs.declared.FirstRide.{FirstRide}
+use Rattle.search_input.specs.Feed.{same_run}
 use Rattle.ways.specs.Rides.{first_rides}
 use Rattle.rides.specs.Rows.{Sheet, Joins, first_of, first_at, direct_row, change_row, three_row, network_of}
 

@@ -2,12 +2,12 @@
 use Rattle.std.specs.Prelude.{◌≡◌, List, ℕ}
 use Rattle.laws.specs.Lists.{foldl}
 use Rattle.profile.specs.Found.{Row}
-use Rattle.profile.specs.Kept.{St}
-use Rattle.state.specs.View.{view}
+use Rattle.profile.specs.Kept.{SearchState}
+use Rattle.search_state.specs.View.{view}
 use Rattle.candidate.specs.Offer.{offer_to}
 
 -- the state after the offers, one after the other
-unfoldable pub offer_all : St Row → List Row → St Row
+unfoldable pub offer_all : SearchState Row → List Row → SearchState Row
 offer_all s os = foldl offer_to s os
 
 -- t is the state s after the steps es, one after the other; `see` is what is read of a state

@@ -2,11 +2,11 @@
 use Rattle.std.specs.Prelude.{◌≡◌, true, List, ℕ, ◌-◌, ◌<◌}
 use Rattle.laws.specs.Lists.{take_while, span}
 use Rattle.laws.specs.Bits.{bits_of}
-use Rattle.feed.specs.Feed.{call_at, same_run}
+use Rattle.search_input.specs.Feed.{call_at, same_run}
 use Rattle.rides.specs.Rows.{Sheet, Joins}
 use Rattle.rides.specs.Sheets.{sheet_of, joins_of}
 use Rattle.rides.specs.declared.bits.Digits.{Digits}
-use Rattle.rides.specs.declared.calls.Ride.{Ride}
+use Rattle.rides.specs.declared.call_list.Ride.{Ride}
 use Rattle.rides.specs.declared.later.Later.{Later}
 use Rattle.rides.specs.declared.lent.Lent.{Lent}
 

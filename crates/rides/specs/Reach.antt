@@ -1,17 +1,18 @@
 -- How early one can be at a target from where a ride alights, by so many further rides: arrays of 512 numbers, one for each place, one
 -- array for each number of changes left. Made from the last ride back, so that each number is that of the rides that join. For request
 -- 10, whose loops pass over what leads on from a place where a journey due at its number would be passed over.
-use Rattle.std.specs.Prelude.{◌≡◌, true, ℕ, suc, ◌+◌, ◌-◌, ◌≤◌, ◌<◌, length, get_or}
+use Rattle.std.specs.Prelude.{◌≡◌, true, ℕ, ◌+◌, ◌≤◌, ◌<◌, length, get_or}
 use Rattle.std.specs.Coded.{le_prop}
 use mathlib.Core.List.{List, [], ◌∷◌, Memᴰ}
 use Rattle.laws.specs.Lists.{span}
 use Rattle.ways.specs.Rides.{Leg}
 use Rattle.ways.specs.Routes.{Way, onward}
-use Rattle.feed.specs.declared.FirstRide.{FirstRide}
-use Rattle.feed.specs.Feed.{call_at, same_run, target_walk_of, arrival_of}
+use Rattle.search_input.specs.declared.FirstRide.{FirstRide}
+use Rattle.search_input.specs.Feed.{call_at, same_run, target_walk_of, arrival_of}
 use Rattle.rides.specs.Rows.{first_of, network_of}
 use Rattle.rides.specs.Loops.{later_from}
 use Rattle.rides.specs.Sheets.{sheet_of, joins_of}
+use Rattle.search_input.specs.Layout.{call_room}
 
 -- the place where the last of these rides alights
 abbrev pub end_of : ℕ → List (Leg ℕ) → ℕ
@@ -29,35 +30,33 @@ NotBefore feed changes n left at =
     (r : Leg ℕ) (w : Way ℕ) → r.a < n → (call_at feed r.a).alight ≡ true → same_run (call_at feed r.b) (call_at feed r.a) ≡ true
     → Memᴰ w (onward (network_of (sheet_of feed) (joins_of feed changes)) left (span 0 n) r) → get_or at r.a 0 ≤ due_at feed r.a w
 
--- with no change left, whatever the changes are
-abbrev pub TargetTimes : List ℕ → ℕ → List ℕ → Type 0
-TargetTimes feed n at = (changes : List ℕ) → NotBefore feed changes n 0 at
+-- t is no later than the number of any place where a ride that boards at c alights
+unfoldable pub BoardAt : List ℕ → ℕ → List ℕ → ℕ → ℕ → Type 0
+BoardAt feed n at c t = (d : ℕ) → Memᴰ d (later_from (call_at feed) n c (c + 1)) → (call_at feed d).alight ≡ true → t ≤ get_or at d 0
 
--- `new` has one change more than `at`
-abbrev pub TimesBefore : List ℕ → List ℕ → ℕ → List ℕ → List ℕ → Type 0
-TimesBefore feed changes n at new = (left : ℕ) → NotBefore feed changes n left at → NotBefore feed changes n (suc left) new
-
--- b has such an array with one change left, and one with two
-pub record Onward (b : List (List ℕ)) (feed changes : List ℕ) (n : ℕ) : Type 0 where
-  pub on : (left : ℕ) → 1 ≤ left → left ≤ 2 → NotBefore feed changes n left (get_or b (left - 1) [])
+-- `on` has such an array with no change left, with one and with two; and `boards` has for no ride that boards at a place, with no change or
+-- one left after it, a number later than that in `on` where it alights
+pub record Onward (on boards : List (List ℕ)) (feed changes : List ℕ) (n : ℕ) : Type 0 where
+  pub on_time : (left : ℕ) → left ≤ 2 → NotBefore feed changes n left (get_or on left [])
+  pub board : (left : ℕ) → left ≤ 1 → (c : ℕ) → c < n → BoardAt feed n (get_or on left []) c (get_or (get_or boards left []) c 0)
 
 -- so that a struct can keep them
 NotBefore-prop : (feed changes : List ℕ) (n left : ℕ) (at : List ℕ) → IsProp (NotBefore feed changes n left at)
 unfolding NotBefore due_at
 NotBefore-prop feed changes n left at = Prim.hlevel le_prop
 
-pub Onward-prop : (b : List (List ℕ)) (feed changes : List ℕ) (n : ℕ) → IsProp (Onward b feed changes n)
-Onward-prop b feed changes n = Prim.hlevel NotBefore-prop
+BoardAt-prop : (feed : List ℕ) (n : ℕ) (at : List ℕ) (c t : ℕ) → IsProp (BoardAt feed n at c t)
+unfolding BoardAt
+BoardAt-prop feed n at c t = Prim.hlevel le_prop
+
+pub Onward-prop : (on boards : List (List ℕ)) (feed changes : List ℕ) (n : ℕ) → IsProp (Onward on boards feed changes n)
+Onward-prop on boards feed changes n = Prim.hlevel (NotBefore-prop, BoardAt-prop)
 
 -- ---- on the way there
 
 -- a ride that alights at place m, as a join reads it
 abbrev pub alighted_at : List ℕ → ℕ → FirstRide
 alighted_at feed m = first_of (sheet_of feed) m 0 m
-
--- t is no later than the number of any place where a ride that boards at c alights
-unfoldable pub BoardAt : List ℕ → ℕ → List ℕ → ℕ → ℕ → Type 0
-BoardAt feed n at c t = (d : ℕ) → Memᴰ d (later_from (call_at feed) n c (c + 1)) → (call_at feed d).alight ≡ true → t ≤ get_or at d 0
 
 -- t is no later than the number at c, if one can board there and the ride p joins it
 unfoldable pub JoinAt : List ℕ → List ℕ → List ℕ → FirstRide → ℕ → ℕ → Type 0
@@ -73,5 +72,5 @@ JoinsAt feed changes n boards m t = (call_at feed m).alight ≡ true → Least f
 
 -- an array of 512 numbers, of which each from i up to n is such
 pub record Each (P : ℕ → ℕ → Type 0) (i n : ℕ) (l : List ℕ) : Type 0 where
-  pub long : length l ≡ 512
+  pub long : length l ≡ call_room
   pub each : (k : ℕ) → i ≤ k → k < n → P k (get_or l k 0)

@@ -4,9 +4,10 @@ use Rattle.laws.specs.Lists.{span}
 use Rattle.ways.specs.Rides.{Leg}
 use Rattle.ways.specs.Routes.{Route, pass, routes}
 use Rattle.profile.specs.Found.{Row}
-use Rattle.feed.specs.declared.FirstRide.{FirstRide}
+use Rattle.search_input.specs.declared.FirstRide.{FirstRide}
 use Rattle.rides.specs.Rows.{Sheet, Joins, first_at, direct_row, change_row, three_row, network_of, rows}
 use Rattle.rides.specs.Sheets.{sheet_of, joins_of}
+use Rattle.search_input.specs.Layout.{call_room}
 
 -- the row to target x of a journey that had the rides p and r and goes on by these: the last two are its middle and its last ride
 abbrev pub on_row : Sheet → FirstRide → ℕ → Leg ℕ → Leg ℕ → List (Leg ℕ) → Row
@@ -32,7 +33,7 @@ route_rows s joins depth n = map (row_by s) (routes (network_of s joins) depth (
 
 -- of the lent arrays, over the first n calls, of which there are at most 512
 unfoldable pub rows_of : List ℕ → List ℕ → ℕ → ℕ → List Row
-rows_of f g n depth = route_rows (sheet_of f) (joins_of f g) depth (min n 512)
+rows_of f g n depth = route_rows (sheet_of f) (joins_of f g) depth (min n call_room)
 
 -- ---- what is claimed
 

@@ -6,9 +6,9 @@ use Rattle.laws.specs.Bits.{bits_of}
 use Rattle.ways.specs.Rides.{Leg, First, Network, journeys}
 use Rattle.profile.specs.Found.{Row}
 use Rattle.profile.specs.Journeys.{row_of}
-use Rattle.feed.specs.declared.FeedCall.{FeedCall}
-use Rattle.feed.specs.declared.FirstRide.{FirstRide}
-use Rattle.feed.specs.Feed.{same_run, leave_of, arrival_of}
+use Rattle.search_input.specs.declared.FeedCall.{FeedCall}
+use Rattle.search_input.specs.declared.FirstRide.{FirstRide}
+use Rattle.search_input.specs.Feed.{same_run, leave_of, arrival_of}
 
 -- what the loops read: the call at each place of the calls in order; the origins and the targets of a stop, each a mask of four digits;
 -- and the walk of each origin and each target, in minutes

@@ -1,7 +1,7 @@
 -- The lent arrays as a sheet.
 use Rattle.std.specs.Prelude.{Bool, List, ℕ}
-use Rattle.feed.specs.declared.FirstRide.{FirstRide}
-use Rattle.feed.specs.Feed.{call_at, origin_mask, target_mask, origin_walk_of, target_walk_of, change_at, joined}
+use Rattle.search_input.specs.declared.FirstRide.{FirstRide}
+use Rattle.search_input.specs.Feed.{call_at, origin_mask, target_mask, origin_walk_of, target_walk_of, change_at, joined}
 use Rattle.rides.specs.Rows.{Sheet}
 
 -- the first ride joins the ride that boards at j, by the changes g

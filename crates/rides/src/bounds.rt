@@ -3,12 +3,14 @@
 // ride: the latest time is what a minimum begins with, so it needs no option.
 ghost use Rattle.std.specs.Prelude.{◌≡◌, ◌+◌, ◌≤◌, ◌<◌};
 ghost use Rattle.laws.specs.Bits.{bits_of};
-ghost use Rattle.feed.specs.Feed.{target_walk_of, arrival_of};
+ghost use Rattle.search_input.specs.Feed.{target_walk_of, arrival_of};
 ghost use Rattle.rides.specs.Bounds.{AtTargets, AtCall, AtBoard, bucket_of, Lowered, Filled, Suffix, Bounds};
+ghost use Rattle.search_input.specs.Layout.{call_room};
 
 use crate::bits::Digits;
-use crate::calls::Calls;
-use feed::arrival_of;
+use crate::call_list::Calls;
+use search_input::arrival_of;
+use search_input::layout::CALLS;
 
 // When whoever alights at a is at target x, cut to 65535.
 fn due_at(calls: &Calls, a: u16, x: u8) -> u16
@@ -31,7 +33,7 @@ fn target_bound(calls: &Calls, a: u16, targets: Digits) -> u16
 
 // The same of the targets of the stop at place m, if one can alight there.
 pub fn alight_bound(calls: &Calls, m: usize) -> u16
-    requires { m < 512 }
+    requires { m < call_room }
     ensures { AtCall calls.now.feed.now m result }
 {
     let c = calls.at(m);
@@ -55,14 +57,14 @@ fn board_bound(bounds: &[u16; 1024], calls: &Calls, j: usize) -> u16
 // The place of the number for rides that depart at t or later.
 #[tactic(auto, unfolding(crate::specs::Bounds::bucket_of))]
 pub fn bucket_of(t: u16) -> usize
-    ensures { (result ≡ bucket_of t) × (result < 1024) × (512 ≤ result) }
+    ensures { (result ≡ bucket_of t) × (result < 1024) × (call_room ≤ result) }
 {
-    512 + t as usize / 128
+    CALLS + t as usize / 128
 }
 
 // The number for the time when j departs is no later than that for j, if one can board there.
 fn put_bucket(bounds: &mut [u16; 1024], calls: &Calls, j: usize)
-    requires { j < 512 }
+    requires { j < call_room }
     ensures { Lowered bounds.old bounds.new calls.now.feed.now j }
 {
     let c = calls.at(j);
@@ -94,7 +96,7 @@ fn put_calls(bounds: &mut [u16; 1024], calls: &Calls)
 fn put_later(bounds: &mut [u16; 1024])
     ensures { Suffix bounds.old bounds.new }
 {
-    for q in (512..1023).rev() {
+    for q in (CALLS..1023).rev() {
         bounds[q] = bounds[q].min(bounds[q + 1]);
     }
 }

@@ -1,10 +1,11 @@
 // The first rides, in order: by boarding call, then origin, then alighting call.
 ghost use Rattle.std.specs.Prelude.{◌≡◌, ◌≤◌, ◌<◌, ◌+◌, List, ℕ, length};
+ghost use Rattle.search_input.specs.Layout.{call_room};
 
 use crate::bits::Digits;
-use crate::calls::{Calls, Ride};
+use crate::call_list::{Calls, Ride};
 use crate::later::Later;
-use feed::can_walk;
+use search_input::can_walk;
 
 // A first ride by its places, and the origin that one walks from.
 #[derive(Clone, Copy, Debug, PartialEq, Eq)]
@@ -24,7 +25,7 @@ pub struct FirstRides<'a> {
     pub origins: Digits,
     pub origin: u8,
     pub later: Later<'a>,
-    ghost placed: { (board < 512) × (origin < 4) },
+    ghost placed: { (board < call_room) × (origin < 4) },
 }
 
 impl<'a> FirstRides<'a> {
@@ -53,7 +54,7 @@ impl<'a> FirstRides<'a> {
 
     // The origins of the call at i, if one can board there.
     fn origins_at(calls: &Calls<'a>, i: usize) -> Digits
-        requires { i < 512 }
+        requires { i < call_room }
         ensures { concat_map (origin_firsts calls.now.feed.now calls.now.n i) (bits_of result.left)
             ≡ board_firsts calls.now.feed.now calls.now.n i }
     {
@@ -66,9 +67,9 @@ impl<'a> FirstRides<'a> {
 
     // Where a ride that boards at i may alight, if there is time to walk there from o.
     fn from_origin(calls: &Calls<'a>, i: usize, o: u8) -> Later<'a>
-        requires { (i < 512) × (o < 4) }
+        requires { (i < call_room) × (o < 4) }
         ensures rides { alight_firsts calls.now.feed.now o i (later_left result) ≡ origin_firsts calls.now.feed.now calls.now.n i o }
-        ensures few { length (later_left result) ≤ 512 }
+        ensures few { length (later_left result) ≤ call_room }
     {
         if can_walk(calls.origin_walk(o), calls.at(i).departure) {
             return Later::than(calls, i);

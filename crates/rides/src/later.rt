@@ -1,8 +1,9 @@
 // The later calls of the trip and day of one call.
 ghost use Rattle.std.specs.Prelude.{◌≡◌, ◌+◌, ◌<◌, []};
+ghost use Rattle.search_input.specs.Layout.{call_room};
 
-use crate::calls::Calls;
-use feed::{FeedCall, same_run};
+use crate::call_list::Calls;
+use search_input::{FeedCall, same_run};
 
 // The places from `next` on, as far as their calls are of the trip and day of `call`.
 #[derive(Clone, Copy, Debug, PartialEq, Eq, Drop)]
@@ -13,7 +14,7 @@ pub struct Later<'a> {
 }
 
 impl<'a> Later<'a> {
-    ghost use Rattle.feed.specs.Feed.{call_at};
+    ghost use Rattle.search_input.specs.Feed.{call_at};
     ghost use Rattle.rides.specs.Loops.{later_from};
     ghost use Rattle.rides.specs.Places.{later_left};
 
@@ -30,7 +31,7 @@ impl<'a> Later<'a> {
 
     // Those after the call at j.
     pub fn than(calls: &Calls<'a>, j: usize) -> Later<'a>
-        requires { j < 512 }
+        requires { j < call_room }
         ensures { later_left result ≡ later_from (call_at calls.now.feed.now) calls.now.n j (j + 1) }
     {
         Later {

@@ -3,9 +3,9 @@ ghost use Rattle.std.specs.Prelude.{◌≡◌, ◌<◌};
 ghost use Rattle.rides.specs.Rows.{offer_of};
 ghost use Rattle.rides.specs.Sheets.{sheet_of};
 
-use crate::calls::Calls;
+use crate::call_list::Calls;
 use candidate::Offer;
-use feed::{FirstRide, arrival_of};
+use search_input::{FirstRide, arrival_of};
 
 // A journey of so many rides from the ride f to target x, whose last ride arrives at `arrival`.
 #[tactic(auto, unfolding(crate::specs::Rows::offer_of, crate::specs::Sheets::sheet_of))]

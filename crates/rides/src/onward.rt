@@ -1,22 +1,23 @@
 // Journeys of three rides: what leads on from a ride. With no change left that is the targets where it ends, else every ride that it
-// joins, with the number of changes left falling by one at each.
-ghost use Rattle.std.specs.Prelude.{◌≡◌, [], ◌+◌, ◌-◌, ◌≤◌, ◌<◌, get_or};
-ghost use Rattle.feed.specs.Feed.{call_at};
+// joins, with the number of changes left falling by one at each. What leads on at no target before `over` is not walked (`change`).
+ghost use Rattle.std.specs.Prelude.{◌≡◌, [], ◌+◌, ◌≤◌, ◌<◌, get_or};
+ghost use Rattle.search_input.specs.Feed.{call_at};
 ghost use Rattle.rides.specs.Loops.{over_bits, over_calls, over_run, end_at, onward_rows, alight_on, board_on};
 ghost use Rattle.rides.specs.Offered.{Offered};
+ghost use Rattle.rides.specs.Over.{Over, Walked};
 ghost use Rattle.rides.specs.Reach.{Onward, Onward-prop};
-ghost use Rattle.rides.specs.Rows.{first_of};
 ghost use Rattle.rides.specs.Sheets.{sheet_of};
+ghost use Rattle.search_input.specs.Layout.{call_room};
 
 use crate::bits::Digits;
-use crate::calls::{Calls, Ride};
-use crate::later::Later;
+use crate::call_list::{Calls, Ride};
 use crate::lent::Lent;
 use crate::offer::offer;
+use candidate::times::threshold;
 use candidate::{Offer, candidate, passes_over};
-use feed::FirstRide;
-use state::is_refused;
-use state::layout::State;
+use search_input::layout::CALLS;
+use search_input::{FirstRide, arrival_of};
+use search_state::layout::State;
 
 // Offers the first ride, then the rides p and r, to target x.
 fn end_at(st: &mut State, calls: &Calls, f: FirstRide, p: Ride, r: Ride, x: u8)
@@ -36,21 +37,56 @@ fn end_at(st: &mut State, calls: &Calls, f: FirstRide, p: Ride, r: Ride, x: u8)
     );
 }
 
-// These targets.
-fn ends(st: &mut State, calls: &Calls, f: FirstRide, p: Ride, r: Ride, targets: Digits)
-    ensures { Offered st.old st.new (over_bits (end_at (sheet_of calls.now.feed.now) f p.board p.alight r.board r.alight) targets.left) }
+// The same, if it is due before `over`.
+fn end_before(
+    st: &mut State,
+    calls: &Calls,
+    f: FirstRide,
+    p: Ride,
+    r: Ride,
+    x: u8,
+    over: u32,
+) -> u32
+    requires { (x < 4) × Over st.old f 3 over }
+    ensures { Walked st.old st.new (end_at (sheet_of calls.now.feed.now) f p.board p.alight r.board r.alight x) f 3 result }
 {
-    for x in targets {
+    let due = arrival_of(calls.target_walk(x), calls.at(r.alight).arrival);
+    if due < over {
         end_at(st, calls, f, p, r, x);
+        return due;
     }
+    over
 }
 
-// The journeys of three rides, and how early one can be at a target from where a ride alights.
+// These targets.
+fn ends_before(
+    st: &mut State,
+    calls: &Calls,
+    f: FirstRide,
+    p: Ride,
+    r: Ride,
+    targets: Digits,
+    over: u32,
+) -> u32
+    requires { Over st.old f 3 over }
+    ensures { Walked st.old st.new
+        (over_bits (end_at (sheet_of calls.now.feed.now) f p.board p.alight r.board r.alight) targets.left) f 3 result }
+{
+    let mut over = over;
+    for x in targets {
+        over = end_before(st, calls, f, p, r, x, over);
+    }
+    over
+}
+
+// The journeys of three rides, and how early one can be at a target: from where a ride alights, by the number of changes left, and of the
+// rides that board at a place, by the number left after them.
 #[derive(Clone, Copy, Debug, PartialEq, Eq)]
 pub struct ThreeRides<'a> {
     pub lent: Lent<'a>,
-    pub times: &'a [[u16; 512]; 2],
-    ghost on_time: { Onward times.now lent.calls.feed.now lent.changes.now lent.calls.n } by { Onward-prop times.now lent.calls.feed.now lent.changes.now lent.calls.n },
+    pub times: &'a [[u16; CALLS]; 3],
+    pub boards: &'a [[u16; CALLS]; 2],
+    ghost on_time: { Onward times.now boards.now lent.calls.feed.now lent.changes.now lent.calls.n } by { Onward-prop times.now boards.now lent.calls.feed.now lent.changes.now lent.calls.n },
 }
 
 impl<'a> ThreeRides<'a> {
@@ -58,86 +94,150 @@ impl<'a> ThreeRides<'a> {
 
     // A time before which nothing that leads on from m by so many changes is due.
     fn time_on(&self, left: u16, m: usize) -> u16
-        requires { (1 ≤ left) × (left ≤ 2) × (m < 512) }
-        ensures { result ≡ get_or (get_or self.now.times.now (left - 1) []) m 0 }
+        requires { (left ≤ 2) × (m < call_room) }
+        ensures { result ≡ get_or (get_or self.now.times.now left []) m 0 }
     {
-        self.times[left as usize - 1][m]
+        self.times[left as usize][m]
+    }
+
+    // The same of the rides that board at c, with so many changes left after them.
+    fn time_from(&self, left: u16, c: usize) -> u16
+        requires { (left ≤ 1) × (c < call_room) }
+        ensures { result ≡ get_or (get_or self.now.boards.now left []) c 0 }
+    {
+        self.boards[left as usize][c]
     }
 
     // What leads on from the ride q, after r, if one can alight there.
     #[cycle(onward)]
-    fn alight_on(&self, st: &mut State, f: FirstRide, left: u16, r: Ride, q: Ride)
-        requires { (left < 3) × IsRun self.now.lent.calls.feed.now self.now.lent.calls.n q }
-        ensures { Offered st.old st.new
-            (alight_on left (sheet_in self.now.lent) (joins_in self.now.lent) self.now.lent.calls.n f r.board r.alight q.board q.alight) }
+    fn alight_on(&self, st: &mut State, f: FirstRide, left: u16, r: Ride, q: Ride, over: u32) -> u32
+        requires { (left ≤ 1) × IsRun self.now.lent.calls.feed.now self.now.lent.calls.n q × Over st.old f 3 over }
+        ensures { Walked st.old st.new
+            (alight_on left (sheet_in self.now.lent) (joins_in self.now.lent) self.now.lent.calls.n f r.board r.alight q.board q.alight)
+            f 3 result }
     {
+        if over <= self.time_on(left, q.alight) as u32 {
+            return over;
+        }
         if self.lent.calls.at(q.alight).alight {
-            self.onward(st, f, left, r, q);
+            return self.onward(st, f, left, r, q, over);
         }
+        over
     }
 
-    // The later calls of the trip and day of the call at c.
+    // The later calls of the trip and day of the call at c, up to where nothing leads on from those that follow before `over`.
     #[cycle(onward)]
-    fn alights_on(&self, st: &mut State, f: FirstRide, left: u16, r: Ride, c: usize)
-        requires { (left < 3) × (c < self.now.lent.calls.n) }
-        ensures { Offered st.old st.new
+    fn run_on(&self, st: &mut State, f: FirstRide, left: u16, r: Ride, c: usize, over: u32) -> u32
+        requires { (left ≤ 1) × (c < self.now.lent.calls.n) × Over st.old f 3 over }
+        ensures { Walked st.old st.new
             (over_run (alight_on left (sheet_in self.now.lent) (joins_in self.now.lent) self.now.lent.calls.n f r.board r.alight c)
-            (call_at self.now.lent.calls.feed.now) self.now.lent.calls.n c (c + 1)) }
+            (call_at self.now.lent.calls.feed.now) self.now.lent.calls.n c (c + 1)) f 3 result }
     {
-        for d in Later::than(&self.lent.calls, c) {
-            let q = Ride {
-                board: c,
-                alight: d,
-            };
-            self.alight_on(st, f, left, r, q);
-        }
-    }
-
-    // The rides that board at c, if the ride r, as p, joins them.
-    #[cycle(onward)]
-    fn board_on(&self, st: &mut State, f: FirstRide, left: u16, p: FirstRide, r: Ride, c: usize)
-        requires { (left < 3) × (c < self.now.lent.calls.n) }
-        ensures { Offered st.old st.new
-            (board_on left (sheet_in self.now.lent) (joins_in self.now.lent) self.now.lent.calls.n f p r.board r.alight c) }
-    {
-        if self.lent.can_board(p, c) {
-            self.alights_on(st, f, left, r, c);
-        }
-    }
-
-    // Every ride that it joins. A refused search stays as it is, so the loop may end there.
-    #[cycle(onward)]
-    fn rides_on(&self, st: &mut State, f: FirstRide, left: u16, p: FirstRide, r: Ride)
-        requires { left < 3 }
-        ensures { Offered st.old st.new
-            (over_calls (board_on left (sheet_in self.now.lent) (joins_in self.now.lent) self.now.lent.calls.n f p r.board r.alight)
-            self.now.lent.calls.n 0) }
-    {
-        for c in 0..self.lent.calls.n {
-            if is_refused(st) {
-                return;
+        let mut over = over;
+        let mut d = c;
+        // No iterator: what is still to come is asked before each step.
+        while (self.time_from(left, d) as u32) < over {
+            if self.lent.calls.goes_on(d) {
+                d += 1;
+                let q = Ride {
+                    board: c,
+                    alight: d,
+                };
+                over = self.alight_on(st, f, left, r, q, over);
+            } else {
+                return over;
             }
-            self.board_on(st, f, left, p, r, c);
         }
+        over
     }
 
-    // What leads on from the ride r, before which came p, with so many changes left; nothing if one as early as any of it would be
-    // passed over.
+    // The rides that board at c, if one of them leads on before `over` and the ride r, as p, joins them. Inlined, as in `change`.
+    #[inline]
     #[cycle(onward)]
-    pub fn onward(&self, st: &mut State, f: FirstRide, left: u16, p: Ride, r: Ride)
-        requires { (left < 3) × IsRide self.now.lent.calls.feed.now self.now.lent.calls.n r }
-        ensures { Offered st.old st.new
-            (onward_rows left (sheet_in self.now.lent) (joins_in self.now.lent) self.now.lent.calls.n f p.board p.alight r.board r.alight) }
+    fn board_on(
+        &self,
+        st: &mut State,
+        f: FirstRide,
+        left: u16,
+        p: FirstRide,
+        r: Ride,
+        c: usize,
+        over: u32,
+    ) -> u32
+        requires { (left ≤ 1) × (c < self.now.lent.calls.n) × Over st.old f 3 over }
+        ensures { Walked st.old st.new
+            (board_on left (sheet_in self.now.lent) (joins_in self.now.lent) self.now.lent.calls.n f p r.board r.alight c) f 3 result }
+    {
+        if over <= self.time_from(left, c) as u32 {
+            return over;
+        }
+        if self.lent.can_board(p, c) {
+            return self.run_on(st, f, left, r, c, over);
+        }
+        over
+    }
+
+    // Every ride that it joins.
+    #[cycle(onward)]
+    fn rides_on(
+        &self,
+        st: &mut State,
+        f: FirstRide,
+        left: u16,
+        p: FirstRide,
+        r: Ride,
+        over: u32,
+    ) -> u32
+        requires { (left ≤ 1) × Over st.old f 3 over }
+        ensures { Walked st.old st.new
+            (over_calls (board_on left (sheet_in self.now.lent) (joins_in self.now.lent) self.now.lent.calls.n f p r.board r.alight)
+            self.now.lent.calls.n 0) f 3 result }
+    {
+        let mut over = over;
+        for c in 0..self.lent.calls.n {
+            over = self.board_on(st, f, left, p, r, c, over);
+        }
+        over
+    }
+
+    // What leads on from the ride r, before which came p, with so many changes left.
+    #[cycle(onward)]
+    fn onward(&self, st: &mut State, f: FirstRide, left: u16, p: Ride, r: Ride, over: u32) -> u32
+        requires { (left ≤ 1) × IsRide self.now.lent.calls.feed.now self.now.lent.calls.n r × Over st.old f 3 over }
+        ensures { Walked st.old st.new
+            (onward_rows left (sheet_in self.now.lent) (joins_in self.now.lent) self.now.lent.calls.n f p.board p.alight r.board r.alight)
+            f 3 result }
     {
         let calls = &self.lent.calls;
         if left == 0 {
-            ends(st, calls, f, p, r, calls.targets(calls.at(r.alight).stop));
-            return;
+            return ends_before(
+                st,
+                calls,
+                f,
+                p,
+                r,
+                calls.targets(calls.at(r.alight).stop),
+                over,
+            );
         }
-        let t = self.time_on(left, r.alight);
+        self.rides_on(st, f, left - 1, calls.first_ride(r, 0), r, over)
+    }
+
+    // What leads on from the first ride f, which is r, by two changes; nothing if all of it is due at `over` or later, or would be passed
+    // over at its earliest.
+    pub fn three_rides(&self, st: &mut State, f: FirstRide, r: Ride, over: u32) -> u32
+        requires { IsRide self.now.lent.calls.feed.now self.now.lent.calls.n r × Over st.old f 3 over }
+        ensures { Walked st.old st.new
+            (onward_rows 2 (sheet_in self.now.lent) (joins_in self.now.lent) self.now.lent.calls.n f 0 0 r.board r.alight) f 3 result }
+    {
+        let t = self.time_on(2, r.alight);
+        if over <= t as u32 {
+            return over;
+        }
         if passes_over(st, f.figures(t, 3)) {
-            return;
+            return t as u32;
         }
-        self.rides_on(st, f, left - 1, calls.first_ride(r, 0), r);
+        let over = threshold(st, f.leave, 3, f.walk);
+        self.rides_on(st, f, 1, self.lent.calls.first_ride(r, 0), r, over)
     }
 }

@@ -1,6 +1,6 @@
 // The whole search: a pass over the first rides for the journeys of one ride and two, and one for those of three.
 ghost use Rattle.std.specs.Prelude.{◌≡◌, ◌≤◌, ◌<◌};
-ghost use Rattle.state.specs.View.{view};
+ghost use Rattle.search_state.specs.View.{view};
 ghost use Rattle.rides.specs.Loops.{direct_at, direct_rows, pass_rows};
 ghost use Rattle.rides.specs.Places.{sheet_in, joins_in};
 ghost use Rattle.rides.specs.Sheets.{sheet_of};
@@ -8,21 +8,24 @@ ghost use Rattle.rides.specs.Routes.{rows_of};
 ghost use Rattle.rides.specs.Offered.{offer_all, Offered};
 
 use crate::bounds::bounds_of;
-use crate::calls::{Calls, Ride};
+use crate::call_list::{Calls, Ride};
+use crate::change::{directs_before, first_before};
 use crate::firsts::FirstRides;
 use crate::last::LastRides;
 use crate::lent::Lent;
 use crate::offer::offer;
 use crate::onward::ThreeRides;
 use crate::reach::onward_times;
+use crate::since::{over_for, since_for, since_none};
 use candidate::candidate;
-use feed::FirstRide;
-use feed::layout::{Changes, Feed};
-use state::is_refused;
-use state::layout::State;
+use candidate::times::late;
+use search_input::FirstRide;
+use search_input::layout::{CALLS, Changes, Feed};
+use search_state::is_refused;
+use search_state::layout::State;
 
 // Offers the ride alone, to target x.
-fn direct_at(st: &mut State, calls: &Calls, f: FirstRide, x: u8)
+pub(crate) fn direct_at(st: &mut State, calls: &Calls, f: FirstRide, x: u8)
     requires { x < 4 }
     ensures { Offered st.old st.new (direct_at (sheet_of calls.now.feed.now) f x) }
 {
@@ -38,15 +41,31 @@ pub fn directs(st: &mut State, calls: &Calls, f: FirstRide)
     }
 }
 
+// What stands before the first of the first rides: any ride, as nothing is known before one. What is known of a ride holds of the next, if
+// they leave alike and walk alike.
+fn any_ride(calls: &Calls) -> FirstRide {
+    let none = Ride {
+        board: 0,
+        alight: 0,
+    };
+    calls.first_ride(none, 0)
+}
+
 // The direct journeys. A refused search stays as it is, so the loop of a pass may end there.
 fn direct_pass(st: &mut State, lent: &Lent)
     ensures { Offered st.old st.new (pass_rows (sheet_in lent.now) (joins_in lent.now) 0 lent.now.calls.n) }
 {
-    for l in FirstRides::of(&lent.calls) {
+    let calls = &lent.calls;
+    let mut before = any_ride(calls);
+    let mut over = late(st);
+    for l in FirstRides::of(calls) {
         if is_refused(st) {
             return;
         }
-        directs(st, &lent.calls, lent.calls.first_ride(l.ride, l.origin));
+        let f = calls.first_ride(l.ride, l.origin);
+        let from = over_for(st, f, before, over);
+        over = directs_before(st, calls, f, from);
+        before = f;
     }
 }
 
@@ -55,13 +74,17 @@ fn change_pass(st: &mut State, last: &LastRides)
     ensures { Offered st.old st.new (pass_rows (sheet_in last.now.lent) (joins_in last.now.lent) 1 last.now.lent.calls.n) }
 {
     let calls = &last.lent.calls;
+    let mut joined = [0u16; CALLS];
+    let mut before = any_ride(calls);
+    let mut since = since_none(st);
     for l in FirstRides::of(calls) {
         if is_refused(st) {
             return;
         }
         let f = calls.first_ride(l.ride, l.origin);
-        directs(st, calls, f);
-        last.change_rides(st, f);
+        let now = since_for(st, f, before, since);
+        since = first_before(st, &mut joined, last, f, now);
+        before = f;
     }
 }
 
@@ -70,16 +93,16 @@ fn three_pass(st: &mut State, three: &ThreeRides)
     ensures { Offered st.old st.new (pass_rows (sheet_in three.now.lent) (joins_in three.now.lent) 2 three.now.lent.calls.n) }
 {
     let calls = &three.lent.calls;
-    // Where a ride stands before the first one, nothing is read of it: so no option, which each later step would have to open.
-    let none = Ride {
-        board: 0,
-        alight: 0,
-    };
+    let mut before = any_ride(calls);
+    let mut over = late(st);
     for l in FirstRides::of(calls) {
         if is_refused(st) {
             return;
         }
-        three.onward(st, calls.first_ride(l.ride, l.origin), 2, none, l.ride);
+        let f = calls.first_ride(l.ride, l.origin);
+        let from = over_for(st, f, before, over);
+        over = three.three_rides(st, f, l.ride, from);
+        before = f;
     }
 }
 
@@ -106,7 +129,8 @@ fn with_two(st: &mut State, lent: &Lent)
     let times = onward_times(lent);
     let three = ThreeRides {
         lent: *lent,
-        times: &times,
+        times: &times.on,
+        boards: &times.boards,
     };
     three_pass(st, &three);
 }

@@ -4,6 +4,7 @@ use Rattle.std.specs.Prelude.{ℕ, List, [], ◌∷◌, Bool, not, ◌&&◌, tak
 use Rattle.laws.specs.Lists.{anyb}
 use Rattle.refusal.specs.declared.Refusal.TheVariants.{AlreadySearched, FieldRange, RuleType, PairTaken, NoRoom}
 use Rattle.rules.specs.declared.Rule.{Rule}
+use Rattle.rules.specs.Sizes.{rule_room}
 
 -- what an unused slot holds
 abbrev pub blank_rule : Rule
@@ -24,5 +25,5 @@ rule_tests searched stops rules count i =
     ∷ (not (ltb i.from stops && ltb i.to stops), Err FieldRange)
     ∷ (not (type_right_of i.transfer_type i.seconds), Err RuleType)
     ∷ (anyb (same_pair i.from i.to) (take count rules), Err PairTaken)
-    ∷ (leb 128 count, Err NoRoom)
+    ∷ (leb rule_room count, Err NoRoom)
     ∷ []

@@ -5,15 +5,16 @@ use Rattle.std.specs.Prelude.{ℕ, ◌+◌, ◌-◌, ◌≤◌, ◌<◌, ◌≡�
 use Rattle.refusal.specs.First.{first_answer}
 use Rattle.rules.specs.declared.Rule.{Rule}
 use Rattle.rules.specs.Rules.{blank_rule, same_pair, rule_tests}
+use Rattle.rules.specs.Sizes.{rule_room}
 
 -- the rule of a number
 unfoldable pub rule_at : List Rule → ℕ → Rule
 rule_at rs k = get_or rs k blank_rule
 
 pub record RulesSound (stops : ℕ) (rules : List Rule) (count : ℕ) : Type 0 where
-  pub few : count ≤ 128
-  pub long : length rules ≡ 128
-  pub blank : drop count rules ≡ replicate (128 - count) blank_rule
+  pub few : count ≤ rule_room
+  pub long : length rules ≡ rule_room
+  pub blank : drop count rules ≡ replicate (rule_room - count) blank_rule
   pub from_known : (k : ℕ) → k < count → (rule_at rules k).from < stops
   pub to_known : (k : ℕ) → k < count → (rule_at rules k).to < stops
   pub types : (k : ℕ) → k < count → (rule_at rules k).transfer_type ≤ 3
@@ -21,7 +22,7 @@ pub record RulesSound (stops : ℕ) (rules : List Rule) (count : ℕ) : Type 0 w
 
 -- no rule taken yet
 abbrev pub NoRulesSound : Type 0
-NoRulesSound = (stops : ℕ) → RulesSound stops (replicate 128 blank_rule) 0
+NoRulesSound = (stops : ℕ) → RulesSound stops (replicate rule_room blank_rule) 0
 
 -- a rule that is taken keeps the rules sound
 abbrev pub RuleKeepsSound : Type 0

@@ -8,6 +8,9 @@ ghost use Rattle.rules.specs.Rules.{blank_rule, same_pair, type_right_of, rule_t
 
 use refusal::{Accepted, Answer, Refusal};
 
+// How many rules a load holds.
+pub const RULES: usize = 128;
+
 // A rule is held as it is handed in. `transfer_type` is a number and no enum: any may be handed in, and one above 3 is sent back.
 #[derive(Clone, Copy, Debug, Default, PartialEq, Eq)]
 pub struct Rule {
@@ -62,7 +65,7 @@ pub fn rule_answer(searched: bool, stops: usize, rules: &[Rule], input: Rule) ->
     if rule_known(rules, input.from, input.to) {
         return Err(Refusal::PairTaken);
     }
-    if 128 <= rules.len() {
+    if RULES <= rules.len() {
         return Err(Refusal::NoRoom);
     }
     Ok(Accepted::Taken)

@@ -30,7 +30,7 @@ use Rattle.week.specs.Weeks.{is_dated, undated_week}
 use Rattle.load.specs.declared.Load.{Load}
 use Rattle.load.specs.Load.{table_of, with_table}
 use Rattle.load.specs.Steps.{plain_call, call_spec}
-use Rattle.load.specs.Filling.{call}
+use Rattle.load.specs.FillStep.{call}
 use Rattle.again.specs.Again.{add_spec_of}
 use Rattle.steps.specs.Steps.{filling, stepped}
 use Rattle.file.specs.Record.{kind_right, filled, step_in}

@@ -16,7 +16,7 @@ use Rattle.fields.specs.Numbers.{u16_at}
 use Rattle.load.specs.declared.Load.{Load}
 use Rattle.steps.specs.Steps.{stepped}
 use Rattle.file.specs.declared.Reader.{Reader}
-use Rattle.file.specs.declared.Took.{Took}
+use Rattle.file.specs.declared.RecordResult.{RecordResult}
 use Rattle.file.specs.Record.{open_reader, kind_right, filled, record_tests, step_in, stepped_by, settled, record_spec}
 use Rattle.file.specs.File.{starts_whole, size_of, body_of, later, fed_spec}
 use Rattle.file.proofs.FedLaws.{none-whole, fed-stops, fed-goes-on}
@@ -69,7 +69,7 @@ pub fed-one : (r : Reader) (m : Load) (b rest : List ℕ) → record_spec r b �
     → fed_spec r (framed b ++ rest) ≡ later (2 + length b) (fed_spec (open_reader m) rest)
 fed-one r m b rest t =
     let body : record_spec r (body_of (framed b ++ rest)) ≡ read_as m = ap (record_spec r) (body_is b rest) ∙ t in
-    fed-goes-on r (framed b ++ rest) (is_whole b rest) (ap (λ (k : Took). is_refused k.answer) body)
+    fed-goes-on r (framed b ++ rest) (is_whole b rest) (ap (λ (k : RecordResult). is_refused k.answer) body)
     ∙ (λ i. later (2 + size_is b rest i) (fed_spec (body i).reader (rest_is b rest i)))
 
 -- all bytes are used

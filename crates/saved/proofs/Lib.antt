@@ -6,3 +6,4 @@ pub mod CallLaws
 pub mod FileLaws
 pub mod SearchedLaws
 pub mod EndLaws
+pub mod WitnessLaws

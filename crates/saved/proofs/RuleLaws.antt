@@ -21,7 +21,7 @@ use Rattle.rules.specs.Sound.{rule_at, RulesSound}
 use Rattle.load.specs.declared.Load.{Load}
 use Rattle.load.specs.Load.{with_rules}
 use Rattle.load.specs.Steps.{rule_spec}
-use Rattle.load.specs.Filling.{rule}
+use Rattle.load.specs.FillStep.{rule}
 use Rattle.steps.specs.Steps.{filling, stepped}
 use Rattle.file.specs.Record.{kind_right, filled, step_in}
 use Rattle.codec.specs.Kinds.{rule_body}

@@ -11,7 +11,7 @@ use Rattle.laws.proofs.Folds.{concat_map-append}
 use Rattle.settings.specs.declared.Settings.{Settings}
 use Rattle.offers.specs.Search.{Outcome, clashing, falling, found, answer_of}
 use Rattle.load.specs.declared.Load.{Load}
-use Rattle.load.specs.declared.Stepped.{Stepped}
+use Rattle.load.specs.declared.StepResult.{StepResult}
 use Rattle.load.specs.Load.{empty_load}
 use Rattle.search.specs.Timetable.{timetable_of}
 use Rattle.search.specs.Search.{outcome_of, settled, search_spec}
@@ -20,7 +20,7 @@ use Rattle.again.specs.Again.{unsearched_of}
 use Rattle.again.proofs.OwnLaws.{own-finished}
 use Rattle.again.proofs.SoundLaws.{unsearched-new, unsearched-sound}
 use Rattle.again.proofs.KeptLaws.{new-kept}
-use Rattle.file.specs.declared.Took.{Took}
+use Rattle.file.specs.declared.RecordResult.{RecordResult}
 use Rattle.file.specs.Record.{kind_right, filled, step_in}
 use Rattle.file.specs.File.{read_spec_of}
 use Rattle.codec.specs.Shapes.{framed}
@@ -53,11 +53,11 @@ unsearched-at l u = u
 search-at : (l m : Load) → l.searched ≡ false → search_spec l ≡ record { answer = Ok Taken; load = m }
     → search_spec (load_at_start l) ≡ record { answer = Ok Taken; load = load_at_start m }
 search-at l m u e =
-    let f : ◌≡◌ {A = Stepped} (record { answer = answer_of (outcome_of l); load = settled l (outcome_of l) })
+    let f : ◌≡◌ {A = StepResult} (record { answer = answer_of (outcome_of l); load = settled l (outcome_of l) })
     (record { answer = Ok Taken; load = m }) = sym (search-runs l u) ∙ e in
     search-runs (load_at_start l) (unsearched-at l u)
     ∙ ap (λ (o : Outcome). record { answer = answer_of o; load = settled (load_at_start l) o }) (outcome-at l)
-    ∙ (λ t. record { answer = (f t).answer; load = (settled_at l (outcome_of l) ∙ ap (λ (x : Stepped). load_at_start x.load) f) t })
+    ∙ (λ t. record { answer = (f t).answer; load = (settled_at l (outcome_of l) ∙ ap (λ (x : StepResult). load_at_start x.load) f) t })
 
 -- the search record
 search-takes : (l m : Load) → search_spec l ≡ record { answer = Ok Taken; load = m } → m.table_horizon ≡ l.table_horizon
@@ -153,7 +153,7 @@ reads-back l w =
 -- ---- one file for each load
 
 pub one-file : OneFile
-one-file l m w v e = ap (λ (k : Took). k.reader.load) (sym (reads-back l w) ∙ ap read_spec_of e ∙ reads-back m v)
+one-file l m w v e = ap (λ (k : RecordResult). k.reader.load) (sym (reads-back l w) ∙ ap read_spec_of e ∙ reads-back m v)
 
 write-at : (l : Load) → write_spec_of (load_at_start l) ≡ write_spec_of l
 unfolding write_spec_of settings_file load_at_start at_start

@@ -26,7 +26,7 @@ use Rattle.rules.specs.declared.Rule.{Rule}
 use Rattle.load.specs.declared.Load.{Load}
 use Rattle.load.specs.Load.{with_stops}
 use Rattle.load.specs.Steps.{station_in, stop_spec}
-use Rattle.load.specs.Filling.{stop}
+use Rattle.load.specs.FillStep.{stop}
 use Rattle.steps.specs.Steps.{filling, stepped}
 use Rattle.file.specs.Record.{kind_right, filled, step_in}
 use Rattle.codec.specs.Kinds.{stop_body}

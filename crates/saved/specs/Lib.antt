@@ -1,1 +1,3 @@
 pub mod Saved
+pub mod Witness
+pub mod Proved

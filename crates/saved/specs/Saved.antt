@@ -12,7 +12,7 @@ use Rattle.load.specs.Steps.{Opening}
 use Rattle.load.specs.Sound.{Opens}
 use Rattle.steps.specs.Steps.{Step}
 use Rattle.steps.specs.Lists.{end_of}
-use Rattle.file.specs.declared.Took.{Took}
+use Rattle.file.specs.declared.RecordResult.{RecordResult}
 use Rattle.file.specs.Record.{open_reader, record_spec}
 use Rattle.file.specs.File.{read_spec_of}
 use Rattle.codec.specs.Shapes.{framed}
@@ -23,6 +23,7 @@ use Rattle.written.specs.Keeps.{AllGive}
 use Rattle.writer.specs.File.{write_spec_of}
 use Rattle.writer.specs.Wrote.{unwritable}
 use Rattle.week.specs.Weeks.{is_dated}
+use Rattle.calls.specs.Sizes.{longest_horizon}
 
 -- ---- the load that is read
 
@@ -47,7 +48,7 @@ load_at_start l = record {
   week = l.week;
 }
 
-abbrev pub read_as : Load → Took
+abbrev pub read_as : Load → RecordResult
 read_as l = record { answer = Ok Taken; reader = open_reader l }
 
 -- ---- what may be written: a load that steps made, without dates, whose search was not stopped, of a table that was never cut
@@ -56,7 +57,7 @@ pub record Writable (l : Load) : Type 0 where
   pub whole : Whole l
   pub dateless : is_dated l.week ≡ false
   pub unstopped : stopped l ≡ false
-  pub uncut : l.table_horizon ≡ 21600
+  pub uncut : l.table_horizon ≡ longest_horizon
 
 -- which 25 does not meet
 abbrev pub Passes : Load → Type 0

@@ -14,7 +14,7 @@ use Rattle.offers.specs.Offers.{sorted, offers}
 use Rattle.offers.specs.Search.{Outcome, clashing, falling, found, answer_of, ends_by_of}
 use Rattle.offers.proofs.SearchLaws.{search-by-offers}
 use Rattle.load.specs.declared.Load.{Load}
-use Rattle.load.specs.declared.Stepped.{Stepped}
+use Rattle.load.specs.declared.StepResult.{StepResult}
 use Rattle.search.specs.Timetable.{timetable_of}
 use Rattle.search.specs.Search.{outcome_of, settled, search_spec, is_never, would_fall, search_causes, SearchAnswered}
 
@@ -40,8 +40,8 @@ module _ (l : Load) where
   settled_same (found ks h m) e = absurd (false≢true e)
 
   -- what the search returns, by whether the load was searched
-  abbrev returned : Bool → Stepped
-  returned b = cond {A = Stepped} b (record { answer = Err AlreadySearched; load = l })
+  abbrev returned : Bool → StepResult
+  returned b = cond {A = StepResult} b (record { answer = Err AlreadySearched; load = l })
       (record { answer = answer_of (outcome_of l); load = settled l (outcome_of l) })
 
   returned-first : (b : Bool) → l.searched ≡ b → First (returned b).answer (search_causes l)

@@ -19,15 +19,15 @@ use Rattle.offers.specs.Order.{sort_first}
 use Rattle.offers.specs.Offers.{Timetable, arrival_of, network_of}
 use Rattle.offers.specs.Places.{InPlaces}
 use Rattle.limited.specs.Margin.{alightings, target_arrivals, least_of, earliest}
-use Rattle.feed.specs.Feed as feed
-use Rattle.feed.specs.Feed.{call_at, target_walk_of}
+use Rattle.search_input.specs.Feed as feed
+use Rattle.search_input.specs.Feed.{call_at, target_walk_of}
 use Rattle.rides.specs.Rows as by
 use Rattle.rides.specs.Sheets.{joins_of, sheet_of}
 use Rattle.rides.specs.Agree.{Agree}
 use Rattle.rides.proofs.AgreeLaws.{target_below, place-below, same-network}
 use Rattle.limited_rides.specs.Earliest.{sooner, soonest, ride_due}
 use Rattle.limited_rides.proofs.DueLaws.{due-by-rides}
-use Rattle.feed_array.specs.Feeds.{Feeds}
+use Rattle.search_input_array.specs.Feeds.{Feeds}
 use Rattle.load.specs.declared.Load.{Load}
 use Rattle.search.specs.Timetable.{timetable_of}
 use Rattle.search.specs.Rows.{feed_call, sheet_from, joins_from}

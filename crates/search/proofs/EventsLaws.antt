@@ -19,7 +19,7 @@ use Rattle.counted.specs.Joins.{Join, events, event_by}
 use Rattle.counted.proofs.JoinLaws.{events-of-images}
 use Rattle.counted.proofs.StandLaws.{stand-offers, stand-joins, stand-up-to, stand-finished, event-itself}
 use Rattle.limited.specs.Limited.{events_of, offers_within, joins_within, finished_within}
-use Rattle.feed.specs.Feed as feed
+use Rattle.search_input.specs.Feed as feed
 use Rattle.rides.specs.Rows as by
 use Rattle.rides.specs.Rows.{Sheet, Joins, first_of, direct_row, change_row}
 use Rattle.rides.specs.Agree.{Agree}

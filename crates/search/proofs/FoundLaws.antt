@@ -16,15 +16,15 @@ use Rattle.profile.specs.Best.{sooner, ordered}
 use Rattle.profile.specs.Journeys.{no_journey, journey_figures, row_figures}
 use Rattle.profile.specs.Kept.{going, searched}
 use Rattle.profile.proofs.ClaimLaws.{kept-is-front, front-unbeaten, ordered-maps}
-use Rattle.state.specs.View.{view, count_of, kept_of}
-use Rattle.state.proofs.ViewLaws.{view-parts}
+use Rattle.search_state.specs.View.{view, count_of, kept_of}
+use Rattle.search_state.proofs.ViewLaws.{view-parts}
 use Rattle.offers.specs.Order.{sort_first}
 use Rattle.offers.specs.Offers.{sorted}
 use Rattle.offers.specs.Places.{journey_at, InPlaces}
 use Rattle.offers.proofs.OrderLaws.{sorted_front}
 use Rattle.offers.proofs.PlacesLaws.{array-in-places, row-figures}
-use Rattle.read_back.specs.Kept.{journey_of}
-use Rattle.read_back.proofs.KeptLaws.{journeys-right}
+use Rattle.kept_journeys.specs.Kept.{journey_of}
+use Rattle.kept_journeys.proofs.KeptLaws.{journeys-right}
 use Rattle.load.specs.declared.Load.{Load}
 use Rattle.load.specs.Load.{with_seen}
 use Rattle.search.specs.Timetable.{timetable_of}

@@ -24,7 +24,3 @@ fit w h (x ∷ xs) (u ∷ us) s (suc i) = fit w h xs us s.1 i
 pub numbers-small : (xs : List ℕ) (us : List Val) → shadow (each (e_int w16).ty.Denot (e_int w16).ty.own_val xs us) → (i : ℕ)
     → get_or xs i 0 < 65536
 numbers-small = fit w16 (omega arith)
-
--- and so do the walks of a load
-pub walks-small : (x : Load) (vs : List Val) → Is (row L.the_type) x vs → (o : ℕ) → get_or x.settings.origin_walks o 0 < 256
-walks-small x vs g = fit w8 (omega arith) x.settings.origin_walks _ g.1.1.0.1.1.1.1.0.1.1

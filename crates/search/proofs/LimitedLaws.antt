@@ -18,9 +18,9 @@ use Rattle.profile.specs.Found.{Row}
 use Rattle.profile.specs.declared.Journey.{Journey}
 use Rattle.profile.specs.Best.{ordered}
 use Rattle.profile.specs.Journeys.{journey_figures, row_figures}
-use Rattle.profile.specs.Kept.{St, going, refused, searched, map_st}
-use Rattle.state.specs.View.{view, open_of}
-use Rattle.state.proofs.ViewLaws.{view-is-refused}
+use Rattle.profile.specs.Kept.{SearchState, going, refused, searched, map_st}
+use Rattle.search_state.specs.View.{view, open_of}
+use Rattle.search_state.proofs.ViewLaws.{view-is-refused}
 use Rattle.candidate.proofs.OfferLaws.{offers-search}
 use Rattle.offers.specs.Order.{sort_first, clashes}
 use Rattle.offers.specs.Places.{journey_at}
@@ -95,7 +95,7 @@ module _ (l : Load) (n : ℕ) (u : l.searched ≡ false) (one : l.settings.max_t
     abbrev es : List RowEvent
     es = place_events (timetable_of l) (placed cs) (min l.call_count 512)
 
-    abbrev kept : St Row
+    abbrev kept : SearchState Row
     kept = searched row_figures 64 3600 l.table_horizon l.table_limits (offers_of (up_to n es))
 
     outcome-by : outcome_within l n ≡ found_by (map_st (journey_at (placed cs)) kept)
@@ -108,11 +108,11 @@ module _ (l : Load) (n : ℕ) (u : l.searched ≡ false) (one : l.settings.max_t
     module _ {st st' : List ℕ} {r : Tested} (e0 : view st ≡ going [] l.table_horizon l.table_limits) (w : Within st st' n es r) where
       ended : view st' ≡ kept
       unfolding offer_all
-      ended = w.state ∙ ap (λ (s : St Row). offer_all s (offers_of (up_to n es))) e0
+      ended = w.state ∙ ap (λ (s : SearchState Row). offer_all s (offers_of (up_to n es))) e0
           ∙ offers-search l.table_horizon l.table_limits (offers_of (up_to n es))
 
-      outcome-of : (s : St Row) → view st' ≡ s → outcome_within l n ≡ found_by (map_st (journey_at (placed cs)) s)
-      outcome-of s v = outcome-by ∙ ap (λ (x : St Row). found_by (map_st (journey_at (placed cs)) x)) (sym ended ∙ v)
+      outcome-of : (s : SearchState Row) → view st' ≡ s → outcome_within l n ≡ found_by (map_st (journey_at (placed cs)) s)
+      outcome-of s v = outcome-by ∙ ap (λ (x : SearchState Row). found_by (map_st (journey_at (placed cs)) x)) (sym ended ∙ v)
 
       -- 11
       pub within-falling : (x : Bool) → x ≡ not (open_of st') → x ≡ true → sent_back_of l (Err NoRoom) ≡ within_spec l n
@@ -160,6 +160,6 @@ module _ (l : Load) (n : ℕ) (u : l.searched ≡ false) (one : l.settings.max_t
         pub within-found : (y : Bool) → y ≡ not (open_of st') → y ≡ false → next ≡ within_spec l n
         within-found y ey fy = go (view st') refl
           where
-            go : (v : St Row) → view st' ≡ v → next ≡ within_spec l n
+            go : (v : SearchState Row) → view st' ≡ v → next ≡ within_spec l n
             go refused v = absurd (true≢false (sym (ap not ((view-is-refused st').0 v)) ∙ sym ey ∙ fy))
             go (going ks h m) v = going-returned ks h m v

@@ -16,7 +16,7 @@ use Rattle.stops.specs.Sound.{stop_at}
 use Rattle.rules.specs.declared.Rule.{Rule}
 use Rattle.calls.specs.declared.Call.{Call}
 use Rattle.profile.specs.Kept.{going}
-use Rattle.state.specs.View.{view}
+use Rattle.search_state.specs.View.{view}
 use Rattle.candidate.specs.Offer.{offer_to}
 use Rattle.candidate.proofs.OfferLaws.{offers-search}
 use Rattle.places.specs.Places.{places_of}
@@ -25,7 +25,7 @@ use Rattle.transfer.specs.Copied.{parents_of}
 use Rattle.transfer.specs.Rows.{entry_of}
 use Rattle.offers.specs.Offers.{ride_of}
 use Rattle.offers.specs.Places as by
-use Rattle.feed.specs.Feed.{call_at, member_at, origin_mask, target_mask, origin_walk_of, target_walk_of, change_at, joined}
+use Rattle.search_input.specs.Feed.{call_at, member_at, origin_mask, target_mask, origin_walk_of, target_walk_of, change_at, joined}
 use Rattle.rides.specs.Sheets.{joins_of, sheet_of}
 use Rattle.rides.specs.Routes.{route_rows, rows_of}
 use Rattle.rides.specs.Offered.{offer_all}
@@ -34,8 +34,8 @@ use Rattle.rides.specs.Agree.{Agree}
 use Rattle.limited_rides.specs.declared.Tested.{Tested}
 use Rattle.limited_rides.specs.RowEvents.{events_at}
 use Rattle.limited_rides.specs.Within.{Within}
-use Rattle.feed_array.specs.Feeds.{Feeds}
-use Rattle.change_array.specs.Named.{stop_in, HoldsChanges}
+use Rattle.search_input_array.specs.Feeds.{Feeds}
+use Rattle.transfer_array.specs.Named.{stop_in, HoldsChanges}
 use Rattle.load.specs.declared.Load.{Load}
 use Rattle.search.specs.Timetable.{change_in, joins_in, timetable_of}
 use Rattle.search.specs.Offered.{placed, offered_of}
@@ -242,3 +242,19 @@ module _ (l : Load) (calls : List Call) (f g : List ℕ) (depth : ℕ) (w : Feed
   pub within-is : {st st' : List ℕ} {limit : ℕ} {r : Tested} → Within st st' limit (events_at f g l.call_count depth) r
       → Within st st' limit (place_events (timetable_of l) (placed calls) first) r
   within-is w = rw (← events-are) w
+
+-- ---- without changes
+
+none-read : (l : Load) (f g : List ℕ) → l.settings.max_transfers ≡ 0
+    → HoldsChanges g f l.call_count l.settings.max_transfers (λ p q. change_number (change_in l p q))
+none-read l f g e = λ one k q hk few near hq. absurd (omega (arith, one, e))
+
+module _ (l : Load) (calls : List Call) (f g : List ℕ) (w : Feeds f calls l.stops l.settings) (small : (i : ℕ) → get_or f i 0 < 65536)
+    (e : l.settings.max_transfers ≡ 0) where
+  pub direct-is : (st st' : List ℕ) → view st ≡ going [] l.table_horizon l.table_limits
+      → view st' ≡ offer_all (view st) (rows_of f g l.call_count 0) → view st' ≡ offered_of l calls
+  direct-is st st' e0 e1 = offered-is l calls f g 0 w small (none-read l f g e) (sym e) st st' e0 e1
+
+  pub direct-within : {st st' : List ℕ} {limit : ℕ} {r : Tested} → Within st st' limit (events_at f g l.call_count 0) r
+      → Within st st' limit (place_events (timetable_of l) (placed calls) (min l.call_count 512)) r
+  direct-within u = within-is l calls f g 0 w small (none-read l f g e) (sym e) u

@@ -16,7 +16,7 @@ use Rattle.profile.proofs.ClaimLaws.{search-maps}
 use Rattle.offers.specs.Offers.{Timetable, network_of, ride_by, on_journey, journey_to, journey_by, offers}
 use Rattle.offers.specs.Places.{origin_mask, target_mask, journey_at}
 use Rattle.offers.proofs.PlacesLaws.{mask-bits, row-figures}
-use Rattle.feed.specs.Feed as feed
+use Rattle.search_input.specs.Feed as feed
 use Rattle.rides.specs.Rows as by
 use Rattle.rides.specs.Rows.{first_of, direct_row, change_row, three_row}
 use Rattle.rides.specs.Routes.{on_row, row_to, row_by, route_rows}

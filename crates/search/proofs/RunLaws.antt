@@ -15,15 +15,15 @@ use Rattle.calls.proofs.SoundLaws.{all-mem}
 use Rattle.offers.specs.Order.{Timed}
 use Rattle.offers.specs.Search.{Outcome, clashing, falling, found, answer_of}
 use Rattle.load.specs.declared.Load.{Load}
-use Rattle.load.specs.declared.Stepped.{Stepped}
+use Rattle.load.specs.declared.StepResult.{StepResult}
 use Rattle.load.specs.Sound.{Sound}
 use Rattle.search.specs.Timetable.{timetable_of}
 use Rattle.search.specs.Search.{outcome_of, with_journeys, settled, search_spec}
 
-abbrev again : Load → Stepped
+abbrev again : Load → StepResult
 again l = record { answer = Err AlreadySearched; load = l }
 
-abbrev ran : Load → Stepped
+abbrev ran : Load → StepResult
 ran l = record { answer = answer_of (outcome_of l); load = settled l (outcome_of l) }
 
 pub search-again : (l : Load) → l.searched ≡ true → search_spec l ≡ again l
@@ -59,8 +59,8 @@ taken-found l t = by l.searched refl
     }
 
     by : (b : Bool) → l.searched ≡ b → Found l
-    by true e = absurd (true≢false (sym t ∙ ap (λ (r : Stepped). is_taken r.answer) (search-again l e)))
-    by false e = go e (outcome_of l) refl (sym (ap (λ (r : Stepped). is_taken r.answer) (search-runs l e)) ∙ t)
+    by true e = absurd (true≢false (sym t ∙ ap (λ (r : StepResult). is_taken r.answer) (search-again l e)))
+    by false e = go e (outcome_of l) refl (sym (ap (λ (r : StepResult). is_taken r.answer) (search-runs l e)) ∙ t)
 
 outcome-stays : (l : Load) (o : Outcome) → is_taken (answer_of o) ≡ false → settled l o ≡ l
 outcome-stays l clashing e = refl
@@ -72,9 +72,9 @@ pub untaken-stays : (l : Load) → is_taken (search_spec l).answer ≡ false →
 untaken-stays l t = go l.searched refl
   where
     go : (b : Bool) → l.searched ≡ b → (search_spec l).load ≡ l
-    go true e = ap (λ (r : Stepped). r.load) (search-again l e)
-    go false e = ap (λ (r : Stepped). r.load) (search-runs l e)
-        ∙ outcome-stays l (outcome_of l) (sym (ap (λ (r : Stepped). is_taken r.answer) (search-runs l e)) ∙ t)
+    go true e = ap (λ (r : StepResult). r.load) (search-again l e)
+    go false e = ap (λ (r : StepResult). r.load) (search-runs l e)
+        ∙ outcome-stays l (outcome_of l) (sym (ap (λ (r : StepResult). is_taken r.answer) (search-runs l e)) ∙ t)
 
 -- the calls of a sound load arrive before they depart
 pub sound-timed : (l : Load) → Sound l → Timed (timetable_of l).calls

@@ -12,14 +12,14 @@ use Rattle.calls.specs.declared.Call.{Call}
 use Rattle.profile.specs.Found.{Row}
 use Rattle.profile.specs.Best.{ordered}
 use Rattle.profile.specs.Journeys.{journey_figures}
-use Rattle.profile.specs.Kept.{St, going, refused, map_st}
-use Rattle.state.specs.View.{view, open_of}
-use Rattle.state.proofs.ViewLaws.{view-is-refused}
+use Rattle.profile.specs.Kept.{SearchState, going, refused, map_st}
+use Rattle.search_state.specs.View.{view, open_of}
+use Rattle.search_state.proofs.ViewLaws.{view-is-refused}
 use Rattle.offers.specs.Order.{sort_first, clashes}
 use Rattle.offers.specs.Places.{journey_at}
 use Rattle.offers.specs.Search.{Outcome, clashing, falling, found, answer_of, found_by, search_of}
 use Rattle.load.specs.declared.Load.{Load}
-use Rattle.load.specs.declared.Stepped.{Stepped}
+use Rattle.load.specs.declared.StepResult.{StepResult}
 use Rattle.search.specs.Timetable.{timetable_of}
 use Rattle.search.specs.Rows.{sheet_from, joins_from, row_offers}
 use Rattle.search.specs.Offered.{placed, offered_of, found_in}
@@ -30,10 +30,10 @@ use Rattle.search.proofs.FoundLaws.{in-front, in-places, kept_small, holds-found
 
 -- ---- what is returned, by the outcome
 
-abbrev again : Load → Stepped
+abbrev again : Load → StepResult
 again l = record { answer = Err AlreadySearched; load = l }
 
-abbrev ran : Load → Outcome → Stepped
+abbrev ran : Load → Outcome → StepResult
 ran l o = record { answer = answer_of o; load = settled l o }
 
 pub returned-again : (l : Load) → l.searched ≡ true → again l ≡ search_spec l
@@ -51,7 +51,7 @@ module _ (l : Load) (cs : List Call) (order : cs ≡ sort_first l.call_count l.c
 
   -- 14
   pub returned-clash : (b : Bool) → b ≡ clashes (take l.call_count cs) → b ≡ true
-      → ◌≡◌ {A = Stepped} (record { answer = Err Neighbours; load = l }) (search_spec l)
+      → ◌≡◌ {A = StepResult} (record { answer = Err Neighbours; load = l }) (search_spec l)
   returned-clash b e q = returned l clashing u (clash-outcome (sym e ∙ q))
 
   -- no neighbours clash: the outcome is read off the state
@@ -65,9 +65,9 @@ module _ (l : Load) (cs : List Call) (order : cs ≡ sort_first l.call_count l.c
 
     -- 11
     pub returned-falling : (st : List ℕ) (r : Bool) → view st ≡ offered_of l cs → r ≡ not (open_of st) → r ≡ true
-        → ◌≡◌ {A = Stepped} (record { answer = Err NoRoom; load = l }) (search_spec l)
+        → ◌≡◌ {A = StepResult} (record { answer = Err NoRoom; load = l }) (search_spec l)
     returned-falling st r v er tr =
-        returned l falling u (outcome-by ∙ ap (λ (s : St Row). found_by (map_st (journey_at (placed cs)) s))
+        returned l falling u (outcome-by ∙ ap (λ (s : SearchState Row). found_by (map_st (journey_at (placed cs)) s))
         (sym v ∙ (view-is-refused st).1 (of-not (open_of st) (sym er ∙ tr))))
 
     module _ (walks : (o : ℕ) → get_or l.settings.origin_walks o 0 < 256) (st : List ℕ) (v : view st ≡ offered_of l cs) where
@@ -82,16 +82,17 @@ module _ (l : Load) (cs : List Call) (order : cs ≡ sort_first l.call_count l.c
           (min l.call_count 512) (λ o lo. walks o)) (sym v ∙ g)
 
       going-returned : (ks : List Row) (h m : ℕ) → view st ≡ going ks h m
-          → ◌≡◌ {A = Stepped} (record { answer = Ok Taken; load = next }) (search_spec l)
+          → ◌≡◌ {A = StepResult} (record { answer = Ok Taken; load = next }) (search_spec l)
       going-returned ks h m g =
-          ap {B = Stepped} (λ (x : Load). record { answer = Ok Taken; load = x }) (holds-found l cs order st ks h m g (small ks h m g) None)
+          ap {B = StepResult} (λ (x : Load). record { answer = Ok Taken; load = x })
+          (holds-found l cs order st ks h m g (small ks h m g) None)
           ∙ returned l (found (ordered journey_figures (map (journey_at (placed cs)) ks)) h m) u
-          (outcome-by ∙ ap (λ (s : St Row). found_by (map_st (journey_at (placed cs)) s)) (sym v ∙ g))
+          (outcome-by ∙ ap (λ (s : SearchState Row). found_by (map_st (journey_at (placed cs)) s)) (sym v ∙ g))
 
       pub returned-found : (r : Bool) → r ≡ not (open_of st) → r ≡ false
-          → ◌≡◌ {A = Stepped} (record { answer = Ok Taken; load = next }) (search_spec l)
+          → ◌≡◌ {A = StepResult} (record { answer = Ok Taken; load = next }) (search_spec l)
       returned-found r er fr = go (view st) refl
         where
-          go : (s : St Row) → view st ≡ s → ◌≡◌ {A = Stepped} (record { answer = Ok Taken; load = next }) (search_spec l)
+          go : (s : SearchState Row) → view st ≡ s → ◌≡◌ {A = StepResult} (record { answer = Ok Taken; load = next }) (search_spec l)
           go refused e = absurd (true≢false (sym (ap not ((view-is-refused st).0 e)) ∙ sym er ∙ fr))
           go (going ks h m) e = going-returned ks h m e

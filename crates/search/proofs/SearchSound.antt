@@ -23,7 +23,7 @@ use Rattle.offers.proofs.OrderLaws.{sorted_front}
 use Rattle.offers.proofs.SearchLaws.{search-found}
 use Rattle.refusal.specs.declared.Refusal.TheVariants.{AlreadySearched}
 use Rattle.load.specs.declared.Load.{Load}
-use Rattle.load.specs.declared.Stepped.{Stepped}
+use Rattle.load.specs.declared.StepResult.{StepResult}
 use Rattle.load.specs.Sound.{Sound}
 use Rattle.search.specs.Timetable.{timetable_of}
 use Rattle.search.specs.Search.{outcome_of, with_found, with_journeys, settled, search_spec}
@@ -104,7 +104,7 @@ search-sound l s = by l.searched
     go falling e = s
     go (found ks h m) e = searched-sound l ks h m e s
 
-    by : (b : Bool) → Sound (cond {A = Stepped} b (record { answer = Err AlreadySearched; load = l })
+    by : (b : Bool) → Sound (cond {A = StepResult} b (record { answer = Err AlreadySearched; load = l })
         (record { answer = answer_of (outcome_of l); load = settled l (outcome_of l) })).load
     by true = s
     by false = go (outcome_of l) refl

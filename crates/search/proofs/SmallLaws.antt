@@ -12,12 +12,12 @@ use Rattle.ways.proofs.RideLaws.{listed_in}
 use Rattle.ways.proofs.RouteLaws.{Passed, pass-mem}
 use Rattle.profile.specs.Found.{Row}
 use Rattle.profile.specs.Journeys.{row_of}
-use Rattle.feed.specs.declared.FirstRide.{FirstRide}
+use Rattle.search_input.specs.declared.FirstRide.{FirstRide}
 use Rattle.rides.specs.Rows.{Sheet, Joins, first_of, first_at, direct_row, change_row, three_row, network_of}
 use Rattle.rides.specs.Routes.{on_row, row_to, row_by, route_rows}
 use Rattle.rides.proofs.AgreeLaws.{origin-below, place-below}
 use Rattle.rides.proofs.RouteAgree.{way-ends}
-use Rattle.read_back.specs.Kept.{Small}
+use Rattle.kept_journeys.specs.Kept.{Small}
 
 abbrev pub AllSmall : List Row → Type 0
 AllSmall rs = (r : Row) → Memᴰ r rs → Small r

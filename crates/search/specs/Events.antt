@@ -12,6 +12,7 @@ use Rattle.limited.specs.Limited.{events_of, offers_within, joins_within, finish
 use Rattle.rides.specs.Rows.{Sheet, Joins, direct_by, change_by, network_of}
 use Rattle.limited_rides.specs.Runs.{RowEvent}
 use Rattle.search.specs.Rows.{sheet_from, joins_from, Agrees}
+use Rattle.profile.specs.Sizes.{kept_room, least_horizon}
 
 -- every event over a sheet. n: how many calls there are
 unfoldable pub sheet_events : Sheet → Joins → ℕ → ℕ → List RowEvent
@@ -30,8 +31,8 @@ EventsByPlaces = (t : Timetable) (at : ℕ → Call) (n : ℕ) → InPlaces t at
 
 -- so a search of the rows within a limit keeps the rows of what a search of the offers within it keeps, tests as many joins, and ends alike
 pub record WithinByRows (limit : ℕ) (t : Timetable) (at : ℕ → Call) (n h l : ℕ) : Type 0 where
-  pub kept : searched journey_figures 64 3600 h l (offers_within limit t)
-      ≡ map_st (journey_at at) (searched row_figures 64 3600 h l (offers_of (up_to limit (place_events t at n))))
+  pub kept : searched journey_figures kept_room least_horizon h l (offers_within limit t)
+      ≡ map_st (journey_at at) (searched row_figures kept_room least_horizon h l (offers_of (up_to limit (place_events t at n))))
   pub joins : joins_within limit t ≡ joins_in (up_to limit (place_events t at n))
   pub all : finished_within limit t ≡ finished limit (place_events t at n)
 

@@ -4,6 +4,7 @@ use Rattle.calls.specs.declared.Call.{Call}
 use Rattle.profile.specs.declared.Ride.{Ride}
 use Rattle.load.specs.declared.Load.{Load}
 use Rattle.search.specs.Timetable.{one_run, joins_in}
+use Rattle.stops.specs.Sizes.{stop_room}
 
 -- a load with a change time of 3 minutes and no rule, a ride that arrives at 1000, and a call of another trip or day at the stop where it
 -- ends
@@ -12,7 +13,7 @@ pub record SameStop (l : Load) (f : Ride) (b : Call) : Type 0 where
   pub no_rule : l.rule_count ≡ 0
   pub other_run : one_run f b ≡ false
   pub at_stop : f.to ≡ b.stop
-  pub known : b.stop < 128
+  pub known : b.stop < stop_room
   pub arrives : f.arrival ≡ 1000
 
 pub record MarkedJoins : Type 0 where

@@ -6,11 +6,12 @@ use Rattle.profile.specs.Journeys.{journey_figures, row_figures}
 use Rattle.profile.specs.Kept.{searched, map_st}
 use Rattle.offers.specs.Offers.{Timetable, ride_of, offers}
 use Rattle.offers.specs.Places.{origin_mask, target_mask, journey_at, InPlaces}
-use Rattle.feed.specs.declared.FeedCall.{FeedCall}
-use Rattle.feed.specs.declared.FirstRide.{FirstRide}
+use Rattle.search_input.specs.declared.FeedCall.{FeedCall}
+use Rattle.search_input.specs.declared.FirstRide.{FirstRide}
 use Rattle.rides.specs.Rows.{Sheet, Joins}
 use Rattle.rides.specs.Routes.{route_rows}
 use Rattle.rides.specs.Agree.{Agree}
+use Rattle.profile.specs.Sizes.{kept_room, least_horizon}
 
 -- what the loops read of a call
 unfoldable pub feed_call : Call → FeedCall
@@ -51,7 +52,8 @@ OffersByPlaces = (t : Timetable) (at : ℕ → Call) (n : ℕ) → InPlaces t at
 -- a search of the rows keeps the rows of what a search of the offers keeps
 abbrev pub SearchByRows : Type 0
 SearchByRows = (t : Timetable) (at : ℕ → Call) (n h l : ℕ) → InPlaces t at n
-    → searched journey_figures 64 3600 h l (offers t) ≡ map_st (journey_at at) (searched row_figures 64 3600 h l (row_offers t at n))
+    → searched journey_figures kept_room least_horizon h l (offers t)
+    ≡ map_st (journey_at at) (searched row_figures kept_room least_horizon h l (row_offers t at n))
 
 -- a sheet holds the timetable, with `at` the call at each of the n places
 abbrev pub Agrees : Sheet → Joins → Timetable → (ℕ → Call) → ℕ → Type 0

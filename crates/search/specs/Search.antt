@@ -13,9 +13,10 @@ use Rattle.offers.specs.Order.{sort_first, clashes}
 use Rattle.offers.specs.Offers.{sorted, offers}
 use Rattle.offers.specs.Search.{Outcome, clashing, falling, found, answer_of, search_of}
 use Rattle.load.specs.declared.Load.{Load}
-use Rattle.load.specs.declared.Stepped.{Stepped}
+use Rattle.load.specs.declared.StepResult.{StepResult}
 use Rattle.load.specs.Load.{with_seen}
 use Rattle.search.specs.Timetable.{timetable_of}
+use Rattle.profile.specs.Sizes.{kept_room, least_horizon}
 
 -- every offer of the load in order, from the table's horizon and mark
 unfoldable pub outcome_of : Load → Outcome
@@ -34,7 +35,7 @@ sorted_table l = record {
 abbrev pub with_found : Load → List Journey → ℕ → ℕ → Option ℕ → Load
 with_found l ks h m n =
     with_seen l (sorted_table l)
-    (record { journeys = padded no_journey 64 ks; count = length ks; horizon = h; limits = m; searched = true; limit = n })
+    (record { journeys = padded no_journey kept_room ks; count = length ks; horizon = h; limits = m; searched = true; limit = n })
 
 -- searched in full
 abbrev pub with_journeys : Load → List Journey → ℕ → ℕ → Load
@@ -46,7 +47,7 @@ settled l clashing = l
 settled l falling = l
 settled l (found ks h m) = with_journeys l ks h m
 
-unfoldable pub search_spec : Load → Stepped
+unfoldable pub search_spec : Load → StepResult
 search_spec l =
     cond l.searched (record { answer = Err AlreadySearched; load = l })
     (record { answer = answer_of (outcome_of l); load = settled l (outcome_of l) })
@@ -58,7 +59,9 @@ is_never never = true
 
 -- the horizon would fall below 3600, by the offers in order, from the table's horizon and mark
 unfoldable pub would_fall : Load → Bool
-would_fall l = is_never (fall (covᶠ journey_figures) (dueᶠ journey_figures) 64 3600 l.table_horizon l.table_limits [] (offers (timetable_of l)))
+would_fall l =
+    is_never (fall (covᶠ journey_figures) (dueᶠ journey_figures) kept_room least_horizon l.table_horizon l.table_limits []
+    (offers (timetable_of l)))
 
 -- the tests in the scope's order, each with its answer: 15, 14, 11; no test reads the answer
 abbrev pub search_causes : Load → List (Bool × Answer)

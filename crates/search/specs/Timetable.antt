@@ -8,6 +8,7 @@ use Rattle.transfer.specs.Copied.{parents_of}
 use Rattle.transfer.specs.Changes.{transfer_of, join_of}
 use Rattle.offers.specs.Offers.{Timetable}
 use Rattle.load.specs.declared.Load.{Load}
+use Rattle.stops.specs.Sizes.{stop_room}
 
 -- the change from one stop to another, by the rules taken, the parents and the places
 abbrev pub change_in : Load → ℕ → ℕ → Option ℕ
@@ -21,7 +22,8 @@ one_run f b = eqb f.trip b.trip && eqb f.day b.day
 
 -- `join`; a stop past the 128th, which no step takes (`JoinsKnown`), joins nothing
 abbrev pub joins_in : Load → Ride → Call → Bool
-joins_in l f b = cond (ltb f.to 128 && ltb b.stop 128) (join_of (change_in l f.to b.stop) (one_run f b) f.arrival b.departure) false
+joins_in l f b =
+    cond (ltb f.to stop_room && ltb b.stop stop_room) (join_of (change_in l f.to b.stop) (one_run f b) f.arrival b.departure) false
 
 unfoldable pub timetable_of : Load → Timetable
 timetable_of l = record {

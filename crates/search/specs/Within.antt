@@ -1,6 +1,6 @@
 -- **Search** within a limit n on joins: 15, 1 with max_transfers above 1, 14, 11; or the calls in order and what the offers before the
--- first join past the limit leave. "It says finished when no untested join is left, and stopped otherwise". One that finished leaves the
--- load of a full search; one that was stopped leaves a load that holds its limit.
+-- first join past the limit leave. It is finished if no join is left untested, else stopped. One that finished leaves the load of a full
+-- search; one that was stopped leaves a load that holds its limit. RULES 11.
 use Rattle.refusal.specs.declared.Accepted.TheVariants.{Taken}
 use Rattle.std.specs.Prelude.{◌≡◌, ◌↔◌, Bool, true, false, cond, List, [], ◌∷◌, ℕ, ◌≤◌, ltb, None, Some, Err, Ok, Result}
 use Rattle.refusal.specs.declared.Refusal.{Refusal}
@@ -16,12 +16,13 @@ use Rattle.offers.specs.Search.{Outcome, clashing, falling, found}
 use Rattle.limited.specs.Limited.{offers_within, joins_within, finished_within, search_within}
 use Rattle.limited_rides.specs.declared.Tested.{Tested}
 use Rattle.load.specs.declared.Load.{Load}
-use Rattle.load.specs.declared.Stepped.{Stepped}
+use Rattle.load.specs.declared.StepResult.{StepResult}
 use Rattle.load.specs.Load.{stopped}
 use Rattle.load.specs.Sound.{Sound}
 use Rattle.search.specs.declared.Limited.{Limited}
 use Rattle.search.specs.Timetable.{timetable_of}
 use Rattle.search.specs.Search.{with_found, with_journeys, is_never, search_spec}
+use Rattle.profile.specs.Sizes.{kept_room, least_horizon}
 
 -- the offers of the load before the first join past the limit, in order, from the table's horizon and mark
 unfoldable pub outcome_within : Load → ℕ → Outcome
@@ -72,19 +73,20 @@ within_spec l n =
     (cond (ltb 1 l.settings.max_transfers) (sent_back_of l (Err SettingsRange)) (ran_within l n (outcome_within l n)))
 
 -- its answer and its load
-abbrev pub step_of : Answered → Stepped
+abbrev pub step_of : Answered → StepResult
 step_of w = record { answer = w.answer; load = w.load }
 
 -- the horizon would fall below 3600, by those offers
 unfoldable pub would_fall_within : Load → ℕ → Bool
 would_fall_within l n =
-    is_never (fall (covᶠ journey_figures) (dueᶠ journey_figures) 64 3600 l.table_horizon l.table_limits []
+    is_never (fall (covᶠ journey_figures) (dueᶠ journey_figures) kept_room least_horizon l.table_horizon l.table_limits []
     (offers_within n (timetable_of l)))
 
--- the tests in order, each with its answer: 15, 1, 14, 11; no test reads the answer
+-- the tests in order, each with its answer; no test reads the answer. Those of the search itself: 14, 11
 abbrev pub within_tests : Load → ℕ → List (Bool × Answer)
 within_tests l n = (clashes (sorted (timetable_of l)), Err Neighbours) ∷ (would_fall_within l n, Err NoRoom) ∷ []
 
+-- all of them: 15, 1, 14, 11
 abbrev pub within_causes : Load → ℕ → List (Bool × Answer)
 within_causes l n =
     (l.searched, Err AlreadySearched) ∷ (ltb 1 l.settings.max_transfers, Err SettingsRange) ∷ within_tests l n

@@ -4,16 +4,20 @@ ghost use Rattle.limited.specs.Margin.{target_arrivals};
 ghost use Rattle.limited_rides.specs.Earliest.{soonest};
 ghost use Rattle.search.specs.Timetable.{timetable_of};
 
-use feed_array::feed_of;
+use crate::numbers_told;
+use call_order::sorted;
 use limited_rides::earliest::earliest_of;
 use load::Load;
-use order::sorted;
+use search_input::layout::FEED_SIZE;
+use search_input_array::fill_feed;
 
 // The earliest, walk included, of any ride that alights at a target, whether or not it boards at an origin.
 pub fn earliest_arrival(load: &Load) -> Option<u32>
     ensures { result ≡ soonest (target_arrivals (timetable_of load.now)) }
 {
     let calls = sorted(&load.calls, load.call_count);
-    let feed = feed_of(&calls, &load.stops, load.settings);
+    let mut feed = [0; FEED_SIZE];
+    fill_feed(&mut feed, &calls, &load.stops, load.settings);
+    numbers_told(feed);
     earliest_of(&feed, load.call_count)
 }

@@ -1,4 +1,4 @@
-// The settings of a load: counts, walks, the change time, the start and the service days; and which settings are sent back.
+// The settings of a load: counts, walks, the change time, the start and the service days; and which are sent back (RULES 2, 16.2).
 #![tactic(auto)]
 
 ghost use Rattle.std.specs.Prelude.{◌≡◌, ◌||◌};

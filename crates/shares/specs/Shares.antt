@@ -2,6 +2,10 @@
 -- groups in number order as far as their lists need" (request 08).
 use Rattle.std.specs.Prelude.{List, [], ◌∷◌, ℕ, ◌+◌, ◌-◌, min}
 
+-- so many journeys a display shows
+abbrev pub shown_room : ℕ
+shown_room = 64
+
 -- the smaller of 16 and a list of n
 abbrev pub at_first_of : ℕ → ℕ
 at_first_of n = min 16 n
@@ -26,4 +30,4 @@ dealt left (n ∷ ns) = (at_first_of n + min left (needs n)) ∷ dealt (left - n
 
 -- the shares of lists that are so long, by group number
 unfoldable pub shares_of : List ℕ → List ℕ
-shares_of ns = dealt (64 - first_total ns) ns
+shares_of ns = dealt (shown_room - first_total ns) ns

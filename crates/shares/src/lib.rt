@@ -1,8 +1,11 @@
-// How many journeys of a display each of four groups gets: numbers alone.
+// How many journeys of a display each of four groups gets (RULES 12.2), of numbers alone.
 #![tactic(auto)]
 
 ghost use Rattle.std.specs.Prelude.{◌≡◌, [], ◌∷◌, ◌+◌, ◌-◌, min};
 ghost use Rattle.shares.specs.Shares.{at_first_of, needs, shares_of};
+
+// How many journeys a display shows.
+const SHOWN: usize = 64;
 
 fn at_first(n: usize) -> usize
     ensures { result ≡ at_first_of n }
@@ -36,7 +39,7 @@ pub fn shares(lengths: [usize; 4]) -> [usize; 4]
     ensures { result ≡ shares_of lengths }
 {
     let [a, b, c, d] = lengths;
-    let mut left = 64 - (at_first(a) + at_first(b) + at_first(c) + at_first(d));
+    let mut left = SHOWN - (at_first(a) + at_first(b) + at_first(c) + at_first(d));
     lengths.map(|n| {
         let given = share(left, n);
         left = after(left, n);

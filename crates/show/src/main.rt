@@ -9,9 +9,10 @@ const MOST: usize = 4096;
 
 // As in `key_lines`, which says why there are two.
 fn main(rt: HostRuntime) {
-    if let Some(t) = read_input(rt.stdin(), rt.stderr()) {
+    let mut reader = reader::fresh(false);
+    if let Some(answer) = read_input(rt.stdin(), rt.stderr(), &mut reader) {
         let mut out = [0; MOST];
-        let n = lines::lines(&mut out, t.answer, t.reader.load);
+        let n = lines::lines_of(&mut out, answer, &reader.load);
         print(rt.stdout(), rt.stderr(), &out[..n]);
     }
 }

@@ -1,6 +1,7 @@
 // Reads up to four load files from standard input, each after its length as a big-endian u32, and prints the display of groups 0 to 3:
 // for each its journeys shown and its window, or a refusal. A file that is refused ends the run with its group and number; one that is
-// longer than the buffer, or is not there whole, ends the reading.
+// longer than the buffer, or is not there whole, ends the reading. A read or a write that fails is told on standard error; after a failed
+// read nothing is printed.
 #![tactic(auto)]
 
 mod text;
@@ -9,30 +10,37 @@ use groups::{Groups, group_of};
 use reader::read;
 use refusal::Refusal;
 use std::io::Stdin;
-use stdio::input;
+use stdio::input::Unread;
 use stdio::out::Out;
+use stdio::{input, told};
 
 // As long as the longest file.
 const MOST: usize = 1048576;
 
-// The group whose file is refused, as an error: no value stands beside the cause.
+// Why there is no display: a read failed, or the file of a group is refused.
 #[derive(Clone, Copy, Debug, PartialEq, Eq)]
-struct Refused {
-    number: u8,
-    cause: Refusal,
+enum Stopped {
+    Unread,
+    Refused(u8, Refusal),
+}
+
+impl From<Unread> for Stopped {
+    fn from(_e: Unread) -> Stopped {
+        Stopped::Unread
+    }
 }
 
 // Reads the groups of up to four files.
-fn read_groups(stdin: Stdin, buf: &mut [u8]) -> Result<Groups, Refused> {
+fn read_groups(stdin: Stdin, buf: &mut [u8]) -> Result<Groups, Stopped> {
     let mut groups = Groups::default();
     // It leaves where the input does, of which no chain of std can ask.
     for number in 0u8..4 {
-        let Some(file) = input::file(stdin, buf) else {
+        let Some(file) = input::file(stdin, buf)? else {
             break;
         };
         let took = read(file);
         if let Err(cause) = took.answer {
-            return Err(Refused { number, cause });
+            return Err(Stopped::Refused(number, cause));
         }
         groups.add(group_of(number, took.reader.load));
     }
@@ -40,10 +48,11 @@ fn read_groups(stdin: Stdin, buf: &mut [u8]) -> Result<Groups, Refused> {
 }
 
 fn main(rt: HostRuntime) {
-    let mut out = Out::new(rt.stdout());
+    let mut out = Out::new(rt.stdout(), rt.stderr());
     let mut buf = input::zeros::<MOST>();
     match read_groups(rt.stdin(), &mut buf) {
         Ok(groups) => text::display(&mut out, groups.given()),
-        Err(refused) => text::file_refused(&mut out, refused.number, refused.cause),
+        Err(Stopped::Refused(number, cause)) => text::file_refused(&mut out, number, cause),
+        Err(Stopped::Unread) => told::unread(rt.stderr()),
     }
 }

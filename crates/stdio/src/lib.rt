@@ -4,3 +4,4 @@
 pub mod input;
 pub mod load_lines;
 pub mod out;
+pub mod told;

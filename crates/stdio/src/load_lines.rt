@@ -1,15 +1,15 @@
 // The lines of a load: table, journeys, horizon and limits; and that of a refusal. `lines` prints some of them too, as bytes of a proved
 // length; here they are printed among others by `write!`.
 use crate::out::Out;
-use calls::Call;
-use order::sorted;
+use call_order::sorted;
+use calls::{CALLS, Call};
 use prefix::first;
 use profile::{Journey, Ride};
 use refusal::Refusal;
 use std::fmt;
 
 // The table by trip, day, sequence, equals as taken: the first `count` of the array, which `sorted` takes whole.
-pub fn table(out: &mut Out, calls: &[Call; 512], count: usize) {
+pub fn table(out: &mut Out, calls: &[Call; CALLS], count: usize) {
     for c in first(&sorted(calls, count), count) {
         writeln!(
             out,

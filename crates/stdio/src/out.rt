@@ -2,25 +2,30 @@
 // room for 40,000 bytes.
 ghost use Rattle.std.specs.Prelude.{◌≡◌, ◌≤◌};
 
+use crate::told::unwritten;
 use std::fmt;
-use std::io::Stdout;
+use std::io::{Stderr, Stdout};
 
-// The first `len` bytes are gathered. An array and not std's BufWriter, since that allocates, and so can fail. No Debug and no
-// equality: std's Stdout has neither.
+// The first `len` bytes are gathered; `failed` once a write failed. An array and not std's BufWriter, as that allocates, and so can fail.
+// No Debug and no equality: std's Stdout has neither.
 #[derive(Drop)]
 pub struct Out {
     stdout: Stdout,
+    stderr: Stderr,
+    failed: bool,
     bytes: [u8; 65536],
     len: usize,
     ghost in_bounds: { len ≤ 65536 },
 }
 
 impl Out {
-    pub fn new(stdout: Stdout) -> Self
+    pub fn new(stdout: Stdout, stderr: Stderr) -> Self
         ensures { result.len ≡ 0 }
     {
         Out {
             stdout,
+            stderr,
+            failed: false,
             bytes: [0; 65536],
             len: 0,
         }
@@ -32,22 +37,40 @@ impl Out {
         self.len = end;
     }
 
-    // Writes what was gathered; nothing is left. A write that fails goes unsaid.
+    // Writes what was gathered; nothing is left. A write that fails is told on standard error, and nothing is written after it.
     pub fn flush(&mut self)
         ensures { self.new.len ≡ 0 }
     {
-        let _ = self.stdout.write_all(&self.bytes[..self.len]);
+        if !self.failed && self.stdout.write_all(&self.bytes[..self.len]).is_err() {
+            self.failed = true;
+            unwritten(self.stderr);
+        }
         self.len = 0;
     }
 
-    // What `write!` and `writeln!` call; writes out what was gathered if it is much.
+    // Writes out what was gathered if it is much.
+    fn flush_much(&mut self)
+        ensures { self.new.len ≤ 24576 }
+    {
+        if self.len > 24576 {
+            self.flush();
+        }
+    }
+
+    // Bytes that are whole lines.
+    pub fn lines(&mut self, lines: &[u8])
+        ensures { self.new.len ≤ 24576 }
+    {
+        self.text(lines);
+        self.flush_much();
+    }
+
+    // What `write!` and `writeln!` call.
     pub fn write_fmt<D: fmt::Display + Drop>(&mut self, text: D)
         ensures { self.new.len ≤ 24576 }
     {
         let _ = fmt::Write::write(self, text);
-        if self.len > 24576 {
-            self.flush();
-        }
+        self.flush_much();
     }
 
     // A line `.`, which ends what is said of a file of a batch, and all that was gathered written.

@@ -23,7 +23,7 @@ use Rattle.week.proofs.StepLaws.{runs-undated}
 use Rattle.load.specs.declared.Load.{Load}
 use Rattle.load.specs.Load.{empty_load, blank_settings}
 use Rattle.load.specs.Steps.{Opening, date_tests, open_tests, open_answer, open_spec_of, opened, is_unknown, is_resting, running_tests}
-use Rattle.load.specs.Filling.{stop, call, rule, service, exception}
+use Rattle.load.specs.FillStep.{stop, call, rule, service, exception}
 use Rattle.load.proofs.ClockLaws.{opening-tests}
 use Rattle.load.proofs.AnswerLaws.{step-answered as fill-answered}
 use Rattle.search.proofs.AnswerLaws.{search-answered}

@@ -16,7 +16,7 @@ use Rattle.withdrawal.specs.Removal.{withdrawn}
 use Rattle.week.specs.declared.Running.TheVariants.{Runs}
 use Rattle.week.specs.Weeks.{is_dated, undated_week, running}
 use Rattle.load.specs.declared.Load.{Load}
-use Rattle.load.specs.declared.Stepped.{Stepped}
+use Rattle.load.specs.declared.StepResult.{StepResult}
 use Rattle.load.specs.Load.{table_of, with_week, with_table, with_stops, with_rules}
 use Rattle.load.specs.Steps.{station_in, stop_answer, stop_spec, call_fitted, plain_call, closing, call_spec, rule_answer, rule_spec}
 use Rattle.load.proofs.StepLaws.{Called, without, goes_on, stays_out, sent_back, called, gate-passed, call-undated}
@@ -36,7 +36,7 @@ undated-not = refl
 abbrev pub bare : Load → Load
 bare l = with_week l undated_week
 
-abbrev pub bared : Stepped → Stepped
+abbrev pub bared : StepResult → StepResult
 bared r = record { answer = r.answer; load = bare r.load }
 
 -- ---- stop, rule, search and plain call
@@ -46,7 +46,7 @@ pub bare-stop : (l : Load) (id : List ℕ) (name parent : Option (List ℕ)) (i 
 unfolding stop_spec
 bare-stop l id name parent i = go (is_taken (stop_answer l id name parent i))
   where
-    go : (b : Bool) → ◌≡◌ {A = Stepped} (record {
+    go : (b : Bool) → ◌≡◌ {A = StepResult} (record {
       answer = stop_answer l id name parent i;
       load = cond b (with_stops (bare l) (set l.stops l.stop_count (stop_of id name (station_in l parent) i)) (l.stop_count + 1)) (bare l);
     })
@@ -61,7 +61,7 @@ pub bare-rule : (l : Load) (i : Rule) → rule_spec (bare l) i ≡ bared (rule_s
 unfolding rule_spec
 bare-rule l i = go (is_taken (rule_answer l i))
   where
-    go : (b : Bool) → ◌≡◌ {A = Stepped} (record {
+    go : (b : Bool) → ◌≡◌ {A = StepResult} (record {
       answer = rule_answer l i;
       load = cond b (with_rules (bare l) (set l.rules l.rule_count i) (l.rule_count + 1)) (bare l);
     })
@@ -73,7 +73,7 @@ bare-plain : (l : Load) (i : CallInput) → plain_call (bare l) i ≡ bared (pla
 unfolding plain_call
 bare-plain l i = go (is_refused (call_fitted l i).answer)
   where
-    go : (b : Bool) → ◌≡◌ {A = Stepped} (record {
+    go : (b : Bool) → ◌≡◌ {A = StepResult} (record {
       answer = (call_fitted l i).answer;
       load = cond b (bare l) (with_table (bare l) (call_fitted l i).table);
     })
@@ -93,30 +93,30 @@ bare-unsearched : (l : Load) → unsearched_of (bare l) ≡ bare (unsearched_of 
 unfolding unsearched_of
 bare-unsearched l = refl
 
-bare-again : (l : Load) (r : Stepped) → again (bare l) (bared r) ≡ bared (again l r)
+bare-again : (l : Load) (r : StepResult) → again (bare l) (bared r) ≡ bared (again l r)
 unfolding again
 bare-again l r =
-    ap (λ (q : Stepped). cond (is_refused r.answer) (record { answer = r.answer; load = bare l }) (searched_as (bare l) r.answer q))
+    ap (λ (q : StepResult). cond (is_refused r.answer) (record { answer = r.answer; load = bare l }) (searched_as (bare l) r.answer q))
     (research-week l.limit r.load undated_week)
     ∙ go (is_refused r.answer) (is_taken (researched l.limit r.load).answer)
   where
-    go : (b c : Bool) → cond {A = Stepped} b (record { answer = r.answer; load = bare l })
-        (cond {A = Stepped} c (record { answer = r.answer; load = bare (researched l.limit r.load).load })
+    go : (b c : Bool) → cond {A = StepResult} b (record { answer = r.answer; load = bare l })
+        (cond {A = StepResult} c (record { answer = r.answer; load = bare (researched l.limit r.load).load })
         (record { answer = (researched l.limit r.load).answer; load = bare l }))
-        ≡ bared (cond {A = Stepped} b (record { answer = r.answer; load = l })
-        (cond {A = Stepped} c (record { answer = r.answer; load = (researched l.limit r.load).load })
+        ≡ bared (cond {A = StepResult} b (record { answer = r.answer; load = l })
+        (cond {A = StepResult} c (record { answer = r.answer; load = (researched l.limit r.load).load })
         (record { answer = (researched l.limit r.load).answer; load = l })))
     go true c = refl
     go false true = refl
     go false false = refl
 
-bare-added : (l : Load) (r : Stepped) → added_to (bare l) (bared r) ≡ bared (added_to l r)
+bare-added : (l : Load) (r : StepResult) → added_to (bare l) (bared r) ≡ bared (added_to l r)
 unfolding added_to
-bare-added l r = ap (λ (q : Stepped). cond (leaves_table_of l r) (record { answer = r.answer; load = bare l }) q) (bare-again l r)
+bare-added l r = ap (λ (q : StepResult). cond (leaves_table_of l r) (record { answer = r.answer; load = bare l }) q) (bare-again l r)
     ∙ go (leaves_table_of l r)
   where
-    go : (b : Bool) → cond {A = Stepped} b (record { answer = r.answer; load = bare l }) (bared (again l r))
-        ≡ bared (cond {A = Stepped} b (record { answer = r.answer; load = with_week l r.load.week }) (again l r))
+    go : (b : Bool) → cond {A = StepResult} b (record { answer = r.answer; load = bare l }) (bared (again l r))
+        ≡ bared (cond {A = StepResult} b (record { answer = r.answer; load = with_week l r.load.week }) (again l r))
     go true = refl
     go false = refl
 
@@ -126,7 +126,7 @@ bare-out : (l : Load) (k : CallKey) → taken_out (bare l) k ≡ bared (taken_ou
 unfolding taken_out
 bare-out l k = go (is_taken (withdraw_answer l k))
   where
-    go : (b : Bool) → ◌≡◌ {A = Stepped} (record {
+    go : (b : Bool) → ◌≡◌ {A = StepResult} (record {
       answer = withdraw_answer l k;
       load = cond b (with_table (bare l) (withdrawn (table_of l) k)) (bare l);
     })
@@ -188,13 +188,13 @@ rests-out : (l : Load) (name : List ℕ) (i : CallInput) → is_dated l.week ≡
     → is_taken (call_spec l name i).answer ≡ false
 rests-out l name i d n = go _ (called l name i)
   where
-    go : (r : Stepped) → Called l name i r → is_taken r.answer ≡ false
+    go : (r : StepResult) → Called l name i r → is_taken r.answer ≡ false
     go _ (without e) = absurd (true≢false (sym d ∙ e))
     go _ (goes_on e g) = absurd (n (gate-passed l.searched l.stop_count i _ g).1.1)
     go _ (stays_out e g) = refl
     go _ (sent_back e r g) = refl
 
-left-bare : (l : Load) (r : Stepped) → leaves_table_of l r ≡ true → bare (added_to l r).load ≡ bare l
+left-bare : (l : Load) (r : StepResult) → leaves_table_of l r ≡ true → bare (added_to l r).load ≡ bare l
 unfolding added_to
 left-bare l r e = rw e refl
 

@@ -14,10 +14,10 @@ use Rattle.week.specs.declared.Running.TheVariants.{Unknown, Rests, Runs}
 use Rattle.week.specs.Weeks.{is_dated, WeekStepped, dated_week, running}
 use Rattle.week.proofs.SoundLaws.{closed-stays}
 use Rattle.load.specs.declared.Load.{Load}
-use Rattle.load.specs.declared.Stepped.{Stepped}
+use Rattle.load.specs.declared.StepResult.{StepResult}
 use Rattle.load.specs.Load.{empty_of}
 use Rattle.load.specs.Steps.{undated, dated, opened, call_spec, service_spec, exception_spec}
-use Rattle.load.specs.Filling.{stop, call, rule, service, exception}
+use Rattle.load.specs.FillStep.{stop, call, rule, service, exception}
 use Rattle.load.proofs.StepLaws.{call-undated}
 use Rattle.again.specs.Again.{unsearched_of, added_to, add_spec_of}
 use Rattle.best.specs.Best.{kept_of}
@@ -42,8 +42,8 @@ pub record Follows (l : Load) (x : Step) : Type 0 where
 -- passed on as it is, or as another that is answered alike
 one-passed : (l : Load) (x y : Step) → passed l x ≡ y ∷ [] → stepped (bare l) y ≡ bared (stepped l x) → Follows l x
 one-passed l x y p e = record {
-  load = ap (handed (bare l)) p ∙ ap (λ (r : Stepped). r.load) e;
-  answers = (λ k. same_for (p k) (stepped l x).answer) ∙ ap (λ (r : Stepped). r.answer ∷ []) (sym e) ∙ ap (answers_to (bare l)) (sym p);
+  load = ap (handed (bare l)) p ∙ ap (λ (r : StepResult). r.load) e;
+  answers = (λ k. same_for (p k) (stepped l x).answer) ∙ ap (λ (r : StepResult). r.answer ∷ []) (sym e) ∙ ap (answers_to (bare l)) (sym p);
 }
 
 none_passed : (l : Load) (x : Step) → passed l x ≡ [] → bare (next l x) ≡ bare l → Follows l x

@@ -13,10 +13,10 @@ use Rattle.settings.specs.declared.Settings.{Settings}
 use Rattle.settings.specs.Settings.{over_counts, canonical_of}
 use Rattle.offers.specs.Search.{Outcome, clashing, falling, found}
 use Rattle.load.specs.declared.Load.{Load}
-use Rattle.load.specs.declared.Stepped.{Stepped}
+use Rattle.load.specs.declared.StepResult.{StepResult}
 use Rattle.load.specs.Load.{with_week}
 use Rattle.load.specs.Steps.{Opening, opened, call_spec}
-use Rattle.load.specs.Filling.{stop, call, rule, service, exception}
+use Rattle.load.specs.FillStep.{stop, call, rule, service, exception}
 use Rattle.load.specs.Sound.{Opens, Sound}
 use Rattle.load.proofs.SoundLaws.{open-sound}
 use Rattle.load.proofs.ClockLaws.{open-fails}
@@ -47,7 +47,7 @@ search-settings l = go l.searched refl
   where
     go : (b : Bool) → l.searched ≡ b → (search_spec l).load.settings ≡ l.settings
     go true e = ap (λ (m : Load). m.settings) (search-stays l e)
-    go false e = ap (λ (r : Stepped). r.load.settings) (search-runs l e) ∙ settled-settings l (outcome_of l)
+    go false e = ap (λ (r : StepResult). r.load.settings) (search-runs l e) ∙ settled-settings l (outcome_of l)
 
 within-settings : (l : Load) (n : ℕ) → (within_spec l n).load.settings ≡ l.settings
 within-settings l n = within-keeps (λ m. m.settings) l n (λ ks h m k. refl)
@@ -55,22 +55,22 @@ within-settings l n = within-keeps (λ m. m.settings) l n (λ ks h m k. refl)
 research-settings : (limit : Option ℕ) (m : Load) → (researched limit m).load.settings ≡ m.settings
 research-settings limit m = researched-keeps limit m (λ x. x.settings) (λ ks h k n. refl)
 
-again-settings : (l : Load) (r : Stepped) → r.load.settings ≡ l.settings → (again l r).load.settings ≡ l.settings
+again-settings : (l : Load) (r : StepResult) → r.load.settings ≡ l.settings → (again l r).load.settings ≡ l.settings
 unfolding again
 again-settings l r e = go (is_refused r.answer) (is_taken (researched l.limit r.load).answer)
   where
-    go : (b c : Bool) → (cond {A = Stepped} b (record { answer = r.answer; load = l })
-        (cond {A = Stepped} c (record { answer = r.answer; load = (researched l.limit r.load).load })
+    go : (b c : Bool) → (cond {A = StepResult} b (record { answer = r.answer; load = l })
+        (cond {A = StepResult} c (record { answer = r.answer; load = (researched l.limit r.load).load })
         (record { answer = (researched l.limit r.load).answer; load = l }))).load.settings ≡ l.settings
     go true c = refl
     go false true = research-settings l.limit r.load ∙ e
     go false false = refl
 
-added-settings : (l : Load) (r : Stepped) → r.load.settings ≡ l.settings → (added_to l r).load.settings ≡ l.settings
+added-settings : (l : Load) (r : StepResult) → r.load.settings ≡ l.settings → (added_to l r).load.settings ≡ l.settings
 unfolding added_to
 added-settings l r e = go (leaves_table_of l r)
   where
-    go : (b : Bool) → (cond {A = Stepped} b (record { answer = r.answer; load = with_week l r.load.week }) (again l r)).load.settings
+    go : (b : Bool) → (cond {A = StepResult} b (record { answer = r.answer; load = with_week l r.load.week }) (again l r)).load.settings
         ≡ l.settings
     go true = refl
     go false = again-settings l r e

@@ -18,10 +18,10 @@ use Rattle.offers.specs.Machine.{Ran, Stays, Steps}
 use Rattle.offers.proofs.OrderLaws.{sorted_front}
 use Rattle.offers.proofs.MachineLaws.{meets-2, meets-3, meets-within, kept-stands as machine-stands}
 use Rattle.load.specs.declared.Load.{Load}
-use Rattle.load.specs.declared.Stepped.{Stepped}
+use Rattle.load.specs.declared.StepResult.{StepResult}
 use Rattle.load.specs.Load.{empty_of, with_week, stopped}
 use Rattle.load.specs.Steps.{Opening, opened, call_spec}
-use Rattle.load.specs.Filling.{Filling, stop, call, rule, service, exception, filled}
+use Rattle.load.specs.FillStep.{FillStep, stop, call, rule, service, exception, filled}
 use Rattle.load.specs.Sound.{Sound}
 use Rattle.load.proofs.SoundLaws.{open-sound, fill-keeps-sound, with-week-sound}
 use Rattle.calls.specs.declared.CallKey.{CallKey}
@@ -92,7 +92,7 @@ week-right l w s v d = record {
 }
 
 -- an accepted search of m left it with what it found; where it was not stopped, the full search finds that
-pub record Leaves (m : Load) (r : Stepped) : Type 0 where
+pub record Leaves (m : Load) (r : StepResult) : Type 0 where
   pub new : m.searched ≡ false
   pub kept : List Journey
   pub to : ℕ
@@ -118,7 +118,7 @@ ran-found m ks h k limit s new f = record {
     none (Some n) e = absurd (false≢true e)
     none None e = refl
 
-ended : (l m : Load) (r : Stepped) → Sound m → Leaves m r → Right l r.load (Some m)
+ended : (l m : Load) (r : StepResult) → Sound m → Leaves m r → Right l r.load (Some m)
 ended l m r s w =
     let q : Ran machine Sound m r.load = subst (Ran machine Sound m) (sym w.is) (ran-found m w.kept w.to w.mark w.limit s w.new w.finds) in
     record {
@@ -138,7 +138,7 @@ full-leaves m s t =
       to = w.to;
       mark = w.mark;
       limit = None;
-      is = ap (λ (r : Stepped). r.load) w.is;
+      is = ap (λ (r : StepResult). r.load) w.is;
       finds = λ e. w.outcome;
       sound = search-sound m s;
       own = found-own m s t;
@@ -150,7 +150,7 @@ limited-leaves m n s t = go (finishes_in m n) refl
     go : (c : Bool) → finishes_in m n ≡ c → Leaves m (step_of (within_spec m n))
     go true e =
         let q = finished-is-search m n (taken-within m n t).one e in
-        subst (Leaves m) (sym q) (full-leaves m s (ap (λ (r : Stepped). is_taken r.answer) (sym q) ∙ t))
+        subst (Leaves m) (sym q) (full-leaves m s (ap (λ (r : StepResult). is_taken r.answer) (sym q) ∙ t))
     go false e =
         let w = taken-within m n t in
         record {
@@ -169,24 +169,24 @@ again-leaves : (limit : Option ℕ) (m : Load) → Sound m → is_taken (researc
 again-leaves limit m s = research-cases limit m (λ r. is_taken r.answer ≡ true → Leaves m r) (λ n w. limited-leaves m n s) (full-leaves m s)
 
 -- a step on the unsearched load, and a search
-again-right : (l : Load) (r : Stepped) → Sound l → Sound r.load → Right l (again l r).load (ran_again l r)
+again-right : (l : Load) (r : StepResult) → Sound l → Sound r.load → Right l (again l r).load (ran_again l r)
 unfolding again
 again-right l r s t = go (is_refused r.answer) (is_taken (researched l.limit r.load).answer) refl
   where
     go : (b c : Bool) → is_taken (researched l.limit r.load).answer ≡ c
-        → Right l (cond {A = Stepped} b (record { answer = r.answer; load = l })
-        (cond {A = Stepped} c (record { answer = r.answer; load = (researched l.limit r.load).load })
+        → Right l (cond {A = StepResult} b (record { answer = r.answer; load = l })
+        (cond {A = StepResult} c (record { answer = r.answer; load = (researched l.limit r.load).load })
         (record { answer = (researched l.limit r.load).answer; load = l }))).load
         (cond b None (cond c (Some r.load) None))
     go true c e = kept l l s (λ d. refl)
     go false true e = ended l r.load (researched l.limit r.load) t (again-leaves l.limit r.load t e)
     go false false e = kept l l s (λ d. refl)
 
-added-right : (l : Load) (r : Stepped) → Sound l → l.searched ≡ true → Sound r.load → Right l (added_to l r).load (ran_added l r)
+added-right : (l : Load) (r : StepResult) → Sound l → l.searched ≡ true → Sound r.load → Right l (added_to l r).load (ran_added l r)
 unfolding added_to
 added-right l r s d t = go (leaves_table_of l r)
   where
-    go : (b : Bool) → Right l (cond {A = Stepped} b (record { answer = r.answer; load = with_week l r.load.week }) (again l r)).load
+    go : (b : Bool) → Right l (cond {A = StepResult} b (record { answer = r.answer; load = with_week l r.load.week }) (again l r)).load
         (cond b None (ran_again l r))
     go true = week-right l r.load.week s t.week d
     go false = again-right l r s t
@@ -230,7 +230,7 @@ limited-right l n s = go (is_taken (within_spec l n).answer) refl
     go true e = ended l l (step_of (within_spec l n)) s (limited-leaves l n s e)
     go false e = kept l (within_spec l n).load (within-sound l n s) (λ d. untaken-within l n e)
 
-filled-right : (l : Load) (x : Filling) → Sound l → Right l (filled l x).load None
+filled-right : (l : Load) (x : FillStep) → Sound l → Right l (filled l x).load None
 filled-right l x s = kept l (filled l x).load (fill-keeps-sound l x s) (λ d. filled-stays l x (sym (filled-searched l x) ∙ d))
 
 pub right : (l : Load) (x : Step) → Sound l → Right l (next l x) (ran l x)

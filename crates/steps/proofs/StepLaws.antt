@@ -26,12 +26,12 @@ use Rattle.offers.specs.Admitted.{InTime}
 use Rattle.offers.specs.Search.{found, search_of}
 use Rattle.week.specs.Weeks.{service_tests, exception_tests}
 use Rattle.load.specs.declared.Load.{Load}
-use Rattle.load.specs.declared.Stepped.{Stepped}
+use Rattle.load.specs.declared.StepResult.{StepResult}
 use Rattle.stops.specs.Taken.{stop_of}
 use Rattle.load.specs.Load.{with_stops, with_rules, with_table}
 use Rattle.load.specs.Steps.{station_in, stop_answer, stop_spec, call_fitted, plain_call, call_spec, rule_answer, rule_spec, service_spec}
 use Rattle.load.specs.Steps.{exception_spec}
-use Rattle.load.specs.Filling.{Filling, stop, call, rule, service, exception, filled}
+use Rattle.load.specs.FillStep.{FillStep, stop, call, rule, service, exception, filled}
 use Rattle.load.specs.Sound.{Sound}
 use Rattle.load.proofs.AnswerLaws.{step-answered}
 use Rattle.load.proofs.TableLaws.{call-keeps}
@@ -49,7 +49,7 @@ first_holds (hit e) q = refl
 first_holds (miss e f) q = absurd (true≢false (sym q ∙ e))
 
 -- by a call as the load takes it before its search; one that comes after it goes another way
-pub filled-stays : (l : Load) (x : Filling) → l.searched ≡ true → (filled l x).load ≡ l
+pub filled-stays : (l : Load) (x : FillStep) → l.searched ≡ true → (filled l x).load ≡ l
 unfolding stop_tests rule_tests service_tests exception_tests
 filled-stays l (stop id name parent i) e = let w =
     step-answered l (stop id name parent i) in w.unchanged (ap is_refused (first_holds w.first e))
@@ -73,7 +73,7 @@ call-before l name i e = cond-not _ _ (go l.searched refl)
     go false q = q
 
 pub search-stays : (l : Load) → l.searched ≡ true → (search_spec l).load ≡ l
-search-stays l e = ap (λ (r : Stepped). r.load) (search-again l e)
+search-stays l e = ap (λ (r : StepResult). r.load) (search-again l e)
 
 -- ---- the demands on a sound load
 
@@ -136,7 +136,7 @@ plain-searched : (l : Load) (i : CallInput) → (plain_call l i).load.searched �
 unfolding plain_call
 plain-searched l i = either-searched l (with_table l (call_fitted l i).table) (is_refused (call_fitted l i).answer) refl
 
-pub filled-searched : (l : Load) (x : Filling) → (filled l x).load.searched ≡ l.searched
+pub filled-searched : (l : Load) (x : FillStep) → (filled l x).load.searched ≡ l.searched
 unfolding stop_spec rule_spec service_spec exception_spec
 filled-searched l (stop id name parent i) =
     either-searched (with_stops l (set l.stops l.stop_count (stop_of id name (station_in l parent) i)) (l.stop_count + 1)) l
@@ -169,7 +169,7 @@ unfolding outcome_of
 taken-searches l t =
     let w = taken-found l t in
     let m : Load = with_journeys l w.kept w.to w.mark in
-    let is : (search_spec l).load ≡ m = ap (λ (r : Stepped). r.load) w.is in
+    let is : (search_spec l).load ≡ m = ap (λ (r : StepResult). r.load) w.is in
     record {
       new = w.new;
       searched = ap (λ (n : Load). n.searched) is;

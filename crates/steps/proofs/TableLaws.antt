@@ -21,10 +21,10 @@ use Rattle.offers.specs.Admitted.{Admitted}
 use Rattle.offers.proofs.OrderLaws.{sorted_front}
 use Rattle.offers.proofs.AnyOrder.{admitted-in-any-order}
 use Rattle.load.specs.declared.Load.{Load}
-use Rattle.load.specs.declared.Stepped.{Stepped}
+use Rattle.load.specs.declared.StepResult.{StepResult}
 use Rattle.load.specs.Load.{table_of, with_table, with_week}
 use Rattle.load.specs.Steps.{opened, call_spec}
-use Rattle.load.specs.Filling.{Filling, stop, call, rule, service, exception, filled}
+use Rattle.load.specs.FillStep.{FillStep, stop, call, rule, service, exception, filled}
 use Rattle.load.specs.Sound.{Sound}
 use Rattle.load.specs.Table.{taken_call}
 use Rattle.load.proofs.TableLaws.{ShowsIn, fill_shows, opened-settings, opened-shows}
@@ -78,11 +78,11 @@ search-holds : (limit : Option ℕ) (m : Load) (is : List CallInput) → is_take
     → in_order_of (table_calls (table_of m)) ≡ in_order_of (windowed m.settings m.table_horizon is) → Holds (researched limit m).load is
 search-holds limit m is t e =
     let w = taken-researched limit m t in
-    subst (λ (x : Load). Holds x is) (sym (ap (λ (r : Stepped). r.load) w.is)) (found-holds m is w.kept w.to w.mark w.limit e)
+    subst (λ (x : Load). Holds x is) (sym (ap (λ (r : StepResult). r.load) w.is)) (found-holds m is w.kept w.to w.mark w.limit e)
 
 -- ---- all but calls and withdrawals
 
-filled-holds : (l : Load) (x : Filling) (is : List CallInput) → Sound l → taken_call l x ≡ [] → Holds l is → Holds (filled l x).load is
+filled-holds : (l : Load) (x : FillStep) (is : List CallInput) → Sound l → taken_call l x ≡ [] → Holds l is → Holds (filled l x).load is
 filled-holds l x is s n h = go l.searched refl
   where
     go : (b : Bool) → l.searched ≡ b → Holds (filled l x).load is
@@ -103,7 +103,7 @@ searched-holds l is h = go (is_taken (search_spec l).answer) refl
     go : (b : Bool) → is_taken (search_spec l).answer ≡ b → Holds (search_spec l).load is
     go true t =
         let w = taken-found l t in
-        subst (λ (x : Load). Holds x is) (sym (ap (λ (r : Stepped). r.load) w.is))
+        subst (λ (x : Load). Holds x is) (sym (ap (λ (r : StepResult). r.load) w.is))
         (found-holds l is w.kept w.to w.mark None (ap in_order_of (plain l is w.new h)))
     go false t = subst (λ (m : Load). Holds m is) (sym (untaken-stays l t)) h
 
@@ -136,7 +136,7 @@ module _ (l : Load) (name : List ℕ) (i : CallInput) (is : List CallInput) (s :
   abbrev u : Load
   u = unsearched_of l
 
-  abbrev r : Stepped
+  abbrev r : StepResult
   r = call_spec u name i
 
   abbrev m : Load
@@ -154,7 +154,7 @@ module _ (l : Load) (name : List ℕ) (i : CallInput) (is : List CallInput) (s :
       ∙ shown-more m.settings m.table_horizon is (cond (is_taken r.answer) (i ∷ []) [])
       ∙ ap (λ (js : List CallInput). in_order_of (windowed m.settings m.table_horizon js)) (either_held (is_taken r.answer) is i)
 
-  abbrev HeldBy : Stepped → Type 0
+  abbrev HeldBy : StepResult → Type 0
   HeldBy x = Holds x.load (cond (is_taken x.answer) (is ++ (i ∷ [])) is)
 
   stays : (a : Answer) (n : Load) → is_taken a ≡ false → Holds n is → HeldBy (record { answer = a; load = n })
@@ -189,7 +189,7 @@ module _ (l : Load) (k : CallKey) (is : List CallInput) (w : Kept l) (h : Holds 
   abbrev left : List CallInput
   left = without_last (named_in l.settings l.table_horizon k) is
 
-  abbrev LeftBy : Stepped → Type 0
+  abbrev LeftBy : StepResult → Type 0
   LeftBy x = Holds x.load (cond (is_taken x.answer) left is)
 
   -- on an unsearched load
@@ -233,7 +233,7 @@ module _ (l : Load) (k : CallKey) (is : List CallInput) (w : Kept l) (h : Holds 
         (λ g. go g (is_taken (researched l.limit (with_table v (withdrawn (table_of v) k))).answer) refl)
       where
         go : Goes v k → (b : Bool) → is_taken (researched l.limit (with_table v (withdrawn (table_of v) k))).answer ≡ b
-            → LeftBy (cond {A = Stepped} b (record {
+            → LeftBy (cond {A = StepResult} b (record {
               answer = Ok Taken;
               load = (researched l.limit (with_table v (withdrawn (table_of v) k))).load;
             })

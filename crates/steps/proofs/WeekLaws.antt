@@ -15,10 +15,10 @@ use Rattle.week.specs.declared.Week.{Week}
 use Rattle.week.specs.Weeks.{is_dated, WeekStepped, closed_week, service_answer, service_on, exception_answer, exception_on}
 use Rattle.week.proofs.SoundLaws.{closed-stays}
 use Rattle.load.specs.declared.Load.{Load}
-use Rattle.load.specs.declared.Stepped.{Stepped}
+use Rattle.load.specs.declared.StepResult.{StepResult}
 use Rattle.load.specs.Load.{with_week}
 use Rattle.load.specs.Steps.{stop_answer, stop_spec, call_spec, rule_answer, rule_spec, service_spec, exception_spec}
-use Rattle.load.specs.Filling.{stop, call, rule, service, exception}
+use Rattle.load.specs.FillStep.{stop, call, rule, service, exception}
 use Rattle.load.proofs.WeekLaws.{call-closes, call-week}
 use Rattle.search.specs.Search.{outcome_of, settled, search_spec}
 use Rattle.search.specs.Within.{ran_within, within_spec}
@@ -41,7 +41,7 @@ pub search-week : (l : Load) → (search_spec l).load.week ≡ l.week
 unfolding search_spec
 search-week l = go l.searched
   where
-    go : (b : Bool) → (cond {A = Stepped} b (record { answer = Err AlreadySearched; load = l })
+    go : (b : Bool) → (cond {A = StepResult} b (record { answer = Err AlreadySearched; load = l })
         (record { answer = answer_of (outcome_of l); load = settled l (outcome_of l) })).load.week ≡ l.week
     go true = refl
     go false = week-kept l (outcome_of l)
@@ -93,7 +93,7 @@ add-week l name i P p q = go l.searched (leaves_table_of l (call_spec (unsearche
         (subst (λ (w : Week). P (closed_week w)) (sym (back-week l)) q)
 
     go : (b c : Bool)
-        → P (cond b (cond {A = Stepped} c (record {
+        → P (cond b (cond {A = StepResult} c (record {
           answer = (call_spec (unsearched_of l) name i).answer;
           load = with_week l (call_spec (unsearched_of l) name i).load.week;
         }) (again l (call_spec (unsearched_of l) name i)))
@@ -107,9 +107,9 @@ search-told : (m : Load) → is_taken (search_spec m).answer ≡ false → is_re
 unfolding search_spec
 search-told m e = go m.searched (outcome_of m) e
   where
-    go : (b : Bool) (o : Outcome) → is_taken (cond {A = Stepped} b (record { answer = Err AlreadySearched; load = m })
+    go : (b : Bool) (o : Outcome) → is_taken (cond {A = StepResult} b (record { answer = Err AlreadySearched; load = m })
         (record { answer = answer_of o; load = settled m o })).answer ≡ false
-        → is_refused (cond {A = Stepped} b (record { answer = Err AlreadySearched; load = m })
+        → is_refused (cond {A = StepResult} b (record { answer = Err AlreadySearched; load = m })
         (record { answer = answer_of o; load = settled m o })).answer ≡ true
     go true o e = refl
     go false clashing e = refl
@@ -130,7 +130,7 @@ research-told limit m = research-cases limit m (λ r. is_taken r.answer ≡ fals
     (search-told m)
 
 -- an answered call closes the services
-added-closes : (l : Load) (r : Stepped) → (is_refused r.answer ≡ false → r.load.week.closed ≡ true)
+added-closes : (l : Load) (r : StepResult) → (is_refused r.answer ≡ false → r.load.week.closed ≡ true)
     → is_refused (added_to l r).answer ≡ false → (added_to l r).load.week.closed ≡ true
 unfolding added_to again
 added-closes l r h e = go (leaves_table_of l r) (is_refused r.answer) (is_taken (researched l.limit r.load).answer) refl refl e

@@ -18,12 +18,12 @@ pub record Answered (l : Load) (x : Step) : Type 0 where
   pub first : First (stepped l x).answer (causes l x)
   -- a step that is taken has no cause against it
   pub taken : (stepped l x).answer ≡ Ok Taken → AllFail (causes l x)
-  -- its number is one of those that the scope lists for the step, or 0; the causes stand in the scope's order
+  -- its number is one of those of RULES 16.2 for the step, or 0; the causes stand in that order
   pub listed : one_of (answer_number (stepped l x).answer) (0 ∷ numbers l.searched x) ≡ true
   pub order : map number (causes l x) ≡ numbers l.searched x
   pub unchanged : is_refused (stepped l x).answer ≡ true → (stepped l x).load ≡ l
 
--- 20 only with dates
+-- the numbers of an opening's causes: 20 only with dates
 abbrev pub open_numbers : Option (List ℕ) → List ℕ
 open_numbers None = 1 ∷ 2 ∷ []
 open_numbers (Some dates) = 1 ∷ 2 ∷ 20 ∷ []

@@ -10,7 +10,7 @@ use Rattle.week.specs.Weeks.{is_dated, undated_week, running}
 use Rattle.load.specs.declared.Load.{Load}
 use Rattle.load.specs.Load.{with_week}
 use Rattle.load.specs.Steps.{undated, dated, opened}
-use Rattle.load.specs.Filling.{stop, call, rule, service, exception}
+use Rattle.load.specs.FillStep.{stop, call, rule, service, exception}
 use Rattle.best.specs.Best.{kept_of}
 use Rattle.steps.specs.Steps.{Step, filling, withdraw, search, limited, stepped}
 use Rattle.steps.specs.Lists.{next, handed, end_of}

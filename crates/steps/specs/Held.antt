@@ -17,6 +17,7 @@ use Rattle.load.specs.Sound.{Opens}
 use Rattle.best.specs.Best.{answer_of, kept_of, best_spec}
 use Rattle.steps.specs.Steps.{Step}
 use Rattle.steps.specs.Lists.{end_of, start_of, Admitted, offers_of}
+use Rattle.profile.specs.Sizes.{kept_room, least_horizon}
 
 pub record Holds (s : Opening) (xs : List Step) : Type 0 where
   -- the list is the unbeaten offers due by the horizon, the older of equals, by arrival, rides and walk, least first, then latest leave
@@ -27,8 +28,8 @@ pub record Holds (s : Opening) (xs : List Step) : Type 0 where
   -- each admitted journey due by the horizon is equalled or beaten by one of the list
   pub complete : CoveredBy (end_of s xs).horizon (Admitted s xs) (λ j. Memᴰ j (kept_of (end_of s xs)))
   -- horizon and mark fall from the table's by the offers alone: at a 65th that none beats, to the latest arrival less 1
-  pub fell : fall (covᶠ journey_figures) (dueᶠ journey_figures) 64 3600 (start_of s xs).table_horizon (start_of s xs).table_limits []
-      (offers_of s xs)
+  pub fell : fall (covᶠ journey_figures) (dueᶠ journey_figures) kept_room least_horizon (start_of s xs).table_horizon
+      (start_of s xs).table_limits [] (offers_of s xs)
       ≡ up_to (end_of s xs).horizon (end_of s xs).limits
 
 -- a searched load that was not stopped holds this

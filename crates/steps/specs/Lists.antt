@@ -6,9 +6,9 @@ use Rattle.offers.specs.Offers.{offers}
 use Rattle.offers.specs.Admitted as by
 use Rattle.offers.specs.Handed as lists
 use Rattle.load.specs.declared.Load.{Load}
-use Rattle.load.specs.declared.Stepped.{Stepped}
+use Rattle.load.specs.declared.StepResult.{StepResult}
 use Rattle.load.specs.Steps.{Opening, opened, call_spec}
-use Rattle.load.specs.Filling.{stop, call, rule, service, exception}
+use Rattle.load.specs.FillStep.{stop, call, rule, service, exception}
 use Rattle.search.specs.Timetable.{timetable_of}
 use Rattle.search.specs.Search.{search_spec}
 use Rattle.search.specs.Within.{within_spec}
@@ -22,12 +22,12 @@ next l x = (stepped l x).load
 -- ---- the unsearched load that the step's accepted search started from; none if it searched nothing, or its search is sent back
 
 -- r is what a step made of l's unsearched load
-abbrev pub ran_again : Load → Stepped → Option Load
+abbrev pub ran_again : Load → StepResult → Option Load
 ran_again l r =
     cond (is_refused r.answer) None (cond (is_taken (researched l.limit r.load).answer) (Some r.load) None)
 
 -- a call that leaves the table has nothing searched again
-abbrev pub ran_added : Load → Stepped → Option Load
+abbrev pub ran_added : Load → StepResult → Option Load
 ran_added l r = cond (leaves_table_of l r) None (ran_again l r)
 
 abbrev pub ran : Load → Step → Option Load

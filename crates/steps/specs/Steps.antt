@@ -3,9 +3,9 @@ use Rattle.refusal.specs.First.{Answer}
 use Rattle.std.specs.Prelude.{Bool, cond, List, [], ◌∷◌, ℕ}
 use Rattle.calls.specs.declared.CallKey.{CallKey}
 use Rattle.load.specs.declared.Load.{Load}
-use Rattle.load.specs.declared.Stepped.{Stepped}
-use Rattle.load.specs.Filling as fill
-use Rattle.load.specs.Filling.{Filling, stop, call, rule, service, exception, filled}
+use Rattle.load.specs.declared.StepResult.{StepResult}
+use Rattle.load.specs.FillStep as fill
+use Rattle.load.specs.FillStep.{FillStep, stop, call, rule, service, exception, filled}
 use Rattle.search.specs.Search.{search_spec, search_causes}
 use Rattle.search.specs.Within.{within_spec, step_of, within_causes}
 use Rattle.again.specs.Again.{add_spec_of, withdraw_spec}
@@ -14,13 +14,13 @@ use Rattle.again.specs.Causes.{add_causes, withdraw_causes}
 -- a stop, a call, a rule, a service or an exception is handed in; a call is withdrawn; or the load is searched, in full or within a limit
 -- on joins
 pub data Step : Type 0 where
-  filling : Filling → Step
+  filling : FillStep → Step
   withdraw : CallKey → Step
   search : Step
   limited : ℕ → Step
 
 -- the answer, and the load that is returned; a call may come before the search or after it
-abbrev pub stepped : Load → Step → Stepped
+abbrev pub stepped : Load → Step → StepResult
 stepped l (filling (stop id name parent i)) = filled l (stop id name parent i)
 stepped l (filling (call name i)) = add_spec_of l name i
 stepped l (filling (rule i)) = filled l (rule i)
@@ -30,7 +30,7 @@ stepped l (withdraw k) = withdraw_spec l k
 stepped l search = search_spec l
 stepped l (limited n) = step_of (within_spec l n)
 
--- the tests of a step, each with its answer, in the scope's order
+-- the tests of a step, each with its answer, in the order of RULES 16.2
 abbrev pub causes : Load → Step → List (Bool × Answer)
 causes l (filling (stop id name parent i)) = fill.causes l (stop id name parent i)
 causes l (filling (call name i)) = add_causes l name i
@@ -41,9 +41,8 @@ causes l (withdraw k) = withdraw_causes l k
 causes l search = search_causes l
 causes l (limited n) = within_causes l n
 
--- the numbers of those answers; 0 stands for outside, which a call meets by a service that doesn't run, by an absent time and by its
--- window. On a searched load a call and a withdrawal then meet 14 and 11 of the search again; a call that is outside only after a cut,
--- only then
+-- the numbers of those answers; 0 stands for outside: of a call by a service that doesn't run, by an absent time and by its window. On a
+-- searched load the 14 and 11 of the search again follow, and then 0 for a call that is outside only after a cut
 abbrev pub numbers : Bool → Step → List ℕ
 numbers searched (filling (stop id name parent i)) = 15 ∷ 3 ∷ 5 ∷ 6 ∷ 7 ∷ 8 ∷ 4 ∷ []
 numbers searched (filling (call name i)) = 9 ∷ 21 ∷ 0 ∷ 0 ∷ 10 ∷ 0 ∷ 11 ∷ cond searched (14 ∷ 11 ∷ 0 ∷ []) []

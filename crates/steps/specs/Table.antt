@@ -13,7 +13,7 @@ use Rattle.offers.specs.Admitted as by
 use Rattle.load.specs.declared.Load.{Load}
 use Rattle.load.specs.Load.{table_of}
 use Rattle.load.specs.Steps.{Opening, opened}
-use Rattle.load.specs.Filling.{stop, call, rule, service, exception}
+use Rattle.load.specs.FillStep.{stop, call, rule, service, exception}
 use Rattle.withdrawal.specs.Removal.{without_last, named_in}
 use Rattle.search.specs.Timetable.{timetable_of}
 use Rattle.again.specs.Again.{add_spec_of, withdraw_spec}

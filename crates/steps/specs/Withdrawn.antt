@@ -7,7 +7,7 @@ use Rattle.offers.specs.Order.{clashes}
 use Rattle.offers.specs.Offers.{sorted}
 use Rattle.offers.specs.Machine.{LastFound}
 use Rattle.load.specs.Steps.{Opening, closed_load}
-use Rattle.load.specs.Filling.{call}
+use Rattle.load.specs.FillStep.{call}
 use Rattle.calls.specs.declared.CallKey.{CallKey}
 use Rattle.withdrawal.specs.Removal.{key_of}
 use Rattle.search.specs.Timetable.{timetable_of}

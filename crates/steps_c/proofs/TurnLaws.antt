@@ -4,7 +4,7 @@ use Prim.Native.Nat.{ℕ, suc, ◌-◌, ◌<◌}
 use native.Mathlib.Omega.{arith}
 use Rattle.settings.specs.declared.Settings.{Settings}
 use Rattle.load.specs.declared.Load.{Load}
-use Rattle.load.specs.declared.Stepped.{Stepped}
+use Rattle.load.specs.declared.StepResult.{StepResult}
 use Rattle.load.specs.Steps.{undated, open_spec_of}
 use Rattle.steps_c.specs.Steps.{plain_settings, with_stop, with_rule, with_call, turns, calls_held}
 
@@ -19,11 +19,11 @@ module _ (step : ℕ → Load → Load) (left : ℕ) (l : Load) {all : Load} whe
   unfolding turns
   last_turn none so = sym (ap (λ (k : ℕ). turns k step l) none) ∙ so
 
-pub all-handed : (a b c : ℕ) {i : Settings} {s : Stepped} {x y z : Load} → i ≡ plain_settings → s ≡ open_spec_of (undated i)
+pub all-handed : (a b c : ℕ) {i : Settings} {s : StepResult} {x y z : Load} → i ≡ plain_settings → s ≡ open_spec_of (undated i)
     → x ≡ turns a with_stop s.load → y ≡ turns b with_rule x → z ≡ turns c with_call y
     → z.call_count ≡ calls_held a b c
 unfolding calls_held
 all-handed a b c e o p q r =
     ap (λ (l : Load). l.call_count)
     (r ∙ ap (turns c with_call) (q ∙ ap (turns b with_rule)
-    (p ∙ ap (λ (s : Stepped). turns a with_stop s.load) (o ∙ ap (λ (x : Settings). open_spec_of (undated x)) e))))
+    (p ∙ ap (λ (s : StepResult). turns a with_stop s.load) (o ∙ ap (λ (x : Settings). open_spec_of (undated x)) e))))

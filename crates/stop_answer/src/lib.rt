@@ -4,18 +4,20 @@
 ghost use Rattle.std.specs.Prelude.{◌≡◌, length, not, ◌&&◌, is_some, option_copied};
 ghost use Rattle.refusal.specs.First.{first_answer};
 ghost use Rattle.stops.specs.Answer.{station_of, is_known, id_wrong, type_wrong, name_needed, unusable, name_wrong, stop_tests};
+ghost use Rattle.stops.specs.Sizes.{stop_room};
 
 use prefix::first;
 use refusal::{Accepted, Answer, Refusal};
 use stops::find::{find, find_station};
-use stops::{NewStop, Stop, StopInput};
+use stops::{NAME_BYTES, NewStop, STOPS, Stop, StopInput};
+use texts::ID_BYTES;
 
 // The number of the station that is named as the parent, among the stops of a load.
 #[tactic(auto, unfolding(stops::specs::Answer::station_of))]
 pub fn parent_of(stops: &[Stop], parent: Option<&[u8]>) -> Option<u16>
-    ensures { result ≡ station_of stops.now 128 (option_copied parent.entry) }
+    ensures { result ≡ station_of stops.now stop_room (option_copied parent.entry) }
 {
-    match find_station(first(stops, 128), parent?) {
+    match find_station(first(stops, STOPS), parent?) {
         Some(place) => Some(place as u16),
         None => None,
     }
@@ -25,7 +27,7 @@ pub fn parent_of(stops: &[Stop], parent: Option<&[u8]>) -> Option<u16>
 pub fn id_wrong(id: &[u8]) -> bool
     ensures { result ≡ id_wrong id.now }
 {
-    id.len() == 0 || 32 < id.len()
+    id.len() == 0 || ID_BYTES < id.len()
 }
 
 // `kind` is the number handed in.
@@ -60,7 +62,7 @@ fn name_wrong(name: Option<&[u8]>, needed: bool, id: &[u8]) -> bool
     ensures { result ≡ name_wrong (option_copied name.entry) needed id.now }
 {
     match name {
-        Some(name) => 64 < name.len() || needed && is_unusable(name),
+        Some(name) => NAME_BYTES < name.len() || needed && is_unusable(name),
         None => needed && is_unusable(id),
     }
 }
@@ -101,7 +103,7 @@ pub fn stop_answer(
     if name_wrong(stop.name, name_needed(stop.parent, stop.input), stop.id) {
         return Err(Refusal::NameUnusable);
     }
-    if 128 <= stops.len() {
+    if STOPS <= stops.len() {
         return Err(Refusal::StopsFull);
     }
     Ok(Accepted::Taken)

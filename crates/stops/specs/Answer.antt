@@ -1,4 +1,4 @@
--- Why a stop is sent back, in the scope's order: 15, 3, 5, 6, 7, 8, 4.
+-- Why a stop is sent back, in the order of RULES 16.2: 15, 3, 5, 6, 7, 8, 4.
 use Rattle.refusal.specs.First.{Answer}
 use Rattle.std.specs.Prelude.{ℕ, List, [], ◌∷◌, Bool, true, false, not, ◌&&◌, ◌||◌, length, take, ltb, leb, eqb, None, Option, Some, Err}
 use Rattle.std.specs.Prelude.{is_some}
@@ -10,6 +10,8 @@ use Rattle.place.specs.Positions.{is_usable}
 use Rattle.stops.specs.declared.Stop.{Stop}
 use Rattle.stops.specs.declared.StopInput.{StopInput}
 use Rattle.stops.specs.Stops.{is_it, find_stop}
+use Rattle.stops.specs.Sizes.{stop_room, name_bytes}
+use Rattle.texts.specs.Sizes.{id_bytes}
 
 -- the station of the load that is named as the parent, if one is named
 unfoldable pub station_of : List Stop → ℕ → Option (List ℕ) → Option ℕ
@@ -18,7 +20,7 @@ station_of stops count None = None
 
 -- 3: empty, or over 32 bytes
 unfoldable pub id_wrong : List ℕ → Bool
-id_wrong id = eqb (length id) 0 || ltb 32 (length id)
+id_wrong id = eqb (length id) 0 || ltb id_bytes (length id)
 
 -- 5: a stop of the load has the id
 unfoldable pub is_known : List Stop → ℕ → List ℕ → Bool
@@ -38,7 +40,7 @@ unusable s = not (usable (points s))
 
 -- 8: over 64 bytes; or needed and unusable, the id where no name
 unfoldable pub name_wrong : Option (List ℕ) → Bool → List ℕ → Bool
-name_wrong (Some name) needed id = ltb 64 (length name) || (needed && unusable name)
+name_wrong (Some name) needed id = ltb name_bytes (length name) || (needed && unusable name)
 name_wrong None needed id = needed && unusable id
 
 -- `searched` is the load's, of whose stops `count` are taken; `station` is the parent found
@@ -50,5 +52,5 @@ stop_tests searched stops count station id name parent i =
     ∷ (type_wrong i.location_type (is_some parent), Err LocationType)
     ∷ (is_some parent && not (is_some station), Err ParentUnknown)
     ∷ (name_wrong name (name_needed parent i) id, Err NameUnusable)
-    ∷ (leb 128 count, Err StopsFull)
+    ∷ (leb stop_room count, Err StopsFull)
     ∷ []

@@ -13,6 +13,7 @@ use Rattle.stops.specs.Texts.{same_bytes_of}
 use Rattle.stops.specs.Stops.{id_of, name_of}
 use Rattle.stops.specs.Answer.{station_of, name_needed, stop_tests}
 use Rattle.stops.specs.Taken.{stop_of, blank_stop}
+use Rattle.stops.specs.Sizes.{stop_room}
 
 -- the stop of a number
 unfoldable pub stop_at : List Stop → ℕ → Stop
@@ -24,16 +25,16 @@ Parented ss n None = Unit {0}
 Parented ss n (Some p) = (p < n) × ((stop_at ss p).location_type ≡ 1)
 
 pub record StopsSound (stops : List Stop) (count : ℕ) : Type 0 where
-  pub few : count ≤ 128
-  pub long : length stops ≡ 128
-  pub blank : drop count stops ≡ replicate (128 - count) blank_stop
+  pub few : count ≤ stop_room
+  pub long : length stops ≡ stop_room
+  pub blank : drop count stops ≡ replicate (stop_room - count) blank_stop
   pub types : (k : ℕ) → k < count → (stop_at stops k).location_type ≤ 1
   pub alone : (j k : ℕ) → j < k → k < count → same_bytes_of (id_of (stop_at stops j)) (id_of (stop_at stops k)) ≡ false
   pub parents : (k : ℕ) → k < count → Parented stops count (stop_at stops k).parent
 
 -- no stop taken yet
 abbrev pub NoStopsSound : Type 0
-NoStopsSound = StopsSound (replicate 128 blank_stop) 0
+NoStopsSound = StopsSound (replicate stop_room blank_stop) 0
 
 -- a stop that is taken keeps the stops sound
 abbrev pub StopKeepsSound : Type 0

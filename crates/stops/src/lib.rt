@@ -5,13 +5,22 @@ pub mod find;
 pub mod taken;
 
 use place::Degrees;
-use texts::Text;
+use texts::{ID_BYTES, Text};
+
+// How many stops a load holds.
+pub const STOPS: usize = 128;
+
+// How many bytes a name has at most.
+pub const NAME_BYTES: usize = 64;
+
+// What stands for no parent and no place in arrays of numbers.
+pub const NO_STOP: u16 = 65535;
 
 // The parent is the number of a station. `location_type` is a number and no enum: what is handed in beside the texts goes in as it is.
 #[derive(Clone, Copy, Debug, Default, PartialEq)]
 pub struct Stop {
-    pub id: Text<32>,
-    pub name: Option<Text<64>>,
+    pub id: Text<ID_BYTES>,
+    pub name: Option<Text<NAME_BYTES>>,
     pub parent: Option<u16>,
     pub location_type: u8,
     pub degrees: Option<Degrees>,

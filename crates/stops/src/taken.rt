@@ -2,10 +2,10 @@
 ghost use Rattle.std.specs.Prelude.{◌≡◌, option_copied};
 ghost use Rattle.stops.specs.Taken.{blank_stop, held_name, stop_of};
 
-use crate::{NewStop, Stop};
+use crate::{NAME_BYTES, NewStop, Stop};
 use texts::Text;
 
-fn held_name(name: Option<&[u8]>) -> Option<Text<64>>
+fn held_name(name: Option<&[u8]>) -> Option<Text<NAME_BYTES>>
     ensures { result ≡ held_name (option_copied name.entry) }
 {
     name.map(Text::of)

@@ -5,8 +5,9 @@ ghost use Rattle.calls.specs.Tables.{due_by, trim, cut, fitted};
 ghost use Rattle.calls.specs.Calls.{ended};
 
 use calls::window::Timed;
-use calls::{Call, Fitted, Table, blank_call};
+use calls::{CALLS, Call, Fitted, Table, blank_call};
 use prefix::first;
+use profile::LEAST_HORIZON;
 use refusal::{Accepted, Refusal};
 
 fn due(call: Call, h: u16) -> bool
@@ -35,7 +36,7 @@ fn trimmed(call: Call, h: u16) -> Call
 fn cut_to(t: Table, h: u16) -> Table
     ensures { result ≡ cut h t }
 {
-    let mut calls = [blank_call(); 512];
+    let mut calls = [blank_call(); CALLS];
     let mut count: usize = 0;
     for &call in first(&t.calls, t.count) {
         if due(call, h) {
@@ -63,7 +64,7 @@ pub fn fit(table: Table, timed: Timed) -> Result<Fitted, Refusal>
                 table: t,
             });
         };
-        if t.count < 512 {
+        if t.count < CALLS {
             t.calls[t.count] = call;
             t.count += 1;
             return Ok(Fitted {
@@ -72,7 +73,7 @@ pub fn fit(table: Table, timed: Timed) -> Result<Fitted, Refusal>
             });
         }
         let less = t.horizon - t.horizon / 4;
-        if less < 3600 {
+        if less < LEAST_HORIZON {
             return Err(Refusal::NoRoom);
         }
         t = cut_to(t, less);

@@ -7,7 +7,7 @@ ghost use Rattle.calls.specs.Uncut.{uncut_view, uncut_on};
 
 use crate::cuts::fit;
 use calls::window::{Timed, offset};
-use calls::{CallInput, Fitted, Table, Uncut};
+use calls::{CALLS, CallInput, Fitted, NO_TRIP, Table, Uncut};
 use refusal::{Accepted, Answer, Refusal};
 use settings::Settings;
 
@@ -17,7 +17,7 @@ pub fn is_known(stops: usize, input: CallInput) -> bool
     ensures { result ≡ known stops input }
 {
     usize::from(input.stop) < stops
-        && input.trip < 65535
+        && input.trip < NO_TRIP
         && input.day <= 2
         && input.pickup <= 3
         && input.drop_off <= 3
@@ -85,7 +85,7 @@ impl CallGate {
     {
         match self.timed(input).view(h) {
             None => Uncut::Outside,
-            Some(call) if count < 512 => Uncut::In(call),
+            Some(call) if count < CALLS => Uncut::In(call),
             Some(_) => Uncut::Other,
         }
     }

@@ -6,6 +6,9 @@ ghost use Rattle.texts.specs.Texts.{held, bytes_of};
 
 use prefix::first;
 
+// How many bytes an id has at most, a stop's or the name of a service.
+pub const ID_BYTES: usize = 32;
+
 // A text of at most N bytes, and at most 255, held with 0 past its length. An array with a length, since there is no heap. No invariant:
 // functions take every text, also one that no step made.
 #[derive(Clone, Copy, Debug, PartialEq, Eq)]

@@ -1,4 +1,4 @@
--- What is proved of time texts.
+-- What is proved of time texts: which are taken, as what, and that every other is refused. RULES 14.
 use Rattle.std.specs.Prelude.{ℕ, ◌^◌, ◌≤◌, ◌<◌, ◌≡◌, List, [], ◌∷◌, ◌++◌, ◌⊎◌, ◌↔◌, length, Ok}
 use Rattle.std.proofs.Common.{inl, inr}
 use Rattle.time.specs.Text.{colon, number, seconds_of, time_of, answer}

@@ -1,5 +1,5 @@
--- Result ℕ Refusal text: bytes to u32 seconds, as `Result ℕ Refusal`. Err with 16: a text that is not digits, ':', 2 digits, ':', 2
--- digits; minutes or seconds 60 or more; over u32.
+-- Time texts, bytes to seconds: hours of one digit or more, ':', two digits, ':', two digits; minutes and seconds below 60; below 2^32
+-- seconds in all. Every other text is refused with 16. RULES 14.
 use Rattle.refusal.specs.declared.Refusal.{Refusal}
 use Rattle.std.specs.Prelude.{ℕ, ◌+◌, ◌-◌, ◌*◌, ◌^◌, List, [], ◌∷◌, Bool, true, cond, ◌&&◌, ◌⊎◌, eqb, ltb, leb, length, get_or, take}
 use Rattle.std.specs.Prelude.{drop, Err, Ok, Result}
@@ -50,7 +50,7 @@ time_of text =
     let end = length text - 6 in
     parsed (take end text) (get_or text end 0) (take 2 (drop (end + 1) text)) (get_or text (end + 3) 0) (drop (end + 4) text)
 
--- the scope's value or number of each case
+-- the value or number of each case: the seconds, or 16
 abbrev pub answer : Result ℕ Refusal → ℕ ⊎ ℕ
 answer (Ok n) = inl n
 answer (Err cause) = inr (number_of cause)

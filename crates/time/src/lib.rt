@@ -1,4 +1,4 @@
-// Time text to seconds of a service day: digits, ':', two digits, ':', two digits.
+// Time texts, to seconds: digits, ':', two digits, ':', two digits (RULES 14).
 #![tactic(auto)]
 
 ghost use Rattle.std.specs.Prelude.{◌≡◌, ◌≤◌, IsTrue, [], ◌∷◌};

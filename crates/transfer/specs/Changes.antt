@@ -7,6 +7,7 @@ use Rattle.std.specs.Prelude.{Bool, not, false, cond, ◌&&◌, ◌||◌, List, 
 use Rattle.rules.specs.declared.Rule.{Rule}
 use Rattle.transfer.specs.declared.Ends.{Ends}
 use Rattle.transfer.specs.Choice.{chosen}
+use Rattle.stops.specs.Sizes.{no_stop}
 
 -- the seconds that a rule gives: its own count for type 2 alone; `change` is the settings' change time
 abbrev pub rule_seconds : Rule → ℕ → ℕ
@@ -17,11 +18,12 @@ rule_change r change = cond (eqb r.transfer_type 3) None (Some (rule_seconds r c
 
 -- a stop, and its parent
 unfoldable pub ends_of_of : List ℕ → ℕ → ℕ → Ends
-ends_of_of parents from to = record { from = from; from_parent = get_or parents from 65535; to = to; to_parent = get_or parents to 65535 }
+ends_of_of parents from to =
+    record { from = from; from_parent = get_or parents from no_stop; to = to; to_parent = get_or parents to no_stop }
 
 -- one stop, one parent or one place; 65535 is none
 abbrev pub near : Ends → ℕ → ℕ → Bool
-near e p q = eqb e.from e.to || ((not (eqb e.from_parent 65535) && eqb e.from_parent e.to_parent) || (not (eqb p 65535) && eqb p q))
+near e p q = eqb e.from e.to || ((not (eqb e.from_parent no_stop) && eqb e.from_parent e.to_parent) || (not (eqb p no_stop) && eqb p q))
 
 -- by the rule; with no rule by nearness
 abbrev pub change_of : Option Rule → Bool → ℕ → Option ℕ
@@ -33,7 +35,7 @@ unfoldable pub transfer_of : List Rule → List ℕ → List ℕ → ℕ → ℕ
 unfolding ends_of_of
 transfer_of rules parents places from to change =
     change_of (chosen (ends_of_of parents from to) rules)
-    (near (ends_of_of parents from to) (get_or places from 65535) (get_or places to 65535)) change
+    (near (ends_of_of parents from to) (get_or places from no_stop) (get_or places to no_stop)) change
 
 -- the arrival with the change is no later than the departure
 abbrev pub joins_by : Option ℕ → ℕ → ℕ → Bool

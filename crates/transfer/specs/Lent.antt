@@ -4,10 +4,11 @@ use Rattle.transfer.specs.declared.Ends.{Ends}
 use Rattle.transfer.specs.declared.Transfers.{Transfers}
 use Rattle.transfer.specs.Changes.{near, transfer_of}
 use Rattle.transfer.specs.Rows.{entry_of, change_row}
+use Rattle.stops.specs.Sizes.{no_stop}
 
 -- one stop, one parent or one place
 abbrev pub near_in : Transfers → Ends → Bool
-near_in t e = near e (get_or t.places.now e.from 65535) (get_or t.places.now e.to 65535)
+near_in t e = near e (get_or t.places.now e.from no_stop) (get_or t.places.now e.to no_stop)
 
 -- from one stop to another
 abbrev pub between_of : Transfers → ℕ → ℕ → Option ℕ

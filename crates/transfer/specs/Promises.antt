@@ -11,6 +11,7 @@ use Rattle.transfer.specs.Choice.{applies, chosen, rank}
 use Rattle.transfer.specs.Changes.{transfer_of, ends_of_of, joins_by}
 use Rattle.transfer.specs.Copied.{parents_of}
 use Rattle.transfer.specs.Rows.{change_row}
+use Rattle.stops.specs.Sizes.{stop_room, no_stop}
 
 -- the rank of a rule: both sides exact, the from side, the to side, neither
 pub record Ranked (e : Ends) (r : Rule) : Type 0 where
@@ -88,16 +89,16 @@ TransferInAnyOrder =
 -- no rule of a sound load names 65535, so a stop without a parent is matched by its own number alone
 abbrev pub NoneNotNamed : Type 0
 NoneNotNamed =
-    (stops : ℕ) (rules : List Rule) (count : ℕ) → stops ≤ 128 → RulesSound stops rules count
-    → (k : ℕ) → k < count → ((rule_at rules k).from ≡ 65535 → ⊥) × ((rule_at rules k).to ≡ 65535 → ⊥)
+    (stops : ℕ) (rules : List Rule) (count : ℕ) → stops ≤ stop_room → RulesSound stops rules count
+    → (k : ℕ) → k < count → ((rule_at rules k).from ≡ no_stop → ⊥) × ((rule_at rules k).to ≡ no_stop → ⊥)
 
 -- an entry of a row decides whether a ride joins
 abbrev pub RowJoins : Type 0
 RowJoins =
-    (rules : List Rule) (parents places : List ℕ) (from change to arrival departure : ℕ) → to < 128 → departure < 65536
+    (rules : List Rule) (parents places : List ℕ) (from change to arrival departure : ℕ) → to < stop_room → departure < 65536
     → leb (arrival + get_or (change_row rules parents places from change) to 0) departure
     ≡ joins_by (transfer_of rules parents places from to change) arrival departure
 
 -- the parent that is read for a stop is that of its record
 abbrev pub ParentRead : Type 0
-ParentRead = (stops : List Stop) (k : ℕ) → k < 128 → get_or (parents_of stops) k 65535 ≡ unwrap_or (stop_at stops k).parent 65535
+ParentRead = (stops : List Stop) (k : ℕ) → k < stop_room → get_or (parents_of stops) k no_stop ≡ unwrap_or (stop_at stops k).parent no_stop

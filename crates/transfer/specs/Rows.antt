@@ -3,6 +3,7 @@ use Rattle.std.specs.Prelude.{List, ℕ}
 use Rattle.laws.specs.Tables.{table}
 use Rattle.rules.specs.declared.Rule.{Rule}
 use Rattle.transfer.specs.Changes.{transfer_of, change_number}
+use Rattle.stops.specs.Sizes.{stop_room}
 
 unfoldable pub entry_of : List Rule → List ℕ → List ℕ → ℕ → ℕ → ℕ → ℕ
 unfolding transfer_of
@@ -10,4 +11,4 @@ entry_of rules parents places from change to = change_number (transfer_of rules 
 
 unfoldable pub change_row : List Rule → List ℕ → List ℕ → ℕ → ℕ → List ℕ
 unfolding entry_of
-change_row rules parents places from change = table 128 (entry_of rules parents places from change)
+change_row rules parents places from change = table stop_room (entry_of rules parents places from change)

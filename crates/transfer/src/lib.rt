@@ -7,6 +7,7 @@ pub mod pair;
 pub mod parts;
 
 use rules::Rule;
+use stops::STOPS;
 
 // The two stops of a change with their parents, 65535 where there is none, as in the arrays that C lends.
 #[derive(Clone, Copy, Debug, PartialEq, Eq)]
@@ -22,7 +23,7 @@ pub struct Ends {
 #[derive(Clone, Copy, Debug, PartialEq, Eq)]
 pub struct Transfers<'a> {
     pub rules: &'a [Rule],
-    pub parents: &'a [u16; 128],
-    pub places: &'a [u16; 128],
+    pub parents: &'a [u16; STOPS],
+    pub places: &'a [u16; STOPS],
     pub change: u16,
 }

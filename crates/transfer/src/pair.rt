@@ -2,29 +2,31 @@
 ghost use Rattle.std.specs.Prelude.{◌≡◌, get_or};
 ghost use Rattle.transfer.specs.Changes.{ends_of_of, change_of, join_of};
 ghost use Rattle.transfer.specs.Lent.{near_in, between_of};
+ghost use Rattle.stops.specs.Sizes.{no_stop};
 
 use crate::parts::change_by;
 use crate::{Ends, Transfers};
 use rules::Rule;
+use stops::{NO_STOP, STOPS};
 
 // What a stop has in an array that C may lend: 65535, which is none there, past the array's end.
-fn number_at(numbers: &[u16; 128], stop: u16) -> u16
-    ensures { result ≡ get_or numbers.now stop 65535 }
+fn number_at(numbers: &[u16; STOPS], stop: u16) -> u16
+    ensures { result ≡ get_or numbers.now stop no_stop }
 {
-    numbers.get(usize::from(stop)).copied().unwrap_or(65535)
+    numbers.get(usize::from(stop)).copied().unwrap_or(NO_STOP)
 }
 
 impl<'a> Transfers<'a> {
     // The parent of a stop.
     pub fn parent(&self, stop: u16) -> u16
-        ensures { result ≡ get_or self.now.parents.now stop 65535 }
+        ensures { result ≡ get_or self.now.parents.now stop no_stop }
     {
         number_at(self.parents, stop)
     }
 
     // The place of a stop.
     pub fn place(&self, stop: u16) -> u16
-        ensures { result ≡ get_or self.now.places.now stop 65535 }
+        ensures { result ≡ get_or self.now.places.now stop no_stop }
     {
         number_at(self.places, stop)
     }

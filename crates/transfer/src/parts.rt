@@ -4,6 +4,7 @@ ghost use Rattle.transfer.specs.Changes.{near, rule_change, change_of, change_nu
 
 use crate::Ends;
 use rules::Rule;
+use stops::NO_STOP;
 
 impl Ends {
     // Whether two stops are one, of one parent or of one place. 65535 is none, as in the arrays that C lends.
@@ -11,8 +12,8 @@ impl Ends {
         ensures { result ≡ near self from_place to_place }
     {
         self.from == self.to
-            || (self.from_parent != 65535 && self.from_parent == self.to_parent)
-            || (from_place != 65535 && from_place == to_place)
+            || (self.from_parent != NO_STOP && self.from_parent == self.to_parent)
+            || (from_place != NO_STOP && from_place == to_place)
     }
 }
 

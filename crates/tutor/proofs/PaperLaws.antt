@@ -22,8 +22,8 @@ use Rattle.load.specs.Sound.{Opens}
 use Rattle.steps.specs.Steps.{Step}
 use Rattle.steps.specs.Lists.{handed, end_of}
 use Rattle.file.specs.declared.Reader.{Reader}
-use Rattle.file.specs.declared.Took.{Took}
-use Rattle.file.specs.declared.Fed.{Fed}
+use Rattle.file.specs.declared.RecordResult.{RecordResult}
+use Rattle.file.specs.declared.ReadResult.{ReadResult}
 use Rattle.file.specs.Record.{fresh_reader, open_reader, kind_right, filled, stepped_by, record_spec}
 use Rattle.file.specs.File.{starts_whole, size_of, body_of, version_answer, fed_spec, end_answer, ended_by, read_spec_of}
 use Rattle.file.proofs.HandedLaws.{not-sent-back}
@@ -58,7 +58,7 @@ opening second b k =
 
 -- ---- all records
 
-pub record Read (second : Bool) (xs : List ℕ) (f : Fed) : Type 0 where
+pub record Read (second : Bool) (xs : List ℕ) (f : ReadResult) : Type 0 where
   pub head : List ℕ
   pub bodies : List (List ℕ)
   pub steps : List Step
@@ -69,7 +69,7 @@ pub record Read (second : Bool) (xs : List ℕ) (f : Fed) : Type 0 where
   pub accepted : All NotRefused (answers_from (opened (undated (settings_by second head))) steps)
   pub ends : f.reader.load ≡ end_of (undated (settings_by second head)) steps
 
-abbrev Reads : Bool → List ℕ → Fed → Type 0
+abbrev Reads : Bool → List ℕ → ReadResult → Type 0
 Reads second xs f = is_refused f.answer ≡ false → drop f.used xs ≡ [] → f.reader.opened ≡ true → Read second xs f
 
 reads_none : (second : Bool) (xs : List ℕ) → starts_whole xs ≡ false → Reads second xs (fed_spec (fresh_reader second) xs)
@@ -127,13 +127,13 @@ none_left : (xs : List ℕ) → length xs ≡ 0 → xs ≡ []
 none_left [] e = refl
 none_left (x ∷ xs) e = absurd (omega arith)
 
-pub record Whole (xs : List ℕ) (t : Took) : Type 0 where
+pub record Whole (xs : List ℕ) (t : RecordResult) : Type 0 where
   pub version : ℕ
   pub second : Bool
   pub rest : List ℕ
   pub known : Version version second
   pub whole : xs ≡ version ∷ rest
-  pub fed : Fed
+  pub fed : ReadResult
   pub read : Read second rest fed
   pub load : t.reader.load ≡ fed.reader.load
 

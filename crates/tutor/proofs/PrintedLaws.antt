@@ -5,6 +5,7 @@ use mathlib.Core.Path.{◌≡◌, refl, sym, ap, subst, ◌∙◌}
 use mathlib.Core.Bool.{false, true≢false}
 use mathlib.Core.List.{List, [], ◌∷◌, ◌++◌, append_assoc}
 use Prim.Native.Nat.{ℕ, ◌<◌}
+use native.Mathlib.Omega.{arith}
 use Rattle.laws.specs.Lists.{All, concat_map}
 use Rattle.refusal.specs.First.{is_refused, Answer}
 use Rattle.profile.specs.declared.Journey.{Journey}
@@ -26,7 +27,7 @@ pub record Small (j : Journey) : Type 0 where
 
 and_then : (n : ℕ) {ns rest : List ℕ} → n < 65536 → Numbers ns rest → Numbers (n ∷ ns) (spaced n ++ rest)
 unfolding spaced
-and_then n h p = number (decimal-right n h) p
+and_then n h p = number (decimal-right n (omega arith)) p
 
 six-parts : (a b c d e f z : List ℕ) → (a ++ (b ++ (c ++ (d ++ (e ++ f))))) ++ z ≡ a ++ (b ++ (c ++ (d ++ (e ++ (f ++ z)))))
 six-parts a b c d e f z =
@@ -45,7 +46,7 @@ journey-says j s =
 
 horizon-says : (h m : ℕ) → h < 65536 → m < 65536 → HorizonLine h m (horizon_line_of h m)
 unfolding horizon_line_of spaced
-horizon-says h m a b = horizon_line (decimal-right h a) (and_then m b newline)
+horizon-says h m a b = horizon_line (decimal-right h (omega arith)) (and_then m b newline)
 
 pub refused_says : (n : ℕ) → n < 65536 → RefusedLine n (refused_line_of n)
 unfolding refused_line_of

@@ -18,11 +18,11 @@ use Rattle.fields.specs.Numbers.{byte_at, u16_at}
 use Rattle.fields.specs.Layout.{text_at, option_text_at, name_at, parent_at, stop_filled_of, call_filled_of, rule_filled_of}
 use Rattle.fields.specs.Layout.{search_filled_of}
 use Rattle.fields.specs.Records.{stop_in, call_in, rule_in}
-use Rattle.load.specs.Filling.{stop, call, rule}
+use Rattle.load.specs.FillStep.{stop, call, rule}
 use Rattle.steps.specs.Steps.{Step, filling, search, stepped}
 use Rattle.steps.specs.Lists.{handed}
 use Rattle.file.specs.declared.Reader.{Reader}
-use Rattle.file.specs.declared.Fed.{Fed}
+use Rattle.file.specs.declared.ReadResult.{ReadResult}
 use Rattle.file.specs.Record.{open_reader, kind_right, filled, record_tests, step_in, stepped_by, record_spec}
 use Rattle.file.specs.File.{starts_whole, size_of, body_of, fed_spec}
 use Rattle.file.proofs.RecordLaws.{record-answered, taken-settled}
@@ -121,7 +121,7 @@ whole-record (a ∷ b ∷ xs) bs e w =
 
 -- ---- all of them, once a load is opened
 
-pub record Rest (r : Reader) (xs : List ℕ) (f : Fed) : Type 0 where
+pub record Rest (r : Reader) (xs : List ℕ) (f : ReadResult) : Type 0 where
   pub bodies : List (List ℕ)
   pub steps : List Step
   pub records : Records xs bodies
@@ -130,7 +130,7 @@ pub record Rest (r : Reader) (xs : List ℕ) (f : Fed) : Type 0 where
   pub ends : f.reader.load ≡ handed r.load steps
 
 -- none was refused, and no byte is left
-abbrev Goes : Reader → List ℕ → Fed → Type 0
+abbrev Goes : Reader → List ℕ → ReadResult → Type 0
 Goes r xs f = is_refused f.answer ≡ false → drop f.used xs ≡ [] → Rest r xs f
 
 goes-stop : (r : Reader) (xs : List ℕ) → starts_whole xs ≡ false → Goes r xs (fed_spec r xs)

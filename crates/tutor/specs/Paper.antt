@@ -9,7 +9,7 @@ use Rattle.fields.specs.Layout.{text_at, option_text_at, name_at, parent_at, sto
 use Rattle.fields.specs.Layout.{search_filled_of}
 use Rattle.fields.specs.Records.{stop_in, call_in, rule_in}
 use Rattle.fields.specs.Second.{settings_by, settings_filled_by}
-use Rattle.load.specs.Filling.{stop, call, rule}
+use Rattle.load.specs.FillStep.{stop, call, rule}
 use Rattle.steps.specs.Steps.{Step, filling, search}
 
 abbrev pub Bytes : List ℕ → Type 0

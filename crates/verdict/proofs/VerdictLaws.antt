@@ -12,7 +12,7 @@ use Rattle.calls.specs.declared.Call.{Call}
 use Rattle.settings.specs.declared.Settings.{Settings}
 use Rattle.profile.specs.declared.Ride.{Ride}
 use Rattle.profile.specs.declared.Journey.{Journey}
-use Rattle.feed.specs.Feed.{leave_of, arrival_of}
+use Rattle.search_input.specs.Feed.{leave_of, arrival_of}
 use Rattle.load.specs.declared.Load.{Load}
 use Rattle.best.specs.Best.{kept_of}
 use Rattle.connection.specs.declared.Connection.{Connection}

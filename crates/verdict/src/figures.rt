@@ -9,7 +9,7 @@ use profile::{Ride, no_ride};
 pub fn ride_of(found: &FoundLeg) -> Ride
     ensures { result ≡ ride_found found.now }
 {
-    read_back::ride_of(&found.boards(), &found.alights())
+    kept_journeys::ride_of(&found.boards(), &found.alights())
 }
 
 #[tactic(auto, unfolding(crate::specs::Verdicts::last_leg))]
@@ -23,7 +23,7 @@ pub fn last_leg(n: u8, way: &Way) -> FoundLeg
     }
 }
 
-// Which rides there are, by their number, `read_back` asks of a row, and here of calls: each makes its rides otherwise.
+// Which rides there are, by their number, `kept_journeys` asks of a row, and here of calls: each makes its rides otherwise.
 #[tactic(auto, unfolding(crate::specs::Verdicts::middle_ride))]
 pub fn middle_ride(n: u8, way: &Way) -> Ride
     ensures { result ≡ middle_ride n way.now }

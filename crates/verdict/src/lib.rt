@@ -1,5 +1,5 @@
-// What is said of a connection that a person names, by a load: that there is no verdict, why it can't be made, or where the list has it or
-// one as good or better.
+// What a load says of a connection that a person names: that there is no verdict, why it can't be made, or which journey of the list is it,
+// or is as good or better.
 #![tactic(auto)]
 
 pub mod causes;
@@ -14,12 +14,12 @@ use causes::cause_of;
 use connection::ends::walk_at;
 use connection::find::way_of;
 use connection::{Connection, Way};
-use feed::{arrival_of, leave_of};
 use figures::{last_leg, last_ride, middle_ride, ride_of};
 use listing::{Verdict, listed};
 use load::Load;
 use prefix::first;
 use profile::Journey;
+use search_input::{arrival_of, leave_of};
 
 // By the list, of a connection that can be made.
 fn by_list(load: &Load, connection: &Connection, way: &Way) -> Verdict

@@ -21,7 +21,7 @@ use Rattle.offers.proofs.OrderLaws.{accepted-keyed}
 use Rattle.offers.proofs.AnyOrder.{admitted-in-any-order}
 use Rattle.offers.proofs.SearchLaws.{search-found}
 use Rattle.load.specs.declared.Load.{Load}
-use Rattle.load.specs.declared.Stepped.{Stepped}
+use Rattle.load.specs.declared.StepResult.{StepResult}
 use Rattle.load.specs.Steps.{Opening}
 use Rattle.search.specs.Timetable.{timetable_of}
 use Rattle.search.specs.Search.{outcome_of}
@@ -51,7 +51,7 @@ own-keyed : (l : Load) → Kept l → l.searched ≡ true → l.limit ≡ None �
 unfolding outcome_of timetable_of unsearched_of
 own-keyed l k d e =
     let u = unsearched_of l in
-    let f = taken-found u (ap (λ (r : Stepped). is_taken r.answer) (own-finished l k d e)) in
+    let f = taken-found u (ap (λ (r : StepResult). is_taken r.answer) (own-finished l k d e)) in
     let s = search-found (timetable_of u) u.table_horizon u.table_limits f.to f.mark f.kept f.outcome in
     accepted-keyed (take l.call_count l.calls) s.0
 

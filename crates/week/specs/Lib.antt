@@ -1,3 +1,4 @@
+pub mod Sizes
 pub mod Weeks
 pub mod Sound
 pub mod Steps

@@ -2,11 +2,12 @@
 use Rattle.std.specs.Prelude.{ℕ, ◌-◌, ◌≤◌, ◌≡◌, Bool, false, List, length, drop, replicate}
 use Rattle.week.specs.declared.Week.{Week}
 use Rattle.week.specs.Weeks.{is_dated, blank_service, undated_week, dated_week, closed_week, service_on, exception_on}
+use Rattle.week.specs.Sizes.{service_room}
 
 pub record WeekSound (w : Week) : Type 0 where
-  pub few : w.service_count ≤ 64
-  pub long : length w.services ≡ 64
-  pub blank : drop w.service_count w.services ≡ replicate (64 - w.service_count) blank_service
+  pub few : w.service_count ≤ service_room
+  pub long : length w.services ≡ service_room
+  pub blank : drop w.service_count w.services ≡ replicate (service_room - w.service_count) blank_service
   pub undated : is_dated w ≡ false → w ≡ undated_week
 
 abbrev pub UndatedSound : Type 0

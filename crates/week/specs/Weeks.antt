@@ -16,17 +16,19 @@ use Rattle.stops.specs.Answer.{id_wrong}
 use Rattle.week.specs.declared.Week.{Week}
 use Rattle.week.specs.declared.Running.{Running}
 use Rattle.week.specs.declared.Running.TheVariants.{Unknown, Rests, Runs}
+use Rattle.texts.specs.Sizes.{id_bytes}
+use Rattle.week.specs.Sizes.{service_room}
 
 -- ---- services
 
 -- what an unused slot holds
 abbrev pub blank_service : Service
-blank_service = record { name = held 32 []; weekdays = 0; start = 0; end = 0; added = 0; removed = 0 }
+blank_service = record { name = held id_bytes []; weekdays = 0; start = 0; end = 0; added = 0; removed = 0 }
 
 -- a new service: its name, of at most 32 bytes, is held whole; seven weekday marks; no exception yet
 unfoldable pub service_of : List ℕ → ℕ → ℕ → ℕ → Service
 service_of name weekdays start end = record {
-  name = held 32 name;
+  name = held id_bytes name;
   weekdays = weekdays % 128;
   start = start;
   end = end;
@@ -66,11 +68,11 @@ dates_in w = unwrap_or w.dates []
 
 -- of a load opened without dates: its services are closed from the start
 unfoldable pub undated_week : Week
-undated_week = record { dates = None; services = replicate 64 blank_service; service_count = 0; closed = true }
+undated_week = record { dates = None; services = replicate service_room blank_service; service_count = 0; closed = true }
 
 -- of a load opened with these dates
 unfoldable pub dated_week : List ℕ → Week
-dated_week dates = record { dates = Some dates; services = replicate 64 blank_service; service_count = 0; closed = false }
+dated_week dates = record { dates = Some dates; services = replicate service_room blank_service; service_count = 0; closed = false }
 
 -- after an answered call
 abbrev pub closed_week : Week → Week
@@ -89,7 +91,7 @@ service_tests searched closed services count name start end =
     ∷ (id_wrong name, Err IdLength)
     ∷ (anyb (named name) (take count services), Err IdTaken)
     ∷ (span_wrong start end, Err DateWrong)
-    ∷ (leb 64 count, Err ServicesFull)
+    ∷ (leb service_room count, Err ServicesFull)
     ∷ []
 
 abbrev pub service_answer : Week → Bool → List ℕ → ℕ → ℕ → Answer

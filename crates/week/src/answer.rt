@@ -8,6 +8,7 @@ ghost use Rattle.refusal.specs.declared.Accepted.TheVariants.{Taken};
 ghost use Rattle.refusal.specs.First.{first_answer};
 ghost use Rattle.week.specs.Weeks.{blank_service, service_of, named, place_of, service_tests, exception_tests};
 
+use crate::SERVICES;
 use refusal::{Accepted, Answer, Refusal};
 use services::{ExceptionInput, Service, ServiceInput, exception_wrong, span_wrong};
 use stop_answer::id_wrong;
@@ -75,7 +76,7 @@ pub fn service_answer(
     if span_wrong(input) {
         return Err(Refusal::DateWrong);
     }
-    if 64 <= services.len() {
+    if SERVICES <= services.len() {
         return Err(Refusal::ServicesFull);
     }
     Ok(Accepted::Taken)

@@ -10,12 +10,15 @@ ghost use Rattle.week.specs.Weeks.{undated_week, dated_week, closed_week};
 use crate::answer::blank_service;
 use services::Service;
 
+// How many services a load holds.
+pub const SERVICES: usize = 64;
+
 // A load opened without dates has none, and its services are closed from the start. `closed` tells of no other field. The services are an
 // array with a count, since the core has no heap: a slot past the count holds the blank service.
 #[derive(Clone, Copy, Debug, PartialEq, Eq)]
 pub struct Week {
     pub dates: Option<[u32; 3]>,
-    pub services: [Service; 64],
+    pub services: [Service; SERVICES],
     pub service_count: usize,
     pub closed: bool,
 }
@@ -34,7 +37,7 @@ pub fn undated() -> Week
     ensures { result ≡ undated_week }
 {
     let service = blank_service();
-    let services = [service; 64];
+    let services = [service; SERVICES];
     Week {
         dates: None,
         services,
@@ -49,7 +52,7 @@ pub fn dated(dates: [u32; 3]) -> Week
     ensures { result ≡ dated_week dates }
 {
     let service = blank_service();
-    let services = [service; 64];
+    let services = [service; SERVICES];
     Week {
         dates: Some(dates),
         services,

@@ -12,6 +12,7 @@ use Rattle.calls.specs.Calls.{call_on, window}
 use Rattle.calls.specs.Shown.{table_calls, Shows}
 use Rattle.calls.specs.Sound.{TableSound, StopsKnown}
 use Rattle.calls.specs.declared.CallKey.{CallKey}
+use Rattle.calls.specs.Sizes.{no_trip}
 
 module _ {A : Type 0} (p : A → Bool) where
   -- the place of the last element that passes the test, counted from 1; 0 where none does
@@ -42,7 +43,7 @@ has_key k c = eqb c.trip k.trip && (eqb c.day k.day && eqb c.sequence k.sequence
 
 -- trip 65535 and days above 2 are no call's
 unfoldable pub key_known : CallKey → Bool
-key_known k = ltb k.trip 65535 && leb k.day 2
+key_known k = ltb k.trip no_trip && leb k.day 2
 
 -- the table without the last call with the key, of a table that has one; horizon and limits stay: a withdrawal never widens
 unfoldable pub withdrawn : Table → CallKey → Table

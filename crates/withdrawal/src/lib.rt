@@ -5,14 +5,14 @@ ghost use Rattle.std.specs.Prelude.{◌≡◌};
 ghost use Rattle.calls.specs.Tables.{blank_call};
 ghost use Rattle.withdrawal.specs.Removal.{counted, last_of, closed_up, has_key, key_known};
 
-use calls::{Call, CallKey, blank_call};
+use calls::{CALLS, Call, CallKey, NO_TRIP, blank_call};
 
 // Whether a call can have the key: trip 65535 and days above 2 are no call's.
 #[tactic(auto, unfolding(crate::specs::Removal::key_known))]
 pub fn is_known(key: CallKey) -> bool
     ensures { result ≡ key_known key }
 {
-    key.trip < 65535 && key.day <= 2
+    key.trip < NO_TRIP && key.day <= 2
 }
 
 #[tactic(auto, unfolding(crate::specs::Removal::has_key))]
@@ -30,10 +30,10 @@ pub fn last_of(calls: &[Call], key: CallKey) -> Option<usize>
 }
 
 // The call at the place goes: it is blanked, and those behind it move down before it.
-pub fn close_up(calls: &mut [Call; 512], at: usize)
+pub fn close_up(calls: &mut [Call; CALLS], at: usize)
     ensures { calls.new ≡ closed_up blank_call at calls.old }
 {
-    if at < 512 {
+    if at < CALLS {
         calls[at] = blank_call();
         calls[at..].rotate_left(1);
     }

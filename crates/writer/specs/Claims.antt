@@ -8,12 +8,13 @@ use Rattle.load.specs.declared.Load.{Load}
 use Rattle.writer.specs.File.{write_spec_of}
 use Rattle.writer.specs.Wrote.{write_tests, wrote_spec, buffer_after}
 use Rattle.week.specs.Weeks.{is_dated}
+use Rattle.calls.specs.Sizes.{longest_horizon}
 
 -- a load that is not of the kind that is written: one with dates, one whose search was stopped, or one whose table was cut
 pub data Unwritten (l : Load) : Type 0 where
   dated : is_dated l.week ≡ true → Unwritten l
   stopped : is_some l.limit ≡ true → Unwritten l
-  cut : l.table_horizon < 21600 → Unwritten l
+  cut : l.table_horizon < longest_horizon → Unwritten l
 
 -- 25 exactly there, also with no room
 abbrev pub UnwritableExactly : Type 0

@@ -8,10 +8,11 @@ use Rattle.load.specs.declared.Load.{Load}
 use Rattle.load.specs.Load.{stopped}
 use Rattle.writer.specs.File.{write_spec_of}
 use Rattle.week.specs.Weeks.{is_dated}
+use Rattle.calls.specs.Sizes.{longest_horizon}
 
 -- "Only loads without dates, not stopped, and with horizon 21600 before any search are written": the table's horizon
 unfoldable pub unwritable : Bool → Bool → ℕ → Bool
-unwritable dated stopped horizon = dated || (stopped || ltb horizon 21600)
+unwritable dated stopped horizon = dated || (stopped || ltb horizon longest_horizon)
 
 -- why a load is not written, in request 13's order: 25, then 26 for a buffer with room for less than the file
 unfoldable pub write_tests : Load → ℕ → List (Bool × Answer)

@@ -1,4 +1,4 @@
-// A load written as a load file of version 2 into a lent buffer (request 13).
+// A load written as a load file of version 2 into a lent buffer (RULES 13.4).
 #![tactic(auto)]
 
 mod file;
@@ -10,6 +10,7 @@ ghost use Rattle.load.specs.Load.{stopped};
 ghost use Rattle.writer.specs.Wrote.{unwritable, wrote_spec, buffer_after};
 
 use crate::file::put_file;
+use calls::LONGEST_HORIZON;
 use load::Load;
 use refusal::Refusal;
 
@@ -17,7 +18,7 @@ use refusal::Refusal;
 fn is_unwritable(load: &Load) -> bool
     ensures { result ≡ unwritable (is_dated load.now.week) (stopped load.now) load.now.table_horizon }
 {
-    load.week.dates.is_some() || load.limit.is_some() || load.table_horizon < 21600
+    load.week.dates.is_some() || load.limit.is_some() || load.table_horizon < LONGEST_HORIZON
 }
 
 // How long the file is, or why nothing was written. The file stands at the start of the buffer; bytes past it stay, and so does a buffer

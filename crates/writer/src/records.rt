@@ -18,7 +18,7 @@ use prefix::first;
 use rules::Rule;
 use settings::Settings;
 use stops::Stop;
-use texts::Text;
+use texts::{ID_BYTES, Text};
 
 // What is a record of a load file. A stop names its station by the id that it has among the stops.
 pub trait Record {
@@ -118,7 +118,7 @@ impl Record for Settings {
 
 // The id of a stop, blank past the last.
 #[tactic(auto, unfolding(stops::specs::Sound::stop_at))]
-fn stop_id(stops: &[Stop], number: u16) -> Text<32>
+fn stop_id(stops: &[Stop], number: u16) -> Text<ID_BYTES>
     ensures { result ≡ (stop_at stops.now number).id }
 {
     stops
@@ -127,7 +127,7 @@ fn stop_id(stops: &[Stop], number: u16) -> Text<32>
         .unwrap_or_default()
 }
 
-fn station_id(stops: &[Stop], parent: Option<u16>) -> Option<Text<32>>
+fn station_id(stops: &[Stop], parent: Option<u16>) -> Option<Text<ID_BYTES>>
     ensures { result ≡ option_map (λ p. (stop_at stops.now p).id) parent }
 {
     parent.map(|p| stop_id(stops, p))

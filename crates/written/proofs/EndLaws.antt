@@ -14,10 +14,10 @@ use Rattle.profile.specs.declared.Journey.{Journey}
 use Rattle.offers.specs.Order.{earlier, in_order_of}
 use Rattle.offers.proofs.OrderLaws.{sorted_front}
 use Rattle.load.specs.declared.Load.{Load}
-use Rattle.load.specs.declared.Stepped.{Stepped}
+use Rattle.load.specs.declared.StepResult.{StepResult}
 use Rattle.load.specs.Load.{table_of, with_week}
 use Rattle.load.specs.Steps.{opened, call_spec}
-use Rattle.load.specs.Filling.{Filling, stop, call, rule, service, exception}
+use Rattle.load.specs.FillStep.{FillStep, stop, call, rule, service, exception}
 use Rattle.load.specs.Sound.{Sound}
 use Rattle.calls.specs.declared.CallKey.{CallKey}
 use Rattle.withdrawal.specs.Removal.{without_last, has_key, withdrawn}
@@ -53,7 +53,7 @@ pub search-keeps : SearchKeeps
 search-keeps l w = go (is_taken (search_spec l).answer) refl
   where
     go : (b : Bool) → is_taken (search_spec l).answer ≡ b → Kept (search_spec l).load
-    go true t = let f = taken-found l t in subst Kept (sym (ap (λ (r : Stepped). r.load) f.is)) (sorted-kept l f.kept f.to f.mark None w)
+    go true t = let f = taken-found l t in subst Kept (sym (ap (λ (r : StepResult). r.load) f.is)) (sorted-kept l f.kept f.to f.mark None w)
     go false t = subst Kept (sym (untaken-stays l t)) w
 
 pub within-keeps : WithinKeeps
@@ -70,12 +70,12 @@ within-keeps l n w = go (is_taken (within_spec l n).answer) refl
 
 -- ---- a call on any load, and a withdrawal
 
-again-keeps : (l : Load) (r : Stepped) → Kept l → Kept r.load → Kept (again l r).load
+again-keeps : (l : Load) (r : StepResult) → Kept l → Kept r.load → Kept (again l r).load
 unfolding again
 again-keeps l r w n = go (is_refused r.answer) (is_taken (researched l.limit r.load).answer)
   where
-    go : (b c : Bool) → Kept (cond {A = Stepped} b (record { answer = r.answer; load = l })
-        (cond {A = Stepped} c (record { answer = r.answer; load = (researched l.limit r.load).load })
+    go : (b c : Bool) → Kept (cond {A = StepResult} b (record { answer = r.answer; load = l })
+        (cond {A = StepResult} c (record { answer = r.answer; load = (researched l.limit r.load).load })
         (record { answer = (researched l.limit r.load).answer; load = l }))).load
     go true c = w
     go false true = research-cases l.limit r.load (λ q. Kept q.load) (λ k x. within-keeps r.load k n) (search-keeps r.load n)
@@ -93,7 +93,7 @@ add-keeps l name i s w = go l.searched (leaves_table_of l (call_spec (unsearched
     made = fill-keeps (unsearched_of l) (call name i) (unsearched-sound l s) (back-keeps l w) tt
 
     go : (b c : Bool)
-        → Kept (cond b (cond {A = Stepped} c (record
+        → Kept (cond b (cond {A = StepResult} c (record
         { answer = (call_spec (unsearched_of l) name i).answer; load = with_week l (call_spec (unsearched_of l) name i).load.week })
         (again l (call_spec (unsearched_of l) name i))) (call_spec l name i)).load
     go true true = week-kept l (call_spec (unsearched_of l) name i).load.week w
@@ -131,7 +131,7 @@ withdraw-keeps l k s w = go l.searched
 
 -- ---- every list of steps
 
-filling-keeps : (l : Load) (x : Filling) → Sound l → Kept l → GivesHeld x → Kept (next l (filling x))
+filling-keeps : (l : Load) (x : FillStep) → Sound l → Kept l → GivesHeld x → Kept (next l (filling x))
 filling-keeps l (stop id name parent i) s w g = fill-keeps l (stop id name parent i) s w g
 filling-keeps l (call name i) s w g = add-keeps l name i s w
 filling-keeps l (rule i) s w g = fill-keeps l (rule i) s w g

@@ -19,11 +19,11 @@ use Rattle.rules.specs.declared.Rule.{Rule}
 use Rattle.week.specs.declared.Week.{Week}
 use Rattle.week.specs.Weeks.{closed_week}
 use Rattle.load.specs.declared.Load.{Load}
-use Rattle.load.specs.declared.Stepped.{Stepped}
+use Rattle.load.specs.declared.StepResult.{StepResult}
 use Rattle.load.specs.Load.{empty_of, table_of, with_table, with_week}
 use Rattle.load.specs.Steps.{station_in, stop_answer, stop_load, stop_spec, call_fitted, plain_call, call_spec, rule_answer, rule_load}
 use Rattle.load.specs.Steps.{rule_spec, service_spec, exception_spec}
-use Rattle.load.specs.Filling.{stop, call, rule, service, exception}
+use Rattle.load.specs.FillStep.{stop, call, rule, service, exception}
 use Rattle.load.specs.Sound.{Sound}
 use Rattle.load.proofs.ClockLaws.{open-fails}
 use Rattle.load.proofs.StepLaws.{Called, without, goes_on, stays_out, sent_back, called}
@@ -117,7 +117,7 @@ call_kept l name i s w = go _ (called l name i)
     closed true = w
     closed false = week-kept (plain_call l i).load (closed_week l.week) (plain-kept l i s w)
 
-    go : (r : Stepped) → Called l name i r → Kept r.load
+    go : (r : StepResult) → Called l name i r → Kept r.load
     go _ (without d) = plain-kept l i s w
     go _ (goes_on d e) = closed (is_refused (plain_call l i).answer)
     go _ (stays_out d e) = week-kept l (closed_week l.week) w

@@ -4,7 +4,7 @@ use Rattle.calls.specs.declared.CallInput.{CallInput}
 use Rattle.calls.specs.declared.CallKey.{CallKey}
 use Rattle.load.specs.declared.Load.{Load}
 use Rattle.load.specs.Steps.{Opening, opened}
-use Rattle.load.specs.Filling.{Filling, stop, call, rule, service, exception, filled}
+use Rattle.load.specs.FillStep.{FillStep, stop, call, rule, service, exception, filled}
 use Rattle.load.specs.Sound.{Sound, Opens}
 use Rattle.search.specs.Search.{search_spec}
 use Rattle.search.specs.Within.{within_spec}
@@ -15,7 +15,7 @@ use Rattle.codec.specs.Kinds.{DegreesHeld}
 use Rattle.written.specs.Kept.{Kept, Whole}
 
 -- the degrees handed in with a stop are f64s, as every float of the program is
-abbrev pub GivesHeld : Filling → Type 0
+abbrev pub GivesHeld : FillStep → Type 0
 GivesHeld (stop id name parent i) = DegreesHeld i.degrees
 GivesHeld (call name i) = Unit {0}
 GivesHeld (rule i) = Unit {0}
@@ -33,7 +33,7 @@ abbrev pub OpenKept : Type 0
 OpenKept = (o : Opening) → Opens o → Kept (opened o)
 
 abbrev pub FillKeeps : Type 0
-FillKeeps = (l : Load) (x : Filling) → Sound l → Kept l → GivesHeld x → Kept (filled l x).load
+FillKeeps = (l : Load) (x : FillStep) → Sound l → Kept l → GivesHeld x → Kept (filled l x).load
 
 abbrev pub SearchKeeps : Type 0
 SearchKeeps = (l : Load) → Kept l → Kept (search_spec l).load

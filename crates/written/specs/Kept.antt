@@ -18,6 +18,7 @@ use Rattle.load.specs.declared.Load.{Load}
 use Rattle.again.specs.Claims as again
 use Rattle.codec.specs.Kinds.{DegreesHeld}
 use Rattle.codec.specs.Parts.{parent_id_of, stop_input_of}
+use Rattle.calls.specs.Sizes.{no_trip}
 
 -- the settings are not sent back (1, 2), and are as opening leaves them
 pub record SettingsKept (s : Settings) : Type 0 where
@@ -45,7 +46,7 @@ pub record RuleKept (r : Rule) : Type 0 where
 
 -- 9; the times and the marks are in `CallSound`
 pub record CallKept (c : Call) : Type 0 where
-  pub trip_known : c.trip < 65535
+  pub trip_known : c.trip < no_trip
   pub day_known : c.day ≤ 2
 
 -- of each of them

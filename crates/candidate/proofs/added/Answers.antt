@@ -5,11 +5,11 @@ use Rattle.candidate.specs.Pieces.{Open, put_row}
 use Rattle.candidate.proofs.OfferLaws.{added-fits, added-open, added-too-many}
 use Rattle.candidate.proofs.added.Goals as goal
 
-pub returns-then-n-lt64 : goal.returns-then-n-lt64
+pub returns-then-n-lt-KEPT : goal.returns-then-n-lt-KEPT
 unfolding Open put_row
-returns-then-n-lt64 c =
+returns-then-n-lt-KEPT c =
     let p = c.requires in
-    added-fits _ _ _ _ c.told-st p.0 c.put_row.ensures _ (omega (arith, c.if-n-lt64.true)) refl
+    added-fits _ _ _ _ c.told-st p.0 c.put_row.ensures _ (omega (arith, c.if-n-lt-KEPT.true)) refl
 
 pub overflow-requires : goal.overflow-requires
 unfolding Open put_row
@@ -23,4 +23,4 @@ pub returns : goal.returns
 unfolding Open put_row
 returns c =
     let p = c.requires in
-    added-too-many _ _ _ _ c.told-st p.0 c.put_row.ensures _ p.1 (omega (arith, c.if-n-lt64.false)) c.overflow.ensures
+    added-too-many _ _ _ _ c.told-st p.0 c.put_row.ensures _ p.1 (omega (arith, c.if-n-lt-KEPT.false)) c.overflow.ensures

@@ -2,8 +2,8 @@
 use Rattle.profile.specs.Journeys.{due}
 use Rattle.candidate.specs.Pieces.{Open}
 use native.Mathlib.Omega.{arith}
-use Rattle.state.specs.View.{horizon_of}
-use Rattle.state.proofs.ViewLaws.{in_time}
+use Rattle.search_state.specs.View.{horizon_of}
+use Rattle.search_state.proofs.ViewLaws.{in_time}
 use Rattle.candidate.proofs.OfferLaws.{offered-late}
 use Rattle.candidate.proofs.candidate.Goals as goal
 

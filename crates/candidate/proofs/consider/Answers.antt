@@ -1,6 +1,6 @@
 -- `consider` meets its contract: the end of the kept rows is marked, and they are walked.
 use mathlib.Core.Path.{refl}
-use Rattle.state.proofs.ViewLaws.{few}
+use Rattle.search_state.proofs.ViewLaws.{few}
 use Rattle.candidate.proofs.OfferLaws.{marked-open, marked-horizon, marked-count, marked-ends, marked-view}
 use Rattle.candidate.proofs.consider.Goals as goal
 

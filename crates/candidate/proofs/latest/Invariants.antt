@@ -2,7 +2,7 @@
 use mathlib.Core.Path.{◌≡◌}
 use Prim.Native.Nat.{max}
 use lib.ListN.{drop}
-use Rattle.state.specs.View.{rows}
+use Rattle.search_state.specs.View.{rows}
 use Rattle.candidate.specs.Pieces.{latest_due}
 use Rattle.candidate.proofs.latest.Given as goal
 

@@ -2,8 +2,8 @@
 use mathlib.Core.Path.{refl, ◌∙◌}
 use Prim.Native.Nat.{◌<◌}
 use native.Mathlib.Omega.{arith}
-use Rattle.state.specs.Layout.{slots}
-use Rattle.state.proofs.RowLaws.{row-got}
+use Rattle.search_state.specs.Layout.{slots}
+use Rattle.search_state.proofs.RowLaws.{row-got}
 use Rattle.candidate.proofs.StepLaws.{pack-kept, pack-gone}
 use Rattle.candidate.proofs.pack.Goals.{then-stays, else-stays}
 use Rattle.candidate.proofs.pack.Goals as goal

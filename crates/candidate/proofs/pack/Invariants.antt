@@ -4,7 +4,7 @@ use mathlib.Core.Bool.{Bool}
 use Prim.Native.Nat.{◌≤◌}
 use lib.ListN.{length}
 use Rattle.profile.specs.Found.{Row}
-use Rattle.state.specs.Layout.{size}
+use Rattle.search_state.specs.Layout.{size}
 use Rattle.candidate.specs.Pieces.{Packed}
 use Rattle.candidate.proofs.pack.Given as goal
 

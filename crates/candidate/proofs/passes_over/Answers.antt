@@ -1,7 +1,7 @@
 -- `passes_over` meets its contract: too late, or the walk passes it over; the mark behind the kept rows is not seen.
 use mathlib.Core.Path.{refl, ◌∙◌}
 use Rattle.profile.specs.Journeys.{due, row_of}
-use Rattle.state.proofs.ViewLaws.{few}
+use Rattle.search_state.proofs.ViewLaws.{few}
 use Rattle.candidate.proofs.PassedLaws.{passed-late, passed-covered}
 use Rattle.candidate.proofs.TurnLaws.{end-is-ok}
 use Rattle.candidate.proofs.OfferLaws.{marked-ends, marked-view, marked-passing}

@@ -1,7 +1,7 @@
 -- `walked` meets its contract: passed over where the walk says so; else what o covers from where it stops goes, and o is added.
 use mathlib.Core.Path.{refl}
 use native.Mathlib.Omega.{arith}
-use Rattle.state.proofs.ViewLaws.{few}
+use Rattle.search_state.proofs.ViewLaws.{few}
 use Rattle.std.proofs.Common.{rules}
 use Rattle.profile.specs.Journeys.{cov}
 use Rattle.candidate.specs.Pieces.{uncovered}

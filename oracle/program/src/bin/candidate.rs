@@ -1,4 +1,4 @@
-//! Times the port's `candidate` (the static library of crate profile_c) beside the published one, in turns; with the feature
+//! Times the port's `candidate` (the static library of crate candidate_c) beside the published one, in turns; with the feature
 //! `before` an earlier build of it, too. Each call's count of kept journeys read is tested.
 use display::journey::harness::timing::{Kept, Offer};
 use display::journey::harness::{Run, Settings};
@@ -10,7 +10,7 @@ const COUNT: usize = 780;
 const HORIZON: usize = 781;
 const LIMITS: usize = 782;
 const REFUSED: usize = 783;
-#[link(name = "profile_c", kind = "static")]
+#[link(name = "candidate_c", kind = "static")]
 unsafe extern "C" {
     safe fn profile_candidate(
         st: &mut [u16; SLOTS],

@@ -1,4 +1,4 @@
-//! Times the port's row of changes and its grouping of stops into places (the static library of crate changes_c), and compares each row
+//! Times the port's row of changes and its grouping of stops into places (the static library of crate transfer_c), and compares each row
 //! with one worked out pair by pair.
 use std::hint::black_box;
 use std::time::Instant;
@@ -7,7 +7,7 @@ const NONE: u16 = 65535;
 const NEVER: u32 = 65536;
 const CHANGE: u16 = 180;
 type Numbers = [u16; 128];
-#[link(name = "changes_c", kind = "static")]
+#[link(name = "transfer_c", kind = "static")]
 unsafe extern "C" {
     safe fn changes_row(
         row: &mut [u32; 128],

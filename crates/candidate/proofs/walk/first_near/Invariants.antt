@@ -2,8 +2,8 @@
 use mathlib.Core.Path.{◌≡◌}
 use Prim.Native.Nat.{◌-◌, ◌*◌, ◌≤◌}
 use lib.ListN.{take}
-use Rattle.state.specs.Layout.{width}
-use Rattle.state.specs.View.{rows}
+use Rattle.search_state.specs.Layout.{width}
+use Rattle.search_state.specs.View.{rows}
 use Rattle.candidate.specs.Pieces.{Skipped}
 use Rattle.candidate.proofs.walk.first_near.Given as goal
 

@@ -1,6 +1,6 @@
 -- `last_alightings` meets its contract: a loop over the later calls of the run.
 use Rattle.std.proofs.Common.{◌+◌}
-use Rattle.feed.specs.Feed.{call_at}
+use Rattle.search_input.specs.Feed.{call_at}
 use Rattle.rides.specs.Loops.{later_from}
 use Rattle.rides.specs.Places.{later_left}
 use Rattle.rides.specs.Sheets.{sheet_of}

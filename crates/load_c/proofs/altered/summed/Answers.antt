@@ -1,7 +1,7 @@
 -- What is left to do adds what is left of the sum.
 use mathlib.Core.Path.{ap, ◌∙◌}
 use native.Mathlib.Omega.{arith}
-use Rattle.load.specs.declared.Stepped.{Stepped}
+use Rattle.load.specs.declared.StepResult.{StepResult}
 use Rattle.load_c.specs.Searches.{horizon_after}
 use Rattle.load_c.proofs.SearchesLaws.{next-turn, last_turn}
 use Rattle.load_c.proofs.altered.summed.Goals as goal
@@ -16,7 +16,7 @@ loop-left-preserved g c =
       omega arith,
       λ f says.
           next-turn (horizon_after f) L.left L.next L.sum c.from-sum.result _ (omega arith)
-          (c.from-sum.ensures ∙ ap (λ (s : Stepped). s.load.horizon) (says _ _ c.step.ensures)) (L.invariant.1 f says),
+          (c.from-sum.ensures ∙ ap (λ (s : StepResult). s.load.horizon) (says _ _ c.step.ensures)) (L.invariant.1 f says),
     )
 
 pub returns : goal.returns

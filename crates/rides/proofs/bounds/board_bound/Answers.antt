@@ -1,6 +1,6 @@
 -- `board_bound` meets its contract: the next call of the run and what is put in for it.
 use native.Mathlib.Omega.{arith}
-use Rattle.feed.specs.Feed.{call_at}
+use Rattle.search_input.specs.Feed.{call_at}
 use Rattle.rides.proofs.BoundLaws.{board-last, board-next}
 use Rattle.rides.proofs.LoopLaws.{run-next}
 use Rattle.rides.proofs.bounds.board_bound.Goals as goal

@@ -1,6 +1,6 @@
 -- `directs` meets its contract: a loop over the stop's targets.
 use Rattle.laws.specs.Bits.{bits_of}
-use Rattle.feed.specs.Feed.{target_mask}
+use Rattle.search_input.specs.Feed.{target_mask}
 use Rattle.rides.specs.Loops.{direct_at}
 use Rattle.rides.specs.Sheets.{sheet_of}
 use Rattle.rides.proofs.LoopLaws.{Rest}

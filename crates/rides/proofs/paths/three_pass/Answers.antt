@@ -2,25 +2,35 @@
 use Rattle.rides.specs.Firsts.{firsts_left}
 use Rattle.rides.specs.Loops.{first_rows_of, pass_rows}
 use Rattle.rides.proofs.LoopLaws.{rest-stops}
-use Rattle.rides.proofs.RestLaws.{rest-has, for-start, for-turn, rest-none}
-use Rattle.std.proofs.Common.{arith}
+use Rattle.rides.proofs.RestLaws.{rest-has, rest-same, rest-turn, rest-none}
+use Rattle.rides.proofs.OverLaws.{over-late}
+use Rattle.std.proofs.Common.{ap, ◌∙◌}
 use Rattle.rides.proofs.OnwardLaws.{first-is-ride}
 use Rattle.rides.proofs.paths.three_pass.Goals as goal
 
 pub loop-l-init : goal.loop-l-init
-loop-l-init c = for-start firsts_left c.into_iter-l-iterator.ensures.into_iter_gives (c.of-l-items.ensures _)
+loop-l-init c = (
+  tt,
+  tt,
+  rest-same (ap firsts_left c.into_iter-l-iterator.ensures.into_iter_gives ∙ c.of-l-items.ensures _),
+  over-late c.late-over.ensures,
+)
 
 pub returns-then-is_refused : goal.returns-then-is_refused
 unfolding pass_rows
 returns-then-is_refused c = rest-stops c.is_refused.ensures c.if-is_refused.true c.loop-l.invariant.2
 
+pub three_rides-over-requires : goal.three_rides-over-requires
+three_rides-over-requires c =
+    let i = c.loop-l.invariant in
+    (first-is-ride _ _ _ _ (rest-has c.in-Some.ensures.steps i.2), c.over_for-from.ensures 3 i.3)
+
 pub loop-l-preserved : goal.loop-l-preserved
 unfolding first_rows_of
-loop-l-preserved c = for-turn c.in-Some.ensures.steps c.loop-l.invariant.2 (rw (← c.first_ride.ensures) c.onward.ensures)
+loop-l-preserved c =
+    let w = c.three_rides-over.ensures in
+    (tt, tt, rest-turn c.in-Some.ensures.steps c.loop-l.invariant.2 (rw (← c.first_ride-f.ensures) w.offered), w.over)
 
 pub returns : goal.returns
 unfolding pass_rows
 returns c = rest-none c.in-None.ensures.steps.0 c.loop-l.invariant.2
-
-pub onward-requires : goal.onward-requires
-onward-requires c = (omega arith, first-is-ride _ _ _ _ (rest-has c.in-Some.ensures.steps c.loop-l.invariant.2))

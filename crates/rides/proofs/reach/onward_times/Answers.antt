@@ -4,5 +4,5 @@ use Rattle.rides.proofs.reach.onward_times.Goals as goal
 
 pub returns : goal.returns
 returns c =
-    let one = c.times_before-one.ensures 0 (c.target_times.ensures _) in
-    onward-made one (c.times_before-two.ensures 1 one)
+    onward-made _ _ _ c.put_targets-none.ensures c.put_boards-last.ensures c.put_joined-one.ensures c.put_boards-middle.ensures
+    c.put_joined-two.ensures

@@ -6,5 +6,5 @@ use Rattle.search.proofs.earliest.earliest_arrival.Goals as goal
 pub returns : goal.returns
 returns c =
     let l = c.args.load.now in
-    earliest-is l _ _ _ c.sorted-calls.ensures c.sorted-calls.type_inv.1.0.1 c.feed_of-feed.ensures
-    (numbers-small _ _ c.feed_of-feed.type_inv.1.1) c.earliest_of.ensures
+    earliest-is l _ _ _ c.sorted-calls.ensures c.sorted-calls.type_inv.1.0.1 c.fill_feed.ensures
+    c.numbers_told.ensures c.earliest_of.ensures

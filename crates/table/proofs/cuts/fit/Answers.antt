@@ -10,20 +10,21 @@ pub returns-in_default : goal.returns-in_default
 returns-in_default c =
     ap (ended c.args.table) (law.outside _ _ _ _ (sym c.view.ensures ∙ c.in_default.is) ∙ c.loop-call.invariant)
 
-pub returns-then-t-lt512 : goal.returns-then-t-lt512
-returns-then-t-lt512 c =
-    ap (ended c.args.table) (law.room _ _ _ _ _ (sym c.view.ensures ∙ c.in-Some.is) c.if-t-lt512.true ∙ c.loop-call.invariant)
+pub returns-then-t-lt-CALLS : goal.returns-then-t-lt-CALLS
+returns-then-t-lt-CALLS c =
+    ap (ended c.args.table) (law.room _ _ _ _ _ (sym c.view.ensures ∙ c.in-Some.is) c.if-t-lt-CALLS.true ∙ c.loop-call.invariant)
 
-pub returns-then-less-lt3600 : goal.returns-then-less-lt3600
-returns-then-less-lt3600 c =
+pub returns-then-less-lt-LEAST_HORIZON : goal.returns-then-less-lt-LEAST_HORIZON
+returns-then-less-lt-LEAST_HORIZON c =
     ap (ended c.args.table)
-    (law.refuses _ _ _ _ _ (sym c.view.ensures ∙ c.in-Some.is) c.if-t-lt512.false c.if-less-lt3600.true ∙ c.loop-call.invariant)
+    (law.refuses _ _ _ _ _ (sym c.view.ensures ∙ c.in-Some.is) c.if-t-lt-CALLS.false c.if-less-lt-LEAST_HORIZON.true
+    ∙ c.loop-call.invariant)
 
 pub loop-call-smaller : goal.loop-call-smaller
-loop-call-smaller c = law.cut-shrinks _ _ c.cut_to-t.ensures c.if-less-lt3600.false
+loop-call-smaller c = law.cut-shrinks _ _ c.cut_to-t.ensures c.if-less-lt-LEAST_HORIZON.false
 
 pub loop-call-preserved : goal.loop-call-preserved
 loop-call-preserved c =
     let i = c.args.timed in
     ap (λ (x : Table). fitted x i.arrival i.departure i.input) c.cut_to-t.ensures
-    ∙ law.cuts _ _ _ _ _ (sym c.view.ensures ∙ c.in-Some.is) c.if-t-lt512.false c.if-less-lt3600.false ∙ c.loop-call.invariant
+    ∙ law.cuts _ _ _ _ _ (sym c.view.ensures ∙ c.in-Some.is) c.if-t-lt-CALLS.false c.if-less-lt-LEAST_HORIZON.false ∙ c.loop-call.invariant

@@ -99,17 +99,33 @@ fn three(paths: &[String]) {
 type Table = fn(u16) -> Vec<u8>;
 const WORST: [(&str, Table); 3] =
     [("two trips", tables::two_trips), ("near at last", tables::near_at_last), ("out of reach", tables::out_of_reach)];
-/// The search of the worst cases with as many calls as a load holds, without the Rust.
-fn worst() {
+/// Small papers, from the file's bytes to the best journey at second 0. The Rust's reader takes version 1 without dates and without calls
+/// after the search: of the others the port's time alone.
+fn papers(paths: &[String]) {
+    let (both, alone): (Vec<_>, Vec<_>) = paths.iter().map(|path| read(path)).partition(|(_, bytes)| tables::is_plain(bytes));
+    both.iter().for_each(|(name, bytes)| check(name, bytes));
+    head("small paper: from its bytes to best");
+    both.iter().for_each(|(name, bytes)| row(&sized(name, bytes), &rounds::loads(bytes)));
+    println!("\n| small paper that the Rust doesn't read | port, ms: least, median, quartiles |\n|---|---|");
+    alone.iter().for_each(|(name, bytes)| println!("| {} | {} |", sized(name, bytes), side(&rounds::port_loads(bytes))));
+}
+fn sized(name: &str, bytes: &[u8]) -> String {
+    format!("{name}, {} calls", tables::calls(bytes))
+}
+/// The search of the worst cases with as many calls as a load holds, without the Rust; then that of files, each with its own changes.
+fn worst(paths: &[String]) {
     let time = |name: &str, changes, bytes: &[u8]| {
         let bytes = tables::unsearched(&tables::with_transfers(bytes, changes));
         let [one, none] = [1, 0].map(|times| rounds::least(5, || port::searches(&bytes, times)));
-        println!("{name}, 512 calls, changes {changes}: {} ms", ms(one - none));
+        println!("{}, changes {changes}: {} ms", sized(name, &bytes), ms(one - none));
     };
     for (name, table) in WORST {
         [1, 2].into_iter().for_each(|changes| time(name, changes, &table(512)));
     }
     time("improving", 2, &tables::improving(512));
+    for (name, bytes) in paths.iter().map(|path| read(path)) {
+        time(&name, tables::transfers(&bytes), &bytes);
+    }
 }
 /// The last call of a file withdrawn, and added to the file without it: unsearched and searched. Beside them its search.
 fn altered(name: &str, bytes: &[u8]) {
@@ -169,10 +185,11 @@ fn main() {
         Some((mode, paths)) if mode == "--growth" => growth(paths),
         Some((mode, paths)) if mode == "--three" => three(paths),
         Some((mode, [])) if mode == "--steps" => steps(),
-        Some((mode, [])) if mode == "--worst" => worst(),
+        Some((mode, paths)) if mode == "--papers" => papers(paths),
+        Some((mode, paths)) if mode == "--worst" => worst(paths),
         Some(_) => compare(&words),
         None => {
-            eprintln!("usage: speed FILE ..   speed --growth FILE ..   speed --three FILE ..   speed --steps   speed --worst")
+            eprintln!("usage: speed FILE ..   speed --growth|--three|--papers FILE ..   speed --worst [FILE ..]   speed --steps")
         }
     }
 }

@@ -68,6 +68,13 @@ pub fn loads(bytes: &[u8]) -> [Times; 2] {
     let mut published = || timed(|| _ = black_box(published::best(bytes)));
     in_turns([&mut port, &mut published])
 }
+/// The port's side of it alone.
+pub fn port_loads(bytes: &[u8]) -> Times {
+    let mut port = || timed(|| _ = black_box(port::best(bytes)));
+    let mut none = || 0.0;
+    let [times, _] = in_turns([&mut port, &mut none]);
+    times
+}
 /// The search alone: of each side the difference between what does it many times and the same without it. On the port's side that
 /// is a file read, so there are enough searches in a round to outweigh the reading, and for two milliseconds; on the Rust's enough for
 /// one.

@@ -16,6 +16,16 @@ fn only(bytes: &[u8], mut wanted: impl FnMut(&[u8]) -> bool) -> Vec<u8> {
 }
 const CALL: u8 = 3;
 const SEARCH: u8 = 5;
+/// Whether the Rust's reader takes the file: of version 1, no kinds behind the search's, and nothing behind the search.
+pub fn is_plain(bytes: &[u8]) -> bool {
+    let mut kinds = Vec::new();
+    only(bytes, |record| {
+        kinds.push(record[0]);
+        false
+    });
+    let records = kinds.strip_suffix(&[SEARCH]).unwrap_or(&kinds);
+    bytes[0] == 1 && records.iter().all(|&kind| kind < SEARCH)
+}
 pub fn unsearched(bytes: &[u8]) -> Vec<u8> {
     only(bytes, |record| record[0] != SEARCH)
 }

@@ -1,6 +1,6 @@
 -- `from_origin` meets its contract.
 use Rattle.std.proofs.Common.{arith}
-use Rattle.feed.specs.Feed.{call_at, same_run}
+use Rattle.search_input.specs.Feed.{call_at, same_run}
 use Rattle.rides.proofs.FirstLaws.{few-later, origin-walked, origin-far}
 use Rattle.rides.proofs.firsts.FirstRides.from_origin.Goals as goal
 

@@ -2,7 +2,7 @@
 use Rattle.std.proofs.Common.{◌∙◌, ap, length, arith}
 use Rattle.laws.specs.Bits.{bits_of}
 use Rattle.laws.proofs.Places.{span-cons}
-use Rattle.feed.specs.Feed.{call_at, same_run}
+use Rattle.search_input.specs.Feed.{call_at, same_run}
 use Rattle.rides.proofs.FirstLaws.{taken-below, four-bits, next-board}
 use Rattle.rides.proofs.LoopLaws.{digits-small}
 use Rattle.rides.proofs.firsts.FirstRidesIterator.next.Goals as goal

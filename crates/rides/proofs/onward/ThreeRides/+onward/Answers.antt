@@ -1,79 +1,101 @@
 -- The functions of the cycle meet their contracts.
 use Rattle.std.proofs.Common.{refl, arith}
-use Rattle.candidate.proofs.PassedLaws.{passed-at}
-use Rattle.rides.specs.Places.{later_left}
+use Rattle.search_input.specs.Feed.{call_at}
 use Rattle.rides.specs.Sheets.{sheet_of}
 use Rattle.rides.specs.Loops.{over_calls, over_run, onward_rows, alight_on, board_on}
-use Rattle.rides.proofs.LoopLaws.{unalighted, on-board, off-board, rest-stops, later-has, later-placed}
-use Rattle.rides.proofs.RestLaws.{seen_last, seen_first, rest-same, rest-none, for-start, for-turn, calls-turn, calls-none}
-use Rattle.rides.proofs.OnwardLaws.{alight-is, fewer, skip-on}
+use Rattle.rides.proofs.LoopLaws.{unalighted, on-board, off-board, run-end, run-next, run-on, later-has}
+use Rattle.rides.proofs.RestLaws.{rest-same, rest-turn, rest-none, calls-turn, calls-none}
+use Rattle.rides.proofs.OverLaws.{rest-out}
+use Rattle.rides.proofs.OnwardLaws.{alight-is, alight-out, board-out, fewer, run-out, run-self}
 use Rattle.rides.proofs.onward.ThreeRides.+onward.Goals as goal
+
+pub alight_on-returns-then-over-time_on : goal.alight_on-returns-then-over-time_on
+alight_on-returns-then-over-time_on t c =
+    let q = c.requires in
+    alight-out _ _ _ _ c.args.self.now.on_time q.2 _ _ _ _ _ q.0 q.1.within q.1.same c.time_on.ensures c.if-over-time_on.true
 
 pub alight_on-onward-requires : goal.alight_on-onward-requires
 alight_on-onward-requires t c =
     let q = c.requires in
-    (omega arith, (q.0, record { run = q.1; alights = alight-is _ _ c.at.ensures c.if-at.true }))
+    (omega arith, (q.0, record { run = q.1; alights = alight-is _ _ c.at.ensures c.if-at.true }, q.2))
 
 pub alight_on-returns-then-at : goal.alight_on-returns-then-at
 unfolding alight_on sheet_of
 alight_on-returns-then-at t c = rw (← c.at.ensures, c.if-at.true) c.onward.ensures
 
-pub alight_on-returns-else-at : goal.alight_on-returns-else-at
+pub alight_on-returns : goal.alight_on-returns
 unfolding alight_on sheet_of
-alight_on-returns-else-at t c = unalighted _ _ _ c.at.ensures c.if-at.false
+alight_on-returns t c = record { offered = unalighted _ _ _ c.at.ensures c.if-at.false; over = c.requires.2 }
 
-pub alights_on-loop-d-init : goal.alights_on-loop-d-init
-alights_on-loop-d-init t c = for-start later_left c.into_iter-d-iterator.ensures.into_iter_gives c.than-d-items.ensures
+pub run_on-loop-over-init : goal.run_on-loop-over-init
+run_on-loop-over-init t c = (c.requires.1, run-self _, rest-same refl, c.requires.2)
 
-pub alights_on-invariant_of-q : goal.alights_on-invariant_of-q
-alights_on-invariant_of-q t c =
-    record { placed = later-placed _ c.in-Some.ensures.steps c.loop-d.invariant.2 c.requires.1 c.args.self.now.lent.calls.fits }
+pub run_on-invariant_of-q : goal.run_on-invariant_of-q
+run_on-invariant_of-q t c =
+    let h = run-next (call_at c.args.self.now.lent.calls.feed.now) _ _ c.goes_on.ensures c.if-goes_on.true in
+    record { placed = (omega (arith, c.requires.1, c.args.self.now.lent.calls.fits), omega (arith, h, c.args.self.now.lent.calls.fits)) }
 
-pub alights_on-alight_on-requires : goal.alights_on-alight_on-requires
-alights_on-alight_on-requires t c =
-    let h = later-has _ c.in-Some.ensures.steps c.loop-d.invariant.2 in
-    (omega arith, (c.requires.0, record { within = h.within; same = h.same }))
+pub run_on-alight_on-over-requires : goal.run_on-alight_on-over-requires
+run_on-alight_on-over-requires t c =
+    let i = c.loop-over.invariant in
+    let h = later-has _ (run-on _ _ _ c.goes_on.ensures c.if-goes_on.true) i.2 in
+    (omega arith, (c.requires.0, record { within = h.within; same = h.same }, i.3))
 
-pub alights_on-loop-d-preserved : goal.alights_on-loop-d-preserved
-alights_on-loop-d-preserved t c = for-turn c.in-Some.ensures.steps c.loop-d.invariant.2 c.alight_on.ensures
+pub run_on-loop-over-preserved : goal.run_on-loop-over-preserved
+run_on-loop-over-preserved t c =
+    let i = c.loop-over.invariant in
+    let h = later-has _ (run-on _ _ _ c.goes_on.ensures c.if-goes_on.true) i.2 in
+    let w = c.alight_on-over.ensures in
+    (h.within, h.same, rest-turn (run-on _ _ _ c.goes_on.ensures c.if-goes_on.true) i.2 w.offered, w.over)
 
-pub alights_on-returns : goal.alights_on-returns
+pub run_on-returns-else-goes_on : goal.run_on-returns-else-goes_on
 unfolding over_run
-alights_on-returns t c = rest-none c.in-None.ensures.steps.0 c.loop-d.invariant.2
+run_on-returns-else-goes_on t c =
+    let i = c.loop-over.invariant in
+    record { offered = rest-none (run-end _ _ _ c.goes_on.ensures c.if-goes_on.false) i.2; over = i.3 }
+
+pub run_on-returns : goal.run_on-returns
+unfolding over_run
+run_on-returns t c =
+    let i = c.loop-over.invariant in
+    record {
+      offered =
+          rest-out
+          (run-out _ _ _ _ c.args.self.now.on_time i.3 _ _ _ _ _ c.requires.0 i.0 i.1 c.time_from.ensures c.loop-over-test.false) i.2;
+      over = i.3;
+    }
+
+pub board_on-returns-then-over-time_from : goal.board_on-returns-then-over-time_from
+board_on-returns-then-over-time_from t c =
+    let q = c.requires in
+    board-out _ _ _ _ c.args.self.now.on_time q.2 _ _ _ _ _ q.0 q.1 c.time_from.ensures c.if-over-time_from.true
 
 pub board_on-returns-then-can_board : goal.board_on-returns-then-can_board
 unfolding board_on sheet_of
-board_on-returns-then-can_board t c = on-board _ _ _ _ _ c.can_board.ensures c.if-can_board.true c.alights_on.ensures
+board_on-returns-then-can_board t c =
+    let w = c.run_on.ensures in
+    record { offered = on-board _ _ _ _ _ c.can_board.ensures c.if-can_board.true w.offered; over = w.over }
 
-pub board_on-returns-else-can_board : goal.board_on-returns-else-can_board
+pub board_on-returns : goal.board_on-returns
 unfolding board_on sheet_of
-board_on-returns-else-can_board t c = off-board _ _ _ _ _ c.can_board.ensures c.if-can_board.false
-
-pub onward-returns-then-left-eq0 : goal.onward-returns-then-left-eq0
-unfolding onward_rows sheet_of
-onward-returns-then-left-eq0 t c = rw (c.if-left-eq0.true, ← c.at.ensures, ← c.targets.ensures) c.ends.ensures
-
-pub onward-returns-then-passes_over : goal.onward-returns-then-passes_over
-onward-returns-then-passes_over t c =
-    let (less, ride) = c.requires in
-    seen_last c.passes_over.ensures.0
-    (skip-on _ _ _ _ _ _ _ _ _ c.args.self.now.on_time less c.if-left-eq0.false ride.run.within ride.alights ride.run.same
-    c.time_on-t.ensures (passed-at _ c.figures.ensures c.passes_over.ensures.1) c.if-passes_over.true)
-
-pub onward-returns : goal.onward-returns
-onward-returns t c =
-    rw (fewer _ _ _ _ _ c.if-left-eq0.false _ _ _ _ _ c.first_ride.ensures) (seen_first c.passes_over.ensures.0 c.rides_on.ensures)
+board_on-returns t c =
+    record { offered = off-board _ _ _ _ _ c.can_board.ensures c.if-can_board.false; over = c.requires.2 }
 
 pub rides_on-loop-c-init : goal.rides_on-loop-c-init
-rides_on-loop-c-init t c = rest-same refl
-
-pub rides_on-returns-then-is_refused : goal.rides_on-returns-then-is_refused
-unfolding over_calls
-rides_on-returns-then-is_refused t c = rest-stops c.is_refused.ensures c.if-is_refused.true c.loop-c.invariant
+rides_on-loop-c-init t c = (rest-same refl, c.requires.1)
 
 pub rides_on-loop-c-preserved : goal.rides_on-loop-c-preserved
-rides_on-loop-c-preserved t c = calls-turn c.loop-c-test.true c.loop-c.invariant c.board_on.ensures
+rides_on-loop-c-preserved t c =
+    let w = c.board_on-over.ensures in
+    (calls-turn c.loop-c-test.true c.loop-c.invariant.0 w.offered, w.over)
 
 pub rides_on-returns : goal.rides_on-returns
 unfolding over_calls
-rides_on-returns t c = calls-none c.loop-c-test.false c.loop-c.invariant
+rides_on-returns t c = record { offered = calls-none c.loop-c-test.false c.loop-c.invariant.0; over = c.loop-c.invariant.1 }
+
+pub onward-returns-then-left-eq0 : goal.onward-returns-then-left-eq0
+unfolding onward_rows sheet_of
+onward-returns-then-left-eq0 t c = rw (c.if-left-eq0.true, ← c.at.ensures, ← c.targets.ensures) c.ends_before.ensures
+
+pub onward-returns : goal.onward-returns
+onward-returns t c = rw (fewer _ _ _ _ _ c.if-left-eq0.false _ _ _ _ _ c.first_ride.ensures) c.rides_on.ensures

@@ -1,7 +1,0 @@
--- Row after row.
-use Rattle.transfer.specs.Lent.{entry_in}
-use Rattle.change_array.proofs.ChangeLaws.{RowsTo}
-use Rattle.change_array.proofs.marked_rows.Given as goal
-
-abbrev pub invariant-loop-from : goal.invariant-loop-from
-invariant-loop-from l = RowsTo 128 (entry_in l.transfers) l.marks l.from l.changes

@@ -1,8 +1,0 @@
--- The stops of the calls passed are marked.
-use mathlib.Core.Path.{◌≡◌}
-use lib.ListN.{length}
-use Rattle.change_array.proofs.ChangeLaws.{MarkedTo}
-use Rattle.change_array.proofs.named_stops.Given as goal
-
-abbrev pub invariant-loop-i : goal.invariant-loop-i
-invariant-loop-i l = (length l.marks ≡ 128) × MarkedTo l.marks l.feed l.i

@@ -1,5 +1,0 @@
--- Each call has a smaller number.
-use Rattle.lines.proofs.text.+decimal.Given as goal
-
-abbrev pub decreases-decimal : goal.decreases-decimal
-decreases-decimal l = l.n

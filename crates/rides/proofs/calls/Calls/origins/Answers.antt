@@ -1,6 +1,0 @@
--- `origins` meets its contract: the mask has four digits.
-use Rattle.feed.proofs.FeedLaws.{origins-small}
-use Rattle.rides.proofs.calls.Calls.origins.Goals as goal
-
-pub of-requires : goal.of-requires
-of-requires c = rw c.origins_of.ensures (origins-small _ _)

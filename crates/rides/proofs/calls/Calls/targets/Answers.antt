@@ -1,6 +1,0 @@
--- `targets` meets its contract: the mask has four digits.
-use Rattle.feed.proofs.FeedLaws.{targets-small}
-use Rattle.rides.proofs.calls.Calls.targets.Goals as goal
-
-pub of-requires : goal.of-requires
-of-requires c = rw c.targets_of.ensures (targets-small _ _)

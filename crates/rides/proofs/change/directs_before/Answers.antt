@@ -1,0 +1,29 @@
+-- `directs_before` meets its contract: a loop over the stop's targets.
+use Rattle.std.proofs.Common.{ap, ◌∙◌}
+use Rattle.laws.specs.Bits.{bits_of}
+use Rattle.rides.specs.Loops.{over_bits, direct_rows}
+use Rattle.rides.specs.Places.{digits_left}
+use Rattle.rides.specs.Sheets.{sheet_of}
+use Rattle.rides.proofs.LoopLaws.{digits-small}
+use Rattle.rides.proofs.RestLaws.{rest-same, rest-turn, rest-none}
+use Rattle.rides.proofs.change.directs_before.Goals as goal
+
+pub loop-x-init : goal.loop-x-init
+loop-x-init c = (
+  tt,
+  tt,
+  rest-same (ap digits_left c.into_iter-x-iterator.ensures.into_iter_gives ∙ ap bits_of c.targets-x-items.ensures),
+  c.requires,
+)
+
+pub direct_before-over-requires : goal.direct_before-over-requires
+direct_before-over-requires c = (digits-small _ c.in-Some.ensures.steps, c.loop-x.invariant.3)
+
+pub loop-x-preserved : goal.loop-x-preserved
+loop-x-preserved c =
+    let w = c.direct_before-over.ensures in
+    (tt, tt, rest-turn c.in-Some.ensures.steps c.loop-x.invariant.2 w.offered, w.over)
+
+pub returns : goal.returns
+unfolding over_bits direct_rows sheet_of
+returns c = record { offered = rest-none c.in-None.ensures.steps.0 c.loop-x.invariant.2; over = c.loop-x.invariant.3 }

@@ -1,0 +1,11 @@
+-- `target_before` meets its contract: an offer, unless it is due too late.
+use Rattle.rides.proofs.OverLaws.{target-out, target-made}
+use Rattle.rides.proofs.change.target_before.Goals as goal
+
+pub returns-then-due-over : goal.returns-then-due-over
+returns-then-due-over c =
+    target-made _ _ _ _ _ (rw (← c.target_walk.ensures, ← c.at.ensures) c.arrival_of-due.ensures) c.last_at.ensures
+
+pub returns : goal.returns
+returns c =
+    target-out _ _ _ _ _ (rw (← c.target_walk.ensures, ← c.at.ensures) c.arrival_of-due.ensures) c.if-due-over.false c.requires.1

@@ -1,0 +1,4 @@
+pub mod Words
+pub mod Bytes
+pub mod Lines
+pub mod Instances
