@@ -6,6 +6,7 @@ use Rattle.search_state.specs.View.{view}
 use Rattle.candidate.specs.Offer.{with_figures, passed_over}
 use Rattle.search_input.specs.declared.FirstRide.{FirstRide}
 use Rattle.search_input.specs.Feed.{call_at, figures_of}
+use Rattle.rides.specs.declared.known.Known.{Known}
 use Rattle.rides.specs.declared.since.Since.{Since}
 use Rattle.rides.specs.declared.last.LastRides.{LastRides}
 use Rattle.rides.specs.Offered.{Offered}
@@ -31,6 +32,11 @@ abbrev pub Joined : LastRides → List ℕ → Type 0
 Joined r joined =
     let n = r.lent.calls.n in
     Each (JoinsAt r.lent.calls.feed.now r.lent.changes.now n r.bounds.now) 0 n joined
+
+-- what is known between two first rides
+pub record Knows (l : List ℕ) (r : LastRides) (k : Known) : Type 0 where
+  pub since : Holds l k.before k.since
+  pub joined : Joined r k.joined
 
 -- one can alight where f does, and f joins what a ride that alights there joins
 pub record Alights (feed : List ℕ) (n : ℕ) (f : FirstRide) : Type 0 where

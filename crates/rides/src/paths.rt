@@ -8,19 +8,20 @@ ghost use Rattle.rides.specs.Routes.{rows_of};
 ghost use Rattle.rides.specs.Offered.{offer_all, Offered};
 
 use crate::bounds::bounds_of;
-use crate::call_list::{Calls, Ride};
-use crate::change::{directs_before, first_before};
+use crate::call_list::Calls;
+use crate::change::directs_before;
 use crate::firsts::FirstRides;
+use crate::known::{any_ride, known_none, next_first};
 use crate::last::LastRides;
 use crate::lent::Lent;
 use crate::offer::offer;
 use crate::onward::ThreeRides;
 use crate::reach::onward_times;
-use crate::since::{over_for, since_for, since_none};
+use crate::since::over_for;
 use candidate::candidate;
 use candidate::times::late;
 use search_input::FirstRide;
-use search_input::layout::{CALLS, Changes, Feed};
+use search_input::layout::{Changes, Feed};
 use search_state::is_refused;
 use search_state::layout::State;
 
@@ -39,16 +40,6 @@ pub fn directs(st: &mut State, calls: &Calls, f: FirstRide)
     for x in calls.targets(f.stop) {
         direct_at(st, calls, f, x);
     }
-}
-
-// What stands before the first of the first rides: any ride, as nothing is known before one. What is known of a ride holds of the next, if
-// they leave alike and walk alike.
-fn any_ride(calls: &Calls) -> FirstRide {
-    let none = Ride {
-        board: 0,
-        alight: 0,
-    };
-    calls.first_ride(none, 0)
 }
 
 // The direct journeys. A refused search stays as it is, so the loop of a pass may end there.
@@ -73,18 +64,12 @@ fn direct_pass(st: &mut State, lent: &Lent)
 fn change_pass(st: &mut State, last: &LastRides)
     ensures { Offered st.old st.new (pass_rows (sheet_in last.now.lent) (joins_in last.now.lent) 1 last.now.lent.calls.n) }
 {
-    let calls = &last.lent.calls;
-    let mut joined = [0u16; CALLS];
-    let mut before = any_ride(calls);
-    let mut since = since_none(st);
-    for l in FirstRides::of(calls) {
+    let mut known = known_none(st, last);
+    for l in FirstRides::of(&last.lent.calls) {
         if is_refused(st) {
             return;
         }
-        let f = calls.first_ride(l.ride, l.origin);
-        let now = since_for(st, f, before, since);
-        since = first_before(st, &mut joined, last, f, now);
-        before = f;
+        next_first(st, &mut known, last, l);
     }
 }
 
