@@ -62,15 +62,19 @@ alighted_at feed m = first_of (sheet_of feed) m 0 m
 unfoldable pub JoinAt : List ℕ → List ℕ → List ℕ → FirstRide → ℕ → ℕ → Type 0
 JoinAt feed changes boards p c t = (call_at feed c).board ≡ true → joins_of feed changes p c ≡ true → t ≤ get_or boards c 0
 
--- t is no later than the number of any place below n where a ride boards that p joins
-pub record Least (feed changes boards : List ℕ) (p : FirstRide) (n t : ℕ) : Type 0 where
-  pub least : (c : ℕ) → c < n → JoinAt feed changes boards p c t
+-- t is no later than the number of any place from i up to n where a ride boards that p joins
+pub record Least (feed changes boards : List ℕ) (p : FirstRide) (i n t : ℕ) : Type 0 where
+  pub least : (c : ℕ) → i ≤ c → c < n → JoinAt feed changes boards p c t
 
--- the same of a ride that alights at m
+-- the same of a ride that alights at m, over all of the first n
 unfoldable pub JoinsAt : List ℕ → List ℕ → ℕ → List ℕ → ℕ → ℕ → Type 0
-JoinsAt feed changes n boards m t = (call_at feed m).alight ≡ true → Least feed changes boards (alighted_at feed m) n t
+JoinsAt feed changes n boards m t = (call_at feed m).alight ≡ true → Least feed changes boards (alighted_at feed m) 0 n t
 
--- an array of 512 numbers, of which each from i up to n is such
-pub record Each (P : ℕ → ℕ → Type 0) (i n : ℕ) (l : List ℕ) : Type 0 where
-  pub long : length l ≡ call_room
-  pub each : (k : ℕ) → i ≤ k → k < n → P k (get_or l k 0)
+-- an array of so many elements, of which each from i up to n is such; `none` is what stands behind it
+pub record EachOf {A : Type 0} (room : ℕ) (none : A) (P : ℕ → A → Type 0) (i n : ℕ) (l : List A) : Type 0 where
+  pub long : length l ≡ room
+  pub each : (k : ℕ) → i ≤ k → k < n → P k (get_or l k none)
+
+-- of 512 numbers
+abbrev pub Each : (ℕ → ℕ → Type 0) → ℕ → ℕ → List ℕ → Type 0
+Each P i n l = EachOf call_room 0 P i n l

@@ -10,10 +10,10 @@ ghost use Rattle.rides.specs.Rows.{first_at};
 use crate::call_list::{Calls, Ride};
 use crate::change::first_before;
 use crate::firsts::FirstLeg;
+use crate::joined::{JoinedTimes, joined_none};
 use crate::last::LastRides;
 use crate::since::{Since, since_for, since_none};
 use search_input::FirstRide;
-use search_input::layout::CALLS;
 use search_state::layout::State;
 
 // The last first ride, from when on journeys that begin like it are passed over, and the numbers by where a first ride alights.
@@ -21,7 +21,7 @@ use search_state::layout::State;
 pub struct Known {
     pub before: FirstRide,
     pub since: Since,
-    pub joined: [u16; CALLS],
+    pub joined: JoinedTimes,
 }
 
 // What stands before the first of the first rides: any ride, as nothing is known before one. What is known of a ride holds of the next, if
@@ -41,7 +41,7 @@ pub fn known_none(st: &State, last: &LastRides) -> Known
     Known {
         before: any_ride(&last.lent.calls),
         since: since_none(st),
-        joined: [0; CALLS],
+        joined: joined_none(last),
     }
 }
 

@@ -14,6 +14,7 @@ pub mod bounds;
 pub mod call_list;
 mod change;
 pub mod firsts;
+pub mod joined;
 pub mod known;
 pub mod last;
 pub mod later;

@@ -56,7 +56,7 @@ fn put_boards(calls: &Calls, at: &[u16; CALLS]) -> [u16; CALLS]
 
 // The earliest of the rides that the ride joins.
 fn least_joined(lent: &Lent, boards: &[u16; CALLS], p: FirstRide) -> u16
-    ensures { Least lent.now.calls.feed.now lent.now.changes.now boards.now p lent.now.calls.n result }
+    ensures { Least lent.now.calls.feed.now lent.now.changes.now boards.now p 0 lent.now.calls.n result }
 {
     // By value, so that the loop doesn't read where the arrays stand.
     let lent = *lent;

@@ -1,6 +1,6 @@
 -- `least_joined` meets its contract: a loop over the calls.
 use Rattle.std.proofs.Common.{arith}
-use Rattle.rides.proofs.ReachLaws.{least_start, least-joined, least-apart, least-same}
+use Rattle.rides.proofs.ReachLaws.{least_start, least-joined, least-apart, least-fewer}
 use Rattle.rides.proofs.reach.least_joined.Goals as goal
 use Rattle.rides.proofs.reach.least_joined.Goals.{then-can_board, else-can_board}
 
@@ -15,4 +15,4 @@ loop-c-preserved c =
     ]
 
 pub returns : goal.returns
-returns c = least-same (omega arith) c.loop-c.invariant
+returns c = least-fewer (omega arith) c.loop-c.invariant

@@ -1,8 +1,8 @@
--- `least_joined` meets its contract: a loop over the calls.
+-- `block_least` meets its contract: a loop over the calls of the block.
 use Rattle.std.proofs.Common.{arith}
-use Rattle.rides.proofs.ReachLaws.{least_start, least-joined, least-apart, least-same}
-use Rattle.rides.proofs.change.least_joined.Goals as goal
-use Rattle.rides.proofs.change.least_joined.Goals.{then-can_board, else-can_board}
+use Rattle.rides.proofs.ReachLaws.{least_start, least-joined, least-apart, least-fewer}
+use Rattle.rides.proofs.joined.block_least.Goals as goal
+use Rattle.rides.proofs.joined.block_least.Goals.{then-can_board, else-can_board}
 
 pub loop-j-init : goal.loop-j-init
 loop-j-init c = least_start
@@ -15,4 +15,4 @@ loop-j-preserved c =
     ]
 
 pub returns : goal.returns
-returns c = least-same (omega arith) c.loop-j.invariant
+returns c = least-fewer (omega arith) c.loop-j.invariant
