@@ -42,11 +42,6 @@ passed-covered l o b r c e f ec er =
 
 -- ---- what follows from it
 
--- what is said of figures is said of those they are equal to
-pub passed-at : (s : SearchState Row) {r : Bool} {g h : Figures} → g ≡ h → r ≡ passed_over s (with_figures g) → r
-    ≡ passed_over s (with_figures h)
-passed-at s e p = p ∙ ap (λ x. passed_over s (with_figures x)) e
-
 -- a row covers each one that has its leave, rides and walk and is due no earlier
 pub cov-no-later : (b o : Row) → b.leave ≡ o.leave → b.arrival ≤ o.arrival → b.rides ≡ o.rides → b.walk ≡ o.walk → cov b o ≡ true
 unfolding cov

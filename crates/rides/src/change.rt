@@ -92,7 +92,7 @@ fn run_before(st: &mut State, last: &LastRides, f: FirstRide, j: usize, over: u3
 // Those that board at j, if one of them is at a target before `over` and the first ride joins them. Inlined, as at most places two numbers
 // are compared.
 #[inline]
-fn board_before(st: &mut State, last: &LastRides, f: FirstRide, j: usize, over: u32) -> u32
+pub fn board_before(st: &mut State, last: &LastRides, f: FirstRide, j: usize, over: u32) -> u32
     requires { (j < last.now.lent.calls.n) × Over st.old f 2 over }
     ensures { Walked st.old st.new (last_board_rows (sheet_in last.now.lent) (joins_in last.now.lent) last.now.lent.calls.n f j) f 2 result }
 {
@@ -203,7 +203,7 @@ fn direct_before(st: &mut State, calls: &Calls, f: FirstRide, x: u8, over: u32) 
 }
 
 // The targets of the stop where it ends.
-pub fn directs_before(st: &mut State, calls: &Calls, f: FirstRide, over: u32) -> u32
+pub(crate) fn directs_before(st: &mut State, calls: &Calls, f: FirstRide, over: u32) -> u32
     requires { Over st.old f 1 over }
     ensures { Walked st.old st.new (direct_rows (sheet_of calls.now.feed.now) f) f 1 result }
 {
@@ -215,7 +215,7 @@ pub fn directs_before(st: &mut State, calls: &Calls, f: FirstRide, over: u32) ->
 }
 
 // The journeys of the first ride alone and then those with a change: a journey of one ride beats whatever is due no earlier by two.
-pub fn first_before(
+pub(crate) fn first_before(
     st: &mut State,
     joined: &mut JoinedTimes,
     last: &LastRides,

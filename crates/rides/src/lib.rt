@@ -12,7 +12,7 @@
 pub mod bits;
 pub mod bounds;
 pub mod call_list;
-mod change;
+pub mod change;
 pub mod firsts;
 pub mod joined;
 pub mod known;
