@@ -11,9 +11,9 @@ use search_input::FirstRide;
 use search_input::layout::CALLS;
 
 // How many calls are in a block, and how many blocks there are.
-pub const BLOCK: usize = 32;
+pub(crate) const BLOCK: usize = 32;
 
-pub const BLOCKS: usize = CALLS / BLOCK;
+pub(crate) const BLOCKS: usize = CALLS / BLOCK;
 
 // By place. They are put in the first time that a place is asked for: a 0, which is no later than any time, stands there before.
 #[derive(Clone, Copy, Debug, PartialEq, Eq)]
@@ -23,7 +23,7 @@ pub struct JoinedTimes {
 }
 
 // Before any place is asked for.
-pub fn joined_none(last: &LastRides) -> JoinedTimes
+pub(crate) fn joined_none(last: &LastRides) -> JoinedTimes
     ensures { Joined last.now result }
 {
     JoinedTimes {
@@ -33,7 +33,7 @@ pub fn joined_none(last: &LastRides) -> JoinedTimes
 }
 
 // The place behind the block that begins at `from`.
-pub fn block_end(n: usize, from: usize) -> usize
+pub(crate) fn block_end(n: usize, from: usize) -> usize
     requires { (n ≤ call_room) × (from < call_room) }
     ensures { result ≡ block_end n from }
 {
@@ -78,7 +78,7 @@ fn row_least(row: &[u16; BLOCKS]) -> u16
 }
 
 // The earliest that a last ride that f joins is at a target, from the number where f alights; with it the numbers of the blocks are put in.
-pub fn joined_time(joined: &mut JoinedTimes, last: &LastRides, f: FirstRide) -> u16
+pub(crate) fn joined_time(joined: &mut JoinedTimes, last: &LastRides, f: FirstRide) -> u16
     requires { Alights last.now.lent.calls.feed.now last.now.lent.calls.n f × Joined last.now joined.old }
     ensures array { Joined last.now joined.new }
     ensures time { Least last.now.lent.calls.feed.now last.now.lent.changes.now last.now.bounds.now f 0 last.now.lent.calls.n result }
