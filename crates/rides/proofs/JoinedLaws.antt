@@ -1,5 +1,6 @@
 -- The numbers of each place where a first ride alights: how early a last ride that it joins can be at a target, of all and by blocks.
-use mathlib.Core.Path.{◌≡◌, refl, sym, ◌∙◌}
+use mathlib.Core.Path.{◌≡◌, refl, sym, ap, ◌∙◌}
+use mathlib.Core.Bool.{false, false≢true}
 use mathlib.Core.List.{List, []}
 use Prim.Native.Nat.{ℕ, ◌/◌, ◌≤◌, ◌<◌, max}
 use native.Mathlib.Omega.{arith}
@@ -7,6 +8,7 @@ use lib.Dec.{eqb}
 use lib.ListN.{get_or, replicate}
 use borrow.Author.Tests.{eqb-true}
 use Rattle.laws.proofs.Bools.{and-true-left, and-true-right}
+use Rattle.search_input.specs.declared.FeedCall.{FeedCall}
 use Rattle.search_input.specs.declared.FirstRide.{FirstRide}
 use Rattle.search_input.specs.Feed.{call_at, same_run, joined}
 use Rattle.rides.specs.declared.call_list.Ride.{Ride}
@@ -14,8 +16,8 @@ use Rattle.rides.specs.Rows.{first_of}
 use Rattle.rides.specs.Sheets.{joins_of, sheet_of}
 use Rattle.rides.specs.Bounds.{bucket_of, Bounds}
 use Rattle.rides.specs.Places.{IsRide}
-use Rattle.rides.specs.Over.{block_count, BlockAt, LeastByBlock, RowAt, Alights}
-use Rattle.rides.specs.Reach.{alighted_at, JoinAt, Least, JoinsAt, EachOf, Each}
+use Rattle.rides.specs.Over.{Alights}
+use Rattle.rides.specs.Reach.{alighted_at, JoinAt, Least, JoinsAt, EachOf, Each, block_width, block_count, BlockAt, LeastByBlock, RowAt}
 use Rattle.rides.proofs.ReachLaws.{each-alike}
 use Rattle.rides.proofs.SkipLaws.{joins_after}
 use Rattle.search_input.specs.Layout.{call_room}
@@ -59,12 +61,15 @@ module _ {feed : List ℕ} {n : ℕ} {f : FirstRide} (w : Alights feed n f) (cha
   least-here e et g = rw (et, e) (least-from (g.each f.alight (omega arith) w.within w.alights))
 
   -- those of the blocks
+  pub row-here : {m : ℕ} {row : List ℕ} → m ≡ f.alight → RowAt feed changes n b m row → LeastByBlock feed changes b n f row
+  unfolding RowAt BlockAt
+  row-here e g =
+      let h = (rw e at g) w.alights in
+      record { long = h.long; each = λ k lo hi. least-from (h.each k lo hi) }
+
   pub blocks-here : {l : List (List ℕ)} {m : ℕ} {row : List ℕ} → m ≡ f.alight → row ≡ get_or l m []
       → EachOf call_room [] (RowAt feed changes n b) 0 n l → LeastByBlock feed changes b n f row
-  unfolding RowAt BlockAt
-  blocks-here e er g =
-      let h = g.each f.alight (omega arith) w.within w.alights in
-      rw (er, e) record { long = h.long; each = λ k lo hi. least-from (h.each k lo hi) }
+  blocks-here e er g = row-here e (rw (er, e) (g.each f.alight (omega arith) w.within))
 
   pub joins-there : {m t : ℕ} → m ≡ f.alight → Least feed changes b f 0 n t → JoinsAt feed changes n b m t
   unfolding JoinsAt
@@ -96,8 +101,25 @@ unfolding BlockAt JoinAt
 least-blocks {t = t} h g low =
     record {
       least = λ c a l y z.
-          let k = c / 32 in
+          let k = c / block_width in
           let p = (g.each k (omega arith) (omega arith)).least c (omega arith) (omega arith) y z in
           let q = low k (omega arith) in
           omega (arith, p, q);
     }
+
+-- ---- the rows of every place
+
+module _ (feed changes b : List ℕ) (n m : ℕ) where
+  -- the least of a row
+  pub joins-row : {t : ℕ} (row : List ℕ) → n ≤ 512 → RowAt feed changes n b m row → ((k : ℕ) → k < block_count → t ≤ get_or row k 0)
+      → JoinsAt feed changes n b m t
+  unfolding RowAt JoinsAt
+  joins-row row h g low y = least-blocks h (g y) low
+
+  pub row-some : {p : FirstRide} {row : List ℕ} → p ≡ alighted_at feed m → LeastByBlock feed changes b n p row → RowAt feed changes n b m row
+  unfolding RowAt
+  row-some e g y = rw e at g
+
+  pub row-none : {a : FeedCall} (row : List ℕ) → a ≡ call_at feed m → a.alight ≡ false → RowAt feed changes n b m row
+  unfolding RowAt
+  row-none row ea e y = absurd (false≢true (sym e ∙ ap (λ (c : FeedCall). c.alight) ea ∙ y))

@@ -1,5 +1,5 @@
 -- The numbers of places: how they are put in, and that no way on is at its target before them.
-use mathlib.Core.Path.{◌≡◌, refl, sym, ap, subst, ◌∙◌}
+use mathlib.Core.Path.{◌≡◌, refl, sym, subst, ◌∙◌}
 use mathlib.Core.Logic.{◌≢◌, ◌⊎◌, inl, inr}
 use mathlib.Core.Bool.{Bool, true, false, false≢true, ◌&&◌}
 use mathlib.Core.List.Memᴰ
@@ -22,7 +22,6 @@ use Rattle.laws.proofs.Tails.{take_while-mem}
 use Rattle.ways.specs.Rides.{Leg, Network, joined_rides}
 use Rattle.ways.specs.Routes.{Way, here, ride_then, onward}
 use Rattle.ways.proofs.RideLaws.{Listed, joined-mem, listed_in}
-use Rattle.search_input.specs.declared.FeedCall.{FeedCall}
 use Rattle.search_input.specs.declared.FirstRide.{FirstRide}
 use Rattle.search_input.specs.Feed.{call_at, same_run, target_mask, joined}
 use Rattle.rides.specs.Rows.{first_of, network_of}
@@ -121,15 +120,6 @@ least-apart e f l = least-on (omega arith) (λ y z. absurd (false≢true (sym f 
 pub least-fewer : {feed changes boards : List ℕ} {p : FirstRide} {i n n' t : ℕ} → n' ≤ n → Least feed changes boards p i n t
     → Least feed changes boards p i n' t
 least-fewer h w = record { least = λ k a b. w.least k a (omega arith) }
-
-module _ (feed changes boards : List ℕ) (n m t : ℕ) where
-  pub joins-some : {p : FirstRide} → p ≡ alighted_at feed m → Least feed changes boards p 0 n t → JoinsAt feed changes n boards m t
-  unfolding JoinsAt
-  joins-some e w y = rw e at w
-
-  pub joins-none : {a : FeedCall} → a ≡ call_at feed m → a.alight ≡ false → JoinsAt feed changes n boards m t
-  unfolding JoinsAt
-  joins-none ea e y = absurd (false≢true (sym e ∙ ap (λ (b : FeedCall). b.alight) ea ∙ y))
 
 -- ---- no way on is early
 

@@ -1,6 +1,6 @@
 -- From when on journeys need not be offered: of those that differ in arrival, targets and later rides alone, what is due no earlier than
 -- one that would be passed over would be passed over too (`CoveredPassed`).
-use Rattle.std.specs.Prelude.{◌≡◌, true, List, [], ℕ, ◌+◌, ◌*◌, ◌/◌, ◌<◌, min}
+use Rattle.std.specs.Prelude.{◌≡◌, true, List, [], ℕ, ◌<◌}
 use Rattle.profile.specs.Found.{Row}
 use Rattle.search_state.specs.View.{view}
 use Rattle.candidate.specs.Offer.{with_figures, passed_over}
@@ -11,7 +11,7 @@ use Rattle.rides.specs.declared.since.Since.{Since}
 use Rattle.rides.specs.declared.joined.JoinedTimes.{JoinedTimes}
 use Rattle.rides.specs.declared.last.LastRides.{LastRides}
 use Rattle.rides.specs.Offered.{Offered}
-use Rattle.rides.specs.Reach.{alighted_at, Least, JoinsAt, EachOf, Each}
+use Rattle.rides.specs.Reach.{alighted_at, JoinsAt, EachOf, Each, RowAt}
 use Rattle.rides.specs.Sheets.{joins_of}
 use Rattle.search_input.specs.Layout.{call_room}
 
@@ -29,29 +29,7 @@ pub record Holds (l : List ℕ) (f : FirstRide) (s : Since) : Type 0 where
   pub one : Over l f 1 s.one
   pub two : Over l f 2 s.two
 
--- ---- what is joined, by the place where a ride alights and by blocks of calls
-
-abbrev pub block_width : ℕ
-block_width = 32
-
-abbrev pub block_count : ℕ
-block_count = call_room / block_width
-
--- the place behind the block that begins at i, of n places
-abbrev pub block_end : ℕ → ℕ → ℕ
-block_end n i = min n (i + block_width)
-
--- t is no later than the number of any place in the block b, of n places, where a ride boards that p joins
-unfoldable pub BlockAt : List ℕ → List ℕ → List ℕ → ℕ → FirstRide → ℕ → ℕ → Type 0
-BlockAt feed changes boards n p b t = Least feed changes boards p (b * block_width) (block_end n (b * block_width)) t
-
--- of each block such a time
-abbrev pub LeastByBlock : List ℕ → List ℕ → List ℕ → ℕ → FirstRide → List ℕ → Type 0
-LeastByBlock feed changes boards n p row = EachOf block_count 0 (BlockAt feed changes boards n p) 0 block_count row
-
--- the same of a ride that alights at m
-unfoldable pub RowAt : List ℕ → List ℕ → ℕ → List ℕ → ℕ → List ℕ → Type 0
-RowAt feed changes n boards m row = (call_at feed m).alight ≡ true → LeastByBlock feed changes boards n (alighted_at feed m) row
+-- ---- what is joined, by the place where a ride alights
 
 -- of each place, a time no later than the number of any last ride that a ride that alights there joins; and such a time for those that
 -- board in each block: 0 is one, before it is asked

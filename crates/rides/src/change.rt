@@ -5,9 +5,9 @@ ghost use Rattle.search_input.specs.Feed.{call_at};
 ghost use Rattle.rides.specs.Loops.{over_bits, over_calls, over_run, last_at};
 ghost use Rattle.rides.specs.Loops.{last_alight_rows, last_board_rows, change_rows, direct_at, direct_rows};
 ghost use Rattle.rides.specs.Offered.{Offered};
-ghost use Rattle.rides.specs.Over.{Over, Holds, Walked, LeastByBlock, block_end, Joined, Alights};
+ghost use Rattle.rides.specs.Over.{Over, Holds, Walked, Joined, Alights};
 ghost use Rattle.rides.specs.Places.{sheet_in, joins_in};
-ghost use Rattle.rides.specs.Reach.{Least};
+ghost use Rattle.rides.specs.Reach.{block_end, Least, LeastByBlock};
 ghost use Rattle.rides.specs.Sheets.{sheet_of};
 ghost use Rattle.search_input.specs.Layout.{call_room};
 

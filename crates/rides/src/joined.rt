@@ -1,12 +1,13 @@
-// How early a last ride that a first ride joins is at a target, by the place where the first ride alights: of all last rides, and of those
-// that board in each block of calls. A block none of whose rides is early enough is passed over by one number, or each of 50,000 first rides
-// could look at 512 calls.
-ghost use Rattle.std.specs.Prelude.{◌≡◌, ℕ, ◌≤◌, ◌<◌, get_or};
-ghost use Rattle.rides.specs.Over.{block_count, block_end, LeastByBlock, Joined, Alights};
-ghost use Rattle.rides.specs.Reach.{Least};
+// How early the rides that one joins lead to a target, by the place where that one alights: of all of them, and of those that board in each
+// block of calls. A block none of whose rides is early enough is passed over by one number, or each of 50,000 first rides could look at 512
+// calls. `boards` has a number for those that board at each place: as last rides, or with rides after them (`reach`).
+ghost use Rattle.std.specs.Prelude.{◌≡◌, ℕ, ◌≤◌, ◌<◌, length, get_or};
+ghost use Rattle.rides.specs.Over.{Joined, Alights};
+ghost use Rattle.rides.specs.Reach.{block_count, block_end, Least, LeastByBlock};
 ghost use Rattle.search_input.specs.Layout.{call_room};
 
 use crate::last::LastRides;
+use crate::lent::Lent;
 use search_input::FirstRide;
 use search_input::layout::CALLS;
 
@@ -15,7 +16,7 @@ pub(crate) const BLOCK: usize = 32;
 
 pub(crate) const BLOCKS: usize = CALLS / BLOCK;
 
-// By place. They are put in the first time that a place is asked for: a 0, which is no later than any time, stands there before.
+// By place. Those of last rides are put in the first time that a place is asked for: a 0, no later than any time, stands there before.
 #[derive(Clone, Copy, Debug, PartialEq, Eq)]
 pub struct JoinedTimes {
     pub least: [u16; CALLS],
@@ -40,34 +41,36 @@ pub(crate) fn block_end(n: usize, from: usize) -> usize
     n.min(from + BLOCK)
 }
 
-// The earliest that a last ride that f joins is at a target, of those that board in the block that begins at `from`.
-fn block_least(last: &LastRides, f: FirstRide, from: usize) -> u16
-    requires { from < call_room }
-    ensures { Least last.now.lent.calls.feed.now last.now.lent.changes.now last.now.bounds.now f from
-        (block_end last.now.lent.calls.n from) result }
+// The earliest of the rides that p joins, of those that board in the block that begins at `from`.
+fn block_least(lent: &Lent, boards: &[u16], p: FirstRide, from: usize) -> u16
+    requires { (from < call_room) × (call_room ≤ length boards.now) }
+    ensures { Least lent.now.calls.feed.now lent.now.changes.now boards.now p from (block_end lent.now.calls.n from) result }
 {
+    // By value, so that the loop doesn't read where the arrays stand.
+    let lent = *lent;
     let mut t = 65535u16;
-    for j in from..block_end(last.lent.calls.n, from) {
-        if last.lent.can_board(f, j) {
-            t = t.min(last.bound(j));
+    for c in from..block_end(lent.calls.n, from) {
+        if lent.can_board(p, c) {
+            t = t.min(boards[c]);
         }
     }
     t
 }
 
 // The same of each block.
-fn blocks_least(last: &LastRides, f: FirstRide) -> [u16; BLOCKS]
-    ensures { LeastByBlock last.now.lent.calls.feed.now last.now.lent.changes.now last.now.bounds.now last.now.lent.calls.n f result }
+pub fn blocks_least(lent: &Lent, boards: &[u16], p: FirstRide) -> [u16; BLOCKS]
+    requires { call_room ≤ length boards.now }
+    ensures { LeastByBlock lent.now.calls.feed.now lent.now.changes.now boards.now lent.now.calls.n p result }
 {
     let mut row = [65535u16; BLOCKS];
     for b in 0..BLOCKS {
-        row[b] = block_least(last, f, b * BLOCK);
+        row[b] = block_least(lent, boards, p, b * BLOCK);
     }
     row
 }
 
 // The least of them.
-fn row_least(row: &[u16; BLOCKS]) -> u16
+pub fn row_least(row: &[u16; BLOCKS]) -> u16
     ensures { (b : ℕ) → b < block_count → result ≤ get_or row.now b 0 }
 {
     let mut t = 65535u16;
@@ -87,7 +90,8 @@ pub(crate) fn joined_time(joined: &mut JoinedTimes, last: &LastRides, f: FirstRi
     if joined.least[m] != 0 {
         return joined.least[m];
     }
-    let row = blocks_least(last, f);
+    let bounds = last.bounds;
+    let row = blocks_least(&last.lent, bounds, f);
     let t = row_least(&row);
     joined.blocks[m] = row;
     joined.least[m] = t;

@@ -116,6 +116,7 @@ fn with_two(st: &mut State, lent: &Lent)
         lent: *lent,
         times: &times.on,
         boards: &times.boards,
+        joined: &times.joined,
     };
     three_pass(st, &three);
 }

@@ -1,7 +1,7 @@
 -- `block_before` meets its contract: a loop over the calls of the block.
 use Rattle.std.proofs.Common.{refl, arith, ◌≤◌, ◌<◌}
 use Rattle.rides.specs.Loops.{over_calls}
-use Rattle.rides.specs.Over.{block_end}
+use Rattle.rides.specs.Reach.{block_end}
 use Rattle.rides.proofs.OverLaws.{calls-out, rest-out}
 use Rattle.rides.proofs.RestLaws.{rest-same, calls-turn, calls-none}
 use Rattle.rides.proofs.change.block_before.Goals as goal

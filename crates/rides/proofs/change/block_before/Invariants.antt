@@ -2,8 +2,9 @@
 use Rattle.std.proofs.Common.{◌-◌}
 use Rattle.laws.specs.Lists.{span}
 use Rattle.rides.specs.Loops.{last_board_rows}
-use Rattle.rides.specs.Over.{Over, block_end}
+use Rattle.rides.specs.Over.{Over}
 use Rattle.rides.specs.Places.{sheet_in, joins_in}
+use Rattle.rides.specs.Reach.{block_end}
 use Rattle.rides.proofs.LoopLaws.{Rest}
 use Rattle.rides.proofs.change.block_before.Given as goal
 

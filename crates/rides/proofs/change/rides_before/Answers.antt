@@ -1,7 +1,7 @@
 -- `rides_before` meets its contract: a loop over the blocks.
 use Rattle.std.proofs.Common.{refl, arith}
 use Rattle.rides.specs.Loops.{over_calls}
-use Rattle.rides.specs.Over.{BlockAt}
+use Rattle.rides.specs.Reach.{BlockAt}
 use Rattle.rides.proofs.OverLaws.{calls-out, rest-out}
 use Rattle.rides.proofs.RestLaws.{rest-same, block-turn, calls-none}
 use Rattle.rides.proofs.change.rides_before.Goals as goal

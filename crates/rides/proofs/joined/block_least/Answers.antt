@@ -4,15 +4,15 @@ use Rattle.rides.proofs.ReachLaws.{least_start, least-joined, least-apart, least
 use Rattle.rides.proofs.joined.block_least.Goals as goal
 use Rattle.rides.proofs.joined.block_least.Goals.{then-can_board, else-can_board}
 
-pub loop-j-init : goal.loop-j-init
-loop-j-init c = least_start
+pub loop-c-init : goal.loop-c-init
+loop-c-init c = least_start
 
-pub loop-j-preserved : goal.loop-j-preserved
-loop-j-preserved c =
+pub loop-c-preserved : goal.loop-c-preserved
+loop-c-preserved c =
     elim c.if-can_board.branch [
-      | then-can_board w ↦ rw w.t-is (least-joined (rw w.bound.ensures at w.min-t.ensures) c.loop-j.invariant)
-      | else-can_board w ↦ rw w.t-is (least-apart c.can_board.ensures w.if-can_board.false c.loop-j.invariant)
+      | then-can_board w ↦ rw w.t-is (least-joined w.min-t.ensures c.loop-c.invariant)
+      | else-can_board w ↦ rw w.t-is (least-apart c.can_board.ensures w.if-can_board.false c.loop-c.invariant)
     ]
 
 pub returns : goal.returns
-returns c = least-fewer (omega arith) c.loop-j.invariant
+returns c = least-fewer (omega arith) c.loop-c.invariant

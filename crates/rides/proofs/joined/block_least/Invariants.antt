@@ -2,5 +2,5 @@
 use Rattle.rides.specs.Reach.{Least}
 use Rattle.rides.proofs.joined.block_least.Given as goal
 
-abbrev pub invariant-loop-j : goal.invariant-loop-j
-invariant-loop-j l = Least l.last.lent.calls.feed.now l.last.lent.changes.now l.last.bounds.now l.f l.from l.j l.t
+abbrev pub invariant-loop-c : goal.invariant-loop-c
+invariant-loop-c l = Least l.lent.calls.feed.now l.lent.changes.now l.boards l.p l.from l.c l.t

@@ -1,7 +1,7 @@
 -- `blocks_least` meets its contract: a loop over the blocks.
 use mathlib.Core.Path.{refl}
 use native.Mathlib.Omega.{arith}
-use Rattle.rides.specs.Over.{BlockAt}
+use Rattle.rides.specs.Reach.{BlockAt}
 use Rattle.rides.proofs.ReachLaws.{none_yet, put_right, each_to}
 use Rattle.rides.proofs.joined.blocks_least.Goals as goal
 
