@@ -109,21 +109,12 @@ fn one_by_one(row: &mut [u32], transfers: &Transfers, from: u16)
     }
 }
 
-// Whether to read all rules for each entry of so long a row takes no longer than to blank the slots.
-fn is_short(len: usize, rules: usize) -> bool {
-    len.min(SLOTS) * rules.min(SLOTS) < SLOTS
-}
-
 // The changes from a stop: the seconds for each of 128 stops, or for the first of them in a shorter row, 65536 for never; in a longer one
 // the rest stays. A rule to a number past the stops, which no load has, may be for the parent of any of them: then all rules are read for
-// each, as they are where row and rules are few.
+// each. For few entries and rules that is no faster: an entry takes twice the instructions, and to blank the slots takes few.
 pub fn change_row(row: &mut [u32], transfers: &Transfers, from: u16)
     ensures { Region (entry_in transfers.now from) 0 (min (length row.old) stop_room) row.old row.new }
 {
-    if is_short(row.len(), transfers.rules.len()) {
-        one_by_one(row, transfers, from);
-        return;
-    }
     let mut best = [None; SLOTS];
     read_rules(&mut best, transfers.rules, from, transfers.parent(from));
     if best[PAST].is_some() {
