@@ -116,7 +116,8 @@ module _ (feed changes b : List ℕ) (n m : ℕ) where
   unfolding RowAt JoinsAt
   joins-row row h g low y = least-blocks h (g y) low
 
-  pub row-some : {p : FirstRide} {row : List ℕ} → p ≡ alighted_at feed m → LeastByBlock feed changes b n p row → RowAt feed changes n b m row
+  pub row-some : {p : FirstRide} {row : List ℕ} → p ≡ alighted_at feed m → LeastByBlock feed changes b n p row
+      → RowAt feed changes n b m row
   unfolding RowAt
   row-some e g y = rw e at g
 

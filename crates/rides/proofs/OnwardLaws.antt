@@ -26,7 +26,8 @@ use Rattle.rides.specs.Rows.{Sheet, Joins, first_of, three_row, network_of}
 use Rattle.rides.specs.Loops.{over_calls, over_run, later_from, end_at, onward_rows, alight_on, board_on}
 use Rattle.rides.specs.Sheets.{sheet_of, joins_of}
 use Rattle.rides.specs.Offered.{Offered}
-use Rattle.rides.specs.Reach.{end_of, due_at, NotBefore, BoardAt, JoinAt, Least, JoinsAt, EachOf, Each, LeastByBlock, RowAt, Onward, joined_nowhere}
+use Rattle.rides.specs.Reach.{end_of, due_at, NotBefore, BoardAt, JoinAt, Least, JoinsAt, EachOf, Each}
+use Rattle.rides.specs.Reach.{LeastByBlock, RowAt, Onward, joined_nowhere}
 use Rattle.rides.specs.Routes.{on_row}
 use Rattle.laws.specs.Lists.{concat_map}
 use Rattle.laws.proofs.Bools.{and-true}
@@ -105,7 +106,8 @@ module _ (s : Sheet) (joins : Joins) (n : ℕ) (f : FirstRide) where
   fewer left j m p e = rw (e, add-one left) refl
 
   -- the ride before it is named only where no change is left
-  pub before-any : (left b a j m : ℕ) → (left ≡ 0 → ⊥) → onward_rows left s joins n f b a j m ≡ onward_rows (left - 1 + 1) s joins n f 0 0 j m
+  pub before-any : (left b a j m : ℕ) → (left ≡ 0 → ⊥)
+      → onward_rows left s joins n f b a j m ≡ onward_rows (left - 1 + 1) s joins n f 0 0 j m
   unfolding onward_rows
   before-any zero b a j m z = absurd (z refl)
   before-any (suc k) b a j m z = let q : suc k - 1 + 1 ≡ suc k = omega arith in rw q refl

@@ -58,7 +58,7 @@ fn block_least(lent: &Lent, boards: &[u16], p: FirstRide, from: usize) -> u16
 }
 
 // The same of each block.
-pub fn blocks_least(lent: &Lent, boards: &[u16], p: FirstRide) -> [u16; BLOCKS]
+pub(crate) fn blocks_least(lent: &Lent, boards: &[u16], p: FirstRide) -> [u16; BLOCKS]
     requires { call_room ≤ length boards.now }
     ensures { LeastByBlock lent.now.calls.feed.now lent.now.changes.now boards.now lent.now.calls.n p result }
 {
@@ -70,7 +70,7 @@ pub fn blocks_least(lent: &Lent, boards: &[u16], p: FirstRide) -> [u16; BLOCKS]
 }
 
 // The least of them.
-pub fn row_least(row: &[u16; BLOCKS]) -> u16
+pub(crate) fn row_least(row: &[u16; BLOCKS]) -> u16
     ensures { (b : ℕ) → b < block_count → result ≤ get_or row.now b 0 }
 {
     let mut t = 65535u16;

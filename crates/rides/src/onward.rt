@@ -14,8 +14,8 @@ use crate::call_list::{Calls, Ride};
 use crate::joined::{BLOCK, BLOCKS, JoinedTimes, block_end};
 use crate::lent::Lent;
 use crate::offer::offer;
-use candidate::times::threshold;
-use candidate::{Offer, candidate, passes_over};
+use crate::since::{Passed, asked_for};
+use candidate::{Offer, candidate};
 use search_input::layout::CALLS;
 use search_input::{FirstRide, arrival_of};
 use search_state::layout::State;
@@ -187,7 +187,8 @@ impl<'a> ThreeRides<'a> {
         over
     }
 
-    // Those that board in the block that begins at `from`, up to where none leads on before `over`: of all that p joins none does before `t`.
+    // Those that board in the block that begins at `from`, up to where none leads on before `over`: of those that p joins none does before
+    // `t`.
     #[inline]
     #[cycle(onward)]
     fn block_on(
@@ -262,21 +263,22 @@ impl<'a> ThreeRides<'a> {
         self.rides_on(st, f, left - 1, r, over)
     }
 
-    // What leads on from the first ride f, which is r, by two changes; nothing if all of it is due at `over` or later, or would be passed
-    // over at its earliest.
-    pub fn three_rides(&self, st: &mut State, f: FirstRide, r: Ride, over: u32) -> u32
-        requires { IsRide self.now.lent.calls.feed.now self.now.lent.calls.n r × Over st.old f 3 over }
+    // What leads on from the first ride f, which is r, by two changes; nothing if all of it is passed over, as is known or asked.
+    pub fn three_rides(&self, st: &mut State, f: FirstRide, r: Ride, passed: Passed) -> Passed
+        requires { IsRide self.now.lent.calls.feed.now self.now.lent.calls.n r × Over st.old f 3 passed.from }
         ensures { Walked st.old st.new
-            (onward_rows 2 (sheet_in self.now.lent) (joins_in self.now.lent) self.now.lent.calls.n f 0 0 r.board r.alight) f 3 result }
+            (onward_rows 2 (sheet_in self.now.lent) (joins_in self.now.lent) self.now.lent.calls.n f 0 0 r.board r.alight)
+            f 3 result.from }
     {
         let t = self.time_on(2, r.alight);
-        if over <= t as u32 {
-            return over;
+        if passed.from <= t as u32 {
+            return passed;
         }
-        if passes_over(st, f.figures(t, 3)) {
-            return t as u32;
+        let passed = asked_for(st, f, 3, t, passed);
+        if passed.from <= t as u32 {
+            return passed;
         }
-        let over = threshold(st, f.leave, 3, f.walk);
-        self.rides_on(st, f, 1, r, over)
+        let from = self.rides_on(st, f, 1, r, passed.from);
+        Passed { from, ..passed }
     }
 }

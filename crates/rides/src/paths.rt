@@ -17,9 +17,8 @@ use crate::lent::Lent;
 use crate::offer::offer;
 use crate::onward::ThreeRides;
 use crate::reach::onward_times;
-use crate::since::over_for;
+use crate::since::{Passed, passed_for, passed_none};
 use candidate::candidate;
-use candidate::times::late;
 use search_input::FirstRide;
 use search_input::layout::{Changes, Feed};
 use search_state::is_refused;
@@ -48,14 +47,15 @@ fn direct_pass(st: &mut State, lent: &Lent)
 {
     let calls = &lent.calls;
     let mut before = any_ride(calls);
-    let mut over = late(st);
+    let mut passed = passed_none(st);
     for l in FirstRides::of(calls) {
         if is_refused(st) {
             return;
         }
         let f = calls.first_ride(l.ride, l.origin);
-        let from = over_for(st, f, before, over);
-        over = directs_before(st, calls, f, from);
+        let now = passed_for(st, f, before, passed);
+        let from = directs_before(st, calls, f, now.from);
+        passed = Passed { from, ..now };
         before = f;
     }
 }
@@ -79,14 +79,14 @@ fn three_pass(st: &mut State, three: &ThreeRides)
 {
     let calls = &three.lent.calls;
     let mut before = any_ride(calls);
-    let mut over = late(st);
+    let mut passed = passed_none(st);
     for l in FirstRides::of(calls) {
         if is_refused(st) {
             return;
         }
         let f = calls.first_ride(l.ride, l.origin);
-        let from = over_for(st, f, before, over);
-        over = three.three_rides(st, f, l.ride, from);
+        let now = passed_for(st, f, before, passed);
+        passed = three.three_rides(st, f, l.ride, now);
         before = f;
     }
 }

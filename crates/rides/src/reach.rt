@@ -73,7 +73,8 @@ fn row_at(lent: &Lent, boards: &[u16; CALLS], m: usize) -> [u16; BLOCKS]
 
 // The same of every place, and the earliest of all.
 fn put_joined(lent: &Lent, boards: &[u16; CALLS]) -> JoinedTimes
-    ensures least { Each (JoinsAt lent.now.calls.feed.now lent.now.changes.now lent.now.calls.n boards.now) 0 lent.now.calls.n result.least }
+    ensures least { Each (JoinsAt lent.now.calls.feed.now lent.now.changes.now lent.now.calls.n boards.now)
+        0 lent.now.calls.n result.least }
     ensures rows { EachOf call_room [] (RowAt lent.now.calls.feed.now lent.now.changes.now lent.now.calls.n boards.now)
         0 lent.now.calls.n result.blocks }
 {
