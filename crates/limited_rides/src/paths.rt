@@ -9,20 +9,17 @@ use crate::tally::{Tally, has_left, is_over, spend};
 use rides::firsts::FirstRides;
 use rides::known::{known_none, next_first};
 use rides::lent::Lent;
-use rides::paths::directs;
+use rides::paths::{direct_pass, directs};
 use search_state::layout::State;
 
-// The direct journeys alone.
+// The direct journeys alone, by the loop of the full search, as no join is among them.
 pub fn direct_paths(st: &mut State, tally: &mut Tally, lent: &Lent)
     ensures { Met st.old tally.old st.new tally.new (row_events (sheet_in lent.now) (joins_in lent.now) 0 lent.now.calls.n) }
 {
-    let calls = &lent.calls;
-    for l in FirstRides::of(calls) {
-        if is_over(st, *tally) {
-            return;
-        }
-        directs(st, calls, calls.first_ride(l.ride, l.origin));
+    if is_over(st, *tally) {
+        return;
     }
+    direct_pass(st, lent);
 }
 
 // Those and then the joins, by first ride. One with no more joins than are left is walked as by the full search; in one with more the search

@@ -89,9 +89,9 @@ fn run_before(st: &mut State, last: &LastRides, f: FirstRide, j: usize, over: u3
     over
 }
 
-// Those that board at j, if one of them is at a target before `over` and the first ride joins them. Inlined, as at most places two numbers
-// are compared.
-#[inline]
+// Those that board at j, if one of them is at a target before `over` and the first ride joins them. Inlined at each of its two callers, as
+// at most places two numbers are compared.
+#[inline(always)]
 pub fn board_before(st: &mut State, last: &LastRides, f: FirstRide, j: usize, over: u32) -> u32
     requires { (j < last.now.lent.calls.n) × Over st.old f 2 over }
     ensures { Walked st.old st.new (last_board_rows (sheet_in last.now.lent) (joins_in last.now.lent) last.now.lent.calls.n f j) f 2 result }

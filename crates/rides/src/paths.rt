@@ -42,7 +42,7 @@ pub fn directs(st: &mut State, calls: &Calls, f: FirstRide)
 }
 
 // The direct journeys. A refused search stays as it is, so the loop of a pass may end there.
-fn direct_pass(st: &mut State, lent: &Lent)
+pub fn direct_pass(st: &mut State, lent: &Lent)
     ensures { Offered st.old st.new (pass_rows (sheet_in lent.now) (joins_in lent.now) 0 lent.now.calls.n) }
 {
     let calls = &lent.calls;
