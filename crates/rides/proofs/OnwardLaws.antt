@@ -12,7 +12,6 @@ use Rattle.laws.specs.Lists.{span}
 use Rattle.ways.specs.Rides.{Leg, leg, first_ride, first_rides}
 use Rattle.ways.proofs.RideLaws.{firsts-mem}
 use Rattle.rides.specs.declared.call_list.Ride.{Ride}
-use Rattle.rides.specs.declared.joined.JoinedTimes.{JoinedTimes}
 use Rattle.rides.specs.Places.{IsRide}
 use Rattle.rides.proofs.ReachLaws.{net, below, alighted, of-run, not-before-here, not-before-on}
 use Rattle.ways.specs.Routes.{Way, onward}
@@ -27,7 +26,7 @@ use Rattle.rides.specs.Loops.{over_calls, over_run, later_from, end_at, onward_r
 use Rattle.rides.specs.Sheets.{sheet_of, joins_of}
 use Rattle.rides.specs.Offered.{Offered}
 use Rattle.rides.specs.Reach.{end_of, due_at, NotBefore, BoardAt, JoinAt, Least, JoinsAt, EachOf, Each}
-use Rattle.rides.specs.Reach.{LeastByBlock, RowAt, Onward, joined_nowhere}
+use Rattle.rides.specs.Reach.{LeastByBlock, RowAt, Onward}
 use Rattle.rides.specs.Routes.{on_row}
 use Rattle.laws.specs.Lists.{concat_map}
 use Rattle.laws.proofs.Bools.{and-true}
@@ -112,8 +111,8 @@ module _ (s : Sheet) (joins : Joins) (n : ℕ) (f : FirstRide) where
   before-any zero b a j m z = absurd (z refl)
   before-any (suc k) b a j m z = let q : suc k - 1 + 1 ≡ suc k = omega arith in rw q refl
 
-module _ (feed changes : List ℕ) (n : ℕ) (f : FirstRide) {on boards : List (List ℕ)} {joined : List JoinedTimes}
-    (w : Onward on boards joined feed changes n) where
+module _ (feed changes : List ℕ) (n : ℕ) (f : FirstRide) {on boards : List (List ℕ)} {rows : List (List (List ℕ))}
+    (w : Onward on boards rows feed changes n) where
   -- what leads on, if nothing of it is due earlier
   on-covered : (left b a j m : ℕ) {t : ℕ} → left ≤ 2 → m < n → (call_at feed m).alight ≡ true
       → same_run (call_at feed j) (call_at feed m) ≡ true → t ≤ get_or (get_or on left []) m 0
@@ -170,7 +169,7 @@ module _ (feed changes : List ℕ) (n : ℕ) (f : FirstRide) {on boards : List (
 
   -- the rows of the rides that the ride r joins
   pub row-on : (left : ℕ) (r : Ride) {p : FirstRide} {row : List ℕ} → left ≤ 1 → IsRide feed n r
-      → p ≡ first_of (sheet_of feed) r.board 0 r.alight → row ≡ get_or (get_or joined left joined_nowhere).blocks r.alight []
+      → p ≡ first_of (sheet_of feed) r.board 0 r.alight → row ≡ get_or (get_or rows left []) r.alight []
       → LeastByBlock feed changes (get_or boards left []) n p row
   unfolding first_of
   row-on left r hl q e er =
@@ -240,13 +239,13 @@ module _ (feed changes : List ℕ) (n : ℕ) (f : FirstRide) {on boards : List (
 
 -- ---- the bounds side by side
 
-pub onward-made : {none one two last middle : List ℕ} {by by' : JoinedTimes} (feed changes : List ℕ) (n : ℕ) → Each (AtCall feed) 0 n none
+pub onward-made : {none one two last middle : List ℕ} {rows rows' : List (List ℕ)} (feed changes : List ℕ) (n : ℕ) → Each (AtCall feed) 0 n none
     → Each (BoardAt feed n none) 0 n last → Each (JoinsAt feed changes n last) 0 n one
-    → EachOf call_room [] (RowAt feed changes n last) 0 n by.blocks
+    → EachOf call_room [] (RowAt feed changes n last) 0 n rows
     → Each (BoardAt feed n one) 0 n middle → Each (JoinsAt feed changes n middle) 0 n two
-    → EachOf call_room [] (RowAt feed changes n middle) 0 n by'.blocks
-    → Onward (none ∷ one ∷ two ∷ []) (last ∷ middle ∷ []) (by ∷ by' ∷ []) feed changes n
-onward-made {none} {one} {two} {last} {middle} {by} {by'} feed changes n w b₀ j₁ r₀ b₁ j₂ r₁ =
+    → EachOf call_room [] (RowAt feed changes n middle) 0 n rows'
+    → Onward (none ∷ one ∷ two ∷ []) (last ∷ middle ∷ []) (rows ∷ rows' ∷ []) feed changes n
+onward-made {none} {one} {two} {last} {middle} {rows} {rows'} feed changes n w b₀ j₁ r₀ b₁ j₂ r₁ =
     record { on_time = on; board = board; row = row }
   where
     zero-left : NotBefore feed changes n 0 none
@@ -268,7 +267,7 @@ onward-made {none} {one} {two} {last} {middle} {by} {by'} feed changes n w b₀ 
     board (suc (suc k)) h c l = absurd (omega arith)
 
     row : (left : ℕ) → left ≤ 1 → (m : ℕ) → m < n
-        → RowAt feed changes n (get_or (last ∷ middle ∷ []) left []) m (get_or (get_or (by ∷ by' ∷ []) left joined_nowhere).blocks m [])
+        → RowAt feed changes n (get_or (last ∷ middle ∷ []) left []) m (get_or (get_or (rows ∷ rows' ∷ []) left []) m [])
     row zero h m l = r₀.each m (omega arith) l
     row (suc zero) h m l = r₁.each m (omega arith) l
     row (suc (suc k)) h m l = absurd (omega arith)

@@ -34,8 +34,12 @@ use Rattle.rides.specs.Reach.{due_at, NotBefore, alighted_at, BoardAt, JoinAt, L
 -- ---- arrays filled from the left and from the right
 
 module _ {A : Type 0} {room : ℕ} {none : A} (P : ℕ → A → Type 0) where
+  -- none is put in
+  pub each-none : {i : ℕ} {l : List A} → length l ≡ room → EachOf room none P i i l
+  each-none e = record { long = e; each = λ k l h. absurd (omega arith) }
+
   pub none_yet : (i : ℕ) (x : A) → EachOf room none P i i (replicate room x)
-  none_yet i x = record { long = length-replicate room x; each = λ k l h. absurd (omega arith) }
+  none_yet i x = each-none (length-replicate room x)
 
   -- the same element at each place
   pub each-alike : {n : ℕ} {x : A} → n ≤ room → ((k : ℕ) → P k x) → EachOf room none P 0 n (replicate room x)

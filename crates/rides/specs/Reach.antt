@@ -10,7 +10,6 @@ use Rattle.ways.specs.Rides.{Leg}
 use Rattle.ways.specs.Routes.{Way, onward}
 use Rattle.search_input.specs.declared.FirstRide.{FirstRide}
 use Rattle.search_input.specs.Feed.{call_at, same_run, target_walk_of, arrival_of}
-use Rattle.rides.specs.declared.joined.JoinedTimes.{JoinedTimes}
 use Rattle.rides.specs.Rows.{first_of, network_of}
 use Rattle.rides.specs.Loops.{later_from}
 use Rattle.rides.specs.Sheets.{sheet_of, joins_of}
@@ -89,17 +88,13 @@ RowAt feed changes n boards m row = (call_at feed m).alight ≡ true → LeastBy
 
 -- ---- all of it
 
--- what stands behind an array of such numbers
-abbrev pub joined_nowhere : JoinedTimes
-joined_nowhere = record { least = []; blocks = [] }
-
 -- `on` has such an array with no change left, with one and with two; `boards` has for no ride that boards at a place, with no change or one
--- left after it, a number later than that in `on` where it alights; and `joined` has for each place a row of those of `boards`
-pub record Onward (on boards : List (List ℕ)) (joined : List JoinedTimes) (feed changes : List ℕ) (n : ℕ) : Type 0 where
+-- left after it, a number later than that in `on` where it alights; and `rows` has for each place a row of those of `boards`
+pub record Onward (on boards : List (List ℕ)) (rows : List (List (List ℕ))) (feed changes : List ℕ) (n : ℕ) : Type 0 where
   pub on_time : (left : ℕ) → left ≤ 2 → NotBefore feed changes n left (get_or on left [])
   pub board : (left : ℕ) → left ≤ 1 → (c : ℕ) → c < n → BoardAt feed n (get_or on left []) c (get_or (get_or boards left []) c 0)
   pub row : (left : ℕ) → left ≤ 1 → (m : ℕ) → m < n
-      → RowAt feed changes n (get_or boards left []) m (get_or (get_or joined left joined_nowhere).blocks m [])
+      → RowAt feed changes n (get_or boards left []) m (get_or (get_or rows left []) m [])
 
 -- so that a struct can keep them
 NotBefore-prop : (feed changes : List ℕ) (n left : ℕ) (at : List ℕ) → IsProp (NotBefore feed changes n left at)
@@ -114,6 +109,6 @@ RowAt-prop : (feed changes : List ℕ) (n : ℕ) (boards : List ℕ) (m : ℕ) (
 unfolding RowAt BlockAt JoinAt
 RowAt-prop feed changes n boards m row = Prim.hlevel (le_prop, Coded-set coded_ℕ)
 
-pub Onward-prop : (on boards : List (List ℕ)) (joined : List JoinedTimes) (feed changes : List ℕ) (n : ℕ)
-    → IsProp (Onward on boards joined feed changes n)
-Onward-prop on boards joined feed changes n = Prim.hlevel (NotBefore-prop, BoardAt-prop, RowAt-prop)
+pub Onward-prop : (on boards : List (List ℕ)) (rows : List (List (List ℕ))) (feed changes : List ℕ) (n : ℕ)
+    → IsProp (Onward on boards rows feed changes n)
+Onward-prop on boards rows feed changes n = Prim.hlevel (NotBefore-prop, BoardAt-prop, RowAt-prop)

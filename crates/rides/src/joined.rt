@@ -57,7 +57,8 @@ fn block_least(lent: &Lent, boards: &[u16], p: FirstRide, from: usize) -> u16
     t
 }
 
-// The same of each block.
+// The same of each block. Not inlined: within the loop over the places (`reach`) its own loops take a sixth longer.
+#[inline(never)]
 pub(crate) fn blocks_least(lent: &Lent, boards: &[u16], p: FirstRide) -> [u16; BLOCKS]
     requires { call_room ≤ length boards.now }
     ensures { LeastByBlock lent.now.calls.feed.now lent.now.changes.now boards.now lent.now.calls.n p result }

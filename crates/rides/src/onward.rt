@@ -1,19 +1,20 @@
 // Journeys of three rides: what leads on from a ride. With no change left that is the targets where it ends, else every ride that it
 // joins, with the number of changes left falling by one at each. What leads on at no target before `over` is not walked (`change`).
-ghost use Rattle.std.specs.Prelude.{◌≡◌, [], ◌+◌, ◌≤◌, ◌<◌, get_or};
+ghost use Rattle.std.specs.Prelude.{◌≡◌, [], ◌∷◌, ◌+◌, ◌≤◌, ◌<◌, get_or};
 ghost use Rattle.search_input.specs.Feed.{call_at};
 ghost use Rattle.rides.specs.Loops.{over_bits, over_calls, over_run, end_at, onward_rows, alight_on, board_on};
 ghost use Rattle.rides.specs.Offered.{Offered};
 ghost use Rattle.rides.specs.Over.{Over, Walked};
-ghost use Rattle.rides.specs.Reach.{Onward, Onward-prop, block_end, Least, joined_nowhere};
+ghost use Rattle.rides.specs.Reach.{Onward, Onward-prop, block_end, Least};
 ghost use Rattle.rides.specs.Sheets.{sheet_of};
 ghost use Rattle.search_input.specs.Layout.{call_room};
 
 use crate::bits::Digits;
 use crate::call_list::{Calls, Ride};
-use crate::joined::{BLOCK, BLOCKS, JoinedTimes, block_end};
+use crate::joined::{BLOCK, BLOCKS, block_end};
 use crate::lent::Lent;
 use crate::offer::offer;
+use crate::reach::Rows;
 use crate::since::{Passed, asked_for};
 use candidate::{Offer, candidate};
 use search_input::layout::CALLS;
@@ -87,8 +88,9 @@ pub struct ThreeRides<'a> {
     pub lent: Lent<'a>,
     pub times: &'a [[u16; CALLS]; 3],
     pub boards: &'a [[u16; CALLS]; 2],
-    pub joined: &'a [JoinedTimes; 2],
-    ghost on_time: { Onward times.now boards.now joined.now lent.calls.feed.now lent.changes.now lent.calls.n } by { Onward-prop times.now boards.now joined.now lent.calls.feed.now lent.changes.now lent.calls.n },
+    pub by_last: &'a Rows,
+    pub by_middle: &'a Rows,
+    ghost on_time: { Onward times.now boards.now (by_last.now ∷ by_middle.now ∷ []) lent.calls.feed.now lent.changes.now lent.calls.n } by { Onward-prop times.now boards.now (by_last.now ∷ by_middle.now ∷ []) lent.calls.feed.now lent.changes.now lent.calls.n },
 }
 
 impl<'a> ThreeRides<'a> {
@@ -113,9 +115,12 @@ impl<'a> ThreeRides<'a> {
     // The same of the rides that one that alights at m joins, for each block of the calls where they board.
     fn row(&self, left: u16, m: usize) -> [u16; BLOCKS]
         requires { (left ≤ 1) × (m < call_room) }
-        ensures { result ≡ get_or (get_or self.now.joined.now left joined_nowhere).blocks m [] }
+        ensures { result ≡ get_or (get_or (self.now.by_last.now ∷ self.now.by_middle.now ∷ []) left []) m [] }
     {
-        self.joined[left as usize].blocks[m]
+        if left == 0 {
+            return self.by_last[m];
+        }
+        self.by_middle[m]
     }
 
     // What leads on from the ride q, after r, if one can alight there.

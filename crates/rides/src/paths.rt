@@ -11,6 +11,7 @@ use crate::bounds::bounds_of;
 use crate::call_list::Calls;
 use crate::change::directs_before;
 use crate::firsts::FirstRides;
+use crate::joined::BLOCKS;
 use crate::known::{any_ride, known_none, next_first};
 use crate::last::LastRides;
 use crate::lent::Lent;
@@ -20,7 +21,7 @@ use crate::reach::onward_times;
 use crate::since::{Passed, passed_for, passed_none};
 use candidate::candidate;
 use search_input::FirstRide;
-use search_input::layout::{Changes, Feed};
+use search_input::layout::{CALLS, Changes, Feed};
 use search_state::is_refused;
 use search_state::layout::State;
 
@@ -111,12 +112,15 @@ fn up_to_one(st: &mut State, lent: &Lent, depth: u16)
 fn with_two(st: &mut State, lent: &Lent)
     ensures { Offered st.old st.new (pass_rows (sheet_in lent.now) (joins_in lent.now) 2 lent.now.calls.n) }
 {
-    let times = onward_times(lent);
+    let mut by_last = [[65535u16; BLOCKS]; CALLS];
+    let mut by_middle = [[65535u16; BLOCKS]; CALLS];
+    let times = onward_times(lent, &mut by_last, &mut by_middle);
     let three = ThreeRides {
         lent: *lent,
         times: &times.on,
         boards: &times.boards,
-        joined: &times.joined,
+        by_last: &by_last,
+        by_middle: &by_middle,
     };
     three_pass(st, &three);
 }

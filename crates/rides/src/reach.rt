@@ -1,25 +1,27 @@
 // How early one can be at a target from where a ride alights, by so many further rides: 512 numbers for each number of changes left, and
 // 512 rows of them by blocks of the calls where the next ride boards.
 // A time past 65535 is cut to it, which also stands where no target is reached: a minimum begins with it, so it needs no option.
-ghost use Rattle.std.specs.Prelude.{◌≡◌, [], ◌+◌, ◌≤◌, ◌<◌};
+ghost use Rattle.std.specs.Prelude.{◌≡◌, [], ◌∷◌, ◌+◌, ◌≤◌, ◌<◌};
 ghost use Rattle.rides.specs.Bounds.{AtCall};
 ghost use Rattle.rides.specs.Reach.{Onward, BoardAt, JoinsAt, RowAt, EachOf, Each};
 ghost use Rattle.search_input.specs.Layout.{call_room};
 
 use crate::bounds::alight_bound;
 use crate::call_list::{Calls, Ride};
-use crate::joined::{BLOCKS, JoinedTimes, blocks_least, row_least};
+use crate::joined::{BLOCKS, blocks_least, row_least};
 use crate::lent::Lent;
 use search_input::layout::CALLS;
 
-// The numbers by place: from where a ride alights, with no change left, one and two; of the rides that board there, with no change left
-// after them and one; and of these, for each place the rides that one that alights there joins, by blocks.
+// The numbers by place: from where a ride alights, with no change left, one and two; and of the rides that board there, with no change
+// left after them and one.
 #[derive(Clone, Copy, Debug, PartialEq, Eq)]
 pub struct Times {
     pub on: [[u16; CALLS]; 3],
     pub boards: [[u16; CALLS]; 2],
-    pub joined: [JoinedTimes; 2],
 }
+
+// For each place those of the rides that one that alights there joins, by blocks.
+pub type Rows = [[u16; BLOCKS]; CALLS];
 
 // With no change left: the targets of the stop at each place.
 fn put_targets(calls: &Calls) -> [u16; CALLS]
@@ -71,40 +73,33 @@ fn row_at(lent: &Lent, boards: &[u16; CALLS], m: usize) -> [u16; BLOCKS]
     [65535; BLOCKS]
 }
 
-// The same of every place, and the earliest of all.
-fn put_joined(lent: &Lent, boards: &[u16; CALLS]) -> JoinedTimes
-    ensures least { Each (JoinsAt lent.now.calls.feed.now lent.now.changes.now lent.now.calls.n boards.now)
-        0 lent.now.calls.n result.least }
+// The same of every place; gives the earliest of all of them.
+fn put_joined(lent: &Lent, boards: &[u16; CALLS], rows: &mut Rows) -> [u16; CALLS]
+    ensures least { Each (JoinsAt lent.now.calls.feed.now lent.now.changes.now lent.now.calls.n boards.now) 0 lent.now.calls.n result }
     ensures rows { EachOf call_room [] (RowAt lent.now.calls.feed.now lent.now.changes.now lent.now.calls.n boards.now)
-        0 lent.now.calls.n result.blocks }
+        0 lent.now.calls.n rows.new }
 {
-    let mut joined = JoinedTimes {
-        least: [65535; CALLS],
-        blocks: [[65535; BLOCKS]; CALLS],
-    };
+    let mut at = [65535u16; CALLS];
     for m in 0..lent.calls.n {
         let row = row_at(lent, boards, m);
-        joined.least[m] = row_least(&row);
-        joined.blocks[m] = row;
+        at[m] = row_least(&row);
+        rows[m] = row;
     }
-    joined
+    at
 }
 
-// From the last ride back.
-pub fn onward_times(lent: &Lent) -> Times
-    ensures { Onward result.on result.boards result.joined lent.now.calls.feed.now lent.now.changes.now lent.now.calls.n }
+// From the last ride back. The rows are put where they are to stand, as they are large.
+pub fn onward_times(lent: &Lent, by_last: &mut Rows, by_middle: &mut Rows) -> Times
+    ensures { Onward result.on result.boards (by_last.new ∷ by_middle.new ∷ []) lent.now.calls.feed.now lent.now.changes.now lent.now.calls.n }
 {
     let calls = &lent.calls;
     let none = put_targets(calls);
     let last = put_boards(calls, &none);
-    let by_one = put_joined(lent, &last);
-    let one = by_one.least;
+    let one = put_joined(lent, &last, by_last);
     let middle = put_boards(calls, &one);
-    let by_two = put_joined(lent, &middle);
-    let two = by_two.least;
+    let two = put_joined(lent, &middle, by_middle);
     Times {
         on: [none, one, two],
         boards: [last, middle],
-        joined: [by_one, by_two],
     }
 }

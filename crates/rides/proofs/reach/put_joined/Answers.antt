@@ -2,11 +2,11 @@
 use mathlib.Core.Path.{refl}
 use native.Mathlib.Omega.{arith}
 use Rattle.rides.proofs.JoinedLaws.{joins-row}
-use Rattle.rides.proofs.ReachLaws.{none_yet, put_right, each_to}
+use Rattle.rides.proofs.ReachLaws.{none_yet, each-none, put_right, each_to}
 use Rattle.rides.proofs.reach.put_joined.Goals as goal
 
 pub loop-m-init : goal.loop-m-init
-loop-m-init c = (none_yet _ _ _, none_yet _ _ _)
+loop-m-init c = (none_yet _ _ _, each-none _ (omega arith))
 
 pub loop-m-preserved : goal.loop-m-preserved
 loop-m-preserved c =

@@ -7,5 +7,5 @@ use Rattle.rides.proofs.reach.put_joined.Given as goal
 abbrev pub invariant-loop-m : goal.invariant-loop-m
 invariant-loop-m l =
     let lent = l.lent in
-    Each (JoinsAt lent.calls.feed.now lent.changes.now lent.calls.n l.boards) 0 l.m l.joined.least
-    × EachOf call_room [] (RowAt lent.calls.feed.now lent.changes.now lent.calls.n l.boards) 0 l.m l.joined.blocks
+    Each (JoinsAt lent.calls.feed.now lent.changes.now lent.calls.n l.boards) 0 l.m l.at
+    × EachOf call_room [] (RowAt lent.calls.feed.now lent.changes.now lent.calls.n l.boards) 0 l.m l.rows
