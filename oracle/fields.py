@@ -8,6 +8,9 @@ StopTime = namedtuple("StopTime", "trip day sequence stop arrival departure pick
 Rule = namedtuple("Rule", "src dst transfer_type seconds")
 
 
+SIZES = {"B": 1, "H": 2, "I": 4, "Q": 8, "q": 8}
+
+
 class Refused(Exception):
     def __init__(self, number):
         self.number = number
@@ -25,12 +28,14 @@ class Fields:
         self.data, self.at, self.second = data, 0, second
 
     def take(self, n):
-        first_cause([(self.at + n > len(self.data), 18)])
+        if self.at + n > len(self.data):
+            raise Refused(18)
         self.at += n
         return self.data[self.at - n:self.at]
 
     def number(self, code):
-        return struct.unpack(">" + code, self.take(struct.calcsize(">" + code)))[0]
+        """Whole, of a code of module struct."""
+        return int.from_bytes(self.take(SIZES[code]), "big", signed=code == "q")
 
     def text(self):
         return bytes(self.take(self.number("B")))
@@ -44,7 +49,8 @@ class Fields:
         return mark
 
     def numbers(self, codes):
-        return [self.number(code) for code in codes]
+        codes = ">" + codes
+        return list(struct.unpack(codes, self.take(struct.calcsize(codes))))
 
     def walks(self, count):
         return list(self.take(count))

@@ -213,8 +213,19 @@ class Reading(Places, Weeks, Withdrawals, Limits, Writing):
     def targets(self, load, stop):
         return self.bits(load.stops[stop].members >> 4, len(load.settings.target_walks))
 
+    trip_days = None, {}   # calls that are searched, and where those of each trip and day stand among them
+
+    def run_of(self, calls, call):
+        """The places of the calls of its trip and day, found once for a list of calls."""
+        if self.trip_days[0] is not calls:
+            places = {}
+            for i, c in enumerate(calls):
+                places.setdefault((c.trip, c.day), []).append(i)
+            self.trip_days = calls, places
+        return self.trip_days[1][call.trip, call.day]
+
     def alightings(self, calls, i):
-        return [c for c in calls[i + 1:] if (c.trip, c.day) == (calls[i].trip, calls[i].day) and c.alight]
+        return [calls[j] for j in self.run_of(calls, calls[i]) if j > i and calls[j].alight]
 
     def ride(self, b, a):
         return Ride(b.trip, b.day, b.stop, a.stop, b.departure, a.arrival, b.board_request, a.alight_request)

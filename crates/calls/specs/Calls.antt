@@ -1,4 +1,4 @@
--- What a call is answered, in the scope's order: 15, 9, absent time, 10, outside, 11; and the table that it leaves.
+-- What a call is answered, in the order of RULES 16.2: 15, 9, outside for a lacking time, 10, outside, 11; and the table that it leaves.
 use Rattle.std.specs.Option.{unwrap_or}
 use Rattle.refusal.specs.declared.Accepted.TheVariants.{Taken, Outside}
 use Rattle.calls.specs.declared.Call.{Call}

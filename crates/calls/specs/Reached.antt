@@ -55,7 +55,7 @@ call_window s t i =
     let d = call_time s i i.departure in
     reached_tests (reached t a d) a d
 
--- the tests of a call in the scope's order, each with its answer: 15, 9, absent time, 10, outside, 11
+-- the tests of a call in the order of RULES 16.2, each with its answer: 15, 9, outside for a lacking time, 10, outside, 11
 abbrev pub call_causes : Settings → Bool → ℕ → Table → CallInput → List (Bool × Answer)
 call_causes s searched stops t i = call_tests searched stops i ++ call_window s t i
 

@@ -1,5 +1,5 @@
 -- Offers that need not be made, since a row that covers them would be passed over.
-use mathlib.Core.Path.{◌≡◌, refl, sym, ap, ◌∙◌}
+use mathlib.Core.Path.{◌≡◌, refl, sym, ◌∙◌}
 use mathlib.Core.Logic.{◌⊎◌, inl, inr}
 use mathlib.Core.Bool.{Bool, true, false, true≢false, ◌||◌}
 use mathlib.Core.List.Memᴰ
@@ -11,7 +11,6 @@ use lib.ListN.{take}
 use borrow.Author.Tests.{le-leb, le-ltb, lt-ltb, ltb-true, ltb-false}
 use Rattle.laws.proofs.Bools.{and-true, or-true-cases, or-true-left, or_true_right, test}
 use Rattle.profile.specs.Found.{Row}
-use Rattle.profile.specs.declared.figures.Figures.{Figures}
 use Rattle.profile.specs.Figures.{lexb}
 use Rattle.profile.specs.Kept.{SearchState, going, refused, too_late}
 use Rattle.profile.specs.Journeys.{row_figures, cov, due}
@@ -20,7 +19,7 @@ use Rattle.profile.specs.Walk.{passes}
 use Rattle.profile.proofs.WalkLaws.{passes-covered}
 use Rattle.search_state.specs.View.{rows, count_of, horizon_of, kept_of, view}
 use Rattle.search_state.proofs.ViewLaws.{view-open, in_time}
-use Rattle.candidate.specs.Offer.{with_figures, offer_to, passed_over, OffersCovered, CoveredPassed}
+use Rattle.candidate.specs.Offer.{offer_to, passed_over, OffersCovered, CoveredPassed}
 use Rattle.candidate.specs.Pieces.{passing}
 
 -- ---- what `passes_over` finds
@@ -41,11 +40,6 @@ passed-covered l o b r c e f ec er =
     rw (view-open l open', le-ltb (horizon_of l) (due o) early, ← ec) er
 
 -- ---- what follows from it
-
--- what is said of figures is said of those they are equal to
-pub passed-at : (s : SearchState Row) {r : Bool} {g h : Figures} → g ≡ h → r ≡ passed_over s (with_figures g) → r
-    ≡ passed_over s (with_figures h)
-passed-at s e p = p ∙ ap (λ x. passed_over s (with_figures x)) e
 
 -- a row covers each one that has its leave, rides and walk and is due no earlier
 pub cov-no-later : (b o : Row) → b.leave ≡ o.leave → b.arrival ≤ o.arrival → b.rides ≡ o.rides → b.walk ≡ o.walk → cov b o ≡ true

@@ -67,9 +67,9 @@ fn turn_at(st: &State, at: usize, i: usize, c: usize, o: Row) -> Turn
 }
 
 // The walk of o over the c kept rows: as a search, `Ok` has the place of the row that covers o; where none does, `Err` has where the
-// numbers of the first that o covers start, or of the slot behind them all. The loop carries both, and the answer is a u16: so the compiler
-// finds a walk that needs no register that must be saved first. `count` is read once for an offer; that c is at most 64 each function
-// asks, as a type would be opened at every use.
+// numbers of the first that o covers start, or of the slot behind them all. The loop carries both: a place divided out of `at` costs time
+// at the first rows (bench/README.md). `count` is read once for an offer; that c is at most 64 each function asks, as a type would be
+// opened at every use.
 pub fn first_near(st: &State, c: usize, o: Row) -> Result<u16, u16>
     requires { (c ≤ kept_room) × Ends st.now c o }
     ensures { result ≡ walk_end o (take c (rows st.now)) }

@@ -1,4 +1,4 @@
--- The fields of each kind of record, in document 01's order, and the values that stand in them.
+-- The fields of each kind of record, in the order of RULES 13.1, and the values that stand in them.
 use Rattle.std.specs.Prelude.{ℕ, ◌*◌, ◌-◌, ◌≤◌, ◌≡◌, Bool, true, false, cond, List, [], ◌∷◌, T, ℤ, pos, negsuc, length, take, get_or}
 use Rattle.std.specs.Prelude.{Float, None, Some, Option, option_map}
 use Rattle.std.specs.Float.{binary64}

@@ -65,7 +65,8 @@ offers_in (offer x ∷ es) = x ∷ offers_in es
 -- before a join that n joins precede, and is stopped
 pub data Stops (n : ℕ) (es front : List Event) : Bool → Type 0 where
   finished : front ≡ es → joins_in es ≤ n → Stops n es front true
-  stopped : (b : Call) (o : ℕ) (a c d : Call) (rest : List Event) → es ≡ front ++ join b o a c d ∷ rest → joins_in front ≡ n → Stops n es front false
+  stopped : (b : Call) (o : ℕ) (a c d : Call) (rest : List Event)
+      → es ≡ front ++ join b o a c d ∷ rest → joins_in front ≡ n → Stops n es front false
 
 -- a search within the limit n offers the journeys os, tests so many joins, and is finished or stopped
 pub record Within (F : Feed) (n : ℕ) (os : List Journey) (tested : ℕ) (finishes : Bool) : Type 0 where

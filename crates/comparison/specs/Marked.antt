@@ -1,4 +1,4 @@
--- "Starred ones are proved of the specs in a table with one theorem": the nine, in the scope's order.
+-- The nine starred instances, in the order of the table in docs/PROMISES.md, "Instances, computed".
 -- RULES 5, 6, 8.
 use Rattle.std.specs.Prelude.{◌≡◌, Bool, true, false, [], ◌∷◌, map, ℕ, take, drop}
 use Rattle.time.specs.Promises.{marked, AnsweredSo}

@@ -1,4 +1,4 @@
--- Where the fields of a record stand. Its kind byte is at 0, and the fields follow it in document 01's order.
+-- Where the fields of a record stand. Its kind byte is at 0, and the fields follow it in the order of RULES 13.1.
 -- Each field begins where the one before it ends; a record is filled if the last one ends where the record does.
 use Rattle.std.specs.Prelude.{ℕ, ◌+◌, Bool, cond, ◌&&◌, List, eqb, leb, length, take, drop, None, Option, Some}
 use Rattle.fields.specs.Numbers.{byte_at}

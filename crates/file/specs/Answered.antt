@@ -37,7 +37,7 @@ pub data FileAnswered (xs : List ℕ) : RecordResult → Type 0 where
 abbrev pub ReadAnswered : Type 0
 ReadAnswered = (xs : List ℕ) → FileAnswered xs (read_spec_of xs)
 
--- the numbers of a file: those of the scope's steps, without the time text's 16, and those of request 01; 0 where it is not sent back
+-- the numbers of a file: those of its steps, so without the time text's 16, and of the file itself (17 to 19); 0 where it is not sent back
 abbrev pub file_numbers : List ℕ
 file_numbers = 0 ∷ 1 ∷ 2 ∷ 3 ∷ 4 ∷ 5 ∷ 6 ∷ 7 ∷ 8 ∷ 9 ∷ 10 ∷ 11 ∷ 12 ∷ 13 ∷ 14 ∷ 15 ∷ 17 ∷ 18 ∷ 19 ∷ []
 

@@ -77,7 +77,8 @@ ended_by xs f = record {
 -- read to a reader
 unfoldable pub read_to_of : Reader → List ℕ → RecordResult
 read_to_of r xs =
-    cond (is_refused (version_answer xs)) (record { answer = version_answer xs; reader = r }) (ended_by (drop 1 xs) (fed_spec r (drop 1 xs)))
+    cond (is_refused (version_answer xs)) (record { answer = version_answer xs; reader = r })
+    (ended_by (drop 1 xs) (fed_spec r (drop 1 xs)))
 
 unfoldable pub read_spec_of : List ℕ → RecordResult
 read_spec_of xs =

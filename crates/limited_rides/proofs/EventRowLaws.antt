@@ -21,7 +21,7 @@ use Rattle.rides.specs.Rows.{Sheet, Joins, first_of, first_at, direct_row, chang
 use Rattle.rides.specs.Loops.{later_from, over_bits, last_at, last_alight_rows, direct_at, direct_rows}
 use Rattle.rides.specs.Sheets.{joins_of, sheet_of}
 use Rattle.limited_rides.specs.Runs.{RowEvent}
-use Rattle.limited_rides.specs.RowEvents.{run_events, call_events, join_then, last_joined, last_apart}
+use Rattle.limited_rides.specs.RowEvents.{run_events, call_events, ride_events}
 use Rattle.limited_rides.specs.RowEvents.{board_events, change_events, first_events, row_events, events_at, EventsByLoops}
 
 -- what is listed for each ride, as loops over the calls list it
@@ -40,12 +40,6 @@ over-rides {C} {A} N g s =
         ∙ ap (λ (r : List A). cond (N.board b) r [])
         (concat_map-map (leg b) g (alightings N b later) ∙ concat_map-filterb N.alight (λ a. g (leg b a)) (take_while (N.same b) later))
 
--- one test for all of a list
-flat-either : (c : Bool) (f g : ℕ → List RowEvent) (xs : List ℕ)
-    → concat_map (λ x. cond c (f x) (g x)) xs ≡ cond c (concat_map f xs) (concat_map g xs)
-flat-either true f g xs = refl
-flat-either false f g xs = refl
-
 module _ (s : Sheet) (joins : Joins) (free : (i o k j : ℕ) → joins (first_of s i o k) j ≡ joins (first_of s i 0 k) j) (depth n : ℕ) where
   calls_by : (f g : ℕ → List RowEvent) → ((i : ℕ) → f i ≡ g i) → concat_map f (span 0 n) ≡ call_events g n 0
   unfolding call_events
@@ -61,35 +55,30 @@ module _ (s : Sheet) (joins : Joins) (free : (i o k j : ℕ) → joins (first_of
     join-at : ℕ → ℕ → List RowEvent
     join-at j m = search.join_events (network_of s joins) (direct_by s) (change_by s) (first_ride o i k) (leg j m)
 
-    last-events : (j m : ℕ)
-        → cond (s.at m).alight (join-at j m) []
-        ≡ cond (joins (first_of s i o k) j) (last_joined s (first_of s i o k) j m) (last_apart s (first_of s i o k) j m)
-    unfolding join-at search.join_events last_joined last_apart join_then last_alight_rows last_at network_of over_bits first_of
+    last-events : (j m : ℕ) → cond (s.at m).alight (join-at j m) [] ≡ ride_events s joins (first_of s i o k) j m
+    unfolding join-at search.join_events ride_events last_alight_rows last_at network_of over_bits first_of
     last-events j m = rw (← free i o k j) (go (joins (first_of s i o k) j) (s.at m).alight)
       where
         rows : List Row
         rows = map (change_row s (first_of s i o k) j m) (bits_of (s.targets (s.at m).stop))
 
         go : (c a : Bool) → cond a (tested (join_of (first_ride o i k) (leg j m)) ∷ map offered (cond c rows [])) []
-            ≡ cond c (cond a (tested (join_of (first_ride o i k) (leg j m)) ∷ map offered
-            (cond a (concat_map (λ x. change_row s (first_of s i o k) j m x ∷ []) (bits_of (s.targets (s.at m).stop))) [])) [])
-            (cond a (tested (join_of (first_ride o i k) (leg j m)) ∷ map offered []) [])
+            ≡ cond a (tested (join_of (first_ride o i k) (leg j m)) ∷ map offered
+            (cond c (cond a (concat_map (λ x. change_row s (first_of s i o k) j m x ∷ []) (bits_of (s.targets (s.at m).stop))) []) [])) []
         go true true =
             ap (λ (r : List Row). tested (join_of (first_ride o i k) (leg j m)) ∷ map offered r)
             (sym (flat-single (change_row s (first_of s i o k) j m) (bits_of (s.targets (s.at m).stop))))
-        go true false = refl
-        go false a = refl
+        go false true = refl
+        go c false = refl
 
     board-events : (j : ℕ)
         → cond ((network_of s joins).board j) (listed.over_run (network_of s joins) (λ m. join-at j m) j (span (j + 1) (n - (j + 1)))) []
         ≡ board_events s joins n (first_of s i o k) j
     unfolding board_events network_of run_events later_from
     board-events j =
-        let ms = take_while (λ m. same_run (s.at j) (s.at m)) (span (j + 1) (n - (j + 1))) in
         ap (λ (r : List RowEvent). cond (s.at j).board r [])
-        (concat_map-cong _ (λ m. cond (joins (first_of s i o k) j) (last_joined s (first_of s i o k) j m)
-        (last_apart s (first_of s i o k) j m)) (last-events j) ms
-        ∙ flat-either (joins (first_of s i o k) j) (last_joined s (first_of s i o k) j) (last_apart s (first_of s i o k) j) ms)
+        (concat_map-cong _ (ride_events s joins (first_of s i o k) j) (last-events j)
+        (take_while (λ m. same_run (s.at j) (s.at m)) (span (j + 1) (n - (j + 1)))))
 
     change-events : cond (eqb depth 1)
         (search.change_events (network_of s joins) (direct_by s) (change_by s) (span 0 n) (first_ride o i k)) []

@@ -1,7 +1,6 @@
 pub mod RunLaws
 pub mod TurnLaws
 pub mod CountLaws
-pub mod BlockLaws
 pub mod WithinLaws
 pub mod MadeLaws
 pub mod EventRowLaws

@@ -5,7 +5,7 @@ use mathlib.Core.Bool.{Bool, true, false, not, cond, true≢false, false≢true}
 use Rattle.std.specs.Prelude.{Option, Some, None}
 use Rattle.std.specs.Option.{SomeIff}
 use mathlib.Core.List.{List, [], ◌∷◌, map}
-use Prim.Native.Nat.{ℕ, zero, suc, ◌-◌, ◌≤◌}
+use Prim.Native.Nat.{ℕ, zero, suc, ◌-◌, ◌≤◌, ◌<◌}
 use native.Mathlib.Omega.{arith}
 use lib.Dec.{leb}
 use borrow.Author.Tests.{le-leb, lt-leb, leb-true, leb-false}
@@ -20,7 +20,7 @@ use Rattle.counted.specs.Events.{tested, offered, offers_of, joins_in, up_to}
 use Rattle.counted.specs.Joins.{Join}
 use Rattle.rides.specs.Offered.{offer_all, Offered}
 use Rattle.rides.proofs.RestLaws.{seen_last, seen_first}
-use Rattle.limited_rides.specs.Runs.{RowEvent, Run, on, over, go_on, meet, meet_all, skip, is_over, state_of}
+use Rattle.limited_rides.specs.Runs.{RowEvent, Run, on, over, go_on, meet, meet_all, skip, is_over, has_left, state_of}
 use Rattle.limited_rides.specs.Runs.{run_at, Met, Spent, RunStates, RunFinishes}
 
 -- ---- what is over stays
@@ -36,13 +36,6 @@ over-all (over s) es e = over-stays s es
 over-all (on s n) es e = absurd (false≢true e)
 
 -- ---- n joins at once
-
-pub leb-suc : (a b : ℕ) → leb (suc a) (suc b) ≡ leb a b
-leb-suc a b = go (test (leb a b))
-  where
-    go : (leb a b ≡ true) ⊎ (leb a b ≡ false) → leb (suc a) (suc b) ≡ leb a b
-    go (inl e) = le-leb (suc a) (suc b) (omega (arith, leb-true a b e)) ∙ sym e
-    go (inr e) = lt-leb (suc a) (suc b) (omega (arith, leb-false a b e)) ∙ sym e
 
 same : {A : Type 0} (b : Bool) (x : A) → x ≡ cond b x x
 same true x = refl
@@ -141,18 +134,71 @@ run-states (going ks h l) n (offered o ∷ es) = run-states (offer_to (going ks 
 run-states (going ks h l) zero (tested j ∷ es) = state-all (meet_all (over (going ks h l)) es) (going ks h l) (over-stays (going ks h l) es)
 run-states (going ks h l) (suc n) (tested j ∷ es) = run-states (going ks h l) n es
 
+-- events with no more joins than are left, and with more
+pub run-fits : (s : SearchState Row) (n : ℕ) (es : List RowEvent) → joins_in es ≤ n
+    → meet_all (go_on s n) es ≡ go_on (foldl offer_to s (offers_of es)) (n - joins_in es)
+unfolding meet_all meet go_on
+run-fits s n [] p = ap (λ (k : ℕ). go_on s k) (omega arith)
+run-fits refused n (e ∷ es) p =
+    over-stays refused es ∙ sym (ap (λ (s : SearchState Row). go_on s (n - joins_in (e ∷ es))) (refused-fold (offers_of (e ∷ es))))
+run-fits (going ks h l) n (offered o ∷ es) p = run-fits (offer_to (going ks h l) o) n es p
+run-fits (going ks h l) zero (tested j ∷ es) p = absurd (omega (arith, p))
+run-fits (going ks h l) (suc n) (tested j ∷ es) p =
+    run-fits (going ks h l) n es (omega (arith, p))
+    ∙ ap (λ (k : ℕ). go_on (foldl offer_to (going ks h l) (offers_of es)) k) (omega arith)
+
+pub run-stops : (s : SearchState Row) (n : ℕ) (es : List RowEvent) → n < joins_in es → is_over (meet_all (go_on s n) es) ≡ true
+unfolding meet_all meet go_on is_over
+run-stops s n [] p = absurd (omega (arith, p))
+run-stops refused n (e ∷ es) p = ap is_over (over-stays refused es)
+run-stops (going ks h l) n (offered o ∷ es) p = run-stops (offer_to (going ks h l) o) n es p
+run-stops (going ks h l) zero (tested j ∷ es) p = ap is_over (over-stays (going ks h l) es)
+run-stops (going ks h l) (suc n) (tested j ∷ es) p = run-stops (going ks h l) n es (omega (arith, p))
+
+goes-on : (s : SearchState Row) (n : ℕ) → (state_of (go_on s n) ≡ refused → ⊥) → go_on s n ≡ on s n
+unfolding go_on state_of
+goes-on (going ks h l) n f = refl
+goes-on refused n f = absurd (f refl)
+
+over-with : (y : Run) → is_over y ≡ true → y ≡ over (state_of y)
+unfolding is_over state_of
+over-with (over s) e = refl
+over-with (on s n) e = absurd (false≢true e)
+
 pub run-finishes : RunFinishes
-unfolding meet_all meet go_on state_of
-run-finishes refused n [] f = absurd (f refl)
-run-finishes refused n (e ∷ es) f = absurd (f (state-all (meet_all (over refused) es) refused (over-stays refused es)))
-run-finishes (going ks h l) n [] f = rw (le-leb 0 n (omega arith)) (ap (λ (k : ℕ). on (going ks h l) k) (omega arith))
-run-finishes (going ks h l) n (offered o ∷ es) f = run-finishes (offer_to (going ks h l) o) n es f
-run-finishes (going ks h l) zero (tested j ∷ es) f = over-stays (going ks h l) es ∙ sym (rw (lt-leb (suc (joins_in es)) 0 (omega arith)))
-run-finishes (going ks h l) (suc n) (tested j ∷ es) f =
-    let d : n - joins_in es ≡ suc n - suc (joins_in es) = omega arith in
-    rw (leb-suc (joins_in es) n) (run-finishes (going ks h l) n es f
-    ∙ ap (λ (k : ℕ). cond (leb (joins_in es) n) (on (foldl offer_to (going ks h l) (offers_of es)) k)
-    (over (foldl offer_to (going ks h l) (offers_of (up_to n es))))) d)
+run-finishes s n es f = go (test (leb (joins_in es) n))
+  where
+    go : (leb (joins_in es) n ≡ true) ⊎ (leb (joins_in es) n ≡ false) → meet_all (go_on s n) es
+        ≡ cond (leb (joins_in es) n) (on (foldl offer_to s (offers_of es)) (n - joins_in es))
+        (over (foldl offer_to s (offers_of (up_to n es))))
+    go (inl t) =
+        let e = run-fits s n es (leb-true (joins_in es) n t) in
+        rw t (e ∙ goes-on (foldl offer_to s (offers_of es)) (n - joins_in es) (λ q. f (ap state_of e ∙ q)))
+    go (inr t) =
+        rw t (over-with (meet_all (go_on s n) es) (run-stops s n es (leb-false (joins_in es) n t)) ∙ ap over (run-states s n es))
+
+-- ---- a block of joins, by whether as many are left
+
+-- with as many left, the offers may be made first, and then the joins spent
+pub offered-fits : {l l' : List ℕ} {k k' : Option ℕ} {m : ℕ} {b : Bool} (es : List RowEvent) → b ≡ has_left k m → b ≡ true → m ≡ joins_in es
+    → Offered l l' (offers_of es) → Spent k k' m → Met l k l' k' es
+unfolding run_at meet_all has_left
+offered-fits {l} {l'} {k = Some n} {m = m} es e t q o w =
+    let fits : leb m n ≡ true = sym e ∙ t in
+    record {
+      is =
+          w.is (view l') ∙ skip-go (view l') n m ∙ rw fits refl
+          ∙ ap (λ (s : SearchState Row). go_on s (n - m)) o.is
+          ∙ rw q (sym (run-fits (view l) n es (omega (arith, leb-true m n fits))));
+    }
+offered-fits {k = None} es e t q o w = absurd (false≢true (sym e ∙ t))
+
+-- with fewer, the search is over behind them
+pub stopped : {l l' : List ℕ} {k k' : Option ℕ} {m : ℕ} {b : Bool} (es : List RowEvent) → b ≡ has_left k m → b ≡ false → m ≡ joins_in es
+    → Met l k l' k' es → is_over (run_at (view l') k') ≡ true
+unfolding run_at meet_all has_left
+stopped {l} {k = Some n} {m = m} es e t q w = ap is_over w.is ∙ run-stops (view l) n es (omega (arith, leb-false m n (sym e ∙ t)))
+stopped {l} {k = None} es e t q w = ap is_over (w.is ∙ over-stays (view l) es) ∙ sym (is-over (view l))
 
 -- a join, and then other events
 skip-one : (y : Run) (j : Join ℕ) → skip 1 y ≡ meet y (tested j)

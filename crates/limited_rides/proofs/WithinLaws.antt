@@ -2,7 +2,7 @@
 use mathlib.Core.Path.{◌≡◌, refl, sym, ap, ◌∙◌}
 use mathlib.Core.Logic.{◌⊎◌, inl, inr}
 use mathlib.Core.Bool.{true, false, cond}
-use mathlib.Core.List.{List, [], ◌++◌, map}
+use mathlib.Core.List.{List, [], ◌++◌, map, append-nil}
 use Prim.Native.Nat.{ℕ, ◌-◌, min}
 use Rattle.std.specs.Prelude.{Option, Some, None}
 use native.Mathlib.Omega.{arith}
@@ -12,6 +12,7 @@ use Rattle.laws.specs.Lists.{foldl, concat_map, span}
 use Rattle.ways.specs.Rides.{First, first_rides}
 use Rattle.counted.specs.Events.{offered}
 use Rattle.laws.proofs.Bools.{test, not-true}
+use Rattle.laws.proofs.Places.{concat_map-cong, map-concat_map}
 use Rattle.profile.specs.Found.{Row}
 use Rattle.profile.specs.Kept.{SearchState, going, refused}
 use Rattle.search_state.specs.View.{view}
@@ -23,7 +24,7 @@ use Rattle.limited_rides.specs.declared.Tested.{Tested}
 use Rattle.limited_rides.specs.Runs.{RowEvent, on, over, go_on, meet_all, state_of, run_at, Met}
 use Rattle.search_input.specs.declared.FirstRide.{FirstRide}
 use Rattle.rides.specs.Rows.{Sheet, Joins, first_at, network_of}
-use Rattle.rides.specs.Loops.{direct_rows}
+use Rattle.rides.specs.Loops.{direct_rows, change_rows, first_rows_of, pass_rows}
 use Rattle.rides.specs.Sheets.{sheet_of, joins_of}
 use Rattle.limited_rides.specs.RowEvents.{change_events, first_events, row_events, events_at}
 use Rattle.limited_rides.proofs.EventRowLaws.{events-by-loops}
@@ -113,6 +114,17 @@ apart-rows s joins n {depth} z =
   where
     apart : (f : First ℕ) → change_events s joins depth n (first_at s f) ≡ change_events s joins 0 n (first_at s f)
     apart f = apart-change s joins n (first_at s f) z ∙ sym (apart-change s joins n (first_at s f) (λ e. omega arith))
+
+-- at depth 0 they are the offers of the full search
+pub direct-events : (s : Sheet) (joins : Joins) (n : ℕ) → row_events s joins 0 n ≡ map offered (pass_rows s joins 0 n)
+unfolding row_events first_events change_events pass_rows first_rows_of change_rows
+direct-events s joins n =
+    concat_map-cong _ (λ f. map offered (direct_rows s (first_at s f) ++ [])) (λ f. each (direct_rows s (first_at s f)))
+    (first_rides (network_of s joins) (span 0 n))
+    ∙ sym (map-concat_map offered (λ f. direct_rows s (first_at s f) ++ []) (first_rides (network_of s joins) (span 0 n)))
+  where
+    each : (os : List Row) → ◌≡◌ {A = List RowEvent} (map offered os ++ []) (map offered (os ++ []))
+    each os = append-nil (map offered os) ∙ sym (ap (λ (os : List Row). map offered os) (append-nil os))
 
 -- over the lent arrays
 pub within-arrays : (f g : List ℕ) (n m depth : ℕ) {l l' : List ℕ} {k' : Option ℕ} {limit : ℕ} {r : Tested} → m ≡ min n 512

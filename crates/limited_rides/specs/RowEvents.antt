@@ -3,7 +3,6 @@
 use Rattle.std.specs.Prelude.{◌≡◌, cond, List, [], ◌∷◌, ◌++◌, map, ℕ, ◌+◌, ◌-◌, min, eqb}
 use Rattle.laws.specs.Lists.{concat_map, span}
 use Rattle.ways.specs.Rides.{leg, First, first_ride, first_rides}
-use Rattle.profile.specs.Found.{Row}
 use Rattle.search_input.specs.declared.FeedCall.{FeedCall}
 use Rattle.search_input.specs.declared.FirstRide.{FirstRide}
 use Rattle.counted.specs.Events.{tested, offered, offers_of}
@@ -25,21 +24,14 @@ call_events g n i = concat_map g (span i (n - i))
 abbrev pub places_of : FirstRide → First ℕ
 places_of f = first_ride f.origin f.board f.alight
 
--- the join with the ride from j to m, and the rows os
-unfoldable pub join_then : Sheet → FirstRide → ℕ → ℕ → List Row → List RowEvent
-join_then s f j m os = cond (s.at m).alight (tested (join_of (places_of f) (leg j m)) ∷ map offered os) []
-
--- where the first ride joins those that board at j; where it does not
-unfoldable pub last_joined : Sheet → FirstRide → ℕ → ℕ → List RowEvent
-last_joined s f j m = join_then s f j m (last_alight_rows s f j m)
-
-unfoldable pub last_apart : Sheet → FirstRide → ℕ → ℕ → List RowEvent
-last_apart s f j m = join_then s f j m []
+-- the join with the ride from j to m, and its offers if the first ride joins it
+unfoldable pub ride_events : Sheet → Joins → FirstRide → ℕ → ℕ → List RowEvent
+ride_events s joins f j m =
+    cond (s.at m).alight
+    (tested (join_of (places_of f) (leg j m)) ∷ map offered (cond (joins f j) (last_alight_rows s f j m) [])) []
 
 unfoldable pub board_events : Sheet → Joins → ℕ → FirstRide → ℕ → List RowEvent
-board_events s joins n f j =
-    cond (s.at j).board
-    (cond (joins f j) (run_events (last_joined s f j) s.at n j (j + 1)) (run_events (last_apart s f j) s.at n j (j + 1))) []
+board_events s joins n f j = cond (s.at j).board (run_events (ride_events s joins f j) s.at n j (j + 1)) []
 
 -- with max_transfers 1, each last ride
 unfoldable pub change_events : Sheet → Joins → ℕ → ℕ → FirstRide → List RowEvent

@@ -52,6 +52,11 @@ unfoldable pub run_at : SearchState Row → Option ℕ → Run
 run_at s (Some n) = go_on s n
 run_at s None = over s
 
+-- whether m joins are left
+unfoldable pub has_left : Option ℕ → ℕ → Bool
+has_left (Some n) m = leb m n
+has_left None m = false
+
 -- an array and the joins left, and the search that they are
 pub record At : Type 0 where
   pub state : List ℕ

@@ -1,48 +1,61 @@
-// Last rides within a limit on joins: what is offered after a first ride, with a change. A block of rides that is not walked is its count.
-ghost use Rattle.std.specs.Prelude.{◌≡◌, ◌+◌, ◌≤◌, ◌<◌};
+// The joins of the first ride in which the search stops. Those that board at one place are counted at once while no more than are left; of
+// the first that are more, each join is counted, and its offers are made until the search is over.
+ghost use Rattle.std.specs.Prelude.{◌≡◌, ◌+◌, ◌<◌};
 ghost use Rattle.search_input.specs.Feed.{call_at};
-ghost use Rattle.rides.specs.Sheets.{sheet_of};
 ghost use Rattle.rides.specs.Places.{sheet_in, joins_in};
 ghost use Rattle.limited_rides.specs.Runs.{Met};
-ghost use Rattle.limited_rides.specs.RowEvents.{run_events, call_events, last_joined, board_events, change_events};
+ghost use Rattle.limited_rides.specs.RowEvents.{run_events, ride_events, board_events, change_events};
 ghost use Rattle.limited_rides.specs.Counts.{Counts};
 
 use crate::counts::RideCounts;
-use crate::tally::{Tally, is_over, spend};
-use candidate::passes_over;
-use rides::bounds::bucket_of;
-use rides::call_list::{Calls, Ride};
+use crate::tally::{Tally, has_left, is_over, spend};
+use candidate::times::threshold;
+use rides::call_list::Ride;
+use rides::change::board_before;
 use rides::last::{LastRides, last_targets};
 use rides::later::Later;
+use rides::lent::Lent;
 use search_input::FirstRide;
 use search_state::layout::State;
 
-// The join with the ride r, and its offers unless the search is over.
-fn last_alight(st: &mut State, tally: &mut Tally, calls: &Calls, f: FirstRide, r: Ride)
-    ensures { Met st.old tally.old st.new tally.new (last_joined (sheet_of calls.now.feed.now) f r.board r.alight) }
+// The join with the ride r, and its offers if the first ride joins it, unless the search is over.
+fn last_alight(st: &mut State, tally: &mut Tally, lent: &Lent, f: FirstRide, r: Ride)
+    ensures { Met st.old tally.old st.new tally.new (ride_events (sheet_in lent.now) (joins_in lent.now) f r.board r.alight) }
 {
-    let a = calls.at(r.alight);
+    let a = lent.calls.at(r.alight);
     if a.alight {
         spend(tally, 1);
         if is_over(st, *tally) {
             return;
         }
-        last_targets(st, calls, f, r, calls.targets(a.stop));
+        if lent.joins(f, r.board) {
+            last_targets(st, &lent.calls, f, r, lent.calls.targets(a.stop));
+        }
     }
 }
 
 // The later calls of the trip and day of the call at j.
-fn last_alightings(st: &mut State, tally: &mut Tally, calls: &Calls, f: FirstRide, j: usize)
-    requires { j < calls.now.n }
+fn last_alightings(st: &mut State, tally: &mut Tally, lent: &Lent, f: FirstRide, j: usize)
+    requires { j < lent.now.calls.n }
     ensures { Met st.old tally.old st.new tally.new
-        (run_events (last_joined (sheet_of calls.now.feed.now) f j) (call_at calls.now.feed.now) calls.now.n j (j + 1)) }
+        (run_events (ride_events (sheet_in lent.now) (joins_in lent.now) f j) (call_at lent.now.calls.feed.now) lent.now.calls.n j (j + 1)) }
 {
-    for m in Later::than(calls, j) {
+    for m in Later::than(&lent.calls, j) {
         let r = Ride {
             board: j,
             alight: m,
         };
-        last_alight(st, tally, calls, f, r);
+        last_alight(st, tally, lent, f, r);
+    }
+}
+
+// Those that board at j, if one can board there.
+fn last_board(st: &mut State, tally: &mut Tally, lent: &Lent, f: FirstRide, j: usize)
+    requires { j < lent.now.calls.n }
+    ensures { Met st.old tally.old st.new tally.new (board_events (sheet_in lent.now) (joins_in lent.now) lent.now.calls.n f j) }
+{
+    if lent.calls.at(j).board {
+        last_alightings(st, tally, lent, f, j);
     }
 }
 
@@ -55,47 +68,21 @@ pub struct LastJoins<'a> {
 }
 
 impl<'a> LastJoins<'a> {
-    // The joins with those that board at j. They are walked only if the first ride joins them and one as early as any of them would not be
-    // passed over.
-    fn last_board(&self, st: &mut State, tally: &mut Tally, f: FirstRide, j: usize)
-        requires { j < self.now.last.lent.calls.n }
-        ensures { Met st.old tally.old st.new tally.new
-            (board_events (sheet_in self.now.last.lent) (joins_in self.now.last.lent) self.now.last.lent.calls.n f j) }
-    {
-        let lent = &self.last.lent;
-        if lent.calls.at(j).board {
-            if lent.joins(f, j) && !passes_over(st, f.figures(self.last.bounds[j], 2)) {
-                last_alightings(st, tally, &lent.calls, f, j);
-            } else {
-                spend(tally, self.counts.board[j] as u64);
-            }
-        }
-    }
-
-    // The joins with every one, up to where the search is over.
-    fn last_rides(&self, st: &mut State, tally: &mut Tally, f: FirstRide)
-        ensures { Met st.old tally.old st.new tally.new
-            (call_events (board_events (sheet_in self.now.last.lent) (joins_in self.now.last.lent) self.now.last.lent.calls.n f)
-            self.now.last.lent.calls.n 0) }
-    {
-        for j in 0..self.last.lent.calls.n {
-            if is_over(st, *tally) {
-                return;
-            }
-            self.last_board(st, tally, f, j);
-        }
-    }
-
-    // The joins with every one. None is walked if one as early as any that departs after f arrives would be passed over.
+    // The joins with every last ride, up to where the search stops.
     pub fn change_rides(&self, st: &mut State, tally: &mut Tally, f: FirstRide)
         ensures { Met st.old tally.old st.new tally.new
             (change_events (sheet_in self.now.last.lent) (joins_in self.now.last.lent) 1 self.now.last.lent.calls.n f) }
     {
-        let t = self.last.bounds[bucket_of(f.arrival)];
-        if passes_over(st, f.figures(t, 2)) {
-            spend(tally, self.counts.all as u64);
-            return;
+        let mut over = threshold(st, f.leave, 2, f.walk);
+        for j in 0..self.last.lent.calls.n {
+            let n = self.counts.board[j] as u64;
+            if has_left(*tally, n) {
+                over = board_before(st, &self.last, f, j, over);
+                spend(tally, n);
+            } else {
+                last_board(st, tally, &self.last.lent, f, j);
+                return;
+            }
         }
-        self.last_rides(st, tally, f);
     }
 }

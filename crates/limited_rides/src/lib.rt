@@ -1,8 +1,9 @@
-// A search within a limit on joins, over lent arrays of numbers: the loops of crate `rides`, which count the joins that they test. They
-// stand beside those: one loop for both would promise joins where the other promises offers, and would carry counts of rides that the full
-// search never reads. What the contracts share is `After` (rides/specs/Offered.antt). A loop ends where the search is over; a chain of
-// iterators would have to ask that in a closure that holds the state. State and tally are two parameters: the loops of `rides` that are
-// called here change the state and know no tally. The bounds of places are asked for as in `rides`.
+// A search within a limit on joins, over lent arrays of numbers. While a first ride has no more joins than are left, its offers are made by
+// the function of the full search (`rides: next_first()`), and its joins are counted at once; the search stops in the first that has more,
+// and there the joins are counted in smaller blocks, in the last one by one (`last`). So a search that finishes costs what the full one
+// does. What the contracts share is `After` (rides/specs/Offered.antt). A loop ends where the search is over; a chain of iterators would
+// have to ask that in a closure that holds the state. State and tally are two parameters: the functions of `rides` change the state and
+// know no tally. The bounds of places are asked for as in `rides`.
 #![tactic(auto)]
 
 mod counts;

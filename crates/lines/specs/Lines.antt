@@ -12,7 +12,8 @@ use Rattle.lines.specs.Decimal.{spaced}
 -- "journey": leave, arrival, rides, walk in minutes, origin, target
 unfoldable pub journey_text : Journey → List ℕ
 journey_text j =
-    106 ∷ 111 ∷ 117 ∷ 114 ∷ 110 ∷ 101 ∷ 121 ∷ (spaced j.leave ++ (spaced j.arrival ++ (spaced j.rides ++ (spaced j.walk ++ (spaced j.origin ++ spaced j.target)))))
+    106 ∷ 111 ∷ 117 ∷ 114 ∷ 110 ∷ 101 ∷ 121
+    ∷ (spaced j.leave ++ (spaced j.arrival ++ (spaced j.rides ++ (spaced j.walk ++ (spaced j.origin ++ spaced j.target)))))
 
 unfoldable pub journey_line_of : Journey → List ℕ
 journey_line_of j = journey_text j ++ (10 ∷ [])

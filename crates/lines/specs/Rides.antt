@@ -15,7 +15,9 @@ use Rattle.lines.specs.Lines.{journey_text, journey_line_of, horizon_line_of, re
 -- it alights, on request
 unfoldable pub ride_text : Ride → List ℕ
 ride_text r =
-    32 ∷ 124 ∷ (spaced r.trip ++ (spaced r.day ++ (spaced r.from ++ (spaced r.to ++ (spaced r.departure ++ (spaced r.arrival ++ (spaced (bit r.board_request) ++ spaced (bit r.alight_request))))))))
+    32 ∷ 124
+    ∷ (spaced r.trip ++ (spaced r.day ++ (spaced r.from ++ (spaced r.to
+    ++ (spaced r.departure ++ (spaced r.arrival ++ (spaced (bit r.board_request) ++ spaced (bit r.alight_request))))))))
 
 -- the first; of three rides the middle one; of two or three the last
 unfoldable pub rides_of : Journey → List Ride

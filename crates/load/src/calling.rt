@@ -19,7 +19,8 @@ impl Load {
         StepResult { answer, load: next }
     }
 
-    // The same in place.
+    // The same in place. Never compiled into the step by value, which is straight copies then: of these the compiler drops all but two.
+    #[inline(never)]
     pub fn take_call_of(&mut self, service: &[u8], input: CallInput) -> Answer
         ensures { stepped result self.new ≡ call_spec self.old service.now input }
     {
@@ -79,7 +80,8 @@ impl Load {
         StepResult { answer, load: next }
     }
 
-    // The same in place. Where nothing is cut, the table is not copied apart.
+    // The same in place, never compiled into the step by value either. Where nothing is cut, the table is not copied apart.
+    #[inline(never)]
     pub fn take_call(&mut self, input: CallInput) -> Answer
         ensures { stepped result self.new ≡ call_spec self.old [] input }
     {

@@ -1,4 +1,4 @@
-// Runs the scope's marked instances and published hash vectors, and writes a line for each; the file `stdout` says what each must give.
+// Runs instances of RULES 6, 7 and 14 and published hash vectors, and writes a line for each; the file `stdout` says what each must give.
 #![tactic(auto)]
 
 mod changes;

@@ -7,14 +7,15 @@ use mathlib.Core.List.{List, [], ◌∷◌, ◌++◌, map, map-append, Memᴰ}
 use native.Mathlib.Nat.{mod-eq_of_lt}
 use native.Mathlib.Omega.{arith}
 use lib.Dec.{eqb}
-use lib.ListN.{length, take, set}
+use lib.ListN.{length, get_or, take, set, replicate}
+use lib.Seq.{length-take-le, get_or-take, ext_get_or}
 use borrow.Author.Tests.{ne_eqb}
 use Rattle.laws.specs.Lists.{foldl, span}
 use Rattle.laws.specs.Sort.{sort}
 use Rattle.laws.specs.Tables.{table}
 use Rattle.laws.proofs.Folds.{span-mem}
 use Rattle.laws.proofs.Sort.{sort-mem}
-use Rattle.laws.proofs.Tables.{length-table, sort-map, take-table}
+use Rattle.laws.proofs.Tables.{Filled, length-table, get_d-table, sort-map}
 use Rattle.place.specs.declared.PlaceKey.{PlaceKey}
 use Rattle.place.specs.Keys.{no_place, place_key, text_of}
 use Rattle.place.specs.Near.{same_keys}
@@ -26,7 +27,7 @@ use Rattle.places.specs.declared.Entry.{Entry}
 use Rattle.places.specs.Keys.{parent_id, stop_key, key_at}
 use Rattle.places.specs.Places.{has_key, same_place, id_less, Groups, first_match, place, no_groups, id_order, groups_of, places_of}
 use Rattle.places.specs.Places as P
-use Rattle.places.specs.Entries.{Numbered, entry_at, id_before, first_entry, EntryGroups, put, place_entry, no_entries, group_entries}
+use Rattle.places.specs.Entries.{Numbered, blank_entry, entry_at, id_before, first_entry, EntryGroups, put, place_entry, no_entries, group_entries}
 
 module _ (ss : List Stop) where
   -- a stop has a key if its key's tag is not 0
@@ -98,20 +99,34 @@ module _ (ss : List Stop) where
   groups-right h =
       (same_fold (id_order ss) no_entries no_groups (record { reps = refl; places = refl }) (λ k m. omega (arith, order_below m))).places
 
--- the first entries stand at the places of their numbers
-pub numbered : (ss : List Stop) (n : ℕ) {entries : List Entry} → n ≤ 128 → entries ≡ table 128 (entry_at ss) → Numbered (take n entries)
+-- what a loop over the stops has put in
+pub front : (ss : List Stop) (entries : List Entry) (i : ℕ) → length ss ≤ i → length ss ≤ 128
+    → Filled (entry_at ss) blank_entry 128 (replicate 128 blank_entry) entries i → take (length ss) entries ≡ table (length ss) (entry_at ss)
+front ss entries i h few g =
+    ext_get_or blank_entry (take n entries) (table n (entry_at ss)) (long ∙ sym (length-table (entry_at ss) n))
+    (λ k b. at k (omega (arith, long)))
+  where
+    n : ℕ
+    n = length ss
+
+    long : length (take n entries) ≡ n
+    long = length-take-le n entries (omega (arith, g.long))
+
+    at : (k : ℕ) → k < n → get_or (take n entries) k blank_entry ≡ get_or (table n (entry_at ss)) k blank_entry
+    at k b = get_or-take n entries k blank_entry b ∙ g.done k (omega arith) ∙ sym (get_d-table (entry_at ss) blank_entry n k b)
+
+-- the entries stand at the places of their numbers
+pub numbered : (ss : List Stop) {entries : List Entry} → entries ≡ table (length ss) (entry_at ss) → Numbered entries
 unfolding table entry_at
-numbered ss n h e = rw (e, take-table (entry_at ss) n 128 h) (go 0 n ∙ ap (span 0) (sym (length-table (entry_at ss) n)))
+numbered ss e = rw e (go 0 (length ss) ∙ ap (span 0) (sym (length-table (entry_at ss) (length ss))))
   where
     go : (a n : ℕ) → map (λ x. x.stop) (map (entry_at ss) (span a n)) ≡ span a n
     go a zero = refl
     go a (suc n) = ap {B = List ℕ} (λ l. a ∷ l) (go (suc a) n)
 
 -- the three steps of the code
-pub group-parts : (ss : List Stop) (entries ordered : List Entry) {out : List ℕ} → length ss ≤ 128 → entries ≡ table 128 (entry_at ss)
-    → ordered ≡ sort id_before (take (length ss) entries) → out ≡ (group_entries ordered).places → out ≡ places_of ss
+pub group-parts : (ss : List Stop) (entries ordered : List Entry) {out : List ℕ} → length ss ≤ 128
+    → entries ≡ table (length ss) (entry_at ss) → ordered ≡ sort id_before entries → out ≡ (group_entries ordered).places
+    → out ≡ places_of ss
 group-parts ss entries ordered few f g o =
-    o ∙ ap (λ (x : List Entry). (group_entries x).places)
-    (g ∙ ap (λ (l : List Entry). sort id_before (take (length ss) l)) f ∙ ap (sort id_before) (take-table (entry_at ss) (length ss) 128 few)
-    ∙ order-map ss (length ss) refl)
-    ∙ groups-right ss few
+    o ∙ ap (λ (x : List Entry). (group_entries x).places) (g ∙ ap (sort id_before) f ∙ order-map ss (length ss) refl) ∙ groups-right ss few

@@ -1,5 +1,5 @@
 // The entry of each stop: id, number and place key.
-ghost use Rattle.std.specs.Prelude.{◌≡◌, ℕ, ◌<◌, option_copied};
+ghost use Rattle.std.specs.Prelude.{◌≡◌, ◌<◌, ◌≤◌, length, take, option_copied};
 ghost use Rattle.laws.specs.Tables.{table};
 ghost use Rattle.stops.specs.Sound.{stop_at};
 ghost use Rattle.stops.specs.Stops.{id_of};
@@ -9,7 +9,6 @@ ghost use Rattle.stops.specs.Sizes.{stop_room};
 
 use crate::Entry;
 use place::{PlaceKey, no_place, place_key};
-use std::array;
 use stops::taken::blank_stop;
 use stops::{STOPS, Stop};
 
@@ -59,13 +58,14 @@ fn entry_at(stops: &[Stop], i: usize) -> Entry
     }
 }
 
-// The entries of the stops, of which there are at most 128.
+// The entries of the stops, of which there are at most 128; behind them nothing is read.
 pub fn entries_of(stops: &[Stop]) -> [Entry; STOPS]
-    ensures { result ≡ table stop_room (entry_at stops.now) }
+    requires { length stops.now ≤ stop_room }
+    ensures { take (length stops.now) result ≡ table (length stops.now) (entry_at stops.now) }
 {
-    array::from_fn(
-        |i: usize| -> Entry
-            requires { i < stop_room }
-        { entry_at(stops, i) },
-    )
+    let mut entries = [blank_entry(); STOPS];
+    for i in 0..stops.len() {
+        entries[i] = entry_at(stops, i);
+    }
+    entries
 }

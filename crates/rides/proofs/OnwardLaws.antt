@@ -6,6 +6,7 @@ use mathlib.Core.List.Memᴰ
 use mathlib.Core.List.{List, [], ◌∷◌, Memᴰ}
 use Prim.Native.Nat.{ℕ, zero, suc, ◌+◌, ◌-◌, ◌≤◌, ◌<◌}
 use native.Mathlib.Omega.{arith}
+use native.Mathlib.Numerals.{add-one}
 use lib.ListN.{get_or}
 use Rattle.laws.specs.Lists.{span}
 use Rattle.ways.specs.Rides.{Leg, leg, first_ride, first_rides}
@@ -24,17 +25,20 @@ use Rattle.rides.specs.Rows.{Sheet, Joins, first_of, three_row, network_of}
 use Rattle.rides.specs.Loops.{over_calls, over_run, later_from, end_at, onward_rows, alight_on, board_on}
 use Rattle.rides.specs.Sheets.{sheet_of, joins_of}
 use Rattle.rides.specs.Offered.{Offered}
-use Rattle.rides.specs.Reach.{end_of, due_at, NotBefore, BoardAt, JoinsAt, Each, Onward}
+use Rattle.rides.specs.Reach.{end_of, due_at, NotBefore, BoardAt, JoinAt, Least, JoinsAt, EachOf, Each}
+use Rattle.rides.specs.Reach.{LeastByBlock, RowAt, Onward}
 use Rattle.rides.specs.Routes.{on_row}
 use Rattle.laws.specs.Lists.{concat_map}
 use Rattle.laws.proofs.Bools.{and-true}
-use Rattle.laws.proofs.Folds.{concat_map-mem}
+use Rattle.laws.proofs.Folds.{concat_map-mem, mem-concat_map, span-mem}
 use lib.Dec.{eqb}
 use borrow.Author.Tests.{eq-eqb}
 use Rattle.rides.specs.Bounds.{AtCall}
 use Rattle.rides.specs.Over.{Over, Walked}
-use Rattle.rides.proofs.LoopLaws.{run-same, later-within}
-use Rattle.rides.proofs.OverLaws.{due_first, left-out, over-offered}
+use Rattle.search_input.specs.Layout.{call_room}
+use Rattle.rides.proofs.LoopLaws.{Rest, run-same, later-within}
+use Rattle.rides.proofs.JoinedLaws.{alights-first, row-here}
+use Rattle.rides.proofs.OverLaws.{due_first, left-out, over-offered, rest-out}
 use Rattle.rides.proofs.SkipLaws.{Covers, cond-mem}
 use Rattle.rides.proofs.RouteLaws.{rows-of-ways}
 
@@ -93,7 +97,22 @@ module _ (feed : List ℕ) (f : FirstRide) {l : List ℕ} where
   end-made b a j m x e o =
       record { offered = o; over = rw e (over-offered l f 3 (three_row (sheet_of feed) f b a j m x) o.is refl refl refl) }
 
-module _ (feed changes : List ℕ) (n : ℕ) (f : FirstRide) {on boards : List (List ℕ)} (w : Onward on boards feed changes n) where
+module _ (s : Sheet) (joins : Joins) (n : ℕ) (f : FirstRide) where
+  -- after a ride with one change more left come those that it joins
+  pub fewer : (left j m : ℕ) (p : FirstRide) → p ≡ first_of s j 0 m
+      → onward_rows (left + 1) s joins n f 0 0 j m ≡ over_calls (board_on left s joins n f p j m) n 0
+  unfolding onward_rows board_on alight_on
+  fewer left j m p e = rw (e, add-one left) refl
+
+  -- the ride before it is named only where no change is left
+  pub before-any : (left b a j m : ℕ) → (left ≡ 0 → ⊥)
+      → onward_rows left s joins n f b a j m ≡ onward_rows (left - 1 + 1) s joins n f 0 0 j m
+  unfolding onward_rows
+  before-any zero b a j m z = absurd (z refl)
+  before-any (suc k) b a j m z = let q : suc k - 1 + 1 ≡ suc k = omega arith in rw q refl
+
+module _ (feed changes : List ℕ) (n : ℕ) (f : FirstRide) {on boards : List (List ℕ)} {rows : List (List (List ℕ))}
+    (w : Onward on boards rows feed changes n) where
   -- what leads on, if nothing of it is due earlier
   on-covered : (left b a j m : ℕ) {t : ℕ} → left ≤ 2 → m < n → (call_at feed m).alight ≡ true
       → same_run (call_at feed j) (call_at feed m) ≡ true → t ≤ get_or (get_or on left []) m 0
@@ -129,13 +148,33 @@ module _ (feed changes : List ℕ) (n : ℕ) (f : FirstRide) {on boards : List (
       alight-covered left j m c d (omega arith) v.within (run-same (call_at feed c) (call_at feed i) (call_at feed d) q ∙ v.same)
       (λ y. let g = w.board left hl i hi d x y in omega (arith, g, h)) o z
 
-  board-covered : (left j m c : ℕ) (p : FirstRide) {t : ℕ} → left ≤ 1 → c < n → t ≤ get_or (get_or boards left []) c 0
+  board-covered : (left j m c : ℕ) (p : FirstRide) {t : ℕ} → left ≤ 1 → c < n
+      → ((call_at feed c).board ≡ true → joins_of feed changes p c ≡ true → t ≤ get_or (get_or boards left []) c 0)
       → Covers (due_first f 3 t) (board_on left (sheet_of feed) (joins_of feed changes) n f p j m c)
   unfolding board_on over_run sheet_of
   board-covered left j m c p hl hc h o k =
       let (y, x) = cond-mem (call_at feed c).board k in
       let (z, i) = cond-mem (joins_of feed changes p c) x in
-      run-covered left j m c c hl hc (run-self (call_at feed c)) h o i
+      run-covered left j m c c hl hc (run-self (call_at feed c)) (h y z) o i
+
+  -- those that board at i or behind it, up to k, if none that p joins is earlier
+  calls-covered : (left j m i k : ℕ) (p : FirstRide) {t u s : ℕ} → left ≤ 1 → k ≤ n → t ≤ u → s ≤ i
+      → Least feed changes (get_or boards left []) p s k u
+      → Covers (due_first f 3 t) (concat_map (board_on left (sheet_of feed) (joins_of feed changes) n f p j m) (span i (k - i)))
+  unfolding JoinAt
+  calls-covered left j m i k p hl hk h a g o x =
+      let (c, y, z) = concat_map-mem (board_on left (sheet_of feed) (joins_of feed changes) n f p j m) (span i (k - i)) x in
+      let (low, high) = span-mem i (k - i) y in
+      board-covered left j m c p hl (omega arith) (λ q r. let e = g.least c (omega arith) (omega arith) q r in omega (arith, e, h)) o z
+
+  -- the rows of the rides that the ride r joins
+  pub row-on : (left : ℕ) (r : Ride) {p : FirstRide} {row : List ℕ} → left ≤ 1 → IsRide feed n r
+      → p ≡ first_of (sheet_of feed) r.board 0 r.alight → row ≡ get_or (get_or rows left []) r.alight []
+      → LeastByBlock feed changes (get_or boards left []) n p row
+  unfolding first_of
+  row-on left r hl q e er =
+      row-here (alights-first feed n 0 r q e) changes (get_or boards left []) (ap (λ (p : FirstRide). p.alight) (sym e))
+      (rw er (w.row left hl r.alight q.run.within))
 
   module _ {l : List ℕ} {t : ℕ} (v : Over l f 3 t) where
     pub alight-out : (left j m c d : ℕ) {u : ℕ} → left ≤ 1 → d < n → same_run (call_at feed c) (call_at feed d) ≡ true
@@ -164,31 +203,50 @@ module _ (feed changes : List ℕ) (n : ℕ) (f : FirstRide) {on boards : List (
         record {
           offered =
               left-out f 3 t (board_on left (sheet_of feed) (joins_of feed changes) n f p j m c) v
-              (board-covered left j m c p hl hc (omega arith));
+              (board-covered left j m c p hl hc (λ y z. omega arith));
           over = v;
         }
 
-    -- all that leads on from a first ride
-    pub three-out : (b a : ℕ) (r : Ride) {u : ℕ} → IsRide feed n r → u ≡ get_or (get_or on 2 []) r.alight 0 → t ≤ u
-        → Offered l l (onward_rows 2 (sheet_of feed) (joins_of feed changes) n f b a r.board r.alight)
-    three-out b a r q e h =
-        left-out f 3 t (onward_rows 2 (sheet_of feed) (joins_of feed changes) n f b a r.board r.alight) v
-        (on-covered 2 b a r.board r.alight (omega arith) q.run.within q.alights q.run.same (omega arith))
+    pub calls-out : (left j m i k : ℕ) (p : FirstRide) {u s : ℕ} → left ≤ 1 → k ≤ n → t ≤ u → s ≤ i
+        → Least feed changes (get_or boards left []) p s k u
+        → Offered l l (concat_map (board_on left (sheet_of feed) (joins_of feed changes) n f p j m) (span i (k - i)))
+    calls-out left j m i k p hl hk h a g =
+        left-out f 3 t (concat_map (board_on left (sheet_of feed) (joins_of feed changes) n f p j m) (span i (k - i))) v
+        (calls-covered left j m i k p hl hk h a g)
 
-module _ (s : Sheet) (joins : Joins) (n : ℕ) (f : FirstRide) where
-  pub fewer : (left : ℕ) → (left ≡ 0 → ⊥) → (b a j m : ℕ) (p : FirstRide) → p ≡ first_of s j 0 m
-      → onward_rows left s joins n f b a j m ≡ over_calls (board_on (left - 1) s joins n f p j m) n 0
-  unfolding onward_rows board_on alight_on
-  fewer zero z b a j m p e = absurd (z refl)
-  fewer (suc k) z b a j m p e = let q : suc k - 1 ≡ k = omega arith in rw (e, q)
+    -- all that leads on from a ride
+    pub onward-out : (left b a : ℕ) (r : Ride) {u : ℕ} → left ≤ 2 → IsRide feed n r → u ≡ get_or (get_or on left []) r.alight 0 → t ≤ u
+        → Offered l l (onward_rows left (sheet_of feed) (joins_of feed changes) n f b a r.board r.alight)
+    onward-out left b a r hl q e h =
+        left-out f 3 t (onward_rows left (sheet_of feed) (joins_of feed changes) n f b a r.board r.alight) v
+        (on-covered left b a r.board r.alight hl q.run.within q.alights q.run.same (omega arith))
+
+    -- what is left of it, in a loop over the rides that r joins
+    pub rest-on-out : {l₀ : List ℕ} {rest : List ℕ} (left : ℕ) (r : Ride) (p : FirstRide) {u : ℕ} → left ≤ 1 → IsRide feed n r
+        → p ≡ first_of (sheet_of feed) r.board 0 r.alight → u ≡ get_or (get_or on (left + 1) []) r.alight 0 → t ≤ u
+        → Rest l₀ l (board_on left (sheet_of feed) (joins_of feed changes) n f p r.board r.alight) (span 0 (n - 0)) rest
+        → Offered l₀ l (onward_rows (left + 1) (sheet_of feed) (joins_of feed changes) n f 0 0 r.board r.alight)
+    unfolding over_calls
+    rest-on-out {rest = rest} left r p hl q e eu h x =
+        let g = board_on left (sheet_of feed) (joins_of feed changes) n f p r.board r.alight in
+        let k = fewer (sheet_of feed) (joins_of feed changes) n f left r.board r.alight p e in
+        rw k
+        (rest-out
+        (left-out f 3 t (concat_map g rest) v
+        (λ o i. on-covered (left + 1) 0 0 r.board r.alight (omega arith) q.run.within q.alights q.run.same (omega arith) o
+        (let (c, y, z) = concat_map-mem g rest i in rw k (mem-concat_map g (x.within c y) z))))
+        x)
 
 -- ---- the bounds side by side
 
-pub onward-made : {none one two last middle : List ℕ} (feed changes : List ℕ) (n : ℕ) → Each (AtCall feed) 0 n none
+pub onward-made : {none one two last middle : List ℕ} {rows rows' : List (List ℕ)} (feed changes : List ℕ) (n : ℕ) → Each (AtCall feed) 0 n none
     → Each (BoardAt feed n none) 0 n last → Each (JoinsAt feed changes n last) 0 n one
+    → EachOf call_room [] (RowAt feed changes n last) 0 n rows
     → Each (BoardAt feed n one) 0 n middle → Each (JoinsAt feed changes n middle) 0 n two
-    → Onward (none ∷ one ∷ two ∷ []) (last ∷ middle ∷ []) feed changes n
-onward-made {none} {one} {two} {last} {middle} feed changes n w b₀ j₁ b₁ j₂ = record { on_time = on; board = board }
+    → EachOf call_room [] (RowAt feed changes n middle) 0 n rows'
+    → Onward (none ∷ one ∷ two ∷ []) (last ∷ middle ∷ []) (rows ∷ rows' ∷ []) feed changes n
+onward-made {none} {one} {two} {last} {middle} {rows} {rows'} feed changes n w b₀ j₁ r₀ b₁ j₂ r₁ =
+    record { on_time = on; board = board; row = row }
   where
     zero-left : NotBefore feed changes n 0 none
     zero-left = not-before-here feed changes n none w
@@ -207,3 +265,9 @@ onward-made {none} {one} {two} {last} {middle} feed changes n w b₀ j₁ b₁ j
     board zero h c l = b₀.each c (omega arith) l
     board (suc zero) h c l = b₁.each c (omega arith) l
     board (suc (suc k)) h c l = absurd (omega arith)
+
+    row : (left : ℕ) → left ≤ 1 → (m : ℕ) → m < n
+        → RowAt feed changes n (get_or (last ∷ middle ∷ []) left []) m (get_or (get_or (rows ∷ rows' ∷ []) left []) m [])
+    row zero h m l = r₀.each m (omega arith) l
+    row (suc zero) h m l = r₁.each m (omega arith) l
+    row (suc (suc k)) h m l = absurd (omega arith)

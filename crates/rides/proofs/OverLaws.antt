@@ -12,8 +12,7 @@ use borrow.Author.Tests.{le-leb, leb-true, leb-false, ltb-true, ltb-false, eqb-t
 use Rattle.laws.specs.Lists.{concat_map, foldl, span}
 use Rattle.laws.specs.Bits.{bits_of}
 use Rattle.laws.proofs.Bools.{and-true-left, and-true-right, test}
-use Rattle.laws.proofs.Agree.{span_below}
-use Rattle.laws.proofs.Folds.{concat_map-mem}
+use Rattle.laws.proofs.Folds.{concat_map-mem, span-mem}
 use Rattle.profile.specs.Found.{Row}
 use Rattle.profile.specs.declared.figures.Figures.{Figures}
 use Rattle.profile.specs.Journeys.{cov, row_of}
@@ -91,14 +90,14 @@ module _ (feed : List ℕ) (f : FirstRide) where
       let (z, i) = cond-mem (joins_of feed changes f j) p in
       run-covered feed f n j t u (h y z) w o i
 
-  calls-by : {b : List ℕ} (changes : List ℕ) (n i : ℕ) {t u : ℕ} → ((j : ℕ) → j < n → AtBoard feed n j (get_or b j 0)) → t ≤ u
-      → Least feed changes b f n u
-      → Covers (due_first f 2 t) (concat_map (last_board_rows (sheet_of feed) (joins_of feed changes) n f) (span i (n - i)))
+  calls-by : {b : List ℕ} (changes : List ℕ) (n i m : ℕ) {t u k : ℕ} → m ≤ n → ((j : ℕ) → j < n → AtBoard feed n j (get_or b j 0))
+      → t ≤ u → k ≤ i → Least feed changes b f k m u
+      → Covers (due_first f 2 t) (concat_map (last_board_rows (sheet_of feed) (joins_of feed changes) n f) (span i (m - i)))
   unfolding JoinAt
-  calls-by {b} changes n i w h g o m =
-      let (j, k, p) = concat_map-mem (last_board_rows (sheet_of feed) (joins_of feed changes) n f) (span i (n - i)) m in
-      let s = span_below i n k in
-      board-by changes n j (λ y z. let q = g.least j s y z in omega (arith, q, h)) (w j s) o p
+  calls-by {b} changes n i m e w h a g o p =
+      let (j, k, q) = concat_map-mem (last_board_rows (sheet_of feed) (joins_of feed changes) n f) (span i (m - i)) p in
+      let (low, high) = span-mem i (m - i) k in
+      board-by changes n j (λ y z. let r = g.least j (omega arith) (omega arith) y z in omega (arith, r, h)) (w j (omega arith)) o q
 
 module _ {l : List ℕ} (feed : List ℕ) (f : FirstRide) where
   pub target-out : (b a x : ℕ) {t d : ℕ} → d ≡ arrival_of (target_walk_of feed x) (call_at feed a).arrival → t ≤ d → Over l f 2 t
@@ -136,22 +135,22 @@ module _ {l : List ℕ} (feed : List ℕ) (f : FirstRide) where
         over = v;
       }
 
-  -- the last rides that board at i or behind it, if none that is joined is earlier
-  pub calls-out : {b : List ℕ} (changes : List ℕ) (n i : ℕ) {t u : ℕ} → ((j : ℕ) → j < n → AtBoard feed n j (get_or b j 0)) → t ≤ u
-      → Least feed changes b f n u → Over l f 2 t
-      → Offered l l (concat_map (last_board_rows (sheet_of feed) (joins_of feed changes) n f) (span i (n - i)))
-  calls-out changes n i {t} w h g v =
-      left-out f 2 t (concat_map (last_board_rows (sheet_of feed) (joins_of feed changes) n f) (span i (n - i))) v
-      (calls-by feed f changes n i w h g)
+  -- the last rides that board at i or behind it, up to m, if none that is joined is earlier
+  pub calls-out : {b : List ℕ} (changes : List ℕ) (n i m : ℕ) {t u k : ℕ} → m ≤ n → ((j : ℕ) → j < n → AtBoard feed n j (get_or b j 0))
+      → t ≤ u → k ≤ i → Least feed changes b f k m u → Over l f 2 t
+      → Offered l l (concat_map (last_board_rows (sheet_of feed) (joins_of feed changes) n f) (span i (m - i)))
+  calls-out changes n i m {t} e w h a g v =
+      left-out f 2 t (concat_map (last_board_rows (sheet_of feed) (joins_of feed changes) n f) (span i (m - i))) v
+      (calls-by feed f changes n i m e w h a g)
 
   -- all of them
   pub changes-out : {b : List ℕ} (changes : List ℕ) (n depth : ℕ) {t u : ℕ} → ((j : ℕ) → j < n → AtBoard feed n j (get_or b j 0)) → t ≤ u
-      → Least feed changes b f n u
+      → Least feed changes b f 0 n u
       → Over l f 2 t → Offered l l (change_rows (sheet_of feed) (joins_of feed changes) depth n f)
   unfolding change_rows over_calls
   changes-out changes n depth {t} w h g v =
       left-out f 2 t (change_rows (sheet_of feed) (joins_of feed changes) depth n f) v
-      (λ o m. calls-by feed f changes n 0 w h g o (cond-mem (eqb depth 1) m).1)
+      (λ o m. calls-by feed f changes n 0 n (omega arith) w h (omega arith) g o (cond-mem (eqb depth 1) m).1)
 
 -- ---- one ride alone
 

@@ -1,5 +1,5 @@
 -- The numbers of places: how they are put in, and that no way on is at its target before them.
-use mathlib.Core.Path.{◌≡◌, refl, sym, ap, subst, ◌∙◌}
+use mathlib.Core.Path.{◌≡◌, refl, sym, subst, ◌∙◌}
 use mathlib.Core.Logic.{◌≢◌, ◌⊎◌, inl, inr}
 use mathlib.Core.Bool.{Bool, true, false, false≢true, ◌&&◌}
 use mathlib.Core.List.Memᴰ
@@ -8,20 +8,20 @@ use Prim.Native.Nat.{ℕ, zero, suc, ◌+◌, ◌-◌, ◌≤◌, ◌<◌, min}
 use native.Mathlib.Omega.{arith}
 use native.Mathlib.Nat.{eq-or-lt_of_le}
 use native.Mathlib.Numerals.{add-one}
+use lib.Arith.{lt_of_le-ne}
 use lib.Dec.{eqb, ltb}
-use lib.ListN.{length, get_or, set, replicate, length-set}
+use lib.ListN.{length, get_or, set, replicate, length-set, length-replicate, get_or-replicate}
 use lib.Seq.{get_or-set_same, get_or-set_other}
-use borrow.Author.Tests.{eqb-true}
+use borrow.Author.Tests.{eqb-true, eqb-false}
 use Rattle.laws.specs.Lists.{span}
 use Rattle.laws.specs.Tails.{Tail}
 use Rattle.laws.specs.Bits.{bits_of}
 use Rattle.laws.proofs.Folds.{concat_map-mem, span-mem}
-use Rattle.laws.proofs.Bools.{and-true-left, and-true-right}
+use Rattle.laws.proofs.Bools.{and-true-left, and-true-right, test}
 use Rattle.laws.proofs.Tails.{take_while-mem}
 use Rattle.ways.specs.Rides.{Leg, Network, joined_rides}
 use Rattle.ways.specs.Routes.{Way, here, ride_then, onward}
 use Rattle.ways.proofs.RideLaws.{Listed, joined-mem, listed_in}
-use Rattle.search_input.specs.declared.FeedCall.{FeedCall}
 use Rattle.search_input.specs.declared.FirstRide.{FirstRide}
 use Rattle.search_input.specs.Feed.{call_at, same_run, target_mask, joined}
 use Rattle.rides.specs.Rows.{first_of, network_of}
@@ -29,38 +29,52 @@ use Rattle.rides.specs.Loops.{later_from}
 use Rattle.rides.specs.Sheets.{sheet_of, joins_of}
 use Rattle.rides.specs.Bounds.{AtTargets, AtCall}
 use Rattle.rides.proofs.LoopLaws.{run-end, run-next, run-on}
-use Rattle.rides.specs.Reach.{due_at, NotBefore, alighted_at, BoardAt, JoinAt, Least, JoinsAt, Each}
+use Rattle.rides.specs.Reach.{due_at, NotBefore, alighted_at, BoardAt, JoinAt, Least, JoinsAt, EachOf, Each}
 
 -- ---- arrays filled from the left and from the right
 
-pub length-replicate : (k x : ℕ) → length (replicate k x) ≡ k
-length-replicate zero x = refl
-length-replicate (suc k) x = ap suc (length-replicate k x)
+module _ {A : Type 0} {room : ℕ} {none : A} (P : ℕ → A → Type 0) where
+  -- none is put in
+  pub each-none : {i : ℕ} {l : List A} → length l ≡ room → EachOf room none P i i l
+  each-none e = record { long = e; each = λ k l h. absurd (omega arith) }
 
-pub none_yet : (P : ℕ → ℕ → Type 0) (i x : ℕ) → Each P i i (replicate 512 x)
-none_yet P i x = record { long = length-replicate 512 x; each = λ k l h. absurd (omega arith) }
+  pub none_yet : (i : ℕ) (x : A) → EachOf room none P i i (replicate room x)
+  none_yet i x = each-none (length-replicate room x)
 
--- one more on the right
-pub put_right : (P : ℕ → ℕ → Type 0) {m n t : ℕ} {l : List ℕ} → n ≡ m + 1 → m < 512 → P m t → Each P 0 m l → Each P 0 n (set l m t)
-put_right P {m} {n} {t} {l} e h p w = record { long = length-set l m t ∙ w.long; each = λ k a b. go k (eq-or-lt_of_le (omega arith)) }
-  where
-    go : (k : ℕ) → (k ≡ m) ⊎ (k < m) → P k (get_or (set l m t) k 0)
-    go k (inl q) = rw (q, get_or-set_same l m t 0 (omega (arith, w.long))) p
-    go k (inr q) = let d : k ≢ m = λ z. omega arith in rw (get_or-set_other l m k t 0 d) (w.each k (omega arith) q)
+  -- the same element at each place
+  pub each-alike : {n : ℕ} {x : A} → n ≤ room → ((k : ℕ) → P k x) → EachOf room none P 0 n (replicate room x)
+  each-alike {n} {x} h p =
+      record { long = length-replicate room x; each = λ k l i. rw (get_or-replicate {A = A} room k x none (omega arith)) (p k) }
 
--- one more on the left
-pub put-left : (P : ℕ → ℕ → Type 0) {i j n t : ℕ} {l : List ℕ} → i ≡ j + 1 → j < 512 → P j t → Each P i n l → Each P j n (set l j t)
-put-left P {i} {j} {n} {t} {l} e h p w = record { long = length-set l j t ∙ w.long; each = λ k a b. go k b (eq-or-lt_of_le a) }
-  where
-    go : (k : ℕ) → k < n → (j ≡ k) ⊎ (j < k) → P k (get_or (set l j t) k 0)
-    go k b (inl q) = rw (← q, get_or-set_same l j t 0 (omega (arith, w.long))) p
-    go k b (inr q) = let d : k ≢ j = λ z. omega arith in rw (get_or-set_other l j k t 0 d) (w.each k (omega arith) b)
+  -- x is put at m
+  put-at : {m i n : ℕ} {x : A} (l : List A) → m < room → P m x → length l ≡ room
+      → ((k : ℕ) → i ≤ k → k < n → k ≢ m → P k (get_or l k none)) → EachOf room none P i n (set l m x)
+  put-at {m} {i} {n} {x} l h p e g = record { long = length-set l m x ∙ e; each = λ k a b. go k a b (test (eqb k m)) }
+    where
+      go : (k : ℕ) → i ≤ k → k < n → (eqb k m ≡ true) ⊎ (eqb k m ≡ false) → P k (get_or (set l m x) k none)
+      go k a b (inl q) = rw (eqb-true k m q, get_or-set_same l m x none (omega (arith, e))) p
+      go k a b (inr q) = let d = eqb-false k m q in rw (get_or-set_other l m k x none d) (g k a b d)
+
+  -- in place of another
+  pub put-again : {m n : ℕ} {x : A} {l : List A} → m < room → P m x → EachOf room none P 0 n l → EachOf room none P 0 n (set l m x)
+  put-again {l = l} h p w = put-at l h p w.long (λ k a b d. w.each k a b)
+
+  -- one more on the right
+  pub put_right : {m n : ℕ} {x : A} {l : List A} → n ≡ m + 1 → m < room → P m x → EachOf room none P 0 m l
+      → EachOf room none P 0 n (set l m x)
+  put_right {l = l} e h p w = put-at l h p w.long (λ k a b d. w.each k a (lt_of_le-ne (omega arith) d))
+
+  -- one more on the left
+  pub put-left : {i j n : ℕ} {x : A} {l : List A} → i ≡ j + 1 → j < room → P j x → EachOf room none P i n l
+      → EachOf room none P j n (set l j x)
+  put-left {l = l} e h p w = put-at l h p w.long (λ k a b d. w.each k (let g = lt_of_le-ne a (λ q. d (sym q)) in omega (arith, e, g)) b)
 
 pub each_same : (P : ℕ → ℕ → Type 0) {i j n : ℕ} {l : List ℕ} → i ≡ j → Each P i n l → Each P j n l
 each_same P {n = n} {l = l} e w = subst (λ (k : ℕ). Each P k n l) e w
 
-pub each_to : (P : ℕ → ℕ → Type 0) {i m n : ℕ} {l : List ℕ} → m ≡ n → Each P i m l → Each P i n l
-each_to P {i} {l = l} e w = subst (λ (k : ℕ). Each P i k l) e w
+pub each_to : {A : Type 0} {room : ℕ} {none : A} (P : ℕ → A → Type 0) {i m n : ℕ} {l : List A} → m ≡ n → EachOf room none P i m l
+    → EachOf room none P i n l
+each_to {room = room} {none} P {i} {l = l} e w = subst (λ (k : ℕ). EachOf room none P i k l) e w
 
 -- ---- the rides that board at a place
 
@@ -80,44 +94,36 @@ module _ (feed : List ℕ) (n : ℕ) (at : List ℕ) (j t : ℕ) where
 
 -- ---- the rides that a ride joins
 
-pub least_start : {feed changes boards : List ℕ} {p : FirstRide} {t : ℕ} → Least feed changes boards p 0 t
-least_start = record { least = λ k h. absurd (omega arith) }
+pub least_start : {feed changes boards : List ℕ} {p : FirstRide} {i t : ℕ} → Least feed changes boards p i i t
+least_start = record { least = λ k a h. absurd (omega arith) }
 
 -- a number that is no later than those before, and than that at c if one can board there and the ride joins
-least-on : {feed changes boards : List ℕ} {p : FirstRide} {c t t' : ℕ} → t' ≤ t → JoinAt feed changes boards p c t'
-    → Least feed changes boards p c t
-    → Least feed changes boards p (c + 1) t'
+least-on : {feed changes boards : List ℕ} {p : FirstRide} {i c t t' : ℕ} → t' ≤ t → JoinAt feed changes boards p c t'
+    → Least feed changes boards p i c t
+    → Least feed changes boards p i (c + 1) t'
 unfolding JoinAt
-least-on {feed} {changes} {boards} {p} {c} {t} {t'} h w l = record { least = λ k i. go k (eq-or-lt_of_le (omega arith)) }
+least-on {feed} {changes} {boards} {p} {i} {c} {t} {t'} h w l = record { least = λ k a b. go k a (eq-or-lt_of_le (omega arith)) }
   where
-    go : (k : ℕ) → (k ≡ c) ⊎ (k < c) → (call_at feed k).board ≡ true → joins_of feed changes p k ≡ true → t' ≤ get_or boards k 0
-    go k (inl e) y z = let g = w (rw e at y) (rw e at z) in rw e (omega arith)
-    go k (inr i) y z = let g = l.least k i y z in omega arith
+    go : (k : ℕ) → i ≤ k → (k ≡ c) ⊎ (k < c) → (call_at feed k).board ≡ true → joins_of feed changes p k ≡ true → t' ≤ get_or boards k 0
+    go k a (inl e) y z = let g = w (rw e at y) (rw e at z) in rw e (omega arith)
+    go k a (inr b) y z = let g = l.least k a b y z in omega arith
 
-pub least-joined : {feed changes boards : List ℕ} {p : FirstRide} {c t t' : ℕ} → t' ≡ min t (get_or boards c 0)
-    → Least feed changes boards p c t
-    → Least feed changes boards p (c + 1) t'
+pub least-joined : {feed changes boards : List ℕ} {p : FirstRide} {i c t t' : ℕ} → t' ≡ min t (get_or boards c 0)
+    → Least feed changes boards p i c t
+    → Least feed changes boards p i (c + 1) t'
 unfolding JoinAt
 least-joined e l = least-on (omega arith) (λ y z. omega arith) l
 
-pub least-apart : {feed changes boards : List ℕ} {p : FirstRide} {c t : ℕ} {x : Bool}
+pub least-apart : {feed changes boards : List ℕ} {p : FirstRide} {i c t : ℕ} {x : Bool}
     → x ≡ ((call_at feed c).board && joins_of feed changes p c) → x ≡ false
-    → Least feed changes boards p c t → Least feed changes boards p (c + 1) t
+    → Least feed changes boards p i c t → Least feed changes boards p i (c + 1) t
 unfolding JoinAt
 least-apart e f l = least-on (omega arith) (λ y z. absurd (false≢true (sym f ∙ rw (y, z) at e))) l
 
-pub least-same : {feed changes boards : List ℕ} {p : FirstRide} {c c' t : ℕ} → c ≡ c' → Least feed changes boards p c t
-    → Least feed changes boards p c' t
-least-same e w = rw e at w
-
-module _ (feed changes boards : List ℕ) (n m t : ℕ) where
-  pub joins-some : {p : FirstRide} → p ≡ alighted_at feed m → Least feed changes boards p n t → JoinsAt feed changes n boards m t
-  unfolding JoinsAt
-  joins-some e w y = rw e at w
-
-  pub joins-none : {a : FeedCall} → a ≡ call_at feed m → a.alight ≡ false → JoinsAt feed changes n boards m t
-  unfolding JoinsAt
-  joins-none ea e y = absurd (false≢true (sym e ∙ ap (λ (b : FeedCall). b.alight) ea ∙ y))
+-- of no more places
+pub least-fewer : {feed changes boards : List ℕ} {p : FirstRide} {i n n' t : ℕ} → n' ≤ n → Least feed changes boards p i n t
+    → Least feed changes boards p i n' t
+least-fewer h w = record { least = λ k a b. w.least k a (omega arith) }
 
 -- ---- no way on is early
 
@@ -182,5 +188,5 @@ module _ (feed changes : List ℕ) (n : ℕ) where
       let (q, x) = joined-mem net s r l j in
       let on = h l v (below l q).1 (alighted l q) (of-run l q) k in
       let board = f.each l.b (omega arith) (below l q).0 l.a (later l q) (alighted l q) in
-      let join = (g.each r.a (omega arith) hr y).least l.b (below l q).0 (boarded l q) (joined-alighted r l.b z x) in
+      let join = (g.each r.a (omega arith) hr y).least l.b (omega arith) (below l q).0 (boarded l q) (joined-alighted r l.b z x) in
       subst (λ (u : Way ℕ). get_or new r.a 0 ≤ due_at feed r.a u) e (omega (arith, on, board, join))

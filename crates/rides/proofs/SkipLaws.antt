@@ -3,10 +3,9 @@ use mathlib.Core.Path.{◌≡◌, refl}
 use mathlib.Core.Bool.{Bool, true, false, cond, not, ◌&&◌}
 use mathlib.Core.List.Memᴰ
 use mathlib.Core.List.{List, [], Memᴰ}
-use Prim.Native.Nat.{ℕ, ◌+◌, ◌≤◌, ◌<◌}
+use Prim.Native.Nat.{ℕ, ◌+◌, ◌≤◌}
 use native.Mathlib.Omega.{arith}
 use lib.Dec.{eqb}
-use lib.ListN.{get_or}
 use borrow.Author.Tests.{leb-true}
 use Rattle.laws.specs.Bits.{bits_of}
 use Rattle.laws.proofs.Bools.{and-true-right}
@@ -16,10 +15,10 @@ use Rattle.profile.specs.Journeys.{cov, row_of}
 use Rattle.candidate.proofs.PassedLaws.{cov-no-later}
 use Rattle.search_input.specs.declared.FirstRide.{FirstRide}
 use Rattle.rides.specs.Rows.{change_row}
-use Rattle.rides.specs.Loops.{over_bits, over_run, later_from, last_at, last_alight_rows, last_board_rows}
+use Rattle.rides.specs.Loops.{over_bits, over_run, later_from, last_at, last_alight_rows}
 use Rattle.search_input.specs.Feed.{call_at, change_at, target_mask, joined}
 use Rattle.rides.specs.Sheets.{joins_of, sheet_of}
-use Rattle.rides.specs.Bounds.{AtTargets, AtCall, AtBoard, bucket_of, Bounds}
+use Rattle.rides.specs.Bounds.{AtTargets, AtCall, AtBoard}
 
 pub cond-mem : {A : Type 0} {x : A} {xs : List A} (b : Bool) → Memᴰ x (cond b xs []) → (b ≡ true) × Memᴰ x xs
 cond-mem true m = (refl, m)
@@ -58,12 +57,3 @@ joins_after feed changes f j e =
     leb-true (f.arrival + change_at changes f.stop b.stop) b.departure
     (and-true-right (not (eqb f.trip b.trip && eqb f.day b.day)) _ e) in
     omega (arith, h)
-
-module _ (feed : List ℕ) (n : ℕ) (f : FirstRide) {b : List ℕ} {t : ℕ} (w : Bounds b feed n) where
-  pub board-covered : (changes : List ℕ) (j : ℕ) → j < n → t ≡ get_or b (bucket_of f.arrival) 0
-      → Covers (earliest f t) (last_board_rows (sheet_of feed) (joins_of feed changes) n f j)
-  unfolding last_board_rows sheet_of
-  board-covered changes j h e o m =
-      let (y, p) = cond-mem (call_at feed j).board m in
-      let (z, i) = cond-mem (joins_of feed changes f j) p in
-      run-covered feed f n j t (get_or b j 0) (omega (arith, w.after f.arrival j h y (joins_after feed changes f j z))) (w.board j h) o i

@@ -32,7 +32,7 @@ fn target_bound(calls: &Calls, a: u16, targets: Digits) -> u16
 }
 
 // The same of the targets of the stop at place m, if one can alight there.
-pub fn alight_bound(calls: &Calls, m: usize) -> u16
+pub(crate) fn alight_bound(calls: &Calls, m: usize) -> u16
     requires { m < call_room }
     ensures { AtCall calls.now.feed.now m result }
 {
@@ -56,7 +56,7 @@ fn board_bound(bounds: &[u16; 1024], calls: &Calls, j: usize) -> u16
 
 // The place of the number for rides that depart at t or later.
 #[tactic(auto, unfolding(crate::specs::Bounds::bucket_of))]
-pub fn bucket_of(t: u16) -> usize
+pub(crate) fn bucket_of(t: u16) -> usize
     ensures { (result ≡ bucket_of t) × (result < 1024) × (call_room ≤ result) }
 {
     CALLS + t as usize / 128

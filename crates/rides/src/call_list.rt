@@ -79,7 +79,7 @@ impl<'a> Calls<'a> {
     }
 
     #[tactic(auto, unfolding(search_input::specs::Feed::origin_walk_of))]
-    pub fn origin_walk(&self, o: u8) -> u16
+    pub(crate) fn origin_walk(&self, o: u8) -> u16
         requires { o < 4 }
         ensures { result ≡ origin_walk_of self.now.feed.now o }
     {

@@ -7,16 +7,17 @@ ghost use Rattle.rides.specs.Loops.{last_alight_rows, last_board_rows, change_ro
 ghost use Rattle.rides.specs.Offered.{Offered};
 ghost use Rattle.rides.specs.Over.{Over, Holds, Walked, Joined, Alights};
 ghost use Rattle.rides.specs.Places.{sheet_in, joins_in};
-ghost use Rattle.rides.specs.Reach.{Least};
+ghost use Rattle.rides.specs.Reach.{block_end, Least, LeastByBlock};
 ghost use Rattle.rides.specs.Sheets.{sheet_of};
+ghost use Rattle.search_input.specs.Layout.{call_room};
 
 use crate::bits::Digits;
 use crate::bounds::bucket_of;
 use crate::call_list::{Calls, Ride};
+use crate::joined::{BLOCK, BLOCKS, JoinedTimes, block_end, joined_time};
 use crate::last::{LastRides, last_at};
 use crate::paths::direct_at;
 use crate::since::{Since, asked};
-use search_input::layout::CALLS;
 use search_input::{FirstRide, arrival_of};
 use search_state::layout::State;
 
@@ -88,10 +89,10 @@ fn run_before(st: &mut State, last: &LastRides, f: FirstRide, j: usize, over: u3
     over
 }
 
-// Those that board at j, if one of them is at a target before `over` and the first ride joins them. Inlined, as at most places two numbers
-// are compared.
-#[inline]
-fn board_before(st: &mut State, last: &LastRides, f: FirstRide, j: usize, over: u32) -> u32
+// Those that board at j, if one of them is at a target before `over` and the first ride joins them. Inlined at each of its two callers, as
+// at most places two numbers are compared.
+#[inline(always)]
+pub fn board_before(st: &mut State, last: &LastRides, f: FirstRide, j: usize, over: u32) -> u32
     requires { (j < last.now.lent.calls.n) × Over st.old f 2 over }
     ensures { Walked st.old st.new (last_board_rows (sheet_in last.now.lent) (joins_in last.now.lent) last.now.lent.calls.n f j) f 2 result }
 {
@@ -104,17 +105,25 @@ fn board_before(st: &mut State, last: &LastRides, f: FirstRide, j: usize, over: 
     over
 }
 
-// Every last ride, up to where none is at a target before `over`: of all of them none is before `least`.
-fn rides_before(st: &mut State, last: &LastRides, f: FirstRide, least: u16, over: u32) -> u32
-    requires { Least last.now.lent.calls.feed.now last.now.lent.changes.now last.now.bounds.now f last.now.lent.calls.n least
-        × Over st.old f 2 over }
+// Those that board in the block that begins at `from`, up to where none is at a target before `over`: of all of them none is before `t`.
+#[inline]
+fn block_before(
+    st: &mut State,
+    last: &LastRides,
+    f: FirstRide,
+    from: usize,
+    t: u16,
+    over: u32,
+) -> u32
+    requires { (from < call_room) × Least last.now.lent.calls.feed.now last.now.lent.changes.now last.now.bounds.now f from
+        (block_end last.now.lent.calls.n from) t × Over st.old f 2 over }
     ensures { Walked st.old st.new
-        (over_calls (last_board_rows (sheet_in last.now.lent) (joins_in last.now.lent) last.now.lent.calls.n f) last.now.lent.calls.n 0)
-        f 2 result }
+        (over_calls (last_board_rows (sheet_in last.now.lent) (joins_in last.now.lent) last.now.lent.calls.n f)
+        (block_end last.now.lent.calls.n from) from) f 2 result }
 {
     let mut over = over;
-    for j in 0..last.lent.calls.n {
-        if over <= least as u32 {
+    for j in from..block_end(last.lent.calls.n, from) {
+        if over <= t as u32 {
             return over;
         }
         over = board_before(st, last, f, j, over);
@@ -122,39 +131,38 @@ fn rides_before(st: &mut State, last: &LastRides, f: FirstRide, least: u16, over
     over
 }
 
-// The earliest that a last ride that f joins is at a target.
-fn least_joined(last: &LastRides, f: FirstRide) -> u16
-    ensures { Least last.now.lent.calls.feed.now last.now.lent.changes.now last.now.bounds.now f last.now.lent.calls.n result }
+// Every last ride, by blocks, up to where none is at a target before `over`: of all of them none is before `least`, and of those that board
+// in a block none before its number in `row`.
+fn rides_before(
+    st: &mut State,
+    last: &LastRides,
+    f: FirstRide,
+    row: &[u16; BLOCKS],
+    least: u16,
+    over: u32,
+) -> u32
+    requires { LeastByBlock last.now.lent.calls.feed.now last.now.lent.changes.now last.now.bounds.now last.now.lent.calls.n f row.now
+        × Least last.now.lent.calls.feed.now last.now.lent.changes.now last.now.bounds.now f 0 last.now.lent.calls.n least
+        × Over st.old f 2 over }
+    ensures { Walked st.old st.new
+        (over_calls (last_board_rows (sheet_in last.now.lent) (joins_in last.now.lent) last.now.lent.calls.n f) last.now.lent.calls.n 0)
+        f 2 result }
 {
-    let mut t = 65535u16;
-    for j in 0..last.lent.calls.n {
-        if last.lent.can_board(f, j) {
-            t = t.min(last.bound(j));
+    let mut over = over;
+    for b in 0..BLOCKS {
+        if over <= least as u32 {
+            return over;
         }
+        over = block_before(st, last, f, b * BLOCK, row[b], over);
     }
-    t
-}
-
-// The same, from the number where f alights: it is put in the first time, which a 0 stands for.
-fn joined_time(joined: &mut [u16; CALLS], last: &LastRides, f: FirstRide) -> u16
-    requires { Alights last.now.lent.calls.feed.now last.now.lent.calls.n f × Joined last.now joined.old }
-    ensures array { Joined last.now joined.new }
-    ensures time { Least last.now.lent.calls.feed.now last.now.lent.changes.now last.now.bounds.now f last.now.lent.calls.n result }
-{
-    let m = f.alight as usize;
-    if joined[m] != 0 {
-        return joined[m];
-    }
-    let t = least_joined(last, f);
-    joined[m] = t;
-    t
+    over
 }
 
 // The journeys with a change after f. None is looked for where the earliest that it could be, by what departs after f arrives and by what
 // is joined where it alights, is not before `since.two`, or would be passed over: most often it would, by one of the first rows kept.
 fn change_rides(
     st: &mut State,
-    joined: &mut [u16; CALLS],
+    joined: &mut JoinedTimes,
     last: &LastRides,
     f: FirstRide,
     since: Since,
@@ -167,7 +175,7 @@ fn change_rides(
 {
     let t = last
         .bound(bucket_of(f.arrival))
-        .max(joined[f.alight as usize]);
+        .max(joined.least[f.alight as usize]);
     if since.two <= t as u32 {
         return since;
     }
@@ -176,7 +184,8 @@ fn change_rides(
         return since;
     }
     let least = joined_time(joined, last, f);
-    let two = rides_before(st, last, f, least, since.two);
+    let row = joined.blocks[f.alight as usize];
+    let two = rides_before(st, last, f, &row, least, since.two);
     Since { two, ..since }
 }
 
@@ -194,7 +203,7 @@ fn direct_before(st: &mut State, calls: &Calls, f: FirstRide, x: u8, over: u32) 
 }
 
 // The targets of the stop where it ends.
-pub fn directs_before(st: &mut State, calls: &Calls, f: FirstRide, over: u32) -> u32
+pub(crate) fn directs_before(st: &mut State, calls: &Calls, f: FirstRide, over: u32) -> u32
     requires { Over st.old f 1 over }
     ensures { Walked st.old st.new (direct_rows (sheet_of calls.now.feed.now) f) f 1 result }
 {
@@ -206,9 +215,9 @@ pub fn directs_before(st: &mut State, calls: &Calls, f: FirstRide, over: u32) ->
 }
 
 // The journeys of the first ride alone and then those with a change: a journey of one ride beats whatever is due no earlier by two.
-pub fn first_before(
+pub(crate) fn first_before(
     st: &mut State,
-    joined: &mut [u16; CALLS],
+    joined: &mut JoinedTimes,
     last: &LastRides,
     f: FirstRide,
     since: Since,

@@ -38,7 +38,7 @@ impl<'a> Lent<'a> {
     }
 
     // Whether it does and one can board there.
-    pub fn can_board(&self, f: FirstRide, j: usize) -> bool
+    pub(crate) fn can_board(&self, f: FirstRide, j: usize) -> bool
         requires { j < call_room }
         ensures { result ≡ (call_at self.now.calls.feed.now j).board && joins_of self.now.calls.feed.now self.now.changes.now f j }
     {

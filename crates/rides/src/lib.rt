@@ -12,8 +12,10 @@
 pub mod bits;
 pub mod bounds;
 pub mod call_list;
-mod change;
+pub mod change;
 pub mod firsts;
+pub mod joined;
+pub mod known;
 pub mod last;
 pub mod later;
 pub mod lent;

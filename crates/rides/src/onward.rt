@@ -1,20 +1,22 @@
 // Journeys of three rides: what leads on from a ride. With no change left that is the targets where it ends, else every ride that it
 // joins, with the number of changes left falling by one at each. What leads on at no target before `over` is not walked (`change`).
-ghost use Rattle.std.specs.Prelude.{◌≡◌, [], ◌+◌, ◌≤◌, ◌<◌, get_or};
+ghost use Rattle.std.specs.Prelude.{◌≡◌, [], ◌∷◌, ◌+◌, ◌≤◌, ◌<◌, get_or};
 ghost use Rattle.search_input.specs.Feed.{call_at};
 ghost use Rattle.rides.specs.Loops.{over_bits, over_calls, over_run, end_at, onward_rows, alight_on, board_on};
 ghost use Rattle.rides.specs.Offered.{Offered};
 ghost use Rattle.rides.specs.Over.{Over, Walked};
-ghost use Rattle.rides.specs.Reach.{Onward, Onward-prop};
+ghost use Rattle.rides.specs.Reach.{Onward, Onward-prop, block_end, Least};
 ghost use Rattle.rides.specs.Sheets.{sheet_of};
 ghost use Rattle.search_input.specs.Layout.{call_room};
 
 use crate::bits::Digits;
 use crate::call_list::{Calls, Ride};
+use crate::joined::{BLOCK, BLOCKS, block_end};
 use crate::lent::Lent;
 use crate::offer::offer;
-use candidate::times::threshold;
-use candidate::{Offer, candidate, passes_over};
+use crate::reach::Rows;
+use crate::since::{Passed, asked_for};
+use candidate::{Offer, candidate};
 use search_input::layout::CALLS;
 use search_input::{FirstRide, arrival_of};
 use search_state::layout::State;
@@ -86,7 +88,9 @@ pub struct ThreeRides<'a> {
     pub lent: Lent<'a>,
     pub times: &'a [[u16; CALLS]; 3],
     pub boards: &'a [[u16; CALLS]; 2],
-    ghost on_time: { Onward times.now boards.now lent.calls.feed.now lent.changes.now lent.calls.n } by { Onward-prop times.now boards.now lent.calls.feed.now lent.changes.now lent.calls.n },
+    pub by_last: &'a Rows,
+    pub by_middle: &'a Rows,
+    ghost on_time: { Onward times.now boards.now (by_last.now ∷ by_middle.now ∷ []) lent.calls.feed.now lent.changes.now lent.calls.n } by { Onward-prop times.now boards.now (by_last.now ∷ by_middle.now ∷ []) lent.calls.feed.now lent.changes.now lent.calls.n },
 }
 
 impl<'a> ThreeRides<'a> {
@@ -106,6 +110,17 @@ impl<'a> ThreeRides<'a> {
         ensures { result ≡ get_or (get_or self.now.boards.now left []) c 0 }
     {
         self.boards[left as usize][c]
+    }
+
+    // The same of the rides that one that alights at m joins, for each block of the calls where they board.
+    fn row(&self, left: u16, m: usize) -> [u16; BLOCKS]
+        requires { (left ≤ 1) × (m < call_room) }
+        ensures { result ≡ get_or (get_or (self.now.by_last.now ∷ self.now.by_middle.now ∷ []) left []) m [] }
+    {
+        if left == 0 {
+            return self.by_last[m];
+        }
+        self.by_middle[m]
     }
 
     // What leads on from the ride q, after r, if one can alight there.
@@ -177,25 +192,55 @@ impl<'a> ThreeRides<'a> {
         over
     }
 
-    // Every ride that it joins.
+    // Those that board in the block that begins at `from`, up to where none leads on before `over`: of those that p joins none does before
+    // `t`.
+    #[inline]
     #[cycle(onward)]
-    fn rides_on(
+    fn block_on(
         &self,
         st: &mut State,
         f: FirstRide,
         left: u16,
         p: FirstRide,
         r: Ride,
+        from: usize,
+        t: u16,
         over: u32,
     ) -> u32
-        requires { (left ≤ 1) × Over st.old f 3 over }
+        requires { (left ≤ 1) × (from < call_room)
+            × Least self.now.lent.calls.feed.now self.now.lent.changes.now (get_or self.now.boards.now left []) p from
+            (block_end self.now.lent.calls.n from) t × Over st.old f 3 over }
         ensures { Walked st.old st.new
             (over_calls (board_on left (sheet_in self.now.lent) (joins_in self.now.lent) self.now.lent.calls.n f p r.board r.alight)
-            self.now.lent.calls.n 0) f 3 result }
+            (block_end self.now.lent.calls.n from) from) f 3 result }
     {
         let mut over = over;
-        for c in 0..self.lent.calls.n {
+        for c in from..block_end(self.lent.calls.n, from) {
+            if over <= t as u32 {
+                return over;
+            }
             over = self.board_on(st, f, left, p, r, c, over);
+        }
+        over
+    }
+
+    // Every ride that the ride r joins, by blocks, up to where none leads on before `over`.
+    #[cycle(onward)]
+    fn rides_on(&self, st: &mut State, f: FirstRide, left: u16, r: Ride, over: u32) -> u32
+        requires { (left ≤ 1) × IsRide self.now.lent.calls.feed.now self.now.lent.calls.n r × Over st.old f 3 over }
+        ensures { Walked st.old st.new
+            (onward_rows (left + 1) (sheet_in self.now.lent) (joins_in self.now.lent) self.now.lent.calls.n f 0 0 r.board r.alight)
+            f 3 result }
+    {
+        let p = self.lent.calls.first_ride(r, 0);
+        let least = self.time_on(left + 1, r.alight);
+        let row = self.row(left, r.alight);
+        let mut over = over;
+        for b in 0..BLOCKS {
+            if over <= least as u32 {
+                return over;
+            }
+            over = self.block_on(st, f, left, p, r, b * BLOCK, row[b], over);
         }
         over
     }
@@ -220,24 +265,25 @@ impl<'a> ThreeRides<'a> {
                 over,
             );
         }
-        self.rides_on(st, f, left - 1, calls.first_ride(r, 0), r, over)
+        self.rides_on(st, f, left - 1, r, over)
     }
 
-    // What leads on from the first ride f, which is r, by two changes; nothing if all of it is due at `over` or later, or would be passed
-    // over at its earliest.
-    pub fn three_rides(&self, st: &mut State, f: FirstRide, r: Ride, over: u32) -> u32
-        requires { IsRide self.now.lent.calls.feed.now self.now.lent.calls.n r × Over st.old f 3 over }
+    // What leads on from the first ride f, which is r, by two changes; nothing if all of it is passed over, as is known or asked.
+    pub fn three_rides(&self, st: &mut State, f: FirstRide, r: Ride, passed: Passed) -> Passed
+        requires { IsRide self.now.lent.calls.feed.now self.now.lent.calls.n r × Over st.old f 3 passed.from }
         ensures { Walked st.old st.new
-            (onward_rows 2 (sheet_in self.now.lent) (joins_in self.now.lent) self.now.lent.calls.n f 0 0 r.board r.alight) f 3 result }
+            (onward_rows 2 (sheet_in self.now.lent) (joins_in self.now.lent) self.now.lent.calls.n f 0 0 r.board r.alight)
+            f 3 result.from }
     {
         let t = self.time_on(2, r.alight);
-        if over <= t as u32 {
-            return over;
+        if passed.from <= t as u32 {
+            return passed;
         }
-        if passes_over(st, f.figures(t, 3)) {
-            return t as u32;
+        let passed = asked_for(st, f, 3, t, passed);
+        if passed.from <= t as u32 {
+            return passed;
         }
-        let over = threshold(st, f.leave, 3, f.walk);
-        self.rides_on(st, f, 1, self.lent.calls.first_ride(r, 0), r, over)
+        let from = self.rides_on(st, f, 1, r, passed.from);
+        Passed { from, ..passed }
     }
 }

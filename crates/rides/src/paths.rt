@@ -8,17 +8,18 @@ ghost use Rattle.rides.specs.Routes.{rows_of};
 ghost use Rattle.rides.specs.Offered.{offer_all, Offered};
 
 use crate::bounds::bounds_of;
-use crate::call_list::{Calls, Ride};
-use crate::change::{directs_before, first_before};
+use crate::call_list::Calls;
+use crate::change::directs_before;
 use crate::firsts::FirstRides;
+use crate::joined::BLOCKS;
+use crate::known::{any_ride, known_none, next_first};
 use crate::last::LastRides;
 use crate::lent::Lent;
 use crate::offer::offer;
 use crate::onward::ThreeRides;
 use crate::reach::onward_times;
-use crate::since::{over_for, since_for, since_none};
+use crate::since::{Passed, passed_for, passed_none};
 use candidate::candidate;
-use candidate::times::late;
 use search_input::FirstRide;
 use search_input::layout::{CALLS, Changes, Feed};
 use search_state::is_refused;
@@ -41,30 +42,21 @@ pub fn directs(st: &mut State, calls: &Calls, f: FirstRide)
     }
 }
 
-// What stands before the first of the first rides: any ride, as nothing is known before one. What is known of a ride holds of the next, if
-// they leave alike and walk alike.
-fn any_ride(calls: &Calls) -> FirstRide {
-    let none = Ride {
-        board: 0,
-        alight: 0,
-    };
-    calls.first_ride(none, 0)
-}
-
 // The direct journeys. A refused search stays as it is, so the loop of a pass may end there.
-fn direct_pass(st: &mut State, lent: &Lent)
+pub fn direct_pass(st: &mut State, lent: &Lent)
     ensures { Offered st.old st.new (pass_rows (sheet_in lent.now) (joins_in lent.now) 0 lent.now.calls.n) }
 {
     let calls = &lent.calls;
     let mut before = any_ride(calls);
-    let mut over = late(st);
+    let mut passed = passed_none(st);
     for l in FirstRides::of(calls) {
         if is_refused(st) {
             return;
         }
         let f = calls.first_ride(l.ride, l.origin);
-        let from = over_for(st, f, before, over);
-        over = directs_before(st, calls, f, from);
+        let now = passed_for(st, f, before, passed);
+        let from = directs_before(st, calls, f, now.from);
+        passed = Passed { from, ..now };
         before = f;
     }
 }
@@ -73,18 +65,12 @@ fn direct_pass(st: &mut State, lent: &Lent)
 fn change_pass(st: &mut State, last: &LastRides)
     ensures { Offered st.old st.new (pass_rows (sheet_in last.now.lent) (joins_in last.now.lent) 1 last.now.lent.calls.n) }
 {
-    let calls = &last.lent.calls;
-    let mut joined = [0u16; CALLS];
-    let mut before = any_ride(calls);
-    let mut since = since_none(st);
-    for l in FirstRides::of(calls) {
+    let mut known = known_none(st, last);
+    for l in FirstRides::of(&last.lent.calls) {
         if is_refused(st) {
             return;
         }
-        let f = calls.first_ride(l.ride, l.origin);
-        let now = since_for(st, f, before, since);
-        since = first_before(st, &mut joined, last, f, now);
-        before = f;
+        next_first(st, &mut known, last, l);
     }
 }
 
@@ -94,14 +80,14 @@ fn three_pass(st: &mut State, three: &ThreeRides)
 {
     let calls = &three.lent.calls;
     let mut before = any_ride(calls);
-    let mut over = late(st);
+    let mut passed = passed_none(st);
     for l in FirstRides::of(calls) {
         if is_refused(st) {
             return;
         }
         let f = calls.first_ride(l.ride, l.origin);
-        let from = over_for(st, f, before, over);
-        over = three.three_rides(st, f, l.ride, from);
+        let now = passed_for(st, f, before, passed);
+        passed = three.three_rides(st, f, l.ride, now);
         before = f;
     }
 }
@@ -126,11 +112,15 @@ fn up_to_one(st: &mut State, lent: &Lent, depth: u16)
 fn with_two(st: &mut State, lent: &Lent)
     ensures { Offered st.old st.new (pass_rows (sheet_in lent.now) (joins_in lent.now) 2 lent.now.calls.n) }
 {
-    let times = onward_times(lent);
+    let mut by_last = [[65535u16; BLOCKS]; CALLS];
+    let mut by_middle = [[65535u16; BLOCKS]; CALLS];
+    let times = onward_times(lent, &mut by_last, &mut by_middle);
     let three = ThreeRides {
         lent: *lent,
         times: &times.on,
         boards: &times.boards,
+        by_last: &by_last,
+        by_middle: &by_middle,
     };
     three_pass(st, &three);
 }

@@ -1,14 +1,15 @@
-// How early one can be at a target from where a ride alights, by so many further rides: 512 numbers for each number of changes left.
+// How early one can be at a target from where a ride alights, by so many further rides: 512 numbers for each number of changes left, and
+// 512 rows of them by blocks of the calls where the next ride boards.
 // A time past 65535 is cut to it, which also stands where no target is reached: a minimum begins with it, so it needs no option.
-ghost use Rattle.std.specs.Prelude.{◌≡◌, ◌+◌, ◌≤◌, ◌<◌};
+ghost use Rattle.std.specs.Prelude.{◌≡◌, [], ◌∷◌, ◌+◌, ◌≤◌, ◌<◌};
 ghost use Rattle.rides.specs.Bounds.{AtCall};
-ghost use Rattle.rides.specs.Reach.{Onward, BoardAt, Least, JoinsAt, Each};
+ghost use Rattle.rides.specs.Reach.{Onward, BoardAt, JoinsAt, RowAt, EachOf, Each};
 ghost use Rattle.search_input.specs.Layout.{call_room};
 
 use crate::bounds::alight_bound;
 use crate::call_list::{Calls, Ride};
+use crate::joined::{BLOCKS, blocks_least, row_least};
 use crate::lent::Lent;
-use search_input::FirstRide;
 use search_input::layout::CALLS;
 
 // The numbers by place: from where a ride alights, with no change left, one and two; and of the rides that board there, with no change
@@ -18,6 +19,9 @@ pub struct Times {
     pub on: [[u16; CALLS]; 3],
     pub boards: [[u16; CALLS]; 2],
 }
+
+// For each place those of the rides that one that alights there joins, by blocks.
+pub type Rows = [[u16; BLOCKS]; CALLS];
 
 // With no change left: the targets of the stop at each place.
 fn put_targets(calls: &Calls) -> [u16; CALLS]
@@ -54,56 +58,46 @@ fn put_boards(calls: &Calls, at: &[u16; CALLS]) -> [u16; CALLS]
     boards
 }
 
-// The earliest of the rides that the ride joins.
-fn least_joined(lent: &Lent, boards: &[u16; CALLS], p: FirstRide) -> u16
-    ensures { Least lent.now.calls.feed.now lent.now.changes.now boards.now p lent.now.calls.n result }
-{
-    // By value, so that the loop doesn't read where the arrays stand.
-    let lent = *lent;
-    let mut t = 65535u16;
-    for c in 0..lent.calls.n {
-        if lent.can_board(p, c) {
-            t = t.min(boards[c]);
-        }
-    }
-    t
-}
-
-// The same of a ride that alights at m, if one can alight there.
-fn joined_time(lent: &Lent, boards: &[u16; CALLS], m: usize) -> u16
+// The rides that a ride joins that alights at m, by blocks, if one can alight there.
+fn row_at(lent: &Lent, boards: &[u16; CALLS], m: usize) -> [u16; BLOCKS]
     requires { m < call_room }
-    ensures { JoinsAt lent.now.calls.feed.now lent.now.changes.now lent.now.calls.n boards.now m result }
+    ensures { RowAt lent.now.calls.feed.now lent.now.changes.now lent.now.calls.n boards.now m result }
 {
     if lent.calls.at(m).alight {
         let r = Ride {
             board: m,
             alight: m,
         };
-        return least_joined(lent, boards, lent.calls.first_ride(r, 0));
+        return blocks_least(lent, boards, lent.calls.first_ride(r, 0));
     }
-    65535
+    [65535; BLOCKS]
 }
 
-fn put_joined(lent: &Lent, boards: &[u16; CALLS]) -> [u16; CALLS]
-    ensures { Each (JoinsAt lent.now.calls.feed.now lent.now.changes.now lent.now.calls.n boards.now) 0 lent.now.calls.n result }
+// The same of every place; gives the earliest of all of them.
+fn put_joined(lent: &Lent, boards: &[u16; CALLS], rows: &mut Rows) -> [u16; CALLS]
+    ensures least { Each (JoinsAt lent.now.calls.feed.now lent.now.changes.now lent.now.calls.n boards.now) 0 lent.now.calls.n result }
+    ensures rows { EachOf call_room [] (RowAt lent.now.calls.feed.now lent.now.changes.now lent.now.calls.n boards.now)
+        0 lent.now.calls.n rows.new }
 {
     let mut at = [65535u16; CALLS];
     for m in 0..lent.calls.n {
-        at[m] = joined_time(lent, boards, m);
+        let row = row_at(lent, boards, m);
+        at[m] = row_least(&row);
+        rows[m] = row;
     }
     at
 }
 
-// From the last ride back.
-pub fn onward_times(lent: &Lent) -> Times
-    ensures { Onward result.on result.boards lent.now.calls.feed.now lent.now.changes.now lent.now.calls.n }
+// From the last ride back. The rows are put where they are to stand, as they are large.
+pub fn onward_times(lent: &Lent, by_last: &mut Rows, by_middle: &mut Rows) -> Times
+    ensures { Onward result.on result.boards (by_last.new ∷ by_middle.new ∷ []) lent.now.calls.feed.now lent.now.changes.now lent.now.calls.n }
 {
     let calls = &lent.calls;
     let none = put_targets(calls);
     let last = put_boards(calls, &none);
-    let one = put_joined(lent, &last);
+    let one = put_joined(lent, &last, by_last);
     let middle = put_boards(calls, &one);
-    let two = put_joined(lent, &middle);
+    let two = put_joined(lent, &middle, by_middle);
     Times {
         on: [none, one, two],
         boards: [last, middle],

@@ -9,6 +9,14 @@ use candidate::times::{late, threshold};
 use search_input::FirstRide;
 use search_state::layout::State;
 
+// From when on journeys of one leave, walk and number of rides are passed over; and whether the kept rows were read for it, so that none is
+// passed over before.
+#[derive(Clone, Copy, Debug, PartialEq, Eq)]
+pub struct Passed {
+    pub from: u32,
+    pub asked: bool,
+}
+
 // From when on journeys of one leave and walk are passed over, by one ride and by two; and whether the kept rows were read for the latter,
 // so that none is passed over before.
 #[derive(Clone, Copy, Debug, PartialEq, Eq)]
@@ -48,37 +56,61 @@ pub fn since_for(st: &State, f: FirstRide, before: FirstRide, since: Since) -> S
     since_none(st)
 }
 
-// The same of one number of rides.
-pub fn over_for(st: &State, f: FirstRide, before: FirstRide, over: u32) -> u32
-    ensures { (rides : ℕ) → Over st.now before rides over → Over st.now f rides result }
+// What is known of one number of rides before any ride.
+pub fn passed_none(st: &State) -> Passed
+    ensures { (f : FirstRide) (rides : ℕ) → Over st.now f rides result.from }
 {
-    if is_alike(f, before) {
-        return over;
+    Passed {
+        from: late(st),
+        asked: false,
     }
-    late(st)
 }
 
-// What is known after it was asked, once for a leave and walk, whether the state passes over a journey of two rides that is due at t. Where
-// it doesn't, the kept rows say from when on it would.
+// What is known of f, as in `since_for`.
+pub fn passed_for(st: &State, f: FirstRide, before: FirstRide, passed: Passed) -> Passed
+    ensures { (rides : ℕ) → Over st.now before rides passed.from → Over st.now f rides result.from }
+{
+    if is_alike(f, before) {
+        return passed;
+    }
+    passed_none(st)
+}
+
+// What is known after it was asked, once for a leave and walk, whether the state passes over a journey of so many rides that is due at t.
+// Where it doesn't, the kept rows say from when on it would.
+pub fn asked_for(st: &mut State, f: FirstRide, rides: u16, t: u16, passed: Passed) -> Passed
+    requires { Over st.old f rides passed.from }
+    ensures state { view st.new ≡ view st.old }
+    ensures over { Over st.new f rides result.from }
+{
+    if passed.asked {
+        return passed;
+    }
+    if passes_over(st, f.figures(t, rides)) {
+        return Passed {
+            from: t as u32,
+            asked: false,
+        };
+    }
+    let from = threshold(st, f.leave, rides, f.walk);
+    Passed { from, asked: true }
+}
+
+// The same of two.
 pub fn asked(st: &mut State, f: FirstRide, t: u16, since: Since) -> Since
     requires { Over st.old f 2 since.two }
     ensures state { view st.new ≡ view st.old }
     ensures two { Over st.new f 2 result.two }
     ensures one { result.one ≡ since.one }
 {
-    if since.asked {
-        return since;
-    }
-    if passes_over(st, f.figures(t, 2)) {
-        return Since {
-            two: t as u32,
-            ..since
-        };
-    }
-    let two = threshold(st, f.leave, 2, f.walk);
+    let was = Passed {
+        from: since.two,
+        asked: since.asked,
+    };
+    let two = asked_for(st, f, 2, t, was);
     Since {
-        two,
-        asked: true,
+        two: two.from,
+        asked: two.asked,
         ..since
     }
 }

@@ -1,4 +1,4 @@
--- **Rule**: why one is sent back, in the scope's order 15, 9, 12, 13, 11. One that is taken is held as it was handed in.
+-- **Rule** (RULES 6.1): why one is sent back, in the order of RULES 16.2: 15, 9, 12, 13, 11. One that is taken is held as it was handed in.
 use Rattle.refusal.specs.First.{Answer}
 use Rattle.std.specs.Prelude.{ℕ, List, [], ◌∷◌, Bool, not, ◌&&◌, take, ltb, leb, eqb, None, Option, Some, Err}
 use Rattle.laws.specs.Lists.{anyb}

@@ -103,9 +103,9 @@ unfolding earliest
 earliest_or t = or-zero (target_arrivals t)
 
 pub earliest-is : (l : Load) (cs : List Call) (f : List ℕ) (e : Option ℕ) → cs ≡ sort_first l.call_count l.calls → length cs ≡ 512
-    → Feeds f cs l.stops l.settings → ((i : ℕ) → get_or f i 0 < 65536) → e ≡ soonest (ride_due f (min l.call_count 512))
+    → Feeds f cs (min l.call_count 512) l.stops l.settings → ((i : ℕ) → get_or f i 0 < 65536) → e ≡ soonest (ride_due f (min l.call_count 512))
     → e ≡ soonest (target_arrivals (timetable_of l))
 earliest-is l cs f e order long w small ee =
     let n = min l.call_count 512 in
-    ee ∙ ap soonest (due-is f (timetable_of l) (placed cs) n (agrees l cs f [] w small n 0 (omega arith) (λ one. absurd (omega arith)))
+    ee ∙ ap soonest (due-is f (timetable_of l) (placed cs) n (agrees l cs f [] n 0 w small (omega arith) (λ one. absurd (omega arith)))
     (in-places l cs order long))

@@ -6,12 +6,8 @@ use native.Mathlib.Omega.{arith}
 use borrow.Kind.Array.{e_int}
 use denote.Array.{each}
 use denote.Shadow.{shadow}
-use mir.Syntax.{Width, w8, w16}
+use mir.Syntax.{Width, w16}
 use mir.Val.{Val, bits}
-use denote.Laws.{Is}
-use denote.Struct.Declared.{row}
-use Rattle.load.specs.contracts.Load as L
-use Rattle.load.specs.declared.Load.{Load}
 
 -- each number of an array fits its type
 fit : (w : Width) → 0 < 2 ^ bits w → (xs : List ℕ) (us : List Val) → shadow (each (e_int w).ty.Denot (e_int w).ty.own_val xs us) → (i : ℕ)

@@ -86,15 +86,14 @@ never-later false a d h = lt-leb (a + 65536) d (omega arith)
 
 -- the change read between two stops p and q, by the numbers r and s that the feed has for them
 module _ (g : List ℕ) (p q r s : ℕ) (er : r ≡ cond (ltb p 128) p 65535) (es : s ≡ cond (ltb q 128) q 65535) where
-  change-known : (entry : ℕ) → ltb p 128 ≡ true → ltb q 128 ≡ true → get_or g (r * 128 + q) 0 ≡ entry → change_at g r s ≡ entry
+  change-known : (entry : ℕ) → ltb p 128 ≡ true → ltb q 128 ≡ true → get_or g (r * 128 + s) 0 ≡ entry → change_at g r s ≡ entry
   unfolding change_at
   change-known entry ep eq here =
       let lp : p < 128 = ltb-true p 128 ep in
       let lq : q < 128 = ltb-true q 128 eq in
       let sr : r ≡ p = er ∙ cond-by p 65535 ep in
       let ss : s ≡ q = es ∙ cond-by q 65535 eq in
-      (λ i. cond (ltb (r * 128 + ss i) 16384) (get_or g (r * 128 + ss i) 0) 65536)
-      ∙ cond-by _ _ (lt-ltb (r * 128 + q) 16384 (omega arith)) ∙ here
+      cond-by _ _ (lt-ltb (r * 128 + s) 16384 (omega arith)) ∙ here
 
   change-far-from : ltb p 128 ≡ false → change_at g r s ≡ 65536
   unfolding change_at
@@ -110,16 +109,17 @@ module _ (g : List ℕ) (p q r s : ℕ) (er : r ≡ cond (ltb p 128) p 65535) (e
 
 -- ---- the arrays hold the timetable
 
-module _ (l : Load) (calls : List Call) (f g : List ℕ) (w : Feeds f calls l.stops l.settings) (small : (i : ℕ) → get_or f i 0 < 65536)
-    (n depth : ℕ) (few : n ≤ 512) (here : HoldsChanges g f n depth (λ p q. change_number (change_in l p q))) where
-  below : (j : ℕ) → j < 512 → (placed calls j).departure < 65536
+module _ (l : Load) (calls : List Call) (f g : List ℕ) (n depth : ℕ) (w : Feeds f calls n l.stops l.settings)
+    (small : (i : ℕ) → get_or f i 0 < 65536) (few : n ≤ 512)
+    (here : HoldsChanges g f n depth (λ p q. change_number (change_in l p q))) where
+  below : (j : ℕ) → j < n → (placed calls j).departure < 65536
   below j h = omega (arith, small (j * 6 + 4), w.departure j h)
 
   abbrev runs : ℕ → ℕ → Bool
   runs i j = eqb (placed calls i).trip (placed calls j).trip && eqb (placed calls i).day (placed calls j).day
 
   -- what the loops test, of the calls at their places
-  tested : (i o k j : ℕ) → i < 512 → k < 512 → j < 512
+  tested : (i o k j : ℕ) → i < n → k < n → j < n
       → joins_of f g (first_of (sheet_of f) i o k) j
       ≡ (not (runs i j) && leb ((placed calls k).arrival + change_at g (get_or f (k * 6 + 2) 0) (get_or f (j * 6 + 2) 0))
       (placed calls j).departure)
@@ -137,21 +137,22 @@ module _ (l : Load) (calls : List Call) (f g : List ℕ) (w : Feeds f calls l.st
       read = change_at g (stop_in f k) (stop_in f j)
 
       stop-of : (m : ℕ) → m < n → stop_in f m ≡ cond (ltb (placed calls m).stop 128) (placed calls m).stop 65535
-      stop-of m h = w.stop m (omega arith)
+      stop-of m h = w.stop m h
 
       known : ltb (placed calls k).stop 128 ≡ true → ltb (placed calls j).stop 128 ≡ true
           → read ≡ change_number (change_in l (placed calls k).stop (placed calls j).stop)
       known e q =
-          let same : stop_in f k ≡ (placed calls k).stop = stop-of k hk ∙ cond-by (placed calls k).stop 65535 e in
-          let near : stop_in f k < 128 = omega (arith, ltb-true (placed calls k).stop 128 e) in
+          let from : stop_in f k ≡ (placed calls k).stop = stop-of k hk ∙ cond-by (placed calls k).stop 65535 e in
+          let to : stop_in f j ≡ (placed calls j).stop = stop-of j hj ∙ cond-by (placed calls j).stop 65535 q in
           change-known g (placed calls k).stop (placed calls j).stop (stop_in f k) (stop_in f j) (stop-of k hk) (stop-of j hj) _ e q
-          (here one k (placed calls j).stop hk (omega arith) near (ltb-true (placed calls j).stop 128 q)
-          ∙ ap (λ (p : ℕ). change_number (change_in l p (placed calls j).stop)) same)
+          (here one k j hk (omega arith) hj (omega arith) (omega (arith, from, ltb-true (placed calls k).stop 128 e))
+          (omega (arith, to, ltb-true (placed calls j).stop 128 q))
+          ∙ (λ i. change_number (change_in l (from i) (to i))))
 
       far : read ≡ 65536 → (not (runs i j) && leb ((placed calls k).arrival + read) (placed calls j).departure) ≡ false
       far e =
           ap (λ (x : ℕ). not (runs i j) && leb ((placed calls k).arrival + x) (placed calls j).departure) e
-          ∙ never-later (runs i j) (placed calls k).arrival (placed calls j).departure (below j (omega arith))
+          ∙ never-later (runs i j) (placed calls k).arrival (placed calls j).departure (below j hj)
 
       go : (b : Bool) → ltb (placed calls k).stop 128 ≡ b → (c : Bool) → ltb (placed calls j).stop 128 ≡ c
           → (not (runs i j) && leb ((placed calls k).arrival + read) (placed calls j).departure)
@@ -160,7 +161,7 @@ module _ (l : Load) (calls : List Call) (f g : List ℕ) (w : Feeds f calls l.st
       go true e true q =
           ap (λ (x : ℕ). not (runs i j) && leb ((placed calls k).arrival + x) (placed calls j).departure) (known e q)
           ∙ ap (λ (x : Bool). not (runs i j) && x) (number-joins (change_in l (placed calls k).stop (placed calls j).stop)
-          (placed calls k).arrival (placed calls j).departure (below j (omega arith)))
+          (placed calls k).arrival (placed calls j).departure (below j hj))
           ∙ run-first (runs i j) (joins_by (change_in l (placed calls k).stop (placed calls j).stop) (placed calls k).arrival
           (placed calls j).departure)
       go true e false q = far (change-far-to g (placed calls k).stop (placed calls j).stop (stop_in f k) (stop_in f j) (stop-of k hk)
@@ -209,10 +210,11 @@ pub changes-are : (l : Load) (f g : List ℕ) (rules : List Rule) (parents place
     → HoldsChanges g f l.call_count depth (λ p q. entry_of rules parents places p change q)
     → HoldsChanges g f l.call_count l.settings.max_transfers (λ p q. change_number (change_in l p q))
 changes-are l f g rules parents places change depth er ep el ec ed here =
-    λ one k q hk few near hq. here (omega (arith, ed, one)) k q hk few near hq
-    ∙ (λ i. entry_of (er i) (ep i) (el i) (stop_in f k) (ec i) q) ∙ entry-number l (take l.rule_count l.rules) (stop_in f k) q refl
+    λ one k j hk few hj most near next. here (omega (arith, ed, one)) k j hk few hj most near next
+    ∙ (λ i. entry_of (er i) (ep i) (el i) (stop_in f k) (ec i) (stop_in f j))
+    ∙ entry-number l (take l.rule_count l.rules) (stop_in f k) (stop_in f j) refl
 
-module _ (l : Load) (calls : List Call) (f g : List ℕ) (depth : ℕ) (w : Feeds f calls l.stops l.settings)
+module _ (l : Load) (calls : List Call) (f g : List ℕ) (depth : ℕ) (w : Feeds f calls (min l.call_count 512) l.stops l.settings)
     (small : (i : ℕ) → get_or f i 0 < 65536)
     (here : HoldsChanges g f l.call_count l.settings.max_transfers (λ p q. change_number (change_in l p q)))
     (ed : depth ≡ l.settings.max_transfers) where
@@ -221,8 +223,8 @@ module _ (l : Load) (calls : List Call) (f g : List ℕ) (depth : ℕ) (w : Feed
 
   held : Agrees (sheet_of f) (joins_of f g) (timetable_of l) (placed calls) first
   unfolding timetable_of
-  held = agrees l calls f g w small first l.settings.max_transfers (omega arith)
-      (λ one k q hk few near hq. here one k q (omega arith) few near hq)
+  held = agrees l calls f g first l.settings.max_transfers w small (omega arith)
+      (λ one k j hk few hj most near next. here one k j (omega arith) few (omega arith) most near next)
 
   pub offered-is : (st st' : List ℕ) → view st ≡ going [] l.table_horizon l.table_limits
       → view st' ≡ offer_all (view st) (rows_of f g l.call_count depth)
@@ -247,10 +249,10 @@ module _ (l : Load) (calls : List Call) (f g : List ℕ) (depth : ℕ) (w : Feed
 
 none-read : (l : Load) (f g : List ℕ) → l.settings.max_transfers ≡ 0
     → HoldsChanges g f l.call_count l.settings.max_transfers (λ p q. change_number (change_in l p q))
-none-read l f g e = λ one k q hk few near hq. absurd (omega (arith, one, e))
+none-read l f g e = λ one k j hk few hj most near next. absurd (omega (arith, one, e))
 
-module _ (l : Load) (calls : List Call) (f g : List ℕ) (w : Feeds f calls l.stops l.settings) (small : (i : ℕ) → get_or f i 0 < 65536)
-    (e : l.settings.max_transfers ≡ 0) where
+module _ (l : Load) (calls : List Call) (f g : List ℕ) (w : Feeds f calls (min l.call_count 512) l.stops l.settings)
+    (small : (i : ℕ) → get_or f i 0 < 65536) (e : l.settings.max_transfers ≡ 0) where
   pub direct-is : (st st' : List ℕ) → view st ≡ going [] l.table_horizon l.table_limits
       → view st' ≡ offer_all (view st) (rows_of f g l.call_count 0) → view st' ≡ offered_of l calls
   direct-is st st' e0 e1 = offered-is l calls f g 0 w small (none-read l f g e) (sym e) st st' e0 e1

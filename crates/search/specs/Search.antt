@@ -1,4 +1,4 @@
--- **Search**: 15, 14, 11; or the calls in order, the journeys kept in list order, horizon and limits by the scope's rule, searched.
+-- **Search** (RULES 8): 15, 14, 11; or the calls in order, the journeys kept in list order, horizon and limits by 8.6, searched.
 use Rattle.refusal.specs.declared.Accepted.TheVariants.{Taken}
 use Rattle.std.specs.Prelude.{◌≡◌, Bool, true, false, cond, List, [], ◌∷◌, ℕ, length, None, Option, Err, Ok}
 use Rattle.laws.specs.Lists.{padded}
@@ -63,7 +63,7 @@ would_fall l =
     is_never (fall (covᶠ journey_figures) (dueᶠ journey_figures) kept_room least_horizon l.table_horizon l.table_limits []
     (offers (timetable_of l)))
 
--- the tests in the scope's order, each with its answer: 15, 14, 11; no test reads the answer
+-- the tests in the order of RULES 16.2, each with its answer: 15, 14, 11; no test reads the answer
 abbrev pub search_causes : Load → List (Bool × Answer)
 search_causes l =
     (l.searched, Err AlreadySearched)

@@ -17,7 +17,13 @@ pub fn earliest_arrival(load: &Load) -> Option<u32>
 {
     let calls = sorted(&load.calls, load.call_count);
     let mut feed = [0; FEED_SIZE];
-    fill_feed(&mut feed, &calls, &load.stops, load.settings);
+    fill_feed(
+        &mut feed,
+        &calls,
+        load.call_count,
+        &load.stops,
+        load.settings,
+    );
     numbers_told(feed);
     earliest_of(&feed, load.call_count)
 }

@@ -92,7 +92,7 @@ fn offered(load: &Load, calls: &[Call; CALLS]) -> State
 {
     let settings = load.settings;
     let mut feed = [0; FEED_SIZE];
-    fill_feed(&mut feed, calls, &load.stops, settings);
+    fill_feed(&mut feed, calls, load.call_count, &load.stops, settings);
     numbers_told(feed);
     let mut st = fresh(load.table_horizon, load.table_limits);
     if settings.max_transfers == 0 {

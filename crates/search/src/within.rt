@@ -27,7 +27,7 @@ fn offered_within(load: &Load, calls: &[Call; CALLS], limit: u64, st: &mut State
 {
     let settings = load.settings;
     let mut feed = [0; FEED_SIZE];
-    fill_feed(&mut feed, calls, &load.stops, settings);
+    fill_feed(&mut feed, calls, load.call_count, &load.stops, settings);
     numbers_told(feed);
     if settings.max_transfers == 0 {
         return paths_within(st, &feed, &NO_CHANGES, load.call_count, 0, limit);

@@ -66,8 +66,8 @@ masked o t m = halves (m % 2 ^ min o 4) (m / 16 % 2 ^ min t 4) (digits o m) (dig
 
 -- ---- the whole
 
-module _ (calls : List Call) (stops : List Stop) (s : Settings) (l₀ l₁ l₂ l₃ l₄ : List ℕ)
-    (cs : Blocks 6 (λ i k. get_or (six_of (get_or calls i blank_call)) k 0) 512 l₀ l₁)
+module _ (calls : List Call) (n : ℕ) (stops : List Stop) (s : Settings) (l₀ l₁ l₂ l₃ l₄ : List ℕ)
+    (cs : Blocks 6 (λ i k. get_or (six_of (get_or calls i blank_call)) k 0) (min n 512) l₀ l₁)
     (ms : Region (λ k. masked_of s.origins s.targets (stop_at stops k).members) 3072 128 l₁ l₂)
     (os : Region (λ k. get_or s.origin_walks k 0) 3200 4 l₂ l₃)
     (ts : Region (λ k. get_or s.target_walks k 0) 3204 4 l₃ l₄) (few : length stops ≡ 128)
@@ -77,14 +77,14 @@ module _ (calls : List Call) (stops : List Stop) (s : Settings) (l₀ l₁ l₂ 
     unfolding stop_at
     past-end k h = ap (λ (x : Stop). x.members) (get_or-eq_default stops blank_stop (omega arith))
 
-    number : (i k : ℕ) → i < 512 → k < 6 → get_or l₄ (i * 6 + k) 0 ≡ get_or (six_of (get_or calls i blank_call)) k 0
+    number : (i k : ℕ) → i < min n 512 → k < 6 → get_or l₄ (i * 6 + k) 0 ≡ get_or (six_of (get_or calls i blank_call)) k 0
     number i k h b =
         ts.low (i * 6 + k) (omega arith) ∙ os.low (i * 6 + k) (omega arith) ∙ ms.low (i * 6 + k) (omega arith) ∙ cs.here i k h b
 
     member : (k : ℕ) → k < 128 → get_or l₄ (3072 + k) 0 ≡ masked_of s.origins s.targets (stop_at stops k).members
     member k h = ts.low (3072 + k) (omega arith) ∙ os.low (3072 + k) (omega arith) ∙ ms.here k h
 
-    pub feeds : Feeds l₄ calls stops s
+    pub feeds : Feeds l₄ calls (min n 512) stops s
     unfolding six_of stop_number
     feeds = record {
       trip = λ i h. let e : i * 6 ≡ i * 6 + 0 = omega arith in ap (λ (x : ℕ). get_or l₄ x 0) e ∙ number i 0 h (omega arith);

@@ -11,6 +11,7 @@ ghost use Rattle.stops.specs.Sizes.{stop_room};
 ghost use Rattle.calls.specs.Sizes.{call_room};
 
 use calls::Call;
+use search_input::at_most_calls;
 use search_input::layout::{CALL_WIDTH, CALLS, Feed, MEMBERS, ORIGIN_WALKS, STOPS, TARGET_WALKS};
 use settings::Settings;
 use stops::{NO_STOP, Stop};
@@ -50,11 +51,11 @@ fn put_call(feed: &mut Feed, i: usize, call: Call)
     feed[at + 5] = flags;
 }
 
-// Every call.
-fn put_calls(feed: &mut Feed, calls: &[Call; CALLS])
-    ensures { Blocks call_width (λ i k. get_or (six_of (get_or calls.now i blank_call)) k 0) call_room feed.old feed.new }
+// The first `count` calls.
+fn put_calls(feed: &mut Feed, calls: &[Call; CALLS], count: usize)
+    ensures { Blocks call_width (λ i k. get_or (six_of (get_or calls.now i blank_call)) k 0) (min count call_room) feed.old feed.new }
 {
-    for i in 0..CALLS {
+    for i in 0..at_most_calls(count) {
         put_call(feed, i, calls[i]);
     }
 }
@@ -101,11 +102,17 @@ fn put_walks(feed: &mut Feed, at: usize, walks: [u8; 4])
     }
 }
 
-// What a search reads of a load, put into an array that is lent.
-pub fn fill_feed(feed: &mut Feed, calls: &[Call; CALLS], stops: &[Stop; STOPS], settings: Settings)
-    ensures { Feeds feed.new calls.now stops.now settings }
+// What a search of the first `count` calls reads of a load, put into an array that is lent.
+pub fn fill_feed(
+    feed: &mut Feed,
+    calls: &[Call; CALLS],
+    count: usize,
+    stops: &[Stop; STOPS],
+    settings: Settings,
+)
+    ensures { Feeds feed.new calls.now (min count call_room) stops.now settings }
 {
-    put_calls(feed, calls);
+    put_calls(feed, calls, count);
     put_members(feed, stops, settings.origins, settings.targets);
     put_walks(feed, ORIGIN_WALKS, settings.origin_walks);
     put_walks(feed, TARGET_WALKS, settings.target_walks);

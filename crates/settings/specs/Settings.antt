@@ -1,12 +1,11 @@
--- **Settings** of a load: which are sent back, with 1 or 2, and how a load holds the others.
+-- **Settings** of a load (RULES 2): which are sent back, with 1 or 2, and how a load holds the others.
 use Rattle.refusal.specs.First.{Answer}
 use Rattle.std.specs.Prelude.{ℕ, Bool, not, cond, ◌&&◌, ◌||◌, List, [], ◌∷◌, ltb, ℤ, pos, negsuc, get_or, Err}
 use Rattle.std.specs.Int.Signed.{lt_z, le_z}
 use Rattle.refusal.specs.declared.Refusal.TheVariants.{SettingsRange, ClockRange}
 use Rattle.settings.specs.declared.Settings.{Settings}
 
--- a count above 4, `max_transfers` above 2 (request 10: "`max_transfers` 2 is accepted and refusal 1 starts at 3"), a change time above
--- 15300 seconds (request 05)
+-- a count above 4, `max_transfers` above 2, a change time above 15300 seconds
 unfoldable pub over_counts : ℕ → ℕ → ℕ → ℕ → Bool
 over_counts origins targets transfers seconds = ltb 4 origins || (ltb 4 targets || (ltb 2 transfers || ltb 15300 seconds))
 
@@ -18,7 +17,7 @@ near z = not (lt_z z (negsuc 1099511627775)) && le_z z (pos 1099511627776)
 unfoldable pub all_near : ℤ → List ℤ → Bool
 all_near now epochs = near now && (near (get_or epochs 0 (pos 0)) && (near (get_or epochs 1 (pos 0)) && near (get_or epochs 2 (pos 0))))
 
--- why settings are sent back, in the scope's order: 1, 2
+-- why settings are sent back, in the order of RULES 16.2: 1, 2
 unfoldable pub settings_tests : Settings → List (Bool × Answer)
 settings_tests s =
     (over_counts s.origins s.targets s.max_transfers s.transfer_seconds, Err SettingsRange)

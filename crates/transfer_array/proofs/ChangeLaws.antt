@@ -1,27 +1,16 @@
--- A row of changes put in is its entries; stops marked one by one, and the rows of those marked.
+-- Stops marked one by one, and the rows of those marked.
 use mathlib.Core.Path.{◌≡◌, refl, sym, ap, ◌∙◌}
 use mathlib.Core.Bool.{Bool, true, false}
 use mathlib.Core.List.{List}
-use Prim.Native.Nat.{ℕ, ◌+◌, ◌*◌, ◌<◌}
+use Prim.Native.Nat.{ℕ, ◌+◌, ◌*◌, ◌≤◌, ◌<◌}
 use native.Mathlib.Omega.{arith}
 use borrow.Author.Tests.{eqb-true, eqb-false}
 use lib.Dec.{eqb}
 use lib.ListN.{length, get_or, set}
 use lib.Seq.{get_or-set_same, get_or-set_other}
 use Rattle.laws.proofs.Slots.{below-cases}
-use Rattle.laws.proofs.Tables.{get_d-table}
-use Rattle.transfer.specs.declared.Transfers.{Transfers}
-use Rattle.transfer.specs.Lent.{entry_in, row_of}
-use Rattle.transfer.specs.Rows.{change_row}
-use Rattle.laws.specs.Regions.{Region}
 use Rattle.transfer_array.specs.Named.{stop_in, Marked}
-use Rattle.laws.proofs.Regions.{region-as, block-below}
-
-pub row-region : (t : Transfers) (from a : ℕ) (row first last : List ℕ) → row ≡ row_of t from
-    → Region (λ k. get_or row k 0) a 128 first last → Region (entry_in t from) a 128 first last
-unfolding change_row
-row-region t from a row first last e r =
-    region-as (entry_in t from) (λ k h. ap (λ (l : List ℕ). get_or l k 0) e ∙ get_d-table (entry_in t from) 0 128 k h) r
+use Rattle.laws.proofs.Regions.{block-below}
 
 -- ---- marks
 
@@ -49,12 +38,12 @@ marks-more m f i {m'} long g e =
 
 -- ---- rows
 
--- of the first n rows of w numbers those that are marked are there
-abbrev pub RowsTo : ℕ → (ℕ → ℕ → ℕ) → List Bool → ℕ → List ℕ → Type 0
-RowsTo w f marks n l = (i k : ℕ) → i < n → get_or marks i false ≡ true → k < w → get_or l (i * w + k) 0 ≡ f i k
+-- of the first n rows of w numbers those that are marked are there, up to r of each
+abbrev pub RowsTo : ℕ → ℕ → (ℕ → ℕ → ℕ) → List Bool → ℕ → List ℕ → Type 0
+RowsTo w r f marks n l = (i k : ℕ) → i < n → get_or marks i false ≡ true → k < r → get_or l (i * w + k) 0 ≡ f i k
 
-pub rows_more : (w : ℕ) (f : ℕ → ℕ → ℕ) (marks : List Bool) (l m : List ℕ) (n : ℕ) → RowsTo w f marks n l
-    → Marked (get_or marks n false) (f n) (n * w) w l m → RowsTo w f marks (n + 1) m
-rows_more w f marks l m n g r =
-    λ i k h. below-cases (λ (j : ℕ). get_or marks j false ≡ true → k < w → get_or m (j * w + k) 0 ≡ f j k) n i h
-    (λ u on b. r.low (i * w + k) (block-below w i k n u b) ∙ g i k u on b) (λ on b. r.here on k b)
+pub rows_more : (w r : ℕ) (f : ℕ → ℕ → ℕ) (marks : List Bool) (l m : List ℕ) (n : ℕ) → r ≤ w → RowsTo w r f marks n l
+    → Marked (get_or marks n false) (f n) (n * w) r l m → RowsTo w r f marks (n + 1) m
+rows_more w r f marks l m n few g p =
+    λ i k h. below-cases (λ (j : ℕ). get_or marks j false ≡ true → k < r → get_or m (j * w + k) 0 ≡ f j k) n i h
+    (λ u on b. p.low (i * w + k) (block-below w i k n u (omega (arith, few, b))) ∙ g i k u on b) (λ on b. p.here on k b)

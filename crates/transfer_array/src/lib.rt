@@ -1,10 +1,11 @@
-// The changes from the stops that calls name to each of 128, one row of 128 numbers after the other.
+// The changes between the stops that calls name, in rows of 128 numbers one after the other. A row is filled up to the last stop that a call
+// names: a small paper has a dozen.
 #![tactic(auto)]
 
-ghost use Rattle.std.specs.Prelude.{◌≡◌, true, false, ℕ, ◌+◌, ◌*◌, ◌<◌, get_or, set};
+ghost use Rattle.std.specs.Prelude.{◌≡◌, true, false, ℕ, ◌+◌, ◌*◌, ◌<◌, ◌≤◌, get_or, set};
 ghost use Rattle.transfer.specs.Lent.{entry_in};
 ghost use Rattle.laws.specs.Regions.{Region};
-ghost use Rattle.transfer_array.specs.Named.{Marks, Marked, HoldsChanges};
+ghost use Rattle.transfer_array.specs.Named.{Marks, Reaches, Marked, HoldsChanges};
 ghost use Rattle.stops.specs.Sizes.{stop_room};
 
 use search_input::at_most_calls;
@@ -12,32 +13,25 @@ use search_input::layout::{CALL_WIDTH, Changes, Feed, STOPS};
 use transfer::Transfers;
 use transfer_row::change_row;
 
-// A row is copied into its place. The bound on a stop's number is asked for: a type that holds it would be taken apart at each use.
-fn put_row(changes: &mut Changes, from: usize, row: &[u32; STOPS])
-    requires { from < stop_room }
-    ensures { Region (λ k. get_or row.now k 0) (from * stop_room) stop_room changes.old changes.new }
+// The changes from one stop are put in, as far as the marks reach. The bounds are asked for: a type that holds them would be taken apart
+// at each use.
+fn put_row(changes: &mut Changes, reach: usize, transfers: &Transfers, from: u16)
+    requires from { from < stop_room }
+    requires reach { reach ≤ stop_room }
+    ensures { Region (entry_in transfers.now from) (from * stop_room) reach changes.old changes.new }
 {
-    let at = from * STOPS;
-    changes[at..at + STOPS].copy_from_slice(row);
+    let at = usize::from(from) * STOPS;
+    change_row(&mut changes[at..at + reach], transfers, from);
 }
 
-// The changes from one stop are put in; the bound as in `put_row`.
-fn put_changes(changes: &mut Changes, transfers: &Transfers, from: u16)
-    requires { from < stop_room }
-    ensures { Region (entry_in transfers.now from) (from * stop_room) stop_room changes.old changes.new }
-{
-    let mut row = [0u32; STOPS];
-    change_row(&mut row, transfers, from);
-    put_row(changes, usize::from(from), &row);
-}
-
-// The same for a stop that is marked, the bound as there; for any other nothing is done.
-fn put_marked(changes: &mut Changes, mark: bool, transfers: &Transfers, from: u16)
-    requires { from < stop_room }
-    ensures { Marked mark (entry_in transfers.now from) (from * stop_room) stop_room changes.old changes.new }
+// The same for a stop that is marked, the bounds as there; for any other nothing is done.
+fn put_marked(changes: &mut Changes, mark: bool, reach: usize, transfers: &Transfers, from: u16)
+    requires from { from < stop_room }
+    requires reach { reach ≤ stop_room }
+    ensures { Marked mark (entry_in transfers.now from) (from * stop_room) reach changes.old changes.new }
 {
     if mark {
-        put_changes(changes, transfers, from);
+        put_row(changes, reach, transfers, from);
     }
 }
 
@@ -62,19 +56,33 @@ fn named_stops(feed: &Feed, calls: usize) -> [bool; STOPS]
     marks
 }
 
-// The rows of the marked stops. By number, and not over the array's chunks: once a loop over `chunks_exact_mut` or `as_chunks_mut` ends, a
-// proof knows the array's length and none of its elements (tried).
+// One past the last marked stop. That it is at most 128 is told for the rows.
+fn reach_of(marks: &[bool; STOPS]) -> usize
+    ensures { Reaches marks.now result × (result ≤ stop_room) }
+{
+    let mut reach = 0;
+    for (k, &marked) in marks.iter().enumerate() {
+        if marked {
+            reach = k + 1;
+        }
+    }
+    reach
+}
+
+// The rows of the marked stops, as far as the marks reach. By number, and not over the array's chunks: once a loop over
+// `chunks_exact_mut` or `as_chunks_mut` ends, a proof knows the array's length and none of its elements (tried).
 fn marked_rows(changes: &mut Changes, marks: &[bool; STOPS], transfers: &Transfers)
-    ensures { (from to : ℕ) → from < stop_room → get_or marks.now from false ≡ true → to < stop_room
+    ensures { (from to : ℕ) → get_or marks.now from false ≡ true → get_or marks.now to false ≡ true
         → get_or changes.new (from * stop_room + to) 0 ≡ entry_in transfers.now from to }
 {
-    for from in 0..STOPS as u16 {
-        put_marked(changes, marks[from as usize], transfers, from);
+    let reach = reach_of(marks);
+    for from in 0..reach as u16 {
+        put_marked(changes, marks[from as usize], reach, transfers, from);
     }
 }
 
-// Puts in the seconds of a change at from * 128 + to, 65536 where there is none, from each stop that one of the first `calls` calls of the
-// feed names; with depth 0 there are no changes to read. The array is lent: by value it would be blanked and copied where it goes.
+// Puts in the seconds of a change at from * 128 + to, 65536 where there is none, from and to each stop that one of the first `calls` calls
+// of the feed names; with depth 0 there are no changes to read. The array is lent: by value it would be blanked and copied where it goes.
 pub fn fill_changes(
     changes: &mut Changes,
     feed: &Feed,

@@ -1,10 +1,11 @@
-// The changes from one stop to each of 128. One pass over the rules finds the best for each `to`; one pass over the stops takes the better
-// of the rules for a stop and for its parent.
+// The changes from one stop to the first of 128, as many as the row that is lent holds. One pass over the rules finds the best for each
+// `to`; one pass over the stops takes the better of the rules for a stop and for its parent.
 #![tactic(auto)]
 
-ghost use Rattle.std.specs.Prelude.{◌≡◌, ◌<◌, ◌≤◌, get_or, set, replicate, None};
+ghost use Rattle.std.specs.Prelude.{◌≡◌, ◌<◌, ◌≤◌, min, length, get_or, set, replicate, None};
+ghost use Rattle.laws.specs.Regions.{Region};
 ghost use Rattle.laws.specs.Tables.{table};
-ghost use Rattle.transfer.specs.Lent.{row_of};
+ghost use Rattle.transfer.specs.Lent.{entry_in};
 ghost use Rattle.transfer_row.specs.Slots.{slots, is_from, better_from, slot_of, best_to, picked, picked_in};
 ghost use Rattle.stops.specs.Sizes.{stop_room, no_stop};
 
@@ -77,16 +78,16 @@ fn rule_by(best: &Best, ends: Ends) -> Option<Rule>
 
 // The changes by the best rules. The parent and the place of `from` are read once: read anew for each stop, by `Transfers::ends` and
 // `change_by`, a row took longer by four fifths.
-fn by_best(row: &mut [u32; STOPS], best: &Best, transfers: &Transfers, from: u16)
+fn by_best(row: &mut [u32], best: &Best, transfers: &Transfers, from: u16)
     requires { (best.now ≡ table slots (best_to transfers.now.rules.now from (get_or transfers.now.parents.now from no_stop)))
         × (get_or best.now stop_room None ≡ None) }
-    ensures { row.new ≡ row_of transfers.now from }
+    ensures { Region (entry_in transfers.now from) 0 (min (length row.old) stop_room) row.old row.new }
 {
     let parents = transfers.parents;
     let places = transfers.places;
     let from_parent = transfers.parent(from);
     let from_place = transfers.place(from);
-    for (k, entry) in row.iter_mut().enumerate() {
+    for k in 0..row.len().min(STOPS) {
         let ends = Ends {
             from,
             from_parent,
@@ -95,23 +96,24 @@ fn by_best(row: &mut [u32; STOPS], best: &Best, transfers: &Transfers, from: u16
         };
         let rule = rule_by(best, ends);
         let near = ends.are_near(from_place, places[k]);
-        *entry = change_number(change_by(rule, near, transfers.change));
+        row[k] = change_number(change_by(rule, near, transfers.change));
     }
 }
 
 // Each change by itself. It takes what `by_best` and `change_row` take: a struct of the three would be made for one call each.
-fn one_by_one(row: &mut [u32; STOPS], transfers: &Transfers, from: u16)
-    ensures { row.new ≡ row_of transfers.now from }
+fn one_by_one(row: &mut [u32], transfers: &Transfers, from: u16)
+    ensures { Region (entry_in transfers.now from) 0 (min (length row.old) stop_room) row.old row.new }
 {
-    for (k, entry) in row.iter_mut().enumerate() {
-        *entry = change_number(transfers.between(from, k as u16));
+    for k in 0..row.len().min(STOPS) {
+        row[k] = change_number(transfers.between(from, k as u16));
     }
 }
 
-// The changes from a stop: the seconds for each of 128 stops, 65536 for never. A rule to a number past the stops, which no load has, may be
-// for the parent of any of them: then all rules are read for each.
-pub fn change_row(row: &mut [u32; STOPS], transfers: &Transfers, from: u16)
-    ensures { row.new ≡ row_of transfers.now from }
+// The changes from a stop: the seconds for each of 128 stops, or for the first of them in a shorter row, 65536 for never; in a longer one
+// the rest stays. A rule to a number past the stops, which no load has, may be for the parent of any of them: then all rules are read for
+// each. For few entries and rules that is no faster: an entry takes twice the instructions, and to blank the slots takes few.
+pub fn change_row(row: &mut [u32], transfers: &Transfers, from: u16)
+    ensures { Region (entry_in transfers.now from) 0 (min (length row.old) stop_room) row.old row.new }
 {
     let mut best = [None; SLOTS];
     read_rules(&mut best, transfers.rules, from, transfers.parent(from));

@@ -11,10 +11,8 @@ use lib.Dec.{eqb}
 use lib.ListN.{length, drop}
 use lib.Seq.{drop-drop}
 use Rattle.laws.specs.Lists.{All}
-use Rattle.refusal.specs.declared.Refusal.TheVariants.{SettingsRange, ClockRange, FileVersion, RecordLength, RecordKind}
+use Rattle.refusal.specs.declared.Refusal.TheVariants.{FileVersion, RecordLength, RecordKind}
 use Rattle.refusal.specs.First.{first_answer, is_refused}
-use Rattle.settings.specs.declared.Settings.{Settings}
-use Rattle.settings.specs.Settings.{over_counts, all_near, settings_tests}
 use Rattle.fields.specs.Numbers.{byte_at}
 use Rattle.fields.specs.Second.{settings_by, settings_filled_by}
 use Rattle.load.specs.Steps.{undated, open_answer, opened, open_spec_of}

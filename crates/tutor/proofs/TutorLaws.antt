@@ -38,7 +38,7 @@ use Rattle.comparison.proofs.KeptLaws.{get_d-mem}
 use Rattle.comparison.proofs.SettingLaws.{opens}
 use Rattle.tutor.specs.Paper.{Bytes}
 use Rattle.tutor.specs.Printed.{RefusedLine, Lines}
-use Rattle.tutor.specs.Tutor.{printed, Listed, NothingListed, Answers, TutorsAnswer}
+use Rattle.tutor.specs.Tutor.{printed, Listed, Answers, TutorsAnswer}
 use Rattle.tutor.proofs.PaperLaws.{Whole, whole-file}
 use Rattle.tutor.proofs.PrintedLaws.{Small, refused_says, lines-say, lines-load}
 use Rattle.tutor.proofs.BoundLaws.{never-stopped, fall-low, body_bytes, origin_walk, admitted-small}
@@ -138,17 +138,19 @@ module _ (s : Settings) (o : Opens (undated s)) (xs : List Step) (walks : (i : �
         none_better = λ j a due. w.complete j (record
             { answers = answers_from (opened (undated s)) xs; end = v; runs = run (undated s) o xs; searched = d; admits = a }) due;
         each_made = made w;
+        offers = w.offers;
+        offered = w.offered;
+        holds = w.list.holds;
+        falls = w.list.falls;
       }
 
-  fills-lines : Fills (undated s) xs v → NothingListed (load_lines l)
+  fills-lines : Fills (undated s) xs v → Lines [] v.horizon v.limits (load_lines l)
   unfolding load_lines
-  fills-lines w = record {
-    horizon = l.horizon;
-    limits = l.limits;
-    says = subst (λ (js : List Journey). Lines [] l.horizon l.limits
-        (concat_map journey_line_of js ++ horizon_line_of l.horizon l.limits)) (sym w.kept)
-        (lines-say [] l.horizon l.limits tt (let h = w.horizon in omega (arith, h, table-near)) (small-mark l.limits (inl w.limits)));
-  }
+  fills-lines w =
+      let e : load_lines l ≡ concat_map journey_line_of [] ++ horizon_line_of v.horizon v.limits =
+      λ i. concat_map journey_line_of (w.kept i) ++ horizon_line_of (w.horizon i) (w.limits i) in
+      subst (Lines [] v.horizon v.limits) (sym e)
+      (lines-say [] v.horizon v.limits tt (omega (arith, table-near)) (small-mark v.limits (inl refl)))
 
 -- ---- the whole of it
 
@@ -187,7 +189,7 @@ answers-so xs p k w =
       none_refused = r.accepted;
       finished = stopped;
       searched = λ e. subst (Listed s u) lines (lists-lines s o r.steps walks (d.1 e stopped) e);
-      unsearched = λ e. subst NothingListed lines (fills-lines s o r.steps walks (d.0 e));
+      unsearched = λ e. subst (Lines [] u.horizon u.limits) lines (fills-lines s o r.steps walks (d.0 e));
     }
 
 pub tutors-answer : TutorsAnswer

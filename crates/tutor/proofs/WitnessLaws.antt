@@ -93,8 +93,8 @@ met = record {
     go : (a : Answers first_load (printed first_load)) (b : Bool) → a.end.searched ≡ b → b ≡ true
     go a true e = refl
     go a false e =
-        let w = a.unsearched e in
-        absurd (differ 104 106 (sym (no-journey w.horizon w.limits (printed first_load) w.says) ∙ first-starts) (omega arith))
+        let w = no-journey a.end.horizon a.end.limits (printed first_load) (a.unsearched e) in
+        absurd (differ 104 106 (sym w ∙ first-starts) (omega arith))
 
 pub proved : Proved
 proved = record { answer = tutors-answer; met = met }

@@ -15,7 +15,8 @@ use Rattle.load.specs.Sound.{Opens}
 use Rattle.search.specs.Timetable.{timetable_of}
 use Rattle.best.specs.Best.{kept_of}
 use Rattle.steps.specs.Steps.{Step}
-use Rattle.steps.specs.Lists.{end_of, Admitted}
+use Rattle.steps.specs.Lists.{end_of}
+use Rattle.comparison.specs.Runs.{Admitted}
 use Rattle.connection.specs.declared.Connection.{Connection}
 use Rattle.connection.specs.declared.Cause.{Cause}
 use Rattle.connection.specs.Changes.{number_in}
@@ -48,11 +49,11 @@ pub record CausesRight (o : Opening) (xs : List Step) (c : Connection) : Type 0 
   pub makes : cause_of (end_of o xs) c ≡ None → Makes (timetable_of (end_of o xs)) c (journey_in (end_of o xs) c)
   pub free : (j : Journey) → Makes (timetable_of (end_of o xs)) c j → cause_of (end_of o xs) c ≡ None
   pub only : (j : Journey) → Makes (timetable_of (end_of o xs)) c j → j ≡ journey_in (end_of o xs) c
-  -- it is one of those that demands 2 and 3 speak of
+  -- it is one of those that demands 2 and 3 speak of, which are told by what was handed in
   pub admitted : (j : Journey) → Makes (timetable_of (end_of o xs)) c j → Admitted o xs j
 
 abbrev pub CausesAdmitted : Type 0
-CausesAdmitted = (o : Opening) (xs : List Step) (c : Connection) → is_finished (end_of o xs) ≡ true → CausesRight o xs c
+CausesAdmitted = (o : Opening) (xs : List Step) (c : Connection) → Opens o → is_finished (end_of o xs) ≡ true → CausesRight o xs c
 
 abbrev pub placed : List Journey → ℕ → Journey
 placed ks i = get_or ks i no_journey

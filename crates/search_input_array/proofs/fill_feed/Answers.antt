@@ -5,4 +5,4 @@ use Rattle.search_input_array.proofs.fill_feed.Goals as goal
 pub returns : goal.returns
 returns c =
     let a = c.args in
-    feeds _ _ a.settings _ _ _ _ _ c.put_calls.ensures c.put_members.ensures c.put_walks.ensures c.put_walks-2.ensures c.told-stops
+    feeds _ a.count _ a.settings _ _ _ _ _ c.put_calls.ensures c.put_members.ensures c.put_walks.ensures c.put_walks-2.ensures c.told-stops

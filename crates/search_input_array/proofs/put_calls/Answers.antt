@@ -10,4 +10,4 @@ pub loop-i-preserved : goal.loop-i-preserved
 loop-i-preserved c = blocks_more 6 _ _ c.loop-i.feed _ c.loop-i.i c.loop-i.invariant c.put_call.ensures
 
 pub returns : goal.returns
-returns c = blocks-all 6 _ _ c.loop-i.feed c.loop-i.i 512 c.loop-i.invariant (omega arith)
+returns c = blocks-all 6 _ _ c.loop-i.feed c.loop-i.i _ c.loop-i.invariant (omega arith)

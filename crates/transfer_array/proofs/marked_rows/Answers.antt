@@ -10,7 +10,10 @@ loop-from-init c = λ i k h. absurd (omega arith)
 pub loop-from-preserved : goal.loop-from-preserved
 loop-from-preserved c =
     let a = c.args in
-    rows_more 128 (entry_in a.transfers.now) a.marks.now c.loop-from.changes _ c.loop-from.from c.loop-from.invariant c.put_marked.ensures
+    rows_more 128 _ (entry_in a.transfers.now) a.marks.now c.loop-from.changes _ c.loop-from.from c.reach_of-reach.ensures.1
+    c.loop-from.invariant c.put_marked.ensures
 
 pub returns : goal.returns
-returns c = λ from to h on b. c.loop-from.invariant from to (omega arith) on b
+returns c = λ from to on there.
+    let below = c.reach_of-reach.ensures.0 in
+    c.loop-from.invariant from to (omega (arith, below from on)) on (below to there)

@@ -137,6 +137,8 @@ fn cases() -> Vec<Case> {
     let case = |name, list: &[u16], offers, states, kept| Case { name, list: list.to_vec(), offers, states, kept };
     vec![
         case("passed over by the first, rising", &rising, again(covered(0)), 1, 64),
+        case("passed over by the 2nd, rising", &rising, again(covered(1)), 1, 64),
+        case("passed over by the 4th, rising", &rising, again(covered(3)), 1, 64),
         case("passed over by the 32nd, rising", &rising, again(covered(31)), 1, 64),
         case("passed over by the last, rising", &rising, again(covered(63)), 1, 64),
         case("passed over by the first, falling", &falling, again(covered(63)), 1, 64),
@@ -146,6 +148,7 @@ fn cases() -> Vec<Case> {
         case("passed over by each in turn, rising", &rising, each(&rising), 1, 64),
         case("passed over by each in turn, mixed", &mixed, each(&mixed), 1, 64),
         case("due too late", &rising, again(late), 1, 64),
+        case("enters an empty list", &[], vec![apart], 64, 1),
         case("enters, none beaten, 63 kept, rising", &most(&rising), vec![apart], 64, 64),
         case("enters, none beaten, 63 kept, mixed", &most(&mixed), vec![apart], 64, 64),
         case("enters, the first beaten, rising", &rising, vec![later(0)], 64, 64),

@@ -9,7 +9,7 @@ pub loop-m-init : goal.loop-m-init
 loop-m-init c = for-start later_left c.into_iter-m-iterator.ensures.into_iter_gives c.than-m-items.ensures
 
 pub invariant_of-r : goal.invariant_of-r
-invariant_of-r c = record { placed = later-placed _ c.in-Some.ensures.steps c.loop-m.invariant.2 c.requires c.args.calls.now.fits }
+invariant_of-r c = record { placed = later-placed _ c.in-Some.ensures.steps c.loop-m.invariant.2 c.requires c.args.lent.now.calls.fits }
 
 pub loop-m-preserved : goal.loop-m-preserved
 loop-m-preserved c = for-turn c.in-Some.ensures.steps c.loop-m.invariant.2 c.last_alight.ensures

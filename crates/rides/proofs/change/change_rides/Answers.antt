@@ -1,7 +1,7 @@
 -- `change_rides` meets its contract: every last ride; none is walked if every one would be passed over.
 use Rattle.std.proofs.Common.{refl}
 use Rattle.rides.specs.Loops.{change_rows}
-use Rattle.rides.proofs.JoinedLaws.{least-bucket, least-max, least-here}
+use Rattle.rides.proofs.JoinedLaws.{least-bucket, least-max, least-here, blocks-here}
 use Rattle.rides.proofs.OverLaws.{changes-out}
 use Rattle.rides.proofs.RestLaws.{seen_first}
 use Rattle.rides.proofs.change.change_rides.Goals as goal
@@ -14,7 +14,7 @@ returns-then-since-t-clause-rows c =
       offered =
           changes-out _ _ _ _ _ b.board c.if-since-t.true
           (least-max _ _ _ _ _ c.max-t.ensures (least-bucket _ _ _ _ _ b c.bucket_of.ensures.0 c.bound.ensures)
-          (least-here _ _ _ _ _ p.0 refl refl p.1))
+          (least-here p.0 _ _ refl refl p.1.least))
           p.2;
       over = p.2;
     }
@@ -29,13 +29,15 @@ returns-then-since-t-2-clause-rows c =
           seen_first e.state
           (changes-out _ _ _ _ _ b.board c.if-since-t-2.true
           (least-max _ _ _ _ _ c.max-t.ensures (least-bucket _ _ _ _ _ b c.bucket_of.ensures.0 c.bound.ensures)
-          (least-here _ _ _ _ _ p.0 refl refl p.1))
+          (least-here p.0 _ _ refl refl p.1.least))
           e.two);
       over = e.two;
     }
 
 pub rides_before-two-requires : goal.rides_before-two-requires
-rides_before-two-requires c = (c.joined_time-least.ensures.time, c.asked-since.ensures.two)
+rides_before-two-requires c =
+    let e = c.joined_time-least.ensures in
+    (blocks-here c.requires.0 _ _ refl refl e.array.blocks, e.time, c.asked-since.ensures.two)
 
 pub returns-clause-rows : goal.returns-clause-rows
 unfolding change_rows

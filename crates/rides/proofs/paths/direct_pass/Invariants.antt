@@ -6,4 +6,4 @@ use Rattle.rides.proofs.paths.direct_pass.Given as goal
 abbrev pub invariant-loop-l : goal.invariant-loop-l
 invariant-loop-l l =
     (goal.iterator-loop-l).can_next l.l-iterator × (goal.iterator-loop-l).is_finite l.l-iterator
-    × PassRest l.lent 0 l.fn.st l.st l.l-iterator × Over l.st l.before 1 l.over
+    × PassRest l.lent 0 l.fn.st l.st l.l-iterator × Over l.st l.before 1 l.passed.from

@@ -3,7 +3,6 @@ use Rattle.rides.specs.Firsts.{firsts_left}
 use Rattle.rides.specs.Loops.{first_rows_of, pass_rows}
 use Rattle.rides.proofs.LoopLaws.{rest-stops}
 use Rattle.rides.proofs.RestLaws.{rest-has, rest-same, rest-turn, rest-none}
-use Rattle.rides.proofs.OverLaws.{over-late}
 use Rattle.std.proofs.Common.{ap, ◌∙◌}
 use Rattle.rides.proofs.OnwardLaws.{first-is-ride}
 use Rattle.rides.proofs.paths.three_pass.Goals as goal
@@ -13,22 +12,22 @@ loop-l-init c = (
   tt,
   tt,
   rest-same (ap firsts_left c.into_iter-l-iterator.ensures.into_iter_gives ∙ c.of-l-items.ensures _),
-  over-late c.late-over.ensures,
+  c.passed_none-passed.ensures _ _,
 )
 
 pub returns-then-is_refused : goal.returns-then-is_refused
 unfolding pass_rows
 returns-then-is_refused c = rest-stops c.is_refused.ensures c.if-is_refused.true c.loop-l.invariant.2
 
-pub three_rides-over-requires : goal.three_rides-over-requires
-three_rides-over-requires c =
+pub three_rides-passed-requires : goal.three_rides-passed-requires
+three_rides-passed-requires c =
     let i = c.loop-l.invariant in
-    (first-is-ride _ _ _ _ (rest-has c.in-Some.ensures.steps i.2), c.over_for-from.ensures 3 i.3)
+    (first-is-ride _ _ _ _ (rest-has c.in-Some.ensures.steps i.2), c.passed_for-now.ensures 3 i.3)
 
 pub loop-l-preserved : goal.loop-l-preserved
 unfolding first_rows_of
 loop-l-preserved c =
-    let w = c.three_rides-over.ensures in
+    let w = c.three_rides-passed.ensures in
     (tt, tt, rest-turn c.in-Some.ensures.steps c.loop-l.invariant.2 (rw (← c.first_ride-f.ensures) w.offered), w.over)
 
 pub returns : goal.returns

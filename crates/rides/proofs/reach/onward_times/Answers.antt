@@ -4,5 +4,7 @@ use Rattle.rides.proofs.reach.onward_times.Goals as goal
 
 pub returns : goal.returns
 returns c =
-    onward-made _ _ _ c.put_targets-none.ensures c.put_boards-last.ensures c.put_joined-one.ensures c.put_boards-middle.ensures
-    c.put_joined-two.ensures
+    let one = c.put_joined-one.ensures in
+    let two = c.put_joined-two.ensures in
+    onward-made _ _ _ c.put_targets-none.ensures c.put_boards-last.ensures one.least one.rows c.put_boards-middle.ensures two.least
+    two.rows

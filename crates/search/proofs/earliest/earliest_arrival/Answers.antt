@@ -1,5 +1,4 @@
 -- `earliest_arrival` meets its contract.
-use Rattle.search.proofs.Known.{numbers-small}
 use Rattle.search.proofs.EarliestLaws.{earliest-is}
 use Rattle.search.proofs.earliest.earliest_arrival.Goals as goal
 

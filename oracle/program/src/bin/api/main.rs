@@ -1,6 +1,6 @@
 //! The port's crate for Rust (rust/) beside the published Rust: `api compare` reads a batch of load files from standard input and compares
-//! lists and queries; `api times FILE ..` times calls of both in turns; `api` alone reads pairs as the program `mark` does and prints the
-//! verdicts (oracle/marks_compare runs it).
+//! lists and queries; `api written PROFILE FILES SEED` has loads written and read back; `api times FILE ..` times calls of both in turns;
+//! `api` alone reads pairs as the program `mark` does and prints the verdicts (oracle/marks_compare runs it).
 mod compare;
 mod marks;
 #[allow(dead_code)]
@@ -11,6 +11,8 @@ mod steps;
 #[path = "../speed/tables.rs"]
 mod tables;
 mod times;
+mod wanted;
+mod written;
 
 use std::io::{self, BufRead, Read};
 
@@ -34,10 +36,13 @@ fn main() -> io::Result<()> {
     match words.split_first() {
         Some((mode, [])) if mode == "compare" => compare::run(100),
         Some((mode, [every])) if mode == "compare" => compare::run(every.parse().expect("a number")),
+        Some((mode, words)) if mode == "written" || mode == "flipped" => written::run(words, mode == "flipped"),
         None => marks::run(),
         Some((mode, files)) if mode == "times" => times::run(files),
         _ => {
-            eprintln!("usage: api compare [EVERY] < BATCH   api times FILE ..   api < PAIRS");
+            eprintln!(
+                "usage: api compare [EVERY] < BATCH   api written|flipped PROFILE FILES SEED   api times FILE ..   api < PAIRS"
+            );
             std::process::exit(2)
         }
     }

@@ -1,34 +1,32 @@
 -- `three_rides` meets its contract: every ride that the first one joins; none is walked if all would be passed over.
 use Rattle.std.proofs.Common.{arith}
-use Rattle.rides.proofs.OnwardLaws.{fewer, three-out}
-use Rattle.rides.proofs.OverLaws.{over-asked, over-seen, over-from}
-use Rattle.rides.proofs.RestLaws.{seen_first, seen_last}
+use Rattle.rides.proofs.OnwardLaws.{onward-out}
+use Rattle.rides.proofs.RestLaws.{seen_first}
 use Rattle.rides.proofs.onward.ThreeRides.three_rides.Goals as goal
 
-pub returns-then-over-t : goal.returns-then-over-t
-returns-then-over-t c =
+pub returns-then-passed-t : goal.returns-then-passed-t
+returns-then-passed-t c =
     let p = c.requires in
     record {
-      offered = three-out _ _ _ _ c.args.self.now.on_time p.1 _ _ c.args.r p.0 c.time_on-t.ensures c.if-over-t.true;
+      offered = onward-out _ _ _ _ c.args.self.now.on_time p.1 2 _ _ c.args.r (omega arith) p.0 c.time_on-t.ensures c.if-passed-t.true;
       over = p.1;
     }
 
-pub returns-then-passes_over : goal.returns-then-passes_over
-returns-then-passes_over c =
-    let e = c.passes_over.ensures in
-    let v = over-asked c.figures.ensures e.1 c.if-passes_over.true in
+pub returns-then-passed-t-2 : goal.returns-then-passed-t-2
+returns-then-passed-t-2 c =
+    let e = c.asked_for-passed.ensures in
     record {
-      offered = seen_last e.0 (three-out _ _ _ _ c.args.self.now.on_time v _ _ c.args.r c.requires.0 c.time_on-t.ensures (omega arith));
-      over = over-seen e.0 v;
+      offered =
+          seen_first e.state
+          (onward-out _ _ _ _ c.args.self.now.on_time e.over 2 _ _ c.args.r (omega arith) c.requires.0 c.time_on-t.ensures
+          c.if-passed-t-2.true);
+      over = e.over;
     }
 
-pub rides_on-requires : goal.rides_on-requires
-rides_on-requires c = (omega arith, over-from c.threshold-over.ensures)
+pub rides_on-from-requires : goal.rides_on-from-requires
+rides_on-from-requires c = (omega arith, c.requires.0, c.asked_for-passed.ensures.over)
 
 pub returns : goal.returns
 returns c =
-    let w = c.rides_on.ensures in
-    record {
-      offered = rw (fewer _ _ _ _ 2 (λ e. omega arith) 0 0 _ _ _ c.first_ride.ensures) (seen_first c.passes_over.ensures.0 w.offered);
-      over = w.over;
-    }
+    let w = c.rides_on-from.ensures in
+    record { offered = seen_first c.asked_for-passed.ensures.state w.offered; over = w.over }

@@ -1,8 +1,0 @@
--- `direct_paths` meets its contract: a loop over the first rides.
-use Rattle.limited_rides.proofs.TurnLaws.{PathRest}
-use Rattle.limited_rides.proofs.paths.direct_paths.Given as goal
-
-abbrev pub invariant-loop-l : goal.invariant-loop-l
-invariant-loop-l l =
-    (goal.iterator-loop-l).can_next l.l-iterator × (goal.iterator-loop-l).is_finite l.l-iterator
-    × PathRest l.lent 0 l.fn.st l.fn.tally l.st l.tally l.l-iterator
