@@ -1,4 +1,6 @@
 // The lines of a display: for each group `group N`, its journeys shown and `window W`, or `refused N`.
+ghost use Rattle.std.specs.Prelude.{◌≡◌};
+
 use display::part::Shown;
 use display::{Display, deal, part_of};
 use groups::{Group, group_at};
@@ -8,7 +10,9 @@ use stdio::load_lines::{Figures, refused};
 use stdio::out::Out;
 
 // A group whose load file is refused.
-pub fn file_refused(out: &mut Out, number: u8, r: Refusal) {
+pub fn file_refused(out: &mut Out, number: u8, r: Refusal)
+    ensures { out.new.len ≡ 0 }
+{
     writeln!(out, "group {number}");
     refused(out, r);
     out.flush();
@@ -39,7 +43,9 @@ fn parts(out: &mut Out, groups: &[Group], d: Display) {
 }
 
 // The display of the groups; or the refusal of the whole.
-pub fn display(out: &mut Out, groups: &[Group]) {
+pub fn display(out: &mut Out, groups: &[Group])
+    ensures { out.new.len ≡ 0 }
+{
     let d = deal(groups);
     match d {
         Ok(_) => parts(out, groups, d),

@@ -62,7 +62,8 @@ fn size(buf: &[u8]) -> usize
 // The file whose length stands at the start of the buffer, put in its place. None of a file that is longer than the buffer, or is not
 // there whole.
 pub fn body<'a>(stdin: Stdin, buf: &'a mut [u8]) -> Result<Option<&'a [u8]>, Unread>
-    ensures { IfOk result (λ found. IfSome found (λ file. length file.now ≤ length buf.old)) }
+    ensures within { IfOk result (λ found. IfSome found (λ file. length file.now ≤ length buf.old)) }
+    ensures sized { IfOk result (λ found. IfSome found (λ file. length file.now < 4294967296)) }
 {
     let n = size(buf);
     if buf.len() < n || full(stdin, &mut buf[..n])? < n {
@@ -73,7 +74,8 @@ pub fn body<'a>(stdin: Stdin, buf: &'a mut [u8]) -> Result<Option<&'a [u8]>, Unr
 
 // The next file, put at the start of the buffer, if its length and the file are there.
 pub fn file<'a>(stdin: Stdin, buf: &'a mut [u8]) -> Result<Option<&'a [u8]>, Unread>
-    ensures { IfOk result (λ found. IfSome found (λ file. length file.now ≤ length buf.old)) }
+    ensures within { IfOk result (λ found. IfSome found (λ file. length file.now ≤ length buf.old)) }
+    ensures sized { IfOk result (λ found. IfSome found (λ file. length file.now < 4294967296)) }
 {
     if head(stdin, buf)? < 4 {
         return Ok(None);
@@ -85,6 +87,7 @@ pub fn file<'a>(stdin: Stdin, buf: &'a mut [u8]) -> Result<Option<&'a [u8]>, Unr
 // range bounds it, as each loop needs a bound.
 pub fn each_file<F: FnMut(&[u8])>(stdin: Stdin, buf: &mut [u8], mut each: F) -> Result<(), Unread>
     requires { F.IsAlwaysCallable each }
+    ensures { length buf.new ≡ length buf.old }
 {
     for _ in 0..u64::MAX {
         let Some(file) = file(stdin, buf)? else {

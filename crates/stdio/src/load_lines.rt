@@ -1,5 +1,7 @@
 // The lines of a load: table, journeys, horizon and limits; and that of a refusal. `lines` prints some of them too, as bytes of a proved
 // length; here they are printed among others by `write!`.
+ghost use Rattle.std.specs.Prelude.{◌≤◌};
+
 use crate::out::Out;
 use call_order::sorted;
 use calls::{CALLS, Call};
@@ -9,7 +11,9 @@ use refusal::Refusal;
 use std::fmt;
 
 // The table by trip, day, sequence, equals as taken: the first `count` of the array, which `sorted` takes whole.
-pub fn table(out: &mut Out, calls: &[Call; CALLS], count: usize) {
+pub fn table(out: &mut Out, calls: &[Call; CALLS], count: usize)
+    ensures { out.new.len ≤ 65536 }
+{
     for c in first(&sorted(calls, count), count) {
         writeln!(
             out,
@@ -84,16 +88,22 @@ impl fmt::Display for Rides<'_> {
 }
 
 // The kept journeys, each with its rides in order.
-pub fn journeys(out: &mut Out, kept: &[Journey]) {
+pub fn journeys(out: &mut Out, kept: &[Journey])
+    ensures { out.new.len ≤ 65536 }
+{
     for j in kept {
         writeln!(out, "journey {}{}", Figures(j), Rides(j));
     }
 }
 
-pub fn horizon(out: &mut Out, horizon: u16, limits: u8) {
+pub fn horizon(out: &mut Out, horizon: u16, limits: u8)
+    ensures { out.new.len ≤ 24576 }
+{
     writeln!(out, "horizon {horizon} limits {limits}");
 }
 
-pub fn refused(out: &mut Out, r: Refusal) {
+pub fn refused(out: &mut Out, r: Refusal)
+    ensures { out.new.len ≤ 24576 }
+{
     writeln!(out, "refused {}", u8::from(r));
 }

@@ -31,7 +31,9 @@ impl Out {
         }
     }
 
-    pub fn text(&mut self, text: &[u8]) {
+    pub fn text(&mut self, text: &[u8])
+        ensures { self.new.len ≤ 65536 }
+    {
         let end = self.len + text.len().min(65536 - self.len);
         self.bytes[self.len..end].copy_from_slice(&text[..end - self.len]);
         self.len = end;
