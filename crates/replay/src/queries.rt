@@ -1,5 +1,8 @@
 // Best at -1, 0, each leave, each leave + 1, the horizon and the horizon + 1, in rising order and once each; then next
 // after each kept journey, at second 0.
+ghost use Rattle.std.specs.Ordering.{int_cmp};
+ghost use Rattle.std.specs.Prelude.{IsSorted};
+
 use best::{best, next_after};
 use load::Load;
 use profile::Journey;
@@ -21,7 +24,9 @@ impl fmt::Display for BestJourney {
 }
 
 // The seconds that are asked, in rising order; -1 stands in for the journeys that are not there too.
-fn asked(horizon: u16, kept: &[Journey]) -> [i64; 132] {
+fn asked(horizon: u16, kept: &[Journey]) -> [i64; 132]
+    ensures { IsSorted int_cmp result }
+{
     let mut seconds = [-1; 132];
     seconds[1] = 0;
     seconds[2] = i64::from(horizon);
