@@ -11,7 +11,7 @@ ghost use Rattle.rules.specs.Sizes.{rule_room};
 use place::Degrees;
 use places::group::group_places;
 use prefix::first;
-use rules::{RULES, Rule};
+use rules::{RULES, Rule, blank_rule};
 use std::array;
 use stops::{NAME_BYTES, STOPS, Stop};
 use texts::{ID_BYTES, Text};
@@ -21,7 +21,7 @@ use transfer::Transfers;
 const NUMBERS: usize = RULES * 5;
 
 // The rule at a place: from, to, type, seconds, and 1 if seconds were given, which no row depends on, as none count as 0. C lends 16 bits
-// for a type, of which the low 8 are read; a cast that may lose bits is refused. The bound is that of the places that `from_fn` counts.
+// for a type, of which the low 8 are read; a cast that may lose bits is refused. The bound is that of the places in the array.
 fn rule_at(flat: &[u16; NUMBERS], i: usize) -> Rule
     requires { i < rule_room }
     ensures { result ≡ rule_at flat.now i }
@@ -35,11 +35,15 @@ fn rule_at(flat: &[u16; NUMBERS], i: usize) -> Rule
     }
 }
 
-// The rules that C lends, five numbers for each.
-fn rules_of(flat: &[u16; NUMBERS]) -> [Rule; RULES]
-    ensures { result ≡ rules_of flat.now }
+// The first `count` of the rules that C lends, five numbers for each. Those behind them are not read, and blank here.
+fn rules_of(flat: &[u16; NUMBERS], count: usize) -> [Rule; RULES]
+    ensures { take count result ≡ take count (rules_of flat.now) }
 {
-    array::from_fn(|i| rule_at(flat, i))
+    let mut rules = [blank_rule(); RULES];
+    for i in 0..count.min(RULES) {
+        rules[i] = rule_at(flat, i);
+    }
+    rules
 }
 
 // The changes from a stop to each of 128 (`change_row`). C lends plain arrays, and a count beside the rules.
@@ -55,7 +59,7 @@ pub extern "C" fn changes_row(
 )
     ensures { row.new ≡ change_row (take count (rules_of rules.now)) parents.now places.now from change }
 {
-    let rules = rules_of(rules);
+    let rules = rules_of(rules, count);
     let transfers = Transfers {
         rules: first(&rules, count),
         parents,

@@ -330,14 +330,14 @@ module _ (e : Ends) where
           let (all, ga, gb) = all-apart (slot_of e.to_parent) l None None h (eqb-false (slot_of e.to_parent) e.to q) tt tt (alone l none) in
           sym (all ∙ joined-picked (best l e.to) (best l (slot_of e.to_parent)) ga gb)
 
-  -- the rule that the code finds
-  pub rule_found : (l : List Rule) (b : List (Option Rule)) → e.to < 128 → b ≡ table 129 (best l) → get_or b 128 None ≡ None
-      → picked_in b e ≡ chosen e l
+  -- the rule that the code finds, unless it reads the rules again
+  pub rule_found : (l : List Rule) (b : List (Option Rule)) → e.to < 128 → b ≡ table 129 (best l)
+      → (slot_of e.to_parent ≡ 128 → get_or b 128 None ≡ None) → picked_in b e ≡ chosen e l
   rule_found l b h eb none =
       let at : (s : ℕ) → s < 129 → get_or b s None ≡ best l s =
       λ s k. ap (λ (x : List (Option Rule)). get_or x s None) eb ∙ get_d-table (best l) None 129 s k in
       (λ i. picked e.from (at e.to (omega arith) i) (at (slot_of e.to_parent) (omega arith) i))
-      ∙ chosen-picked l h (λ z. sym (at 128 (omega arith)) ∙ none)
+      ∙ chosen-picked l h (λ z. sym (at 128 (omega arith)) ∙ none z)
 
 -- ---- an entry of the row
 
@@ -356,7 +356,7 @@ unfolding ends_of_of transfer_of entry_of
 entry-by rules parents places from change to b {r = r} {close = close} h eb none ep eq tp tq er ec ey en =
     let ends = ends_of_of parents from to in
     let rule : r ≡ chosen ends rules =
-    er ∙ (λ i. picked_in b (from_to from (ep i) to (tp i))) ∙ rule_found ends rules b h eb none in
+    er ∙ (λ i. picked_in b (from_to from (ep i) to (tp i))) ∙ rule_found ends rules b h eb (λ _. none) in
     let nearby : close ≡ near ends (get_or places from 65535) (get_or places to 65535) =
     ec ∙ (λ i. near (from_to from (ep i) to (tp i)) (eq i) (tq i)) in
     en ∙ ap (λ (o : Option ℕ). change_number o) (ey ∙ (λ i. change_of (rule i) (nearby i) change))

@@ -13,6 +13,6 @@ pub returns : goal.returns
 unfolding change_row
 returns c =
     let a = c.args in
-    let lent : c.first.result.now ≡ take a.count (rules_of a.rules.now) = c.first.ensures ∙ ap (take a.count) c.rules_of-rules.ensures in
+    let lent : c.first.result.now ≡ take a.count (rules_of a.rules.now) = c.first.ensures ∙ c.rules_of-rules.ensures in
     row-whole _ _ _ (omega arith) c.change_row.ensures
     ∙ ap (λ (l : List Rule). change_row l a.parents.now a.places.now a.from a.change) lent
