@@ -18,7 +18,7 @@ impl Ends {
 }
 
 // The change that a rule gives. Seconds count for type 2 alone.
-fn rule_change(rule: Rule, change: u16) -> Option<u16>
+pub fn rule_change(rule: Rule, change: u16) -> Option<u16>
     ensures { result ≡ rule_change rule change }
 {
     match rule.transfer_type {
