@@ -24,20 +24,21 @@ impl fmt::Display for Shown {
     }
 }
 
-// `None` where a question is misspelt or a write fails: either goes unsaid, as what is printed is compared with the file `stdout`.
+// `None` where a question is misspelt, which goes unsaid, as what is printed is compared with the file `stdout`. So does a write that
+// fails; the next is tried.
 fn ask(rt: &impl Print, name: &str, list: &[Journey; KEPT], question: &str) -> Option<()> {
     let q = questions::read_question(question)?;
     let over = best::best_over(prefix::first(list, q.count), q.horizon, q.second);
     let lent = lent::best_lent(list, q.count, q.horizon, q.second);
-    println!(rt;
+    let _ = println!(rt;
         "{name} at {}, first {}, up to {}: {} | {}",
         q.second,
         q.count,
         q.horizon,
         Shown(over),
         Shown(lent)
-    )
-    .ok()
+    );
+    Some(())
 }
 
 fn line(rt: &impl Print, text: &str) -> Option<()> {
@@ -57,7 +58,6 @@ fn run(rt: &impl Print) -> Option<()> {
     Some(())
 }
 
-// Each program that prints lines has this `main`: one that took `run` would be as long to call.
 fn main(rt: HostRuntime) {
     let _ = run(&rt);
 }

@@ -2,7 +2,6 @@
 // platform 4; 5 and 6 are of one place, 7 of none of theirs. The change time is 180 seconds.
 use crate::show::yes;
 use rules::Rule;
-use std::io;
 use stops::{NO_STOP, STOPS};
 use transfer::Transfers;
 use transfer::pair::join;
@@ -62,62 +61,56 @@ fn between(from: u16, to: u16) -> Option<u16> {
     transfers.between(from, to)
 }
 
-fn change(rt: &impl Print, label: &str, from: u16, to: u16) -> io::Result<()> {
-    match between(from, to) {
+fn change(rt: &impl Print, label: &str, from: u16, to: u16) {
+    let _ = match between(from, to) {
         Some(seconds) => println!(rt; "transfer \"{label}\" {seconds}"),
         None => println!(rt; "transfer \"{label}\" none"),
-    }
+    };
 }
 
 // Whether a ride that arrives at 1000 joins one from stop 7.
-fn joined(
-    rt: &impl Print,
-    label: &str,
-    from: u16,
-    one_run: bool,
-    departure: u16,
-) -> io::Result<()> {
+fn joined(rt: &impl Print, label: &str, from: u16, one_run: bool, departure: u16) {
     let joins = join(between(from, 7), one_run, 1000, departure);
-    println!(rt; "join \"{label}\" {}", yes(joins))
+    let _ = println!(rt; "join \"{label}\" {}", yes(joins));
 }
 
-fn by_rule(rt: &impl Print) -> io::Result<()> {
-    change(rt, "both sides exact", 1, 4)?;
-    change(rt, "two half-exact rules", 2, 4)?;
-    change(rt, "one side exact before neither", 4, 1)?;
-    change(rt, "neither side exact", 4, 2)?;
-    change(rt, "type 3 between two stations", 0, 3)?;
-    change(rt, "type 3 between two of one place", 5, 6)?;
-    change(rt, "type 0 with 600 seconds", 7, 5)?;
-    change(rt, "type 1 with 600 seconds", 7, 6)?;
+fn by_rule(rt: &impl Print) {
+    change(rt, "both sides exact", 1, 4);
+    change(rt, "two half-exact rules", 2, 4);
+    change(rt, "one side exact before neither", 4, 1);
+    change(rt, "neither side exact", 4, 2);
+    change(rt, "type 3 between two stations", 0, 3);
+    change(rt, "type 3 between two of one place", 5, 6);
+    change(rt, "type 0 with 600 seconds", 7, 5);
+    change(rt, "type 1 with 600 seconds", 7, 6);
     change(rt, "type 2 with 60 seconds", 6, 7)
 }
 
-fn by_nearness(rt: &impl Print) -> io::Result<()> {
-    change(rt, "one stop", 7, 7)?;
-    change(rt, "one parent", 1, 2)?;
-    change(rt, "one place", 6, 5)?;
-    change(rt, "neither", 7, 1)?;
+fn by_nearness(rt: &impl Print) {
+    change(rt, "one stop", 7, 7);
+    change(rt, "one parent", 1, 2);
+    change(rt, "one place", 6, 5);
+    change(rt, "neither", 7, 1);
     change(rt, "a platform and its station", 1, 0)
 }
 
-pub fn run(rt: &impl Print) -> io::Result<()> {
-    by_rule(rt)?;
-    by_nearness(rt)?;
+pub fn run(rt: &impl Print) {
+    by_rule(rt);
+    by_nearness(rt);
     joined(
         rt,
         "same stop, arrival 1000 and departure 1180",
         7,
         false,
         1180,
-    )?;
+    );
     joined(
         rt,
         "same stop, arrival 1000 and departure 1179",
         7,
         false,
         1179,
-    )?;
-    joined(rt, "one trip and day", 7, true, 1180)?;
+    );
+    joined(rt, "one trip and day", 7, true, 1180);
     joined(rt, "no change", 1, false, 1180)
 }

@@ -6,18 +6,15 @@ mod places;
 mod show;
 mod text_lines;
 
-use std::io;
-
-fn run(rt: &impl Print) -> io::Result<()> {
-    text_lines::hashes(rt)?;
-    text_lines::names(rt)?;
-    text_lines::times(rt)?;
-    places::run(rt)?;
+fn run(rt: &impl Print) {
+    text_lines::hashes(rt);
+    text_lines::names(rt);
+    text_lines::times(rt);
+    places::run(rt);
     changes::run(rt)
 }
 
-// A failed write goes unsaid, as what is printed is compared with the file `stdout`.
-// Each program that prints lines has this `main`: one that took `run` would be as long to call.
+// A failed write goes unsaid, as what is printed is compared with the file `stdout`; the next is tried.
 fn main(rt: HostRuntime) {
-    let _ = run(&rt);
+    run(&rt);
 }

@@ -7,7 +7,6 @@ use crate::{good, pairs};
 use again::add;
 use load::{Load, StepResult};
 use refusal::Refusal;
-use std::io;
 
 const FAULTS: [Fault; 7] = [
     Fault::Meets(Refusal::FieldRange),
@@ -69,7 +68,7 @@ fn tried_of(faults: Faults) -> StepResult {
     )
 }
 
-pub fn run(rt: &impl Print) -> io::Result<()> {
-    pairs::each(rt, Step::Added, &FAULTS, tried)?;
+pub fn run(rt: &impl Print) {
+    pairs::each(rt, Step::Added, &FAULTS, tried);
     pairs::each(rt, Step::AddedOf, &FAULTS_OF, tried_of)
 }

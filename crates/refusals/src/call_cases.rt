@@ -9,7 +9,6 @@ use again::add;
 use calls::CallInput;
 use load::StepResult;
 use refusal::Refusal;
-use std::io;
 
 const FAULTS: [Fault; 5] = [
     Fault::Meets(Refusal::FieldRange),
@@ -25,7 +24,7 @@ fn tried(faults: Faults) -> StepResult {
 }
 
 // A good call of trip 900, but for what is changed.
-fn told<F: FnOnce(&mut CallInput)>(rt: &impl Print, label: &str, change: F) -> io::Result<()>
+fn told<F: FnOnce(&mut CallInput)>(rt: &impl Print, label: &str, change: F)
     requires { F.IsAlwaysCallable change }
 {
     let mut call = call_at(900, 0, 1, 600);
@@ -34,7 +33,7 @@ fn told<F: FnOnce(&mut CallInput)>(rt: &impl Print, label: &str, change: F) -> i
 }
 
 // Of day 2, which starts at 0.
-fn told_at(rt: &impl Print, label: &str, time: u32) -> io::Result<()> {
+fn told_at(rt: &impl Print, label: &str, time: u32) {
     told(rt, label, |c| {
         c.day = 2;
         c.arrival = Some(time);
@@ -42,22 +41,22 @@ fn told_at(rt: &impl Print, label: &str, time: u32) -> io::Result<()> {
     })
 }
 
-pub fn run(rt: &impl Print) -> io::Result<()> {
-    pairs::each(rt, Step::Call, &FAULTS, tried)?;
-    told(rt, "of stop 2", |c| c.stop = 2)?;
-    told(rt, "of stop 3", |c| c.stop = 3)?;
-    told(rt, "of trip 65534", |c| c.trip = 65534)?;
-    told(rt, "of day 3", |c| c.day = 3)?;
-    told(rt, "with pickup 4", |c| c.pickup = 4)?;
-    told(rt, "with drop-off 4", |c| c.drop_off = 4)?;
+pub fn run(rt: &impl Print) {
+    pairs::each(rt, Step::Call, &FAULTS, tried);
+    told(rt, "of stop 2", |c| c.stop = 2);
+    told(rt, "of stop 3", |c| c.stop = 3);
+    told(rt, "of trip 65534", |c| c.trip = 65534);
+    told(rt, "of day 3", |c| c.day = 3);
+    told(rt, "with pickup 4", |c| c.pickup = 4);
+    told(rt, "with drop-off 4", |c| c.drop_off = 4);
     told(rt, "with pickup and drop-off 3", |c| {
         c.pickup = 3;
         c.drop_off = 3;
-    })?;
-    told(rt, "without an arrival", |c| c.arrival = None)?;
-    told_at(rt, "a second before the start", 999)?;
-    told_at(rt, "at the start", 1000)?;
-    told_at(rt, "at the horizon", 22600)?;
-    told_at(rt, "a second after the horizon", 22601)?;
+    });
+    told(rt, "without an arrival", |c| c.arrival = None);
+    told_at(rt, "a second before the start", 999);
+    told_at(rt, "at the start", 1000);
+    told_at(rt, "at the horizon", 22600);
+    told_at(rt, "a second after the horizon", 22601);
     held(rt, Step::Call, with_calls(512).call_count)
 }

@@ -9,7 +9,6 @@ use crate::{good, pairs};
 use load::{Load, StepResult};
 use refusal::Refusal;
 use services::ExceptionInput;
-use std::io;
 
 const FAULTS: [Fault; 3] = [
     Fault::Meets(Refusal::AlreadySearched),
@@ -26,7 +25,7 @@ fn tried(faults: Faults) -> StepResult {
     load.exception(service_of(faults), input)
 }
 
-fn told(rt: &impl Print, label: &str, load: Load, name: &[u8]) -> io::Result<()> {
+fn told(rt: &impl Print, label: &str, load: Load, name: &[u8]) {
     then(
         rt,
         Step::Exception,
@@ -36,7 +35,7 @@ fn told(rt: &impl Print, label: &str, load: Load, name: &[u8]) -> io::Result<()>
 }
 
 // Of any kind, as `inputs: on_monday`.
-fn told_of(rt: &impl Print, label: &str, name: &[u8], kind: u8) -> io::Result<()> {
+fn told_of(rt: &impl Print, label: &str, name: &[u8], kind: u8) {
     then(
         rt,
         Step::Exception,
@@ -45,13 +44,13 @@ fn told_of(rt: &impl Print, label: &str, name: &[u8], kind: u8) -> io::Result<()
     )
 }
 
-pub fn run(rt: &impl Print) -> io::Result<()> {
-    pairs::each(rt, Step::Exception, &FAULTS, tried)?;
-    told_of(rt, "of type 1", b"A", 1)?;
-    told_of(rt, "of type 2", b"A", 2)?;
-    told_of(rt, "of type 0", b"A", 0)?;
-    told_of(rt, "of type 3", b"A", 3)?;
-    told_of(rt, "of type 3 and an unknown service", b"unknown", 3)?;
+pub fn run(rt: &impl Print) {
+    pairs::each(rt, Step::Exception, &FAULTS, tried);
+    told_of(rt, "of type 1", b"A", 1);
+    told_of(rt, "of type 2", b"A", 2);
+    told_of(rt, "of type 0", b"A", 0);
+    told_of(rt, "of type 3", b"A", 3);
+    told_of(rt, "of type 3 and an unknown service", b"unknown", 3);
     let other = ExceptionInput {
         date: 20240229,
         kind: 1,
@@ -61,24 +60,24 @@ pub fn run(rt: &impl Print) -> io::Result<()> {
         Step::Exception,
         "on another date",
         week(2).exception(b"A", other),
-    )?;
-    told(rt, "without a name", week(2), b"")?;
-    told(rt, "with a name of 33 bytes", week(2), &[b'a'; 33])?;
+    );
+    told(rt, "without a name", week(2), b"");
+    told(rt, "with a name of 33 bytes", week(2), &[b'a'; 33]);
     let many = with(week(2), 1000, good::exception);
-    told(rt, "after 1000 others", many, b"A")?;
+    told(rt, "after 1000 others", many, b"A");
     let wrong = ExceptionInput { date: 0, kind: 3 };
     then(
         rt,
         Step::Exception,
         "of a load without dates",
         small().exception(b"unknown", wrong),
-    )?;
+    );
     told(
         rt,
         "after a call that is refused",
         called(b"unknown", 600),
         b"A",
-    )?;
-    told(rt, "after a call that doesn't run", called(b"B", 600), b"A")?;
+    );
+    told(rt, "after a call that doesn't run", called(b"B", 600), b"A");
     told(rt, "after a call that is taken", called(b"A", 600), b"A")
 }

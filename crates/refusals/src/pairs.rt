@@ -4,7 +4,6 @@ use crate::shown::then;
 use crate::step::Step;
 use load::StepResult;
 use refusal::Refusal;
-use std::io;
 
 // Two that never hold together. An id or a name that is taken is 1 to 32 bytes long; reversed times are both there; the stops of a rule
 // taken are known; a load is searched only where its calls fit, so of a search no fault but that of its settings is beside it; of an
@@ -24,12 +23,7 @@ fn apart(step: Step, first: Fault, second: Fault) -> bool {
 }
 
 // The faults stand in the scope's order.
-pub fn each<F: Fn(Faults) -> StepResult>(
-    rt: &impl Print,
-    step: Step,
-    faults: &[Fault],
-    tried: F,
-) -> io::Result<()>
+pub fn each<F: Fn(Faults) -> StepResult>(rt: &impl Print, step: Step, faults: &[Fault], tried: F)
     requires { F.IsAlwaysCallable tried }
 {
     for &first in faults {
@@ -37,7 +31,7 @@ pub fn each<F: Fn(Faults) -> StepResult>(
             first,
             second: None,
         };
-        then(rt, step, one, tried(one))?;
+        then(rt, step, one, tried(one));
     }
     for (i, &first) in faults.iter().enumerate() {
         for &second in &faults[i + 1..] {
@@ -46,9 +40,8 @@ pub fn each<F: Fn(Faults) -> StepResult>(
                     first,
                     second: Some(second),
                 };
-                then(rt, step, both, tried(both))?;
+                then(rt, step, both, tried(both));
             }
         }
     }
-    Ok(())
 }

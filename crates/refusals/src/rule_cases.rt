@@ -8,7 +8,6 @@ use crate::step::Step;
 use load::StepResult;
 use refusal::Refusal;
 use rules::Rule;
-use std::io;
 
 const FAULTS: [Fault; 5] = [
     Fault::Meets(Refusal::AlreadySearched),
@@ -34,18 +33,18 @@ fn tried(faults: Faults) -> StepResult {
     searched_if(faults.meet(Refusal::AlreadySearched), load).rule(rule(from, to, kind, None))
 }
 
-fn told(rt: &impl Print, label: &str, rule: Rule) -> io::Result<()> {
+fn told(rt: &impl Print, label: &str, rule: Rule) {
     then(rt, Step::Rule, label, small().rule(rule))
 }
 
-pub fn run(rt: &impl Print) -> io::Result<()> {
-    pairs::each(rt, Step::Rule, &FAULTS, tried)?;
-    told(rt, "from stop 3", rule(3, 1, 0, None))?;
-    told(rt, "to stop 3", rule(1, 3, 0, None))?;
-    told(rt, "to stop 2", rule(0, 2, 0, None))?;
-    told(rt, "of type 2 without seconds", rule(2, 1, 2, None))?;
-    told(rt, "of type 3 without seconds", rule(2, 1, 3, None))?;
-    told(rt, "of type 2 with 0 seconds", rule(2, 1, 2, Some(0)))?;
-    told(rt, "of type 4 with 0 seconds", rule(2, 1, 4, Some(0)))?;
+pub fn run(rt: &impl Print) {
+    pairs::each(rt, Step::Rule, &FAULTS, tried);
+    told(rt, "from stop 3", rule(3, 1, 0, None));
+    told(rt, "to stop 3", rule(1, 3, 0, None));
+    told(rt, "to stop 2", rule(0, 2, 0, None));
+    told(rt, "of type 2 without seconds", rule(2, 1, 2, None));
+    told(rt, "of type 3 without seconds", rule(2, 1, 3, None));
+    told(rt, "of type 2 with 0 seconds", rule(2, 1, 2, Some(0)));
+    told(rt, "of type 4 with 0 seconds", rule(2, 1, 4, Some(0)));
     held(rt, Step::Rule, with_rules(128).rule_count)
 }

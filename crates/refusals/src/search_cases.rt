@@ -7,7 +7,6 @@ use crate::step::Step;
 use load::{Load, StepResult};
 use refusal::Refusal;
 use search::{search, search_within};
-use std::io;
 
 const FAULTS: [Fault; 3] = [
     Fault::Meets(Refusal::AlreadySearched),
@@ -46,23 +45,23 @@ fn tried_limited(faults: Faults) -> StepResult {
     search_within(load, 1000000).stepped()
 }
 
-fn told(rt: &impl Print, label: &str, load: Load) -> io::Result<()> {
+fn told(rt: &impl Print, label: &str, load: Load) {
     then(rt, Step::Search, label, search(load))
 }
 
-pub fn run(rt: &impl Print) -> io::Result<()> {
-    pairs::each(rt, Step::Search, &FAULTS, tried)?;
+pub fn run(rt: &impl Print) {
+    pairs::each(rt, Step::Search, &FAULTS, tried);
     told(
         rt,
         "of a call arriving as the last departs",
         with_two(rides(0), 1, 600),
-    )?;
+    );
     told(
         rt,
         "of a call arriving before the last departs",
         with_two(rides(0), 1, 599),
-    )?;
-    told(rt, "of 64 unbeaten journeys", rides(128))?;
-    told(rt, "of no call", rides(0))?;
+    );
+    told(rt, "of 64 unbeaten journeys", rides(128));
+    told(rt, "of no call", rides(0));
     pairs::each(rt, Step::Limited, &LIMITED_FAULTS, tried_limited)
 }

@@ -7,7 +7,6 @@ use crate::shown::{held, then};
 use crate::step::Step;
 use load::{Load, StepResult};
 use refusal::Refusal;
-use std::io;
 
 const FAULTS: [Fault; 5] = [
     Fault::Meets(Refusal::AlreadySearched),
@@ -42,7 +41,7 @@ pub fn called(service: &[u8], time: u32) -> Load {
 }
 
 // One of every date.
-fn told(rt: &impl Print, label: &str, load: Load, name: &[u8]) -> io::Result<()> {
+fn told(rt: &impl Print, label: &str, load: Load, name: &[u8]) {
     then(
         rt,
         Step::Service,
@@ -51,7 +50,7 @@ fn told(rt: &impl Print, label: &str, load: Load, name: &[u8]) -> io::Result<()>
     )
 }
 
-fn told_from(rt: &impl Print, label: &str, start: u32, end: u32) -> io::Result<()> {
+fn told_from(rt: &impl Print, label: &str, start: u32, end: u32) {
     then(
         rt,
         Step::Service,
@@ -60,34 +59,34 @@ fn told_from(rt: &impl Print, label: &str, start: u32, end: u32) -> io::Result<(
     )
 }
 
-fn words(rt: &impl Print) -> io::Result<()> {
-    told(rt, "with a name of 32 bytes", week(2), &[b'a'; 32])?;
-    told(rt, "with a name of 33 bytes", week(2), &[b'a'; 33])?;
-    told(rt, "with the id of a stop", week(2), b"C")?;
-    told_from(rt, "with an end before the start", 20261118, 20261116)?;
-    told_from(rt, "from 19000229", 19000229, LAST)?;
-    told_from(rt, "to 20240431", FIRST, 20240431)?;
-    told(rt, "of a load without dates", small(), b"new")?;
+fn words(rt: &impl Print) {
+    told(rt, "with a name of 32 bytes", week(2), &[b'a'; 32]);
+    told(rt, "with a name of 33 bytes", week(2), &[b'a'; 33]);
+    told(rt, "with the id of a stop", week(2), b"C");
+    told_from(rt, "with an end before the start", 20261118, 20261116);
+    told_from(rt, "from 19000229", 19000229, LAST);
+    told_from(rt, "to 20240431", FIRST, 20240431);
+    told(rt, "of a load without dates", small(), b"new");
     let unnamed = small().service(b"", daily(0, 0));
     then(
         rt,
         Step::Service,
         "without a name of a load without dates",
         unnamed,
-    )?;
+    );
     told(
         rt,
         "after a call that is refused",
         called(b"unknown", 600),
         b"new",
-    )?;
+    );
     told(
         rt,
         "after a call that doesn't run",
         called(b"B", 600),
         b"new",
-    )?;
-    told(rt, "after a call that is taken", called(b"A", 600), b"new")?;
+    );
+    told(rt, "after a call that is taken", called(b"A", 600), b"new");
     told(
         rt,
         "after a call outside the window",
@@ -96,8 +95,8 @@ fn words(rt: &impl Print) -> io::Result<()> {
     )
 }
 
-pub fn run(rt: &impl Print) -> io::Result<()> {
-    pairs::each(rt, Step::Service, &FAULTS, tried)?;
-    words(rt)?;
+pub fn run(rt: &impl Print) {
+    pairs::each(rt, Step::Service, &FAULTS, tried);
+    words(rt);
     held(rt, Step::Service, week(70).week.service_count)
 }

@@ -2,7 +2,7 @@
 use crate::step::Step;
 use load::StepResult;
 use refusal::{Accepted, Answer};
-use std::{fmt, io};
+use std::fmt;
 
 // What a step is answered: a word, or the number of a refusal.
 #[derive(Clone, Copy, Debug, PartialEq, Eq)]
@@ -19,25 +19,20 @@ impl fmt::Display for Shown {
 }
 
 // No load is opened, so no step follows.
-pub fn opened(rt: &impl Print, label: &str, stepped: StepResult) -> io::Result<()> {
-    println!(rt; "open {label}: {}", Shown(stepped.answer))
+pub fn opened(rt: &impl Print, label: &str, stepped: StepResult) {
+    let _ = println!(rt; "open {label}: {}", Shown(stepped.answer));
 }
 
-pub fn then(
-    rt: &impl Print,
-    step: Step,
-    label: impl fmt::Display + Drop,
-    stepped: StepResult,
-) -> io::Result<()> {
+pub fn then(rt: &impl Print, step: Step, label: impl fmt::Display + Drop, stepped: StepResult) {
     let next = step.then(stepped.load);
-    println!(rt;
+    let _ = println!(rt;
         "{step} {label}: {}, then {}",
         Shown(stepped.answer),
         Shown(next.answer)
-    )
+    );
 }
 
 // How many a full load holds.
-pub fn held(rt: &impl Print, step: Step, count: usize) -> io::Result<()> {
-    println!(rt; "{step}s held: {count}")
+pub fn held(rt: &impl Print, step: Step, count: usize) {
+    let _ = println!(rt; "{step}s held: {count}");
 }

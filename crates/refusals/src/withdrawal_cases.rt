@@ -9,7 +9,6 @@ use again::{add, withdraw};
 use calls::CallKey;
 use load::{Load, StepResult};
 use refusal::Refusal;
-use std::io;
 
 const FAULTS: [Fault; 2] = [
     Fault::Meets(Refusal::FieldRange),
@@ -64,22 +63,22 @@ fn tried_searched(faults: Faults) -> StepResult {
     withdrawn(searched(load), faults)
 }
 
-fn told(rt: &impl Print, label: &str, load: Load, key: CallKey) -> io::Result<()> {
+fn told(rt: &impl Print, label: &str, load: Load, key: CallKey) {
     then(rt, Step::Withdrawal, label, withdraw(load, key))
 }
 
-pub fn run(rt: &impl Print) -> io::Result<()> {
-    pairs::each(rt, Step::Withdrawal, &FAULTS, tried)?;
-    pairs::each(rt, Step::Withdrawn, &SEARCHED_FAULTS, tried_searched)?;
+pub fn run(rt: &impl Print) {
+    pairs::each(rt, Step::Withdrawal, &FAULTS, tried);
+    pairs::each(rt, Step::Withdrawn, &SEARCHED_FAULTS, tried_searched);
     let load = hiding(0);
     let second = key(0, 0, 1);
     let doubled = with(load, 1, 1, 800);
-    told(rt, "of the first call", load, key(0, 0, 0))?;
-    told(rt, "of day 2", load, key(0, 2, 1))?;
-    told(rt, "of day 3", load, key(0, 3, 1))?;
-    told(rt, "of trip 65534", load, key(65534, 0, 1))?;
-    told(rt, "of one withdrawn", withdraw(load, second).load, second)?;
-    told(rt, "of one of two", doubled, second)?;
+    told(rt, "of the first call", load, key(0, 0, 0));
+    told(rt, "of day 2", load, key(0, 2, 1));
+    told(rt, "of day 3", load, key(0, 3, 1));
+    told(rt, "of trip 65534", load, key(65534, 0, 1));
+    told(rt, "of one withdrawn", withdraw(load, second).load, second);
+    told(rt, "of one of two", doubled, second);
     told(
         rt,
         "of the other of two",
