@@ -70,7 +70,7 @@ start-admits o xs d j a =
     (subst (λ (u : Timetable). by.Admitted u j) (end-from o xs d) a)
 
 pub causes-admitted : CausesAdmitted
-causes-admitted o xs c op f =
+causes-admitted o xs c f =
     let l = end_of o xs in
     let (d, e) = finished-parts l.searched l.limit f in
     let keyed = own-keyed l (end_kept o xs) d e in
@@ -78,7 +78,7 @@ causes-admitted o xs c op f =
       makes = free-makes l c;
       free = λ j m. (makes-free l c keyed j m).0;
       only = λ j m. (makes-free l c keyed j m).1;
-      admitted = λ j m. (same-admitted o xs op j).0 (d, start-admits o xs d j (made-admitted (timetable_of l) c j m));
+      admitted = λ j m op. (same-admitted o xs op j).0 (d, start-admits o xs d j (made-admitted (timetable_of l) c j m));
     }
 
 -- a connection without a cause that is due: the verdict is the list's
@@ -92,10 +92,10 @@ by-list l c d f h =
 pub due-is-covered : DueIsCovered
 due-is-covered o xs c op d f h =
     let l = end_of o xs in
-    let right = causes-admitted o xs c op d in
+    let right = causes-admitted o xs c d in
     let (p, q) = finished-parts l.searched l.limit d in
     let (k, m, e) = (searched-holds o xs op p (ap is_some q)).complete (journey_in l c)
-    ((same-admitted o xs op (journey_in l c)).1 (right.admitted (journey_in l c) (right.makes f))) h in
+    ((same-admitted o xs op (journey_in l c)).1 (right.admitted (journey_in l c) (right.makes f) op)) h in
     subst (Says (kept_of l) (journey_in l c)) (sym (by-list l c d f h)) (says (kept_of l) (journey_in l c) k m e)
 
 says_never : (ks : List Journey) (j : Journey) (v : Verdict) → Says ks j v → number v ≡ 5 → ⊥
