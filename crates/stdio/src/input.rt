@@ -1,6 +1,7 @@
 // A batch on standard input: files, each after its length as a big-endian u32. All is read into one buffer. A read that fails is an error,
 // and not the end.
-ghost use Rattle.std.specs.Prelude.{◌≡◌, ◌<◌, ◌≤◌, IfOk, IfSome, length};
+ghost use Rattle.std.specs.Prelude.{◌≡◌, ◌<◌, ◌≤◌, IfOk, IfSome, length, take};
+ghost use Rattle.std.specs.Io.KnownBytes.{Consumes, IsAtEnd};
 ghost use Rattle.stdio.specs.Input.{zeros};
 
 use std::io;
@@ -25,11 +26,13 @@ impl From<io::Error> for Unread {
 }
 
 // Reads until the buffer is full or the input ends; how many bytes were put at its start. A count and not the part, so that the buffer is
-// there again for what is read behind it. std's read_exact doesn't say how many.
-pub fn full(stdin: Stdin, buf: &mut [u8]) -> Result<usize, Unread>
-    ensures { IfOk result (λ n. n ≤ length buf.new) }
+// there again for what is read behind it. std's read_exact doesn't say how many. Where the reader's bytes are known they are its next ones,
+// and fewer than there is room for at the end alone.
+pub fn full<R: Read>(from: &mut R, buf: &mut [u8]) -> Result<usize, Unread>
+    ensures within { IfOk result (λ n. n ≤ length buf.new) }
+    ensures bytes { IfOk result (λ n. Consumes (R.remaining from.old) (R.remaining from.new) (take n buf.new)) }
+    ensures end { IfOk result (λ n. n < length buf.new → IsAtEnd (R.remaining from.new)) }
 {
-    let mut from = stdin;
     let mut done = 0;
     while done < buf.len() {
         match from.read(&mut buf[done..])? {
@@ -46,7 +49,7 @@ pub fn head(stdin: Stdin, buf: &mut [u8]) -> Result<usize, Unread>
     ensures { IfOk result (λ n. n ≤ 4) }
 {
     match buf.first_chunk_mut::<4>() {
-        Some(first) => full(stdin, first),
+        Some(first) => full(&mut &stdin, first),
         None => Ok(0),
     }
 }
@@ -66,7 +69,7 @@ pub fn body<'a>(stdin: Stdin, buf: &'a mut [u8]) -> Result<Option<&'a [u8]>, Unr
     ensures sized { IfOk result (λ found. IfSome found (λ file. length file.now < 4294967296)) }
 {
     let n = size(buf);
-    if buf.len() < n || full(stdin, &mut buf[..n])? < n {
+    if buf.len() < n || full(&mut &stdin, &mut buf[..n])? < n {
         return Ok(None);
     }
     Ok(Some(&buf[..n]))
@@ -103,7 +106,7 @@ pub fn rest<'a>(stdin: Stdin, buf: &'a mut [u8], held: usize) -> Result<&'a [u8]
     ensures { IfOk result (λ read. length read.now ≤ length buf.old) }
 {
     if held < buf.len() {
-        let n = full(stdin, &mut buf[held..])?;
+        let n = full(&mut &stdin, &mut buf[held..])?;
         return Ok(&buf[..held + n]);
     }
     Ok(buf)
