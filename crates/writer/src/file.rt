@@ -1,5 +1,6 @@
 // The whole file of a load, and how long it is.
 ghost use Rattle.std.specs.Prelude.{◌≡◌, ◌*◌, ◌≤◌, ◌++◌, length, drop};
+ghost use Rattle.std.proofs.lemmas.List.Edits.{sets};
 ghost use Rattle.laws.specs.Lists.{concat_map};
 ghost use Rattle.buffer.specs.Put.{Put};
 ghost use Rattle.codec.specs.Shapes.{framed};
@@ -48,11 +49,12 @@ fn put_parts(out: &mut Buffer<'_>, load: &Load)
     }
 }
 
-// How long the file is; if it has room, it stands at the start of the buffer.
+// How long the file is; if it has room, it stands at the start of the buffer, and else as much of it as has.
 pub fn put_file(out: &mut [u8], load: &Load) -> usize
     ensures size { result ≡ length (write_spec_of load.now) }
     ensures out_after { length (write_spec_of load.now) ≤ length out.old
         → out.new ≡ write_spec_of load.now ++ drop (length (write_spec_of load.now)) out.old }
+    ensures short { out.new ≡ sets out.old 0 (write_spec_of load.now) }
 {
     let mut file = Buffer::new(out);
     put_parts(&mut file, load);
