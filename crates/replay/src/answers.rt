@@ -1,4 +1,4 @@
-// One load file: its records handed in one by one, each call's answer noted, and all else as of the file read whole, which goes by runs.
+// One load file: its records handed in one by one, each call's answer noted, and all else as of the file read whole.
 use crate::load_lines;
 use fields::kind::Kind;
 use fields::layout::kind_of;
