@@ -42,7 +42,7 @@ use Rattle.listing.specs.declared.Verdict.{Verdict}
 use Rattle.listing.specs.Listed.{listed_in_of, judged_in}
 use Rattle.verdict.specs.Verdicts.{is_finished, journey_in, cause_of, judged_by, verdict_of}
 use Rattle.verdicts.specs.Makes.{Makes}
-use Rattle.verdicts.specs.Claims.{Says, listed, as_good, beaten, CausesAdmitted, DueIsCovered, NeverUncovered}
+use Rattle.verdicts.specs.Claims.{Says, listed, as_good, beaten, CausesExact, CausesAdmitted, DueIsCovered, NeverUncovered}
 use Rattle.verdicts.proofs.FailLaws.{number, uncovered-said}
 use Rattle.verdicts.proofs.SaysLaws.{says}
 use Rattle.verdicts.proofs.MakesLaws.{free-makes, makes-free}
@@ -74,12 +74,16 @@ causes-admitted o xs c f =
     let l = end_of o xs in
     let (d, e) = finished-parts l.searched l.limit f in
     let keyed = own-keyed l (end_kept o xs) d e in
-    record {
-      makes = free-makes l c;
-      free = λ j m. (makes-free l c keyed j m).0;
-      only = λ j m. (makes-free l c keyed j m).1;
-      admitted = λ j m op. (same-admitted o xs op j).0 (d, start-admits o xs d j (made-admitted (timetable_of l) c j m));
-    }
+    let only = λ (j : Journey) (m : Makes (timetable_of l) c j). makes-free l c keyed j m in
+    let exact : CausesExact o xs c = λ j. (only j, λ q. subst (Makes (timetable_of l) c) (sym q.1) (free-makes l c q.0)) in (
+      exact,
+      λ op. record {
+        makes = free-makes l c;
+        free = λ j m. (only j m).0;
+        only = λ j m. (only j m).1;
+        admitted = λ j m. (same-admitted o xs op j).0 (d, start-admits o xs d j (made-admitted (timetable_of l) c j m));
+      },
+    )
 
 -- a connection without a cause that is due: the verdict is the list's
 by-list : (l : Load) (c : Connection) → is_finished l ≡ true → cause_of l c ≡ None → (journey_in l c).arrival ≤ l.horizon
@@ -92,10 +96,10 @@ by-list l c d f h =
 pub due-is-covered : DueIsCovered
 due-is-covered o xs c op d f h =
     let l = end_of o xs in
-    let right = causes-admitted o xs c d in
+    let right = (causes-admitted o xs c d).1 op in
     let (p, q) = finished-parts l.searched l.limit d in
     let (k, m, e) = (searched-holds o xs op p (ap is_some q)).complete (journey_in l c)
-    ((same-admitted o xs op (journey_in l c)).1 (right.admitted (journey_in l c) (right.makes f) op)) h in
+    ((same-admitted o xs op (journey_in l c)).1 (right.admitted (journey_in l c) (right.makes f))) h in
     subst (Says (kept_of l) (journey_in l c)) (sym (by-list l c d f h)) (says (kept_of l) (journey_in l c) k m e)
 
 says_never : (ks : List Journey) (j : Journey) (v : Verdict) → Says ks j v → number v ≡ 5 → ⊥

@@ -49,11 +49,18 @@ pub record CausesRight (o : Opening) (xs : List Step) (c : Connection) : Type 0 
   pub makes : cause_of (end_of o xs) c ≡ None → Makes (timetable_of (end_of o xs)) c (journey_in (end_of o xs) c)
   pub free : (j : Journey) → Makes (timetable_of (end_of o xs)) c j → cause_of (end_of o xs) c ≡ None
   pub only : (j : Journey) → Makes (timetable_of (end_of o xs)) c j → j ≡ journey_in (end_of o xs) c
-  -- it is one of those that demands 2 and 3 speak of, which are told by what was handed in to an opening that is taken
-  pub admitted : (j : Journey) → Makes (timetable_of (end_of o xs)) c j → Opens o → Admitted o xs j
+  -- it is one of those that demands 2 and 3 speak of, which are told by what was handed in
+  pub admitted : (j : Journey) → Makes (timetable_of (end_of o xs)) c j → Admitted o xs j
 
+-- the connection makes a journey exactly if it has no cause and that journey is the one that is judged
+abbrev pub CausesExact : Opening → List Step → Connection → Type 0
+CausesExact o xs c = (j : Journey)
+    → Makes (timetable_of (end_of o xs)) c j ↔ ((cause_of (end_of o xs) c ≡ None) × (j ≡ journey_in (end_of o xs) c))
+
+-- that what is made is admitted, is told of an opening that is taken
 abbrev pub CausesAdmitted : Type 0
-CausesAdmitted = (o : Opening) (xs : List Step) (c : Connection) → is_finished (end_of o xs) ≡ true → CausesRight o xs c
+CausesAdmitted = (o : Opening) (xs : List Step) (c : Connection) → is_finished (end_of o xs) ≡ true
+    → CausesExact o xs c × (Opens o → CausesRight o xs c)
 
 abbrev pub placed : List Journey → ℕ → Journey
 placed ks i = get_or ks i no_journey
